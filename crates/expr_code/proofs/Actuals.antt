@@ -9,13 +9,15 @@ use Rattle.ada_tree.specs.declared.expression.Argument.{Argument}
 use Rattle.ada_tree.specs.declared.expression.Identifier.{Identifier}
 use Rattle.ada_tree.specs.ExpressionTree as tree
 use Rattle.ada_tree.specs.ExpressionTree.{argument_tree, argument_trees, ArgumentTree, ArgumentTrees, Arguments, ExprTree, MoreArguments, MoreSelectors, NoArguments, NoSelectors, SelectorTrees, Value}
-use Rattle.ada_tree.specs.Size.{argument_size, arguments_size, total}
+use Rattle.ada_tree.specs.Size.{argument_size, arguments_size, expr_size, total}
 use Rattle.image.specs.Sections.{Sections}
 use Rattle.image.specs.Operations.{called, parameters_of, results_of}
 use Rattle.image.specs.Rules.{calls_inside, is_plain, some_and}
+use Rattle.image.specs.declared.instruction.Operation.{Operation}
 use Rattle.image.specs.declared.instruction.Operation.TheVariants as op
 use Rattle.types.specs.declared.entity.FormalParameter.{FormalParameter}
 use Rattle.types.specs.declared.entity.Subtype.{Subtype}
+use Rattle.types.specs.declared.standing.Callee.{Callee}
 use Rattle.types.specs.declared.standing.Callee.TheVariants as callee
 use Rattle.types.specs.declared.standing.Standing.{Standing}
 use Rattle.types.specs.declared.standing.Standing.TheVariants as standing
@@ -24,10 +26,10 @@ use Rattle.types.specs.Evaluations.{Gives, Raises, Meaningless, Val, and_then, r
 use Rattle.types.specs.Evaluating.{actuals_with, fixed_value, passed, value_with}
 use Rattle.types.specs.Laws.{ValuesHaveWords}
 use Rattle.types.specs.Layouts.{words_of}
-use Rattle.types.specs.Places.{meaning_of}
-use Rattle.types.specs.Scopes.{is_visible, number_of, profile_at, profile_of}
+use Rattle.types.specs.Places.{IsFunction, meaning_of}
+use Rattle.types.specs.Scopes.{is_visible, number_of, profile_at, profile_of, Scope}
 use Rattle.types.specs.Shapes.{has_shape, shape_of}
-use Rattle.types.specs.Standings.{call_stands, count, result_stands, select, select_all, standing_of, stands_first, stands_for}
+use Rattle.types.specs.Standings.{call_stands, callee_profile, count, result_stands, select, select_all, standing_of, stands_first, stands_for}
 use Rattle.types.specs.Values as values
 use Rattle.types.specs.Values.{fits}
 use Rattle.expr_soundness.specs.expr_rules.specs.Faults.{rule}
@@ -38,17 +40,17 @@ use Rattle.expr_soundness.specs.Agreeing.{MeansFunction, parameter_subtype}
 use Rattle.expr_soundness.proofs.Applying.{one_count}
 use Rattle.expr_soundness.proofs.Parts.{same_values}
 use Rattle.expr_code.specs.Actuals.{AddsCall, ArePassedLegally, arguments_in_front, EmitsActual, EmitsActuals, IsPassedLegally, TakeShapes}
-use Rattle.expr_code.specs.Code.{here}
+use Rattle.expr_code.specs.Code.{Adds, here}
 use Rattle.expr_code.specs.Computing.{AlwaysNames, ArePassed, ArePassedWell, Computes, ComputesAll}
 use Rattle.expr_code.specs.Emitting.{EmitsChecked, EmitsExpression, IsLegalExpression}
 use Rattle.expr_code.specs.Flows.{Flows}
-use Rattle.expr_code.specs.Seeing.{library_of, NamesProfile, Package, Sees, Suits}
+use Rattle.expr_code.specs.Seeing.{library_of, NamesProfile, Package, Sees, subprogram_of, Suits}
 use Rattle.expr_code.specs.declared.code.Code.{Code}
 use Rattle.expr_code.specs.declared.visible.Visible.{Visible}
 use Rattle.expr_code.proofs.Flowing.{Changes, flows_same, flows_then, instruction_flows}
 use Rattle.expr_code.proofs.Growing.{added_at, added_extends, added_here, extends_self, extends_trans, holds_before, holds_later}
 use Rattle.expr_code.proofs.Names.{legal_here}
-use Rattle.expr_code.proofs.Passing.{computes_call, computes_call_alone, computes_more, computes_none}
+use Rattle.expr_code.proofs.Passing.{computes_call, computes_call_alone, computes_more, computes_none, named_value}
 
 -- ---- lists
 
@@ -201,6 +203,130 @@ pub counted : (all : List Argument) → count (argument_trees all) ≡ length al
 counted [] = refl
 counted (a ∷ all) = ap suc (counted all)
 
+-- ---- what stands behind a function's name, wherever that stands
+
+module _ (s : Scope) (place : ℕ) (profile : Profile) (f : Callee) (profiled : callee_profile s f ≡ Some profile) where
+  -- the rules of one argument among those from a number on
+  pub argument_legal : (k : ℕ) (all : List Argument) → arguments_faults s (standing.Callee f) k (argument_trees all) ≡ []
+      → (n : ℕ) (x : FormalParameter) (a : ArgumentTree) → slice_get profile.formals (k + n) ≡ Some x → slice_get (map argument_tree all) n ≡ Some a
+      → IsPassedLegally s x a
+  argument_legal k [] h n x a at_formal at_argument = absurd cc
+  argument_legal k (y ∷ all) h zero x a at_formal at_argument =
+      let same : argument_tree y ≡ a = cc in
+      let more : k + 0 ≡ k = omega arith in
+      let slot : slot_at s (standing.Callee f) k ≡ formal_slot x =
+      ap (λ o. call_slot o k) profiled ∙ ap formal_slot_or (ap (slice_get profile.formals) (sym more) ∙ at_formal) in
+      (λ j. argument_faults s (sym slot j) (sym same j))
+      ∙ front_empty (argument_faults s (slot_at s (standing.Callee f) k) (argument_tree y))
+      (arguments_faults s (standing.Callee f) (suc k) (argument_trees all)) h
+  argument_legal k (y ∷ all) h (suc n) x a at_formal at_argument =
+      let more : k + suc n ≡ suc k + n = omega arith in
+      argument_legal (suc k) all
+      (back_empty (argument_faults s (slot_at s (standing.Callee f) k) (argument_tree y))
+      (arguments_faults s (standing.Callee f) (suc k) (argument_trees all)) h)
+      n x a (ap (slice_get profile.formals) (sym more) ∙ at_formal) at_argument
+
+  module _ (arguments : List Argument)
+      (unbroken : selectors_faults s place (standing.Callee f) (MoreSelectors (Arguments (argument_trees arguments)) NoSelectors) ≡ []) where
+    abbrev given_here : ArgumentTrees
+    given_here = argument_trees arguments
+
+    one_selector : part_rule s place (standing.Callee f) (Arguments given_here) ++ arguments_faults s (standing.Callee f) 0 given_here ≡ []
+    one_selector = front_empty _ (end_rule s place (select s (standing.Callee f) (Arguments given_here))) unbroken
+
+    pub many_given : length arguments ≡ length profile.formals
+    many_given =
+        sym (counted arguments)
+        ∙ one_count place (count given_here) (length profile.formals)
+        (ap (λ o. count_rule place (count given_here) (length (profile_formals o))) (sym profiled)
+        ∙ front_empty _ (arguments_faults s (standing.Callee f) 0 given_here) one_selector)
+
+    pub each_legal : ArePassedLegally s profile.formals (map argument_tree arguments)
+    each_legal k x a at_formal at_argument =
+        let same : 0 + k ≡ k = omega arith in
+        argument_legal 0 arguments
+        (back_empty (part_rule s place (standing.Callee f) (Arguments given_here)) (arguments_faults s (standing.Callee f) 0 given_here) one_selector)
+        k x a (ap (slice_get profile.formals) same ∙ at_formal) at_argument
+
+  pub none_wanted : selectors_faults s place (standing.Callee f) NoSelectors ≡ [] → profile.formals ≡ []
+  none_wanted unbroken =
+      empty profile.formals (one_count place 0 (length profile.formals) (ap (λ o. count_rule place 0 (length (profile_formals o))) (sym profiled) ∙ unbroken))
+    where
+      empty : (l : List FormalParameter) → 0 ≡ length l → l ≡ []
+      empty [] e = refl
+      empty (x ∷ l) e = absurd (omega (arith, e))
+
+-- ---- code of a call that is made by one instruction behind its actual parameters
+
+no_values : (ws : List values.Value) → Gives [] ≡ Gives ws → ArePassed [] ws
+no_values [] e = tt
+no_values (w ∷ ws) e = absurd cc
+
+module _ (quiet : QuietStays) (v : Visible) (first : Identifier) (selectors : SelectorTrees) (profile : Profile) (operation : Operation) where
+  abbrev parameters_are : List Subtype
+  parameters_are = map parameter_subtype profile.formals
+
+  abbrev pub AlwaysCalled : (behind : SelectorTrees) → Type 0
+  AlwaysCalled behind = (g : Package) (i : Sections) → AlwaysNames i (library_of g) (Sees g v) first selectors behind operation parameters_are
+
+  module _ (arguments : List Argument) (as_many : length arguments ≡ length profile.formals) (old mid new : Code) (depth height : ℕ)
+      (p : EmitsActuals v old depth (map parameter_subtype (take (length arguments) profile.formals)) (map argument_tree arguments) height mid)
+      (adds : Adds mid height operation new)
+      (named : AlwaysCalled (MoreSelectors (Arguments (argument_trees arguments)) NoSelectors))
+      (changes : height ≡ depth + total (words_of v.scope) parameters_are → Changes (Suits v) operation height (depth + 1))
+      (larger : arguments_size (argument_trees arguments) + 1 ≤ expr_size (tree.Named first selectors)) where
+    all : EmitsActuals v old depth parameters_are (map argument_tree arguments) height mid
+    all = subst (λ l. EmitsActuals v old depth (map parameter_subtype l) (map argument_tree arguments) height mid)
+        (whole profile.formals (length arguments) as_many) p
+
+    passed_well : (g : Package) (i : Sections) → ArePassedWell i (library_of g) (Sees g v) parameters_are (argument_trees arguments)
+    passed_well g i calls place view function vs sound sees formals is =
+        let shapes = all.takes g calls place view [] NoArguments [] sound sees (λ ws e. no_values ws e) vs
+        ((λ j. actuals_with calls place (trees_are arguments j) (nothing_behind parameters_are j)) ∙ is) in
+        subst (λ l. ArePassed l vs) (nothing_behind (map (shape_of g.scope) parameters_are) ∙ ap (map (shape_of g.scope)) (sym formals)) shapes
+
+    pub with_emits : EmitsExpression v old depth 1 (tree.Named first selectors) new
+    with_emits =
+        let next = added_here mid new height operation adds in
+        let ends = added_extends mid new height operation adds in
+        record {
+          extends = extends_trans old mid new all.extends ends;
+          sized = let same = sizes_are arguments in omega (arith, all.sized, next, same, larger);
+          computes = λ i h g.
+              let none = computes_none quiet i (library_of g) (Sees g v) (here mid) in
+              let values = all.computes i (holds_before i (here old) mid new ends h) g (here mid) [] NoArguments (omega arith) none in
+              subst (λ n. Computes i (library_of g) (Sees g v) (here old) n (tree.Named first selectors)) (sym next)
+              (computes_call quiet i (library_of g) (Sees g v) (here old) (here mid) operation first selectors (argument_trees arguments) parameters_are
+              all.extends.longer (named g i) (passed_well g i)
+              (subst (λ l. ComputesAll i (library_of g) (Sees g v) (here old) (here mid) l (argument_trees arguments)) (nothing_behind parameters_are)
+              (subst (λ l. ComputesAll i (library_of g) (Sees g v) (here old) (here mid) (parameters_are ++ []) l) (trees_are arguments) values))
+              (added_at mid new height operation adds i (here old) all.extends.longer h));
+          flows = flows_then (Suits v) old mid new depth height (depth + 1) all.extends ends all.flows
+              (instruction_flows (Suits v) mid new height (depth + 1) operation adds (changes all.high));
+        }
+
+  module _ (none : profile.formals ≡ []) (old new : Code) (depth : ℕ) (adds : Adds old depth operation new) (named : AlwaysCalled NoSelectors)
+      (changes : depth ≡ depth + total (words_of v.scope) parameters_are → Changes (Suits v) operation depth (depth + 1))
+      (larger : 1 ≤ expr_size (tree.Named first selectors)) where
+    pub alone_emits : EmitsExpression v old depth 1 (tree.Named first selectors) new
+    alone_emits =
+        let next = added_here old new depth operation adds in
+        let high : depth ≡ depth + total (words_of v.scope) parameters_are =
+        subst (λ l. depth ≡ depth + total (words_of v.scope) (map parameter_subtype l)) (sym none) (omega arith) in
+        record {
+          extends = added_extends old new depth operation adds;
+          sized = omega (arith, next, larger);
+          computes = λ i h g.
+              subst (λ n. Computes i (library_of g) (Sees g v) (here old) n (tree.Named first selectors)) (sym next)
+              (computes_call_alone quiet i (library_of g) (Sees g v) (here old) operation first selectors
+              (subst (λ l. AlwaysNames i (library_of g) (Sees g v) first selectors NoSelectors operation (map parameter_subtype l)) none (named g i))
+              (λ calls place view function vs sound sees formals is. subst (λ l. ArePassed (map (shape_of g.scope) l) vs) (sym formals) (no_values vs is))
+              (added_at old new depth operation adds i (here old) (omega arith) h));
+          flows = instruction_flows (Suits v) old new depth (depth + 1) operation adds (changes high);
+        }
+
+-- ---- a function by its own name
+
 module _ (v : Visible) (first : Identifier) (profile : Profile) (names : NamesProfile v.scope first.name profile) where
   abbrev pub callee_of : Standing
   callee_of = standing.Callee (callee.Direct names.number)
@@ -219,62 +345,44 @@ module _ (v : Visible) (first : Identifier) (profile : Profile) (names : NamesPr
       let ends = value_rule first.place (standing_of v.scope first selectors) in
       ap (λ w. selectors_faults v.scope first.place w selectors) (sym stands) ∙ back_empty hidden all (front_empty (hidden ++ all) ends legal.unbroken)
 
-  -- ... of one argument among those from a number on
-  pub actual_legal : (k : ℕ) (all : List Argument) → arguments_faults v.scope callee_of k (argument_trees all) ≡ [] → (n : ℕ) (f : FormalParameter) (a : ArgumentTree) → slice_get profile.formals (k + n) ≡ Some f
-      → slice_get (map argument_tree all) n ≡ Some a
-      → IsPassedLegally v.scope f a
-  actual_legal k [] h n f a at_formal at_argument = absurd cc
-  actual_legal k (x ∷ all) h zero f a at_formal at_argument =
-      let same : argument_tree x ≡ a = cc in
-      let more : k + 0 ≡ k = omega arith in
-      let slot : slot_at v.scope callee_of k ≡ formal_slot f = ap (λ o. call_slot o k) profiled ∙ ap formal_slot_or (ap (slice_get profile.formals) (sym more) ∙ at_formal) in
-      (λ j. argument_faults v.scope (sym slot j) (sym same j)) ∙ front_empty (argument_faults v.scope (slot_at v.scope callee_of k) (argument_tree x)) (arguments_faults v.scope callee_of (suc k) (argument_trees all)) h
-  actual_legal k (x ∷ all) h (suc n) f a at_formal at_argument =
-      let more : k + suc n ≡ suc k + n = omega arith in
-      actual_legal (suc k) all (back_empty (argument_faults v.scope (slot_at v.scope callee_of k) (argument_tree x)) (arguments_faults v.scope callee_of (suc k) (argument_trees all)) h) n f a
-      (ap (slice_get profile.formals) (sym more) ∙ at_formal) at_argument
-
   module _ (arguments : List Argument) (legal : IsLegalExpression v.scope (tree.Named first (MoreSelectors (Arguments (argument_trees arguments)) NoSelectors))) where
-    abbrev given : ArgumentTrees
-    given = argument_trees arguments
-
-    one : part_rule v.scope first.place callee_of (Arguments given) ++ arguments_faults v.scope callee_of 0 given ≡ []
-    one = front_empty _ (end_rule v.scope first.place (select v.scope callee_of (Arguments given))) (parts (MoreSelectors (Arguments given) NoSelectors) legal)
+    abbrev given : SelectorTrees
+    given = MoreSelectors (Arguments (argument_trees arguments)) NoSelectors
 
     pub as_many : length arguments ≡ length profile.formals
-    as_many =
-        sym (counted arguments)
-        ∙ one_count first.place (count given) (length profile.formals)
-        (ap (λ o. count_rule first.place (count given) (length (profile_formals o))) (sym profiled) ∙ front_empty _ (arguments_faults v.scope callee_of 0 given) one)
+    as_many = many_given v.scope first.place profile (callee.Direct names.number) profiled arguments (parts given legal)
 
     pub all_legal : ArePassedLegally v.scope profile.formals (map argument_tree arguments)
-    all_legal k f a at_formal at_argument = let same : 0 + k ≡ k = omega arith in actual_legal 0 arguments (back_empty (part_rule v.scope first.place callee_of (Arguments given)) (arguments_faults v.scope callee_of 0 given) one) k f a (ap (slice_get profile.formals) same ∙ at_formal) at_argument
+    all_legal = each_legal v.scope first.place profile (callee.Direct names.number) profiled arguments (parts given legal)
 
-  module _ (old new : Code) (height : ℕ) (added : AddsCall v first.name profile old height new) where
+  module _ (old new : Code) (height : ℕ) (added : AddsCall v (subprogram_of v first.name) op.Call profile old height new) where
     -- what the name means
-    named : (g : Package) (selectors : SelectorTrees) → IsLegalExpression v.scope (tree.Named first selectors) → fixed_value (select_all v.scope callee_of selectors) ≡ None
-        → (i : Sections) → AlwaysNames i (library_of g) (Sees g v) first selectors added.number (map parameter_subtype profile.formals)
-    named g selectors legal valueless i p view sees =
+    named : (selectors : SelectorTrees) → IsLegalExpression v.scope (tree.Named first selectors) → fixed_value (select_all v.scope callee_of selectors) ≡ None
+        → (g : Package) (i : Sections) → AlwaysNames i (library_of g) (Sees g v) first selectors selectors (op.Call added.number)
+        (map parameter_subtype profile.formals)
+    named selectors legal valueless g i p view sees =
         let means = sees.names.agrees.names first.name names.number (Subprogram profile) names.numbered names.stands in
         let it = subst (λ r. MeansFunction p (meaning_of p first.name) profile r) added.is means in
+        let fixed = (legal_here v.scope p sees.names.agrees first selectors legal).same ∙ ap
+        (λ w. fixed_value (select_all v.scope w selectors)) stands ∙ valueless in
         record {
           function = it.0;
-          coded = sees.functions first.name added.number it.0 added.numbered it.1;
+          through = None;
+          number = added.number;
+          coded = sees.functions first.name added.number it.0 profile added.result added.numbered names added.is it.1;
+          allowed = tt;
+          way = refl;
           shared = sees.unit;
-          valueless = (legal_here v.scope p sees.names.agrees first selectors legal).same ∙ ap (λ w. fixed_value (select_all v.scope w selectors)) stands ∙ valueless;
-          means = it.1;
+          means = λ calls. named_value calls p first selectors (IsFunction it.0 None) fixed it.1;
           formals = it.2.formals;
         }
-
-    called_plain : (b : Bool) → (true || b) ≡ true
-    called_plain b = refl
 
     changes : (depth : ℕ) → height ≡ depth + total (words_of v.scope) (map parameter_subtype profile.formals) → Changes (Suits v) (op.Call added.number) height (depth + 1)
     changes depth high = record {
       operands = refl;
       names = λ i s suits.
           let it = suits.calls first.name added.number profile added.result added.numbered names added.is in
-          ap (λ o. some_and o (λ c. is_plain c.kind || calls_inside s.kind c.kind)) it.is ∙ ap (λ b. b || calls_inside s.kind it.code.kind) it.plain;
+          ap (λ o. some_and o (λ c. is_plain c.kind || calls_inside s.kind c.kind)) it.is ∙ it.kind;
       takes = λ i s suits.
           let it = suits.calls first.name added.number profile added.result added.numbered names added.is in
           let many : parameters_of (called i added.number) ≡ it.code.parameters = ap parameters_of it.is in
@@ -290,75 +398,21 @@ module _ (v : Visible) (first : Identifier) (profile : Profile) (names : NamesPr
 
   module _ (quiet : QuietStays) (arguments : List Argument) (legal : IsLegalExpression v.scope (tree.Named first (MoreSelectors (Arguments (argument_trees arguments)) NoSelectors))) (old mid new : Code)
       (depth height : ℕ) (p : EmitsActuals v old depth (map parameter_subtype (take (length arguments) profile.formals)) (map argument_tree arguments) height mid)
-      (added : AddsCall v first.name profile mid height new) where
-    abbrev ts : List Subtype
-    ts = map parameter_subtype profile.formals
-
-    all : EmitsActuals v old depth ts (map argument_tree arguments) height mid
-    all = subst (λ l. EmitsActuals v old depth (map parameter_subtype l) (map argument_tree arguments) height mid) (whole profile.formals (length arguments) (as_many arguments legal)) p
-
-    valueless : fixed_value (select_all v.scope callee_of (MoreSelectors (Arguments (argument_trees arguments)) NoSelectors)) ≡ None
+      (added : AddsCall v (subprogram_of v first.name) op.Call profile mid height new) where
+    valueless : fixed_value (select_all v.scope callee_of (given arguments legal)) ≡ None
     valueless = ap (λ o. fixed_value (select_all v.scope (call_stands o) NoSelectors)) profiled ∙ ap (λ r. fixed_value (select_all v.scope (result_stands r) NoSelectors)) added.is
 
-    passed_well : (g : Package) (i : Sections) → ArePassedWell i (library_of g) (Sees g v) ts (argument_trees arguments)
-    passed_well g i calls place view function vs sound sees formals is =
-        let shapes = all.takes g calls place view [] NoArguments [] sound sees (λ ws e. none ws e) vs
-        ((λ j. actuals_with calls place (trees_are arguments j) (nothing_behind ts j)) ∙ is) in
-        subst (λ l. ArePassed l vs) (nothing_behind (map (shape_of g.scope) ts) ∙ ap (map (shape_of g.scope)) (sym formals)) shapes
-      where
-        none : (ws : List values.Value) → Gives [] ≡ Gives ws → ArePassed [] ws
-        none [] e = tt
-        none (w ∷ ws) e = absurd cc
-
-    pub call_emits : EmitsExpression v old depth 1 (tree.Named first (MoreSelectors (Arguments (argument_trees arguments)) NoSelectors)) new
+    pub call_emits : EmitsExpression v old depth 1 (tree.Named first (given arguments legal)) new
     call_emits =
-        let call = op.Call added.number in
-        let next = added_here mid new height call added.adds in
-        let ends = added_extends mid new height call added.adds in
-        record {
-          extends = extends_trans old mid new all.extends ends;
-          sized = let same = sizes_are arguments in omega (arith, all.sized, next, same);
-          computes = λ i h g.
-              let none = computes_none quiet i (library_of g) (Sees g v) (here mid) in
-              let values = all.computes i (holds_before i (here old) mid new ends h) g (here mid) [] NoArguments (omega arith) none in
-              subst (λ n. Computes i (library_of g) (Sees g v) (here old) n (tree.Named first (MoreSelectors (Arguments (argument_trees arguments)) NoSelectors))) (sym next)
-              (computes_call quiet i (library_of g) (Sees g v) (here old) (here mid) added.number first (argument_trees arguments) ts all.extends.longer
-              (named mid new height added g (MoreSelectors (Arguments (argument_trees arguments)) NoSelectors) legal valueless i)
-              (passed_well g i)
-              (subst (λ l. ComputesAll i (library_of g) (Sees g v) (here old) (here mid) l (argument_trees arguments)) (nothing_behind ts)
-              (subst (λ l. ComputesAll i (library_of g) (Sees g v) (here old) (here mid) (ts ++ []) l) (trees_are arguments) values))
-              (added_at mid new height call added.adds i (here old) all.extends.longer h));
-          flows = flows_then (Suits v) old mid new depth height (depth + 1) all.extends ends all.flows
-              (instruction_flows (Suits v) mid new height (depth + 1) call added.adds (changes mid new height added depth all.high));
-        }
+        with_emits quiet v first (given arguments legal) profile (op.Call added.number) arguments
+        (as_many arguments legal) old mid new depth height p added.adds
+        (named mid new height added (given arguments legal) legal valueless) (changes mid new height added depth) (omega arith)
 
-  module _ (quiet : QuietStays) (legal : IsLegalExpression v.scope (tree.Named first NoSelectors)) (old new : Code) (depth : ℕ) (added : AddsCall v first.name profile old depth new) where
-    no_formals : profile.formals ≡ []
-    no_formals = empty profile.formals (one_count first.place 0 (length profile.formals) (ap (λ o. count_rule first.place 0 (length (profile_formals o))) (sym profiled) ∙ parts NoSelectors legal))
-      where
-        empty : (l : List FormalParameter) → 0 ≡ length l → l ≡ []
-        empty [] e = refl
-        empty (x ∷ l) e = absurd (omega (arith, e))
-
+  module _ (quiet : QuietStays) (legal : IsLegalExpression v.scope (tree.Named first NoSelectors)) (old new : Code) (depth : ℕ)
+      (added : AddsCall v (subprogram_of v first.name) op.Call profile old depth new) where
     pub call_alone_emits : EmitsExpression v old depth 1 (tree.Named first NoSelectors) new
     call_alone_emits =
-        let call = op.Call added.number in
-        let next = added_here old new depth call added.adds in
         let valueless = ap (λ o. fixed_value (call_stands o)) profiled ∙ ap (λ r. fixed_value (result_stands r)) added.is in
-        let high : depth ≡ depth + total (words_of v.scope) (map parameter_subtype profile.formals) =
-        subst (λ l. depth ≡ depth + total (words_of v.scope) (map parameter_subtype l)) (sym no_formals) (omega arith) in
-        record {
-          extends = added_extends old new depth call added.adds;
-          sized = omega (arith, next);
-          computes = λ i h g.
-              subst (λ n. Computes i (library_of g) (Sees g v) (here old) n (tree.Named first NoSelectors)) (sym next)
-              (computes_call_alone quiet i (library_of g) (Sees g v) (here old) added.number first
-              (subst (λ l. AlwaysNames i (library_of g) (Sees g v) first NoSelectors added.number (map parameter_subtype l)) no_formals (named old new depth added g NoSelectors legal valueless i))
-              (λ calls place view function vs sound sees formals is. subst (λ l. ArePassed (map (shape_of g.scope) l) vs) (sym formals) (none vs is))
-              (added_at old new depth call added.adds i (here old) (omega arith) h));
-          flows = instruction_flows (Suits v) old new depth (depth + 1) call added.adds (changes old new depth added depth high);
-        }
-      where
-        none : (ws : List values.Value) → Gives [] ≡ Gives ws → ArePassed [] ws
-        none [] e = tt
-        none (w ∷ ws) e = absurd cc
+        alone_emits quiet v first NoSelectors profile (op.Call added.number)
+        (none_wanted v.scope first.place profile (callee.Direct names.number) profiled (parts NoSelectors legal)) old new depth added.adds
+        (named old new depth added NoSelectors legal valueless) (changes old new depth added depth) (omega arith)

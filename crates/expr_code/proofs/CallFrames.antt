@@ -46,19 +46,19 @@ joined (x ∷ xs) ys = let h = joined xs ys in omega (arith, h)
 pub below : (n m : ℕ) → n ≤ m → nat_le n m ≡ true
 below n m h = search rules
 
-arguments_are : (n : ℕ) (args base : List ℤ) → length args ≡ n → arguments n (reverse args ++ base) ≡ args
+pub arguments_are : (n : ℕ) (args base : List ℤ) → length args ≡ n → arguments n (reverse args ++ base) ≡ args
 arguments_are n args base e = ap (λ k. reverse (take k (reverse args ++ base))) (sym e ∙ sym (length_reverse args)) ∙ ap reverse (take_front (reverse args) base) ∙ reverse-reverse args
 
-base_is : (n : ℕ) (args base : List ℤ) → length args ≡ n → drop n (reverse args ++ base) ≡ base
+pub base_is : (n : ℕ) (args base : List ℤ) → length args ≡ n → drop n (reverse args ++ base) ≡ base
 base_is n args base e = ap (λ k. drop k (reverse args ++ base)) (sym e ∙ sym (length_reverse args)) ∙ drop_front (reverse args) base
 
-enough : (n : ℕ) (args base : List ℤ) → length args ≡ n → nat_le n (length (reverse args ++ base)) ≡ true
+pub enough : (n : ℕ) (args base : List ℤ) → length args ≡ n → nat_le n (length (reverse args ++ base)) ≡ true
 enough n args base e = let l = length_reverse args in let j = joined (reverse args) base in below n (length (reverse args ++ base)) (omega (arith, e, l, j))
 
-is_less : (n m : ℕ) → n < m → nat_lt n m ≡ true
+pub is_less : (n m : ℕ) → n < m → nat_lt n m ≡ true
 is_less n m h = search rules
 
-is_not_less : (n m : ℕ) → m ≤ n → nat_lt n m ≡ false
+pub is_not_less : (n m : ℕ) → m ≤ n → nat_lt n m ≡ false
 is_not_less n m h = search rules
 
 pub replicated : (n : ℕ) → length (replicate n (pos 0)) ≡ n

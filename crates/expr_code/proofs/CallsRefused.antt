@@ -4,7 +4,7 @@ use Rattle.std.specs.Prelude.{is_some, max, slice_get}
 use Rattle.ada_tree.specs.declared.expression.Argument.{Argument}
 use Rattle.ada_tree.specs.declared.expression.Identifier.{Identifier}
 use Rattle.ada_tree.specs.ExpressionTree as tree
-use Rattle.ada_tree.specs.ExpressionTree.{argument_tree, argument_trees, ArgumentTree, ArgumentTrees, Arguments, ExprTree, MoreSelectors, NoSelectors, SelectorTrees, Value}
+use Rattle.ada_tree.specs.ExpressionTree.{argument_tree, argument_trees, ArgumentTrees, Arguments, ExprTree, MoreSelectors, NoSelectors, SelectorTrees}
 use Rattle.ada_tree.specs.Size.{argument_size, arguments_size, total}
 use Rattle.types.specs.declared.entity.FormalParameter.{FormalParameter}
 use Rattle.types.specs.declared.entity.PredefinedOperation.{PredefinedOperation}
@@ -152,13 +152,14 @@ module _ (v : Visible) where
         ap (λ o. elim o [ None ↦ None | Some n ↦ operation_of (entity_at v.scope n) ]) names.numbered
         ∙ ap operation_of names.stands
 
-    made_is : is_made v first (stands_first v.scope (number_of v.scope first.name))
+    made_is : (selectors : SelectorTrees) → is_made v first selectors (stands_first v.scope (number_of v.scope first.name))
         ≡ (is_called v.scope (subprogram_of v first.name) profile && are_passable v.scope profile.formals)
-    made_is = ap (is_made v first) (stands v first profile names) ∙ callee_made v first None (Some profile) of_program profile_is
+    made_is selectors = ap (is_made v first selectors) (stands v first profile names) ∙ callee_made v first None (Some profile) of_program profile_is
 
     -- what the function itself refuses
-    not_called : is_called v.scope (subprogram_of v first.name) profile ≡ false → is_made v first (stands_first v.scope (number_of v.scope first.name)) ≡ false
-    not_called h = made_is ∙ ap (λ b. b && are_passable v.scope profile.formals) h
+    not_called : (selectors : SelectorTrees) → is_called v.scope (subprogram_of v first.name) profile ≡ false
+        → is_made v first selectors (stands_first v.scope (number_of v.scope first.name)) ≡ false
+    not_called selectors h = made_is selectors ∙ ap (λ b. b && are_passable v.scope profile.formals) h
 
     result_valueless : (r : Option Subtype) → fixed_value (select_all v.scope (result_stands r) NoSelectors) ≡ None
     result_valueless (Some t) = refl
@@ -209,11 +210,11 @@ module _ (v : Visible) where
             name_refused v first (MoreSelectors (Arguments a) NoSelectors) (call_valueless a) old depth m l
             (not (is_called v.scope (subprogram_of v first.name) profile)) why (λ h. absurd h) (omega (arith, up)) (high l (arguments_peak v.scope a) below most)
             (λ h. begin_outside v first (MoreSelectors (Arguments a) NoSelectors) (call_valueless a)
-            (not_called (off (is_called v.scope (subprogram_of v first.name) profile) h))) r
+            (not_called (MoreSelectors (Arguments a) NoSelectors) (off (is_called v.scope (subprogram_of v first.name) profile) h))) r
 
       pub alone_refused : IsRefused (here old + 1) depth (not (is_called v.scope (subprogram_of v first.name) profile)) why
           → RefusesExpression v old depth (tree.Named first NoSelectors) why
       alone_refused r =
           name_refused v first NoSelectors alone_valueless old depth _ depth (not (is_called v.scope (subprogram_of v first.name) profile)) why (λ h. absurd h)
           (omega arith) (omega arith)
-          (λ h. begin_outside v first NoSelectors alone_valueless (not_called (off (is_called v.scope (subprogram_of v first.name) profile) h))) r
+          (λ h. begin_outside v first NoSelectors alone_valueless (not_called NoSelectors (off (is_called v.scope (subprogram_of v first.name) profile) h))) r

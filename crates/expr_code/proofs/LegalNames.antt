@@ -7,7 +7,7 @@ use Rattle.ada_tree.specs.declared.expression.Argument.{Argument}
 use Rattle.ada_tree.specs.declared.expression.Identifier.{Identifier}
 use Rattle.ada_tree.specs.declared.expression.Selector.{Selector}
 use Rattle.ada_tree.specs.ExpressionTree as tree
-use Rattle.ada_tree.specs.ExpressionTree.{argument_tree, argument_trees, ArgumentTree, ArgumentTrees, Arguments, Attribute, Component, MoreArguments, MoreSelectors, NoArguments, NoSelectors, selector_trees, SelectorTree, SelectorTrees, Text}
+use Rattle.ada_tree.specs.ExpressionTree.{argument_trees, ArgumentTrees, Arguments, Attribute, Component, MoreSelectors, NoSelectors, selector_trees, SelectorTree, SelectorTrees}
 use Rattle.types.specs.declared.entity.FormalParameter.{FormalParameter}
 use Rattle.types.specs.declared.entity.Role.{Role}
 use Rattle.types.specs.declared.entity.Subtype.{Subtype}
@@ -30,7 +30,7 @@ use Rattle.expr_soundness.proofs.Goods.{Good, GoodCallee, good_first, good_selec
 use Rattle.expr_soundness.proofs.Positions.{named, same_some}
 use Rattle.expr_code.specs.Emitting.{IsLegalExpression}
 use Rattle.expr_code.specs.Going.{IsLegalPart}
-use Rattle.expr_code.specs.Refusing.{is_made, selectors_outside}
+use Rattle.expr_code.specs.Refusing.{is_external_call, is_made, selectors_outside}
 use Rattle.expr_code.specs.Seeing.{NamesProfile}
 use Rattle.expr_code.specs.declared.visible.Visible.{Visible}
 use Rattle.expr_code.proofs.Actuals.{counted}
@@ -114,20 +114,21 @@ module _ (s : Scope) (first : Identifier) (selectors : SelectorTrees) (legal : I
           → ((r : Role) (t : Subtype) → w ≡ standing.Part r t → ⊥)
           → ((t : Subtype) → w ≡ standing.Named t → ⊥)
           → ((f : Callee) → w ≡ standing.Callee f → ⊥)
-          → is_made v first w ≡ false
-      begins_otherwise v (standing.Part r t) is part type callee = absurd (part r t refl)
-      begins_otherwise v (standing.Named t) is part type callee = absurd (type t refl)
-      begins_otherwise v (standing.Callee f) is part type callee = absurd (callee f refl)
-      begins_otherwise v (standing.Protected n) is part type callee = refl
-      begins_otherwise v (standing.Given t None) is part type callee = absurd (not_given t is)
-      begins_otherwise v (standing.Given t (Some x)) is part type callee = absurd (nothing_else (standing.Given t (Some x)) is refl)
-      begins_otherwise v (standing.Fixed t x) is part type callee = absurd (nothing_else (standing.Fixed t x) is refl)
-      begins_otherwise v (standing.Plain z) is part type callee = absurd (nothing_else (standing.Plain z) is refl)
-      begins_otherwise v standing.Put is part type callee = absurd (nothing_else standing.Put is refl)
-      begins_otherwise v standing.Statement is part type callee = absurd (nothing_else standing.Statement is refl)
-      begins_otherwise v standing.Task is part type callee = absurd (nothing_else standing.Task is refl)
-      begins_otherwise v standing.Other is part type callee = absurd (nothing_else standing.Other is refl)
-      begins_otherwise v standing.Doubtful is part type callee = absurd (nothing_else standing.Doubtful is refl)
+          → ((n : ℕ) → w ≡ standing.Protected n → is_external_call v first.name selectors ≡ false)
+          → is_made v first selectors w ≡ false
+      begins_otherwise v (standing.Part r t) is part type callee object = absurd (part r t refl)
+      begins_otherwise v (standing.Named t) is part type callee object = absurd (type t refl)
+      begins_otherwise v (standing.Callee f) is part type callee object = absurd (callee f refl)
+      begins_otherwise v (standing.Protected n) is part type callee object = object n refl
+      begins_otherwise v (standing.Given t None) is part type callee object = absurd (not_given t is)
+      begins_otherwise v (standing.Given t (Some x)) is part type callee object = absurd (nothing_else (standing.Given t (Some x)) is refl)
+      begins_otherwise v (standing.Fixed t x) is part type callee object = absurd (nothing_else (standing.Fixed t x) is refl)
+      begins_otherwise v (standing.Plain z) is part type callee object = absurd (nothing_else (standing.Plain z) is refl)
+      begins_otherwise v standing.Put is part type callee object = absurd (nothing_else standing.Put is refl)
+      begins_otherwise v standing.Statement is part type callee object = absurd (nothing_else standing.Statement is refl)
+      begins_otherwise v standing.Task is part type callee object = absurd (nothing_else standing.Task is refl)
+      begins_otherwise v standing.Other is part type callee object = absurd (nothing_else standing.Other is refl)
+      begins_otherwise v standing.Doubtful is part type callee object = absurd (nothing_else standing.Doubtful is refl)
 
 -- a type is no value
 pub no_type_alone : (s : Scope) (first : Identifier) (t : Subtype) → IsLegalExpression s (tree.Named first NoSelectors)

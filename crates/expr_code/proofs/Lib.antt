@@ -3,7 +3,7 @@ mod Operators
 mod Expressions
 pub mod Passing
 pub mod CallFrames
-mod CallRefusals
+pub mod CallRefusals
 mod CountedSteps
 pub mod Calling
 pub mod Naming
@@ -30,5 +30,6 @@ mod FitShapes
 mod LegalNames
 mod NamesRefused
 mod CallsRefused
+pub mod Externals
 pub mod Language
 pub mod Shallow

@@ -5,7 +5,7 @@ use Rattle.std.proofs.Math.Nat.{le-max_right}
 use Rattle.ada_tree.specs.declared.expression.Identifier.{Identifier}
 use Rattle.ada_tree.specs.declared.expression.Selector.{Selector}
 use Rattle.ada_tree.specs.ExpressionTree as tree
-use Rattle.ada_tree.specs.ExpressionTree.{argument_tree, argument_trees, ArgumentTree, ArgumentTrees, Arguments, Component, ExprTree, MoreArguments, MoreSelectors, NoArguments, NoSelectors, selector_tree, selector_trees, SelectorTree, SelectorTrees, Value}
+use Rattle.ada_tree.specs.ExpressionTree.{Arguments, ExprTree, MoreArguments, MoreSelectors, NoArguments, NoSelectors, selector_tree, selector_trees, SelectorTrees, Value}
 use Rattle.ada_tree.specs.Size.{selectors_size}
 use Rattle.types.specs.declared.entity.Role.{Role}
 use Rattle.types.specs.declared.entity.Subtype.{Subtype}
@@ -40,15 +40,15 @@ module _ (v : Visible) (first : Identifier) (selectors : SelectorTrees) (valuele
   abbrev named : ExprTree
   named = tree.Named first selectors
 
-  outside_named : (not (is_made v first begins) || selectors_outside v selectors) ≡ true → is_outside v named ≡ true
-  outside_named h = ap (λ o. is_none o && (not (is_made v first begins) || selectors_outside v selectors)) valueless ∙ h
+  outside_named : (not (is_made v first selectors begins) || selectors_outside v selectors) ≡ true → is_outside v named ≡ true
+  outside_named h = ap (λ o. is_none o && (not (is_made v first selectors begins) || selectors_outside v selectors)) valueless ∙ h
 
   -- what its beginning refuses
-  pub begin_outside : is_made v first begins ≡ false → is_outside v named ≡ true
+  pub begin_outside : is_made v first selectors begins ≡ false → is_outside v named ≡ true
   begin_outside h = outside_named (ap (λ b. not b || selectors_outside v selectors) h)
 
   pub behind_outside : selectors_outside v selectors ≡ true → is_outside v named ≡ true
-  behind_outside h = outside_named (or_right (not (is_made v first begins)) (selectors_outside v selectors) h)
+  behind_outside h = outside_named (or_right (not (is_made v first selectors begins)) (selectors_outside v selectors) h)
 
   -- what stands behind it
   pub name_refused : {a : Type 0} (old : Code) (depth m l : ℕ) (p : Bool) (why : Refusal) → (a → HasUnfitObject v)

@@ -1,5 +1,5 @@
 -- Values that are passed: checks against subtypes, actual parameters, calls of functions.
-use Rattle.std.proofs.Common.{◌≡◌, ℕ, suc, ◌+◌, ◌-◌, ◌≤◌, ℤ, List, [], ◌∷◌, ◌++◌, append_assoc, cond, map, reverse, None, Some, Ok, Bool, true, false, refl, sym, ap, ◌∙◌, subst, arith}
+use Rattle.std.proofs.Common.{◌≡◌, ℕ, suc, ◌+◌, ◌-◌, ◌≤◌, ℤ, List, [], ◌∷◌, ◌++◌, append_assoc, cond, map, reverse, Option, None, Some, Ok, Bool, true, false, refl, sym, ap, ◌∙◌, subst, arith}
 use Rattle.std.proofs.lemmas.List.{reverse-append}
 use Rattle.base.specs.Arithmetic.{constraint_error}
 use Rattle.base.specs.declared.exceptions.PredefinedException.TheVariants.{ConstraintError}
@@ -14,13 +14,15 @@ use Rattle.ada_tree.specs.ExpressionTree.{ArgumentTrees, ExprTree, MoreArguments
 use Rattle.image.specs.Sections.{Sections}
 use Rattle.image.specs.Frames.{Words, Frame}
 use Rattle.image.specs.Scalars.{in_bounds}
+use Rattle.image.specs.declared.instruction.Operation.{Operation}
 use Rattle.image.specs.declared.instruction.Operation.TheVariants as op
 use Rattle.types.specs.declared.entity.Subtype.{Subtype}
+use Rattle.types.specs.Entities.{ProtectedObject}
 use Rattle.types.specs.Values.{Value, Number, is_within, value_of}
 use Rattle.types.specs.Shapes.{value_words}
 use Rattle.types.specs.Evaluations.{Val, Gives, Raises, Meaningless, and_then, raise}
-use Rattle.types.specs.Places.{Function, IsFunction, IsValue, Meaning, Place, meaning_of}
-use Rattle.types.specs.Evaluating.{Calls, actuals_with, fixed_name, formal_subtype, name_with, passed, value_with}
+use Rattle.types.specs.Places.{Function, IsValue, Meaning, Place, meaning_of}
+use Rattle.types.specs.Evaluating.{Calls, actuals_with, called, fixed_name, formal_subtype, name_with, passed, value_with}
 use Rattle.expr_code.specs.Views.{At, placed, Sight, view_of}
 use Rattle.expr_code.specs.Coming.{all_on, all_words, Comes, on}
 use Rattle.expr_code.specs.OperatorCode.{IsWordOf}
@@ -42,11 +44,12 @@ value_alone calls p (Gives v) = refl
 value_alone calls p (Raises x) = refl
 value_alone calls p Meaningless = refl
 
-call_value : (calls : Calls) (p : Place) (function : Function) (vs : Val (List Value))
-    → and_then (and_then vs (λ ws. and_then (calls p function ws) (λ x. Gives (IsValue x)))) (λ n. name_with calls p n NoSelectors) ≡ and_then vs (calls p function)
-call_value calls p function (Gives vs) = value_alone calls p (calls p function vs)
-call_value calls p function (Raises x) = refl
-call_value calls p function Meaningless = refl
+call_value : (calls : Calls) (p : Place) (function : Function) (through : Option ProtectedObject) (vs : Val (List Value))
+    → and_then (and_then vs (λ ws. and_then (called calls p function through ws) (λ x. Gives (IsValue x)))) (λ n. name_with calls p n NoSelectors)
+    ≡ and_then vs (called calls p function through)
+call_value calls p function through (Gives vs) = value_alone calls p (called calls p function through vs)
+call_value calls p function through (Raises x) = refl
+call_value calls p function through Meaningless = refl
 
 -- the value of a name that stands for no constant
 pub named_value : (calls : Calls) (p : Place) (first : Identifier) (selectors : SelectorTrees) (meaning : Meaning)
@@ -120,36 +123,42 @@ module _ (quiet : QuietStays) (i : Sections) where
         (λ v ev. onto schedule k t m calm f fs mid (to - mid) to base v others (second calls left answers schedule k t m f fs p (on base v) calm sees is)))
 
     -- a call of a function
-    pub computes_call : (from mid number : ℕ) (first : Identifier) (arguments : ArgumentTrees) (ts : List Subtype) → from ≤ mid
-        → AlwaysNames i library sight first (MoreSelectors (Arguments arguments) NoSelectors) number ts
+    pub computes_call : (from mid : ℕ) (operation : Operation) (first : Identifier) (selectors : SelectorTrees) (arguments : ArgumentTrees) (ts : List Subtype)
+        → from ≤ mid
+        → AlwaysNames i library sight first selectors (MoreSelectors (Arguments arguments) NoSelectors) operation ts
         → ArePassedWell i library sight ts arguments
         → ComputesAll i library sight from mid ts arguments
-        → At i mid (op.Call number)
-        → Computes i library sight from (suc mid) (tree.Named first (MoreSelectors (Arguments arguments) NoSelectors))
-    computes_call from mid number first arguments ts le names passed_well all here calls left answers schedule k t m f fs p base calm sees is =
+        → At i mid operation
+        → Computes i library sight from (suc mid) (tree.Named first selectors)
+    computes_call from mid operation first name arguments ts le names passed_well all here calls left answers schedule k t m f fs p base calm sees is =
         let view = view_of i schedule k t m f fs in
         let named = names p view sees in
         let function = named.function in
+        let call = called calls p function named.through in
         let actuals = actuals_with calls p arguments ts in
         subst (λ v. Comes i schedule k t m (placed f from base) fs (suc mid - from) (suc mid) (on base) v)
-        (sym (named_value calls p first (MoreSelectors (Arguments arguments) NoSelectors) (IsFunction function None) named.valueless named.means
-        ∙ call_value calls p function (actuals_with calls p arguments (map formal_subtype function.formals))
-        ∙ ap (λ us. and_then (actuals_with calls p arguments us) (calls p function)) named.formals))
-        (more quiet i schedule k t m calm (placed f from base) fs ((mid - from) + 1) (suc mid - from) (suc mid) (on base) (and_then actuals (calls p function)) (omega (arith, le))
-        (then_comes quiet i schedule k t m calm (placed f from base) fs (mid - from) 1 mid (suc mid) (all_on base) (on base) actuals (calls p function) le (omega arith)
+        (sym (named.means calls
+        ∙ call_value calls p function named.through (actuals_with calls p arguments (map formal_subtype function.formals))
+        ∙ ap (λ us. and_then (actuals_with calls p arguments us) call) named.formals))
+        (more quiet i schedule k t m calm (placed f from base) fs ((mid - from) + 1) (suc mid - from) (suc mid) (on base) (and_then actuals call)
+        (omega (arith, le))
+        (then_comes quiet i schedule k t m calm (placed f from base) fs (mid - from) 1 mid (suc mid) (all_on base) (on base) actuals call le (omega arith)
         (all calls left answers schedule k t m f fs p base calm sees is)
-        (λ vs ev. answers.answers schedule k t m f fs p mid base function None number vs calm named.shared named.coded tt here (passed_well calls p view function vs answers.sound sees named.formals ev) is)))
+        (λ vs ev. answers.answers schedule k t m f fs p mid base function named.through named.number vs calm named.shared named.coded named.allowed
+        (subst (At i mid) (sym named.way) here) (passed_well calls p view function vs answers.sound sees named.formals ev) is)))
 
     -- ... that has no formals
-    pub computes_call_alone : (from number : ℕ) (first : Identifier)
-        → AlwaysNames i library sight first NoSelectors number []
+    pub computes_call_alone : (from : ℕ) (operation : Operation) (first : Identifier) (selectors : SelectorTrees)
+        → AlwaysNames i library sight first selectors NoSelectors operation []
         → ArePassedWell i library sight [] NoArguments
-        → At i from (op.Call number)
-        → Computes i library sight from (suc from) (tree.Named first NoSelectors)
-    computes_call_alone from number first names passed_well here calls left answers schedule k t m f fs p base calm sees is =
+        → At i from operation
+        → Computes i library sight from (suc from) (tree.Named first selectors)
+    computes_call_alone from operation first name names passed_well here calls left answers schedule k t m f fs p base calm sees is =
         let view = view_of i schedule k t m f fs in
         let named = names p view sees in
         let function = named.function in
-        subst (λ v. Comes i schedule k t m (placed f from base) fs (suc from - from) (suc from) (on base) v) (sym (named_value calls p first NoSelectors (IsFunction function None) named.valueless named.means))
-        (more quiet i schedule k t m calm (placed f from base) fs 1 (suc from - from) (suc from) (on base) (calls p function []) (omega arith)
-        (answers.answers schedule k t m f fs p from base function None number [] calm named.shared named.coded tt here (passed_well calls p view function [] answers.sound sees named.formals refl) is))
+        let call = called calls p function named.through [] in
+        subst (λ v. Comes i schedule k t m (placed f from base) fs (suc from - from) (suc from) (on base) v) (sym (named.means calls))
+        (more quiet i schedule k t m calm (placed f from base) fs 1 (suc from - from) (suc from) (on base) call (omega arith)
+        (answers.answers schedule k t m f fs p from base function named.through named.number [] calm named.shared named.coded named.allowed
+        (subst (At i from) (sym named.way) here) (passed_well calls p view function [] answers.sound sees named.formals refl) is))

@@ -290,6 +290,21 @@ module _ (v : Visible) (depth : ℕ) where
       up : (k n : ℕ) → depth + n ≤ depth + max (k + n) 1
       up k n = omega arith
 
+  -- ... through the name of a protected object
+  pub external_shallow : (first operation : Identifier) (all : List Argument) (a b c : Code) (height : ℕ)
+      → height ≤ depth + arguments_peak v.scope (argument_trees all)
+      → IsShallow a b (depth + arguments_peak v.scope (argument_trees all)) → IsShallow b c height
+      → IsShallow a c
+      (depth + peak v.scope (tree.Named first (MoreSelectors (Component operation) (MoreSelectors (Arguments (argument_trees all)) NoSelectors))))
+  external_shallow first operation all a b c height high p q =
+      named_shallow first (MoreSelectors (Component operation) (MoreSelectors (Arguments (argument_trees all)) NoSelectors)) a c
+      (depth + arguments_peak v.scope (argument_trees all))
+      (up (words_below v.scope (stands_first v.scope (number_of v.scope first.name))) (arguments_peak v.scope (argument_trees all)))
+      (shallow_next a b c height (depth + arguments_peak v.scope (argument_trees all)) high p q)
+    where
+      up : (k n : ℕ) → depth + n ≤ depth + max (k + 1) (max (k + n) 1)
+      up k n = omega arith
+
   pub passed_shallow : (all : List Argument) (n height : ℕ) (x : Argument) (a b c : Code) → slice_get all n ≡ Some x → height ≡ depth + n
       → IsShallow a b (depth + arguments_peak v.scope (argument_trees all)) → IsShallow b c (height + argument_peak v.scope (argument_tree x))
       → IsShallow a c (depth + arguments_peak v.scope (argument_trees all))

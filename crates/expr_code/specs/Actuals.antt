@@ -1,10 +1,10 @@
 -- What code promises that computes the actual parameters of a call, and the call (RM 6.4).
-use Rattle.std.specs.Prelude.{◌≡◌, ℕ, ◌+◌, ◌*◌, ◌≤◌, List, [], ◌∷◌, ◌++◌, map, Some, slice_get}
+use Rattle.std.specs.Prelude.{◌≡◌, ℕ, ◌+◌, ◌*◌, ◌≤◌, List, [], ◌∷◌, ◌++◌, map, Option, Some, slice_get}
 use Rattle.ada_tree.specs.declared.expression.Identifier.{Identifier}
 use Rattle.ada_tree.specs.ExpressionTree.{Arguments, ArgumentTree, ArgumentTrees, ExprTree, MoreArguments, MoreSelectors, Named, NoArguments, NoSelectors, Value}
 use Rattle.ada_tree.specs.Size.{argument_size, total}
 use Rattle.image.specs.Sections.{Sections}
-use Rattle.image.specs.declared.instruction.Operation.TheVariants as op
+use Rattle.image.specs.declared.instruction.Operation.{Operation}
 use Rattle.types.specs.declared.entity.FormalParameter.{FormalParameter}
 use Rattle.types.specs.declared.entity.Subtype.{Subtype}
 use Rattle.types.specs.Entities.{Profile}
@@ -20,7 +20,7 @@ use Rattle.expr_code.specs.Code.{Adds, here, Extends, Holds}
 use Rattle.expr_code.specs.Computing.{ArePassed, ComputesAll}
 use Rattle.expr_code.specs.Emitting.{EmitsChecked}
 use Rattle.expr_code.specs.Flows.{Flows}
-use Rattle.expr_code.specs.Seeing.{library_of, Package, Sees, subprogram_of, Suits}
+use Rattle.expr_code.specs.Seeing.{library_of, Package, Sees, Suits}
 use Rattle.expr_code.specs.Views.{View}
 use Rattle.expr_code.specs.declared.code.Code.{Code}
 use Rattle.expr_code.specs.declared.visible.Visible.{Visible}
@@ -68,11 +68,11 @@ pub record EmitsActual (v : Visible) (old : Code) (depth : ℕ) (t : Subtype) (a
   pub is : a ≡ Value value
   pub emits : EmitsChecked v old depth t value new
 
--- the call of a function was added that has a subprogram, and whose result takes one word
-pub record AddsCall (v : Visible) (name : List ℕ) (profile : Profile) (old : Code) (height : ℕ) (new : Code) : Type 0 where
+-- the call of a function was added that has a subprogram, with this number where it has one, by an instruction of this form; its result takes one word
+pub record AddsCall (v : Visible) (told : Option ℕ) (form : ℕ → Operation) (profile : Profile) (old : Code) (height : ℕ) (new : Code) : Type 0 where
   pub number : ℕ
-  pub numbered : subprogram_of v name ≡ Some number
+  pub numbered : told ≡ Some number
   pub result : Subtype
   pub is : profile.result ≡ Some result
   pub single : words_of v.scope result ≡ 1
-  pub adds : Adds old height (op.Call number) new
+  pub adds : Adds old height (form number) new

@@ -5,7 +5,7 @@ use Rattle.kernel.specs.State.{Kernel}
 use Rattle.kernel.specs.Calm.{Calm}
 use Rattle.expr_soundness.specs.handlers.specs.Innermost.{handler_of}
 use Rattle.ada_tree.specs.declared.expression.Identifier.{Identifier}
-use Rattle.ada_tree.specs.ExpressionTree.{ExprTree, ArgumentTrees, SelectorTrees, ElsifValueTrees, NoElsifValues, MoreElsifValues}
+use Rattle.ada_tree.specs.ExpressionTree.{ExprTree, ArgumentTrees, Named, SelectorTrees, ElsifValueTrees, NoElsifValues, MoreElsifValues}
 use Rattle.image.specs.Sections.{Sections, first_place, object_of}
 use Rattle.image.specs.Operations.{called as subprogram_called}
 use Rattle.image.specs.Frames.{Words, Frame, object_words}
@@ -20,8 +20,8 @@ use Rattle.types.specs.declared.entity.Subtype.{Subtype}
 use Rattle.types.specs.Values.{Value, Number, Truth}
 use Rattle.types.specs.Shapes.{Shape, has_shape, value_words}
 use Rattle.types.specs.Evaluations.{Val, Gives, and_then}
-use Rattle.types.specs.Places.{Function, IsFunction, Place, ceiling_of, meaning_of}
-use Rattle.types.specs.Evaluating.{Calls, actuals_with, called, entered, fixed_name, formal_subtype, passed, value_with}
+use Rattle.types.specs.Places.{Function, IsFunction, Place, ceiling_of}
+use Rattle.types.specs.Evaluating.{Calls, actuals_with, called, entered, formal_subtype, name_with, passed, value_with}
 use Rattle.expr_code.specs.Views.{At, IsSameTask, placed, frames_above, Sight, View, view_of}
 use Rattle.expr_code.specs.Coming.{all_on, all_words, Comes, on}
 
@@ -128,17 +128,21 @@ module _ (i : Sections) (library : Library) where
   abbrev pub AlwaysPasses : Sight → Subtype → ExprTree → Type 0
   AlwaysPasses sight t e = (calls : Calls) (p : Place) (view : View) (v : Value) → library.sound calls → sight p view → value_with calls p e ≡ Gives v → passed t v ≡ Gives v
 
-  -- The name stands for a function, which has this subprogram and these subtypes of its formals.
-  pub record NamesFunction (first : Identifier) (selectors : SelectorTrees) (number : ℕ) (ts : List Subtype) (p : Place) (view : View) : Type 0 where
+  -- The name stands for a call of a function by this operation, which has these subtypes of its formals; so much stands behind the function's own name.
+  pub record NamesFunction (first : Identifier) (selectors behind : SelectorTrees) (operation : Operation) (ts : List Subtype) (p : Place)
+      (view : View) : Type 0 where
     pub function : Function
+    pub through : Option ProtectedObject
+    pub number : ℕ
     pub coded : library.coded function number
+    pub allowed : IsCalledThrough p function through
+    pub way : call_operation through number ≡ operation
     pub shared : library.shared p view
-    pub valueless : fixed_name p first selectors ≡ None
-    pub means : meaning_of p first.name ≡ IsFunction function None
+    pub means : (calls : Calls) → value_with calls p (Named first selectors) ≡ name_with calls p (IsFunction function through) behind
     pub formals : map formal_subtype function.formals ≡ ts
 
-  abbrev pub AlwaysNames : Sight → Identifier → SelectorTrees → (number : ℕ) → List Subtype → Type 0
-  AlwaysNames sight first selectors number ts = (p : Place) (view : View) → sight p view → NamesFunction first selectors number ts p view
+  abbrev pub AlwaysNames : Sight → Identifier → (selectors behind : SelectorTrees) → Operation → List Subtype → Type 0
+  AlwaysNames sight first selectors behind operation ts = (p : Place) (view : View) → sight p view → NamesFunction first selectors behind operation ts p view
 
   -- the actual parameters have the shapes of the formals of each function that has these subtypes of formals
   abbrev pub ArePassedWell : Sight → List Subtype → ArgumentTrees → Type 0

@@ -25,7 +25,7 @@ use Rattle.expr_code.specs.Branches.{Branch, branches_size}
 use Rattle.expr_code.specs.Code.{here}
 use Rattle.expr_code.specs.Emitting.{has_numbers, is_composite}
 use Rattle.expr_code.specs.OperatorCode.{binary_operation}
-use Rattle.expr_code.specs.Seeing.{operation_named, profile_named, slot_of, subprogram_of}
+use Rattle.expr_code.specs.Seeing.{external_of, external_profile, operation_named, profile_named, slot_of, subprogram_of}
 use Rattle.expr_code.specs.Widths.{width_of}
 use Rattle.expr_code.specs.declared.code.Code.{Code}
 use Rattle.expr_code.specs.declared.refusal.Refusal.{Refusal}
@@ -113,14 +113,23 @@ abbrev pub is_callable : Scope → (number : Option ℕ) → Option Profile → 
 is_callable s number (Some p) = is_called s number p && are_passable s p.formals
 is_callable s number None = false
 
+-- ... a function that is named behind its protected object, alone or with its actual parameters
+abbrev pub is_external_callable : Visible → (object operation : List ℕ) → Bool
+is_external_callable v object operation = is_callable v.scope (external_of v object operation) (external_profile v.scope object operation)
+
+abbrev pub is_external_call : Visible → (object : List ℕ) → SelectorTrees → Bool
+is_external_call v object (MoreSelectors (Component operation) NoSelectors) = is_external_callable v object operation.name
+is_external_call v object (MoreSelectors (Component operation) (MoreSelectors (Arguments all) NoSelectors)) = is_external_callable v object operation.name
+is_external_call v object _ = false
+
 -- Whether code is made of a name that begins like this: with an object that has a place, with a type in front of what is converted, with a function of the
--- language, or with one that code may call; not with a protected object, in front of its function. Nothing else begins a legal name without a known value.
-abbrev pub is_made : Visible → Identifier → Standing → Bool
-is_made v first (standing.Part r t) = is_some (slot_of v first.name)
-is_made v first (standing.Callee f) =
+-- language, or with one that code may call, also behind the name of its protected object. Nothing else begins a legal name without a known value.
+abbrev pub is_made : Visible → Identifier → SelectorTrees → Standing → Bool
+is_made v first behind (standing.Part r t) = is_some (slot_of v first.name)
+is_made v first behind (standing.Callee f) =
     is_some (operation_named v.scope first.name) || is_callable v.scope (subprogram_of v first.name) (profile_named v.scope first.name)
-is_made v first (standing.Protected n) = false
-is_made v first w = true
+is_made v first behind (standing.Protected n) = is_external_call v first.name behind
+is_made v first behind w = true
 
 abbrev mutual
   -- The expression has something that code isn't made for. What is in the parentheses of a name with a known value isn't evaluated.
@@ -128,7 +137,7 @@ abbrev mutual
   is_outside v (Number z place) = false
   is_outside v (Named first selectors) =
       is_none (fixed_value (standing_of v.scope first selectors))
-      && (not (is_made v first (stands_first v.scope (number_of v.scope first.name))) || selectors_outside v selectors)
+      && (not (is_made v first selectors (stands_first v.scope (number_of v.scope first.name))) || selectors_outside v selectors)
   is_outside v (Parenthesized place e) = is_outside v e
   is_outside v (Unary operator place e) = is_outside v e
   is_outside v (Binary operator a b) = is_outside v a || is_outside v b

@@ -2,6 +2,7 @@
 ghost use Rattle.std.specs.Prelude.{◌≡◌, ◌+◌, map, None, not, take, length, IfErr, IfOk, OnOk};
 ghost use Rattle.ada_tree.specs.ExpressionTree.{argument_tree, argument_trees, Arguments, MoreSelectors, Named, NoSelectors};
 ghost use Rattle.ada_tree.specs.declared.declaration.Mode.TheVariants.{In};
+ghost use Rattle.image.specs.declared.instruction.Operation.TheVariants.{Call, ProtectedCall};
 ghost use Rattle.types.specs.declared.standing.Callee.{Callee};
 ghost use Rattle.types.specs.declared.standing.Standing.TheVariants as standing;
 ghost use Rattle.types.specs.Entities.{profile_value};
@@ -13,7 +14,7 @@ ghost use Rattle.expr_code.specs.Emitting.{EmitsExpression, IsLegalExpression};
 ghost use Rattle.expr_code.specs.Actuals.{AddsCall, ArePassedLegally, EmitsActual, EmitsActuals, IsPassedLegally};
 ghost use Rattle.expr_code.specs.Code.{Extends, here, IsShallow};
 ghost use Rattle.expr_code.specs.Refusing.{is_called, IsRefused, RefusesActual, RefusesActuals, RefusesExpression, argument_peak, arguments_peak, peak};
-ghost use Rattle.expr_code.specs.Seeing.{NamesProfile, subprogram_of};
+ghost use Rattle.expr_code.specs.Seeing.{external_of, NamesProfile, subprogram_of};
 ghost use Rattle.expr_code.specs.Widths.{width_of};
 ghost use Rattle.expr_soundness.specs.SoundScopes.{AreIn, SoundScope};
 
@@ -136,7 +137,7 @@ impl Code {
     ) -> Result<(), Refusal>
         ensures refused { IfErr result (λ why. IsRefused (here self.old + 1) height (not (is_called visible.now.scope (subprogram_of visible.now first.now.name) (profile_value profile.now))) why) }
         ensures kept { IfErr result (λ why. Extends self.old self.new) }
-        ensures adds { OnOk result (AddsCall visible.now first.now.name (profile_value profile.now) self.old height self.new) }
+        ensures adds { OnOk result (AddsCall visible.now (subprogram_of visible.now first.now.name) Call (profile_value profile.now) self.old height self.new) }
     {
         let Some(number) = visible.subprogram(&first.name) else {
             return Err(Refusal::Outside);
@@ -149,9 +150,33 @@ impl Code {
         }
     }
 
-    // Adds the code of the actual parameters, and tells how many words stand on the operand stack with theirs.
+    /// Adds that of a function that is named behind its protected object.
+    pub(crate) fn invoke_external(
+        &mut self,
+        visible: &Visible,
+        height: u16,
+        object: &Identifier,
+        operation: &Identifier,
+        profile: &Profile,
+    ) -> Result<(), Refusal>
+        ensures refused { IfErr result (λ why. IsRefused (here self.old + 1) height (not (is_called visible.now.scope (external_of visible.now object.now.name operation.now.name) (profile_value profile.now))) why) }
+        ensures kept { IfErr result (λ why. Extends self.old self.new) }
+        ensures adds { OnOk result (AddsCall visible.now (external_of visible.now object.now.name operation.now.name) ProtectedCall (profile_value profile.now) self.old height self.new) }
+    {
+        let Some(number) = visible.external(&object.name, &operation.name) else {
+            return Err(Refusal::Outside);
+        };
+        match profile.result {
+            Some(result) if visible.scope.words(result) == 1 => {
+                self.emit(height, Operation::ProtectedCall(number))
+            }
+            _ => Err(Refusal::Outside),
+        }
+    }
+
+    /// Adds the code of the actual parameters, and tells how many words stand on the operand stack with theirs.
     #[cycle(expression)]
-    fn actuals(
+    pub(crate) fn actuals(
         &mut self,
         visible: &Visible,
         depth: u16,

@@ -117,6 +117,7 @@ impl Code {
             },
             Standing::Named(subtype) => self.converted(visible, depth, subtype, first, selectors),
             Standing::Callee(_) => self.called(visible, depth, first, selectors),
+            Standing::Protected(_) => self.external(visible, depth, first, selectors),
             _ => Err(Refusal::Outside),
         }
     }

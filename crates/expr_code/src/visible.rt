@@ -1,16 +1,16 @@
 //! What is visible to code: names, where the words of objects stand, and which subprograms functions have.
 ghost use Rattle.std.specs.Prelude.{◌≡◌, ◌∷◌, ◌++◌, [], false, length, option_map, take, IfErr, IfSome, OnOk};
-ghost use Rattle.types.specs.Entities.{profile_value};
+ghost use Rattle.types.specs.Entities.{profile_value, protected_value};
 ghost use Rattle.expr_code.specs.Entries.{entry_at};
 ghost use Rattle.expr_code.specs.Refusing.{IsRefused};
-ghost use Rattle.expr_code.specs.Seeing.{NamesOperation, NamesProfile, operation_named, profile_named, slot_of, subprogram_of};
+ghost use Rattle.expr_code.specs.Seeing.{external_of, external_profile, NamesOperation, NamesProfile, object_named, operation_entry, operation_named, profile_named, slot_of, subprogram_of};
 
 use crate::refusal::Refusal;
 use image::Region;
 use lexer::Text;
 use std::alloc::Global;
 use std::marker::Model;
-use types::{Entity, PredefinedOperation, Profile, Scope};
+use types::{Entity, PredefinedOperation, Profile, ProtectedObject, Scope};
 
 /// Where the first word of an object stands: its region, and how many words stand in front of it there.
 #[derive(Clone, Copy, PartialEq, Eq, Debug)]
@@ -77,13 +77,60 @@ impl<T: Copy> Entries<T> {
     }
 }
 
+/// The numbers of the subprograms of operations, by the number of their protected object among all, and by their place in its declaration (RM 9.4). Contracts see
+/// lists.
+#[derive(Drop)]
+pub struct OperationNumbers {
+    objects: Vec<Entries<u16>>,
+}
+
+impl Model for OperationNumbers {
+    ghost use Rattle.std.specs.Prelude.{ℕ, List, Option};
+
+    ghost Value = { List (List (Option ℕ)) };
+
+    ghost view = { λ o. o.objects.items };
+}
+
+impl OperationNumbers {
+    /// Those of no object.
+    pub fn new(alloc: Global) -> OperationNumbers
+        ensures { result ≡ [] }
+    {
+        OperationNumbers {
+            objects: Vec::new(alloc),
+        }
+    }
+
+    /// The number of the subprogram of the operation at this place, of the object with this number.
+    pub fn at(&self, object: usize, place: usize) -> Option<u16>
+        ensures { result ≡ operation_entry self.now object place }
+    {
+        match self.objects.get(object) {
+            Some(numbers) => numbers.at(place),
+            None => None,
+        }
+    }
+
+    /// Adds those of one object more.
+    pub fn push(&mut self, numbers: Entries<u16>) -> Result<(), Refusal>
+        ensures pushed { OnOk result (self.new ≡ self.old ++ numbers ∷ []) }
+        ensures refused { IfErr result (λ why. IsRefused 0 0 false why) }
+    {
+        self.objects.push(numbers)?;
+        Ok(())
+    }
+}
+
 /// The names that are visible in a part of a program. For each of them, by its number: where its words stand, if it is an object that has words, and the number
-/// of its subprogram, if it is one that may be called.
+/// of its subprogram, if it is one that may be called. And for each protected object, by its number among them, the numbers of the subprograms of its operations
+/// in the order of their declarations (RM 9.4).
 #[derive(Drop)]
 pub struct Visible {
     pub scope: Scope,
     pub slots: Entries<Slot>,
     pub subprograms: Entries<u16>,
+    pub operations: OperationNumbers,
 }
 
 impl Visible {
@@ -114,6 +161,36 @@ impl Visible {
             _ => None,
         }
     }
+
+    /// The protected object of this name, if it is one (RM 9.4).
+    fn protected(&self, name: &Text) -> Option<&ProtectedObject>
+        ensures { option_map (λ p. protected_value p.now) result ≡ object_named self.now.scope name.now }
+    {
+        let number = self.scope.number_of(name)?;
+        self.scope.protected(number)
+    }
+
+    /// The number of the subprogram of the operation that is named behind its protected object, if it is one that may be called.
+    pub fn external(&self, object: &Text, operation: &Text) -> Option<u16>
+        ensures { result ≡ external_of self.now object.now operation.now }
+    {
+        let protected = self.protected(object)?;
+        let place = protected.position_of(operation)?;
+        self.operations.at(protected.number, place)
+    }
+
+    /// The profile of the operation that is named behind its protected object, if it is one.
+    pub fn external_profile(&self, object: &Text, operation: &Text) -> Option<&Profile>
+        ensures { option_map (λ p. profile_value p.now) result ≡ external_profile self.now.scope object.now operation.now }
+    {
+        let protected = self.protected(object)?;
+        let place = protected.position_of(operation)?;
+        match protected.operations.as_slice().get(place) {
+            Some(found) => Some(&found.profile),
+            None => None,
+        }
+    }
+
     /// The function of the language that has this name, if it is one (RM D.8, and Control_IO).
     pub fn predefined(&self, name: &Text) -> Option<PredefinedOperation>
         ensures is { result ≡ operation_named self.now.scope name.now }

@@ -53,6 +53,6 @@ pub mod Procedures
 pub mod Assembled
 mod Returned
 mod Entering
-mod OfObjects
+pub mod OfObjects
 mod Gathered
 mod Starts

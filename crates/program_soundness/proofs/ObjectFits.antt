@@ -203,7 +203,7 @@ module _ (program : Program) (s : Scope) (all : List BodyItemTree) (w : IsPackag
     abbrev parts_of : object_components (scope_at s all declaration.place) declaration.tree.components ≡ Some obj.components
     parts_of = bodies.components_of program s all w nm.name obj declaration
 
-    component_none : (f : Bool) (name : List ℕ) → found_in (components_named f obj.components) name ≡ None → object_of (m.components obj.number) name ≡ None
+    pub component_none : (f : Bool) (name : List ℕ) → found_in (components_named f obj.components) name ≡ None → object_of (m.components obj.number) name ≡ None
     component_none f name h = by_found (object_of (m.components obj.number) name) refl
       where
         by_found : (x : Option Object) → object_of (m.components obj.number) name ≡ x → x ≡ None
@@ -215,7 +215,7 @@ module _ (program : Program) (s : Scope) (all : List BodyItemTree) (w : IsPackag
             let none = no_part_object program.scope (scope_at s all declaration.place) f declaration.tree.components obj.components name parts_of h in
             let bad = sym none ∙ ap (λ l. object_of l name) (sym components_are) ∙ there.1 in cc
 
-    component_there : (f : Bool) (name : List ℕ) (e : Entity) → found_in (components_named f obj.components) name ≡ Some e
+    pub component_there : (f : Bool) (name : List ℕ) (e : Entity) → found_in (components_named f obj.components) name ≡ Some e
         → (x : Object) × (object_of (m.components obj.number) name ≡ Some x) × (e ≡ entity.Object (component_role f) x.subtype)
     component_there f name e h =
         let first = component_found program.scope (scope_at s all declaration.place) f declaration.tree.components obj.components name e
@@ -228,7 +228,7 @@ module _ (program : Program) (s : Scope) (all : List BodyItemTree) (w : IsPackag
 
     -- ---- names in front of the body mean there what they mean in the package
 
-    none_here : (name : List ℕ) (e : Entity) → stands here name ≡ Some e → object_of (m.components obj.number) name ≡ None
+    pub none_here : (name : List ℕ) (e : Entity) → stands here name ≡ Some e → object_of (m.components obj.number) name ≡ None
     none_here name e h =
         component_none false name
         (no_part (scope_at s all declaration.place) false declaration.tree.components obj.components name parts_of

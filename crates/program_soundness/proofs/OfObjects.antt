@@ -46,10 +46,10 @@ module _ (program : Program) (s : Scope) (all : List BodyItemTree) (w : IsPackag
   module _ (own : (j : ℕ) (i : ProtectedItemTree) → slice_get items j ≡ Some i → bodies.HasOwn program s all w k nm items end_name at i)
       (sounds : bodies.SeenSound program s all w k nm items end_name at) (inners : bodies.InnerSound program s all w k nm items end_name at)
       (j : ℕ) (e : SubprogramTree) (b : BodyTree) (h : slice_get items j ≡ Some (OperationBody e b)) where
-    abbrev front : Scope
+    abbrev pub front : Scope
     front = seen_at j (is_some e.result)
 
-    abbrev behind : Scope
+    abbrev pub behind : Scope
     behind = subprogram_scope front e
 
     abbrev Came : List ℕ → Entity → Type 0
@@ -58,7 +58,7 @@ module _ (program : Program) (s : Scope) (all : List BodyItemTree) (w : IsPackag
     abbrev own_entity : Entity
     own_entity = profile_entity (own_profile front e)
 
-    doubt : (name : List ℕ) → stands front name ≡ Some Doubtful → ⊥
+    pub doubt : (name : List ℕ) → stands front name ≡ Some Doubtful → ⊥
     doubt name there = let n = number_stands front name Doubtful there in (sounds j (OperationBody e b) h (is_some e.result)).each n.0 Doubtful n.2
 
     -- the operation's own name stands for what it stands for behind the whole body
@@ -77,7 +77,7 @@ module _ (program : Program) (s : Scope) (all : List BodyItemTree) (w : IsPackag
           kinds = inl (ap kind (sym x_is));
         }))
 
-    came : (name : List ℕ) (x : Entity) → stands behind name ≡ Some x → Came name x
+    pub came : (name : List ℕ) (x : Entity) → stands behind name ≡ Some x → Came name x
     came name x there =
         by_case
         (or_else_some (stands front name) (one_named (record { name = e.name.name; entity = own_entity }) name) x
@@ -93,7 +93,7 @@ module _ (program : Program) (s : Scope) (all : List BodyItemTree) (w : IsPackag
             came_seen program s all w laws scopes m memory offers fronts k nm items end_name at own sounds j (OperationBody e b) h (is_some e.result) name x i
         by_case (inr i) = by_name (bytes_eq name e.name.name) refl i.1
 
-    types : SameTypes (bodies.hidden program s all w k nm items end_name at) behind
+    pub types : SameTypes (bodies.hidden program s all w k nm items end_name at) behind
     types =
         types_then (bodies.hidden program s all w k nm items end_name at) front behind
         (seen_types program s all w laws scopes m memory offers fronts k nm items end_name at own j (is_some e.result))

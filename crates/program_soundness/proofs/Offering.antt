@@ -164,7 +164,7 @@ module _ (program : Program) (s : Scope) (all : List BodyItemTree) (w : IsPackag
       own_tree : IsDeclared (scope_at s all declaration.place) declaration.tree.operations n x
       own_tree = tree name n x there own_name
 
-      stands_for_it : stands ended name ≡ Some (operation_entity x)
+      pub stands_for_it : stands ended name ≡ Some (operation_entity x)
       stands_for_it =
           let none = bodies.operation_none program s all w k nm items end_name at name (among name n x there own_name) in
           let hidden = hidden_none (scope_at s all k) (bodies.named_n program s all w k nm items end_name at).0 name none in

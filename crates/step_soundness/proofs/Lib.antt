@@ -12,7 +12,7 @@ mod Stating
 mod Ending
 mod Passing
 pub mod Naming
-mod Calling
+pub mod Calling
 mod Callees
 pub mod Elaborating
 mod Stepping

@@ -1,15 +1,16 @@
 mod Calls
+mod Externals
 mod Forms
 mod Kept
 mod Refused
 mod Stack
-use Rattle.std.proofs.Common.{tests, ◌+◌, arith, length, ltb-true, map, take, rules, refl, sym, ap, ◌∙◌, ◌≤◌, ◌∷◌, [], subst, ◌≡◌}
+use Rattle.std.proofs.Common.{tests, ◌+◌, arith, rules, refl, sym, ap, ◌∙◌, ◌≤◌, ◌∷◌, [], subst, ◌≡◌}
 use Rattle.std.specs.Prelude.{IfErr, IfOk, OnOk}
 use Rattle.std.proofs.lemmas.Grind.{common_steps}
-use Rattle.std.proofs.lemmas.Result.{IfErr-weaker, IfOk-weaker, on_ok_weaker}
+use Rattle.std.proofs.lemmas.Result.{IfOk-weaker, on_ok_weaker}
 use Rattle.ada_tree.specs.declared.expression.Argument.TheFolds as folds
 use Rattle.ada_tree.specs.declared.expression.Expr as expressions
-use Rattle.ada_tree.specs.ExpressionTree.{argument_tree, argument_trees, Arguments, expr_tree, MoreSelectors, Named, name_tree, NoSelectors, selector_tree, selector_trees}
+use Rattle.ada_tree.specs.ExpressionTree.{argument_trees, Arguments, expr_tree, MoreSelectors, Named, name_tree, NoSelectors, selector_tree, selector_trees}
 use Rattle.expr_code.specs.Emitting.{EmitsExpression, IsLegalExpression}
 use Rattle.expr_code.specs.Going.{EmitsPath, IsLegalPart, IsLegalPath}
 use Rattle.expr_code.proofs.Branching.{adds_none, all_branches}
@@ -20,23 +21,18 @@ use Rattle.types.specs.Evaluating.{fixed_value}
 use Rattle.expr_code.proofs.Conversions.{conversion_emits}
 use Rattle.expr_code.proofs.Names.{fixed_emits}
 use Rattle.expr_code.proofs.Going.{block_words, drop_at, element_goes, first_part, further_path, goes_next, one_argument, part_emits, uncapped_words, whole_path}
-use Rattle.expr_soundness.specs.Agreeing.{parameter_subtype}
-use Rattle.expr_code.specs.Actuals.{ArePassedLegally, EmitsActuals}
-use Rattle.expr_code.proofs.Actuals.{actuals_next, all_actuals, all_legal, as_many, call_emits, got, mapped, sizes_are}
-use Rattle.expr_code.proofs.CallsRefused.{actual_refused, call_ins, call_refused, counted_high, word_passed}
 use Rattle.expr_code.proofs.FitShapes.{selected_keeps}
 use Rattle.expr_code.proofs.Growing.{cut_back, extends_self}
-use Rattle.expr_code.proofs.LegalNames.{in_at}
-use Rattle.expr_soundness.specs.SoundScopes.{AreIn}
 use Rattle.expr_code.specs.Widths.{width_of}
 use Rattle.expr_code.specs.Code.{IsShallow}
 use Rattle.expr_code.specs.Refusing.{peak, RefusesExpression}
 use Rattle.expr_code.proofs.Refusals.{operand_refused, second_word_refused, sized_all}
-use Rattle.expr_code.proofs.Shallow.{bare_tree, passed_shallow, path_shallow, shallow_self}
+use Rattle.expr_code.proofs.Shallow.{bare_tree, path_shallow, shallow_self}
 use Rattle.expr_code.proofs.Selecting.{one_selector, selects_next, whole_selects}
-use Rattle.expr_code.proofs.Widths.{call_width, chain_words, conversion_width, booleans_fit_width, fixed_width, numbers_fit_width, part_width, unary_width}
+use Rattle.expr_code.proofs.Widths.{chain_words, conversion_width, booleans_fit_width, fixed_width, numbers_fit_width, part_width, unary_width}
 use Rattle.expr_code.proofs.code.Code.+expression.Goals as goal
 use Rattle.expr_code.proofs.code.Code.+expression.Answers.Calls as calls
+use Rattle.expr_code.proofs.code.Code.+expression.Answers.Externals as externals
 use Rattle.expr_code.proofs.code.Code.+expression.Answers.Forms as forms
 use Rattle.expr_code.proofs.code.Code.+expression.Answers.Kept as kept
 use Rattle.expr_code.proofs.code.Code.+expression.Answers.Refused as refused
@@ -779,3 +775,23 @@ path-returns-clause-stands t c = grind (arith, common_steps)
 
 pub path-returns-clause-emits : goal.path-returns-clause-emits
 path-returns-clause-emits t c = grind (arith, common_steps)
+
+-- ---- calls through the names of protected objects
+
+pub external_with-actuals-requires : goal.external_with-actuals-requires
+external_with-actuals-requires = externals.external_with-actuals-requires
+
+pub external_with-returns-in_err-height-in-Some-clause-refused : goal.external_with-returns-in_err-height-in-Some-clause-refused
+external_with-returns-in_err-height-in-Some-clause-refused = externals.external_with-returns-in_err-height-in-Some-clause-refused
+
+pub external_with-returns-in_ok-height-in-Some-clause-refused : goal.external_with-returns-in_ok-height-in-Some-clause-refused
+external_with-returns-in_ok-height-in-Some-clause-refused = externals.external_with-returns-in_ok-height-in-Some-clause-refused
+
+pub external_with-returns-in_ok-height-in-Some-clause-shallow : goal.external_with-returns-in_ok-height-in-Some-clause-shallow
+external_with-returns-in_ok-height-in-Some-clause-shallow = externals.external_with-returns-in_ok-height-in-Some-clause-shallow
+
+pub external_with-returns-in_ok-height-in-Some-clause-emits : goal.external_with-returns-in_ok-height-in-Some-clause-emits
+external_with-returns-in_ok-height-in-Some-clause-emits = externals.external_with-returns-in_ok-height-in-Some-clause-emits
+
+pub external-returns-in_default-3-clause-refused : goal.external-returns-in_default-3-clause-refused
+external-returns-in_default-3-clause-refused = externals.external-returns-in_default-3-clause-refused

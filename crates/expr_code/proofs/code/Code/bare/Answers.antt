@@ -14,5 +14,5 @@ returns-in_default c =
     let made = begins_otherwise v.scope name NoSelectors c.requires.legal c.requires.sound c.requires.valueless v
     (stands_first v.scope (number_of v.scope name.name)) refl
     (λ r u e. c.in_default.not-Part r u (c.stands_first.ensures ∙ e)) (λ u e. no_type_alone v.scope name u c.requires.legal e)
-    (λ f e. c.in_default.not-Callee f (c.stands_first.ensures ∙ e)) in
+    (λ f e. c.in_default.not-Callee f (c.stands_first.ensures ∙ e)) (λ n e. refl) in
     record { width = tt; refused = begin_outside v name NoSelectors c.requires.valueless made; kept = extends_self c.args.self.now; shallow = tt; emits = tt }

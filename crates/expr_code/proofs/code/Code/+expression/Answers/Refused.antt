@@ -241,7 +241,8 @@ named-returns-in_default t c =
     let made = begins_otherwise v.scope c.args.first.now all c.requires.legal c.requires.sound c.requires.valueless v
     (stands_first v.scope (number_of v.scope c.args.first.now.name)) refl
     (λ r u e. c.in_default.not-Part r u (c.stands_first.ensures ∙ e)) (λ u e. c.in_default.not-Named u (c.stands_first.ensures ∙ e))
-    (λ f e. c.in_default.not-Callee f (c.stands_first.ensures ∙ e)) in
+    (λ f e. c.in_default.not-Callee f (c.stands_first.ensures ∙ e))
+    (λ n e. absurd (c.in_default.not-Protected n (c.stands_first.ensures ∙ e))) in
     record { width = tt; refused = begin_outside v c.args.first.now all c.requires.valueless made; kept = extends_self c.args.self.now; shallow = tt; emits = tt }
 
 pub element-returns-in_default-2-clause-refused : goal.element-returns-in_default-2-clause-refused

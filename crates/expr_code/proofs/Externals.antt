@@ -1,0 +1,364 @@
+-- Calls of functions through the names of protected objects (RM 9.4, 9.5): what stands behind such a name, its code, and what refuses that.
+use Rattle.std.proofs.Common.{◌≡◌, ℕ, ◌+◌, ◌*◌, ◌≤◌, List, [], ◌∷◌, ◌++◌, length, map, take, Option, None, Some, Bool, true, false, ◌&&◌, ◌||◌, not, refl, sym, ap, ◌∙◌, subst, arith}
+use Rattle.std.specs.Prelude.{bytes_eq, max, position, slice_get}
+use Rattle.kernel.specs.Laws.{QuietStays}
+use Rattle.base.specs.declared.faults.TheConstants.{NAME_NOT_VISIBLE}
+use Rattle.ada_tree.specs.declared.expression.Argument.{Argument}
+use Rattle.ada_tree.specs.declared.expression.Identifier.{Identifier}
+use Rattle.ada_tree.specs.declared.expression.Selector.{Selector}
+use Rattle.ada_tree.specs.ExpressionTree as tree
+use Rattle.ada_tree.specs.ExpressionTree.{argument_tree, argument_trees, ArgumentTrees, Arguments, Attribute, Component, MoreSelectors, NoSelectors, selector_tree, selector_trees, SelectorTree, SelectorTrees}
+use Rattle.ada_tree.specs.Size.{arguments_size, total}
+use Rattle.image.specs.Sections.{Sections}
+use Rattle.image.specs.Operations.{called, parameters_of, results_of}
+use Rattle.image.specs.Rules.{is_external, some_and}
+use Rattle.image.specs.declared.instruction.Operation.TheVariants as op
+use Rattle.types.specs.declared.entity.Subtype.{Subtype}
+use Rattle.types.specs.declared.standing.Callee.{Callee}
+use Rattle.types.specs.declared.standing.Callee.TheVariants as callee
+use Rattle.types.specs.declared.standing.Standing.TheVariants as standing
+use Rattle.types.specs.Entities.{Entity, Operation, Profile, Protected, ProtectedObject}
+use Rattle.types.specs.Evaluations.{and_then}
+use Rattle.types.specs.Evaluating.{fixed_value, function_through, name_with}
+use Rattle.types.specs.Layouts.{words_of}
+use Rattle.types.specs.Places.{IsProtected, ceiling_of, function_of}
+use Rattle.types.specs.Scopes.{entity_at, is_visible, number_of, protected_at, protected_of, Scope}
+use Rattle.types.specs.Standings.{call_stands, called_operation, callee_profile, operation_profile, operation_stands, profile_among, result_stands, select, select_all, standing_of, stands_first, stands_for}
+use Rattle.expr_soundness.specs.expr_rules.specs.Faults.{Faults, rule}
+use Rattle.expr_soundness.specs.expr_rules.specs.NameRules.{value_rule}
+use Rattle.expr_soundness.specs.expr_rules.specs.ExpressionRules.{selector_faults, selectors_faults}
+use Rattle.expr_soundness.specs.expr_rules.proofs.TypedLaw.{back_empty, front_empty}
+use Rattle.expr_soundness.specs.Agreeing.{OffersFunction, parameter_subtype}
+use Rattle.expr_soundness.specs.SoundScopes.{AreIn, IsSoundProfile, IsSoundResult, SoundScope}
+use Rattle.expr_soundness.proofs.Goods.{Good, GoodCallee, good_first, good_select}
+use Rattle.expr_soundness.proofs.Positions.{same_some}
+use Rattle.expr_code.specs.Actuals.{AddsCall, ArePassedLegally, EmitsActuals}
+use Rattle.expr_code.specs.Code.{here}
+use Rattle.expr_code.specs.Computing.{AlwaysNames}
+use Rattle.expr_code.specs.Emitting.{EmitsExpression, IsLegalExpression}
+use Rattle.expr_code.specs.Refusing.{are_passable, arguments_outside, arguments_peak, is_callable, is_called, is_external_call, is_made, is_outside, IsRefused, RefusesActuals, RefusesExpression, words_below}
+use Rattle.expr_code.specs.Seeing.{external_of, external_profile, library_of, number_behind, object_named, operation_entry, operation_place, Package, profile_behind, Sees, Suits}
+use Rattle.expr_code.specs.declared.code.Code.{Code}
+use Rattle.expr_code.specs.declared.refusal.Refusal.{Refusal}
+use Rattle.expr_code.specs.declared.visible.Visible.{Visible}
+use Rattle.expr_code.proofs.Actuals.{alone_emits, each_legal, many_given, none_wanted, with_emits}
+use Rattle.expr_code.proofs.Flowing.{Changes}
+use Rattle.expr_code.proofs.Names.{legal_here}
+use Rattle.expr_code.proofs.NamesRefused.{begin_outside, behind_outside, name_refused}
+use Rattle.expr_code.proofs.Passing.{named_value}
+use Rattle.expr_code.proofs.Refusals.{or_left}
+
+-- ---- where nothing is told of operations
+
+none_told : (o : Option ProtectedObject) (operation : List ℕ) (number : ℕ) → number_behind [] o operation ≡ Some number → ⊥
+none_told (Some o) operation number is = by_place (operation_place (Some o) operation) is
+  where
+    by_place : (k : Option ℕ) → elim k [ None ↦ None | Some k ↦ operation_entry [] o.number k ] ≡ Some number → ⊥
+    by_place (Some k) h = cc
+    by_place None h = cc
+none_told None operation number is = cc
+
+pub no_external : (v : Visible) → v.operations ≡ [] → (name operation : List ℕ) (number : ℕ) → external_of v name operation ≡ Some number → ⊥
+no_external v none name operation number is =
+    none_told (object_named v.scope name) operation number (ap (λ all. number_behind all (object_named v.scope name) operation) (sym none) ∙ is)
+
+-- ---- the operation that is named behind a protected object
+
+-- The first name is that of a protected object, and the second one that of its operation with this profile.
+pub record IsBehind (s : Scope) (object operation : List ℕ) (profile : Profile) : Type 0 where
+  pub number : ℕ
+  pub protected : ProtectedObject
+  pub place : ℕ
+  pub entry : Operation
+  pub numbered : number_of s object ≡ Some number
+  pub stands : entity_at s number ≡ Some (Protected protected)
+  pub placed : position (λ x. bytes_eq x.name operation) protected.operations ≡ Some place
+  pub found : slice_get protected.operations place ≡ Some entry
+  pub profiled : entry.profile ≡ profile
+
+module _ (s : Scope) (object operation : List ℕ) (profile : Profile) where
+  by_operation : (n k : ℕ) (o : ProtectedObject) (x : Option Operation) → number_of s object ≡ Some n → entity_at s n ≡ Some (Protected o)
+      → position (λ x. bytes_eq x.name operation) o.operations ≡ Some k → slice_get o.operations k ≡ x → operation_profile x ≡ Some profile
+      → IsBehind s object operation profile
+  by_operation n k o (Some x) numbered stands placed found is =
+      record {
+        number = n;
+        protected = o;
+        place = k;
+        entry = x;
+        numbered = numbered;
+        stands = stands;
+        placed = placed;
+        found = found;
+        profiled = same_some x.profile profile is;
+      }
+  by_operation n k o None numbered stands placed found is = cc
+
+  by_place : (n : ℕ) (o : ProtectedObject) (k : Option ℕ) → number_of s object ≡ Some n → entity_at s n ≡ Some (Protected o)
+      → position (λ x. bytes_eq x.name operation) o.operations ≡ k
+      → elim k [ None ↦ None | Some k ↦ profile_among (Some o) k ] ≡ Some profile
+      → IsBehind s object operation profile
+  by_place n o (Some k) numbered stands placed is = by_operation n k o (slice_get o.operations k) numbered stands placed refl is
+  by_place n o None numbered stands placed is = cc
+
+  by_entity : (n : ℕ) (e : Option Entity) → number_of s object ≡ Some n → entity_at s n ≡ e → profile_behind (protected_of e) operation ≡ Some profile
+      → IsBehind s object operation profile
+  by_entity n (Some (Protected o)) numbered stands is = by_place n o (position (λ x. bytes_eq x.name operation) o.operations) numbered stands refl is
+  by_entity n e numbered stands is = cc
+
+  by_number : (n : Option ℕ) → number_of s object ≡ n → profile_behind (elim n [ None ↦ None | Some k ↦ protected_at s k ]) operation ≡ Some profile
+      → IsBehind s object operation profile
+  by_number (Some n) numbered is = by_entity n (entity_at s n) numbered refl is
+  by_number None numbered is = cc
+
+  pub is_behind : external_profile s object operation ≡ Some profile → IsBehind s object operation profile
+  is_behind is = by_number (number_of s object) refl is
+
+module _ (v : Visible) (first operation : Identifier) (profile : Profile) (told : external_profile v.scope first.name operation.name ≡ Some profile) where
+  abbrev s : Scope
+  s = v.scope
+
+  abbrev at : IsBehind s first.name operation.name profile
+  at = is_behind s first.name operation.name profile told
+
+  abbrev of_object : Callee
+  of_object = callee.Operation at.number at.place
+
+  -- the name with what stands behind the operation
+  abbrev pub external_name : SelectorTrees → SelectorTrees
+  external_name behind = MoreSelectors (Component operation) behind
+
+  begins : stands_first s (number_of s first.name) ≡ standing.Protected at.number
+  begins = ap (stands_first s) at.numbered ∙ ap (stands_for at.number) at.stands
+
+  protected_is : protected_at s at.number ≡ Some at.protected
+  protected_is = ap protected_of at.stands
+
+  profile_is : callee_profile s of_object ≡ Some profile
+  profile_is = ap (λ o. profile_among o at.place) protected_is ∙ ap operation_profile at.found ∙ ap Some at.profiled
+
+  behind_is : select s (standing.Protected at.number) (Component operation) ≡ standing.Callee of_object
+  behind_is =
+      ap (λ o. operation_stands at.number o operation.name) protected_is ∙ ap (called_operation at.number) at.placed
+
+  stands_behind : (behind : SelectorTrees) → standing_of s first (external_name behind) ≡ select_all s (standing.Callee of_object) behind
+  stands_behind behind = ap (λ w. select_all s w (external_name behind)) begins ∙ ap (λ w. select_all s w behind) behind_is
+
+  -- the rules of what stands behind the operation
+  external_parts : (behind : SelectorTrees) → IsLegalExpression s (tree.Named first (external_name behind))
+      → selectors_faults s first.place (standing.Callee of_object) behind ≡ []
+  external_parts behind legal =
+      let hidden = rule NAME_NOT_VISIBLE first.place (not (is_visible s first.name)) in
+      let all = selectors_faults s first.place (stands_first s (number_of s first.name)) (external_name behind) in
+      let ends = value_rule first.place (standing_of s first (external_name behind)) in
+      let whole = ap (λ w. selectors_faults s first.place w (external_name behind)) (sym begins)
+      ∙ back_empty hidden all (front_empty (hidden ++ all) ends legal.unbroken) in
+      ap (λ w. selectors_faults s first.place w behind) (sym behind_is)
+      ∙ back_empty (selector_faults s first.place (standing.Protected at.number) (Component operation))
+      (selectors_faults s first.place (select s (standing.Protected at.number) (Component operation)) behind) whole
+
+  -- ---- actual parameters
+
+  module _ (arguments : List Argument)
+      (legal : IsLegalExpression s (tree.Named first (external_name (MoreSelectors (Arguments (argument_trees arguments)) NoSelectors)))) where
+    abbrev given : SelectorTrees
+    given = MoreSelectors (Arguments (argument_trees arguments)) NoSelectors
+
+    pub external_as_many : length arguments ≡ length profile.formals
+    external_as_many = many_given s first.place profile of_object profile_is arguments (external_parts given legal)
+
+    pub external_legal : ArePassedLegally s profile.formals (map argument_tree arguments)
+    external_legal = each_legal s first.place profile of_object profile_is arguments (external_parts given legal)
+
+  -- a legal call gives a result, so that all formals are of mode `in`
+  module _ (behind : SelectorTrees) (legal : IsLegalExpression s (tree.Named first (external_name behind))) where
+    abbrev hidden : Faults
+    hidden = rule NAME_NOT_VISIBLE first.place (not (is_visible s first.name))
+
+    abbrev all_parts : Faults
+    all_parts = selectors_faults s first.place (stands_first s (number_of s first.name)) (external_name behind)
+
+    external_end : value_rule first.place (select_all s (standing.Callee of_object) behind) ≡ []
+    external_end =
+        ap (value_rule first.place) (sym (stands_behind behind))
+        ∙ back_empty (hidden ++ all_parts) (value_rule first.place (standing_of s first (external_name behind))) legal.unbroken
+
+    operation_unbroken : selector_faults s first.place (standing.Protected at.number) (Component operation) ≡ []
+    operation_unbroken =
+        front_empty (selector_faults s first.place (standing.Protected at.number) (Component operation))
+        (selectors_faults s first.place (select s (standing.Protected at.number) (Component operation)) behind)
+        (ap (λ w. selectors_faults s first.place w (external_name behind)) (sym begins)
+        ∙ back_empty hidden all_parts
+        (front_empty (hidden ++ all_parts) (value_rule first.place (standing_of s first (external_name behind))) legal.unbroken))
+
+    profile_sound : SoundScope s → IsSoundProfile s profile
+    profile_sound sound =
+        subst (GoodCallee s) profile_is
+        (subst (Good s) behind_is
+        (good_select s sound first.place (standing.Protected at.number) (Component operation)
+        (good_first s sound at.number (Protected at.protected) at.stands) operation_unbroken))
+
+  pub external_ins : (a : ArgumentTrees) → SoundScope s → IsLegalExpression s (tree.Named first (external_name (MoreSelectors (Arguments a) NoSelectors)))
+      → AreIn profile.formals
+  external_ins a sound legal =
+      by_result profile.result refl
+      (ap (λ o. value_rule first.place (select_all s (call_stands o) NoSelectors)) (sym profile_is)
+      ∙ external_end (MoreSelectors (Arguments a) NoSelectors) legal)
+    where
+      by_result : (r : Option Subtype) → profile.result ≡ r → value_rule first.place (select_all s (result_stands r) NoSelectors) ≡ [] → AreIn profile.formals
+      by_result (Some t) is h = (subst (IsSoundResult s profile.formals) is (profile_sound (MoreSelectors (Arguments a) NoSelectors) legal sound).result).1
+      by_result None is h = cc
+
+  -- ---- the call
+
+  module _ (old new : Code) (height : ℕ) (added : AddsCall v (external_of v first.name operation.name) op.ProtectedCall profile old height new) where
+    -- what the name means
+    external_named : (behind : SelectorTrees) → IsLegalExpression s (tree.Named first (external_name behind))
+        → fixed_value (standing_of s first (external_name behind)) ≡ None
+        → (g : Package) (i : Sections) → AlwaysNames i (library_of g) (Sees g v) first (external_name behind) behind (op.ProtectedCall added.number)
+        (map parameter_subtype profile.formals)
+    external_named behind legal valueless g i p view sees =
+        let means = sees.names.agrees.names first.name at.number (Protected at.protected) at.numbered at.stands in
+        let offered = means.offers operation.name at.place at.entry at.placed at.found in
+        let same = subst (λ x. OffersFunction p means.object.number operation.name x profile.result) at.profiled
+        (subst (λ x. OffersFunction p means.object.number operation.name at.entry.profile x) (ap (λ x. x.result) at.profiled) offered) in
+        let one = subst (λ r. OffersFunction p means.object.number operation.name profile r) added.is same in
+        let it = sees.externals first.name operation.name added.number means.object one.0 added.numbered means.is
+        (ap (λ l. function_of l (Some means.object.number) operation.name) (sym sees.unit.functions) ∙ one.1) in
+        let fixed = (legal_here s p sees.names.agrees first (external_name behind) legal).same ∙ valueless in
+        record {
+          function = one.0;
+          through = Some means.object;
+          number = added.number;
+          coded = it.coded;
+          allowed = (it.owned, ap (λ x. ceiling_of x means.object.number) sees.unit.scope ∙ it.ceiling);
+          way = refl;
+          shared = sees.unit;
+          means = λ calls. named_value calls p first (external_name behind) (IsProtected means.object) fixed means.is
+              ∙ ap (λ f. and_then (function_through means.object f) (λ n. name_with calls p n behind)) one.1;
+          formals = one.2.formals;
+        }
+
+    external_changes : (depth : ℕ) → height ≡ depth + total (words_of s) (map parameter_subtype profile.formals)
+        → Changes (Suits v) (op.ProtectedCall added.number) height (depth + 1)
+    external_changes depth high = record {
+      operands = refl;
+      names = λ i x suits.
+          let it = suits.externals first.name operation.name added.number profile added.result added.numbered told added.is in
+          ap (λ o. some_and o (λ c. is_external c.kind)) it.is ∙ it.kind;
+      takes = λ i x suits.
+          let it = suits.externals first.name operation.name added.number profile added.result added.numbered told added.is in
+          let many : parameters_of (called i added.number) ≡ it.code.parameters = ap parameters_of it.is in
+          omega (arith, many, it.parameters, high);
+      leaves = λ i x suits.
+          let it = suits.externals first.name operation.name added.number profile added.result added.numbered told added.is in
+          let many : parameters_of (called i added.number) ≡ it.code.parameters = ap parameters_of it.is in
+          let some : results_of (called i added.number) ≡ it.code.results = ap results_of it.is in
+          omega (arith, many, some, it.parameters, it.results, high, added.single);
+      stays = refl;
+      is_none = refl;
+    }
+
+  module _ (quiet : QuietStays) (arguments : List Argument)
+      (legal : IsLegalExpression s (tree.Named first (external_name (MoreSelectors (Arguments (argument_trees arguments)) NoSelectors))))
+      (valueless : fixed_value (standing_of s first (external_name (MoreSelectors (Arguments (argument_trees arguments)) NoSelectors))) ≡ None)
+      (old mid new : Code) (depth height : ℕ)
+      (p : EmitsActuals v old depth (map parameter_subtype (take (length arguments) profile.formals)) (map argument_tree arguments) height mid)
+      (added : AddsCall v (external_of v first.name operation.name) op.ProtectedCall profile mid height new) where
+    pub external_emits : EmitsExpression v old depth 1 (tree.Named first (external_name (MoreSelectors (Arguments (argument_trees arguments)) NoSelectors))) new
+    external_emits =
+        with_emits quiet v first (external_name (MoreSelectors (Arguments (argument_trees arguments)) NoSelectors)) profile
+        (op.ProtectedCall added.number) arguments
+        (external_as_many arguments legal) old mid new depth height p added.adds
+        (external_named mid new height added (MoreSelectors (Arguments (argument_trees arguments)) NoSelectors) legal valueless)
+        (external_changes mid new height added depth) (omega arith)
+
+  pub external_alone_emits : QuietStays → IsLegalExpression s (tree.Named first (external_name NoSelectors))
+      → fixed_value (standing_of s first (external_name NoSelectors)) ≡ None → (old new : Code) (depth : ℕ)
+      → AddsCall v (external_of v first.name operation.name) op.ProtectedCall profile old depth new
+      → EmitsExpression v old depth 1 (tree.Named first (external_name NoSelectors)) new
+  external_alone_emits quiet legal valueless old new depth added =
+      alone_emits quiet v first (external_name NoSelectors) profile (op.ProtectedCall added.number)
+      (none_wanted s first.place profile of_object profile_is (external_parts NoSelectors legal)) old new depth added.adds
+      (external_named old new depth added NoSelectors legal valueless) (external_changes old new depth added depth) (omega arith)
+
+  -- ---- what refuses it
+
+  off : (b : Bool) → not b ≡ true → b ≡ false
+  off true h = cc
+  off false h = refl
+
+  abbrev is_told : Bool
+  is_told = is_called s (external_of v first.name operation.name) profile
+
+  module _ (behind : SelectorTrees)
+      (call : is_external_call v first.name (external_name behind)
+      ≡ is_callable s (external_of v first.name operation.name) (external_profile s first.name operation.name)) where
+    external_made : is_made v first (external_name behind) (stands_first s (number_of s first.name)) ≡ (is_told && are_passable s profile.formals)
+    external_made =
+        ap (is_made v first (external_name behind)) begins ∙ call ∙ ap (is_callable s (external_of v first.name operation.name)) told
+
+  module _ (old : Code) (depth : ℕ) (why : Refusal) where
+    pub external_alone_refused : fixed_value (standing_of s first (external_name NoSelectors)) ≡ None → IsRefused (here old + 1) depth (not is_told) why
+        → RefusesExpression v old depth (tree.Named first (external_name NoSelectors)) why
+    external_alone_refused valueless r =
+        name_refused v first (external_name NoSelectors) valueless old depth _ depth (not is_told) why (λ h. absurd h) (omega arith) (omega arith)
+        (λ h. begin_outside v first (external_name NoSelectors) valueless
+        (external_made NoSelectors refl ∙ ap (λ b. b && are_passable s profile.formals) (off is_told h))) r
+
+    module _ (a : ArgumentTrees) (valueless : fixed_value (standing_of s first (external_name (MoreSelectors (Arguments a) NoSelectors))) ≡ None) where
+      abbrev whole : SelectorTrees
+      whole = external_name (MoreSelectors (Arguments a) NoSelectors)
+
+      abbrev below : ℕ
+      below = words_below s (stands_first s (number_of s first.name))
+
+      high : (l n k : ℕ) → l ≤ depth + n → l ≤ depth + max (k + 1) (max (k + n) 1)
+      high l n k h = omega (arith, h)
+
+      pub external_refused : (m l : ℕ) → m ≤ here old + (20 * arguments_size a + 1) → l ≤ depth + arguments_peak s a → IsRefused m l (not is_told) why
+          → RefusesExpression v old depth (tree.Named first whole) why
+      external_refused m l up most r =
+          name_refused v first whole valueless old depth m l (not is_told) why (λ h. absurd h) (omega (arith, up)) (high l (arguments_peak s a) below most)
+          (λ h. begin_outside v first whole valueless
+          (external_made (MoreSelectors (Arguments a) NoSelectors) refl ∙ ap (λ b. b && are_passable s profile.formals) (off is_told h))) r
+
+      pub external_actuals_refused : RefusesActuals v old depth profile.formals a why → RefusesExpression v old depth (tree.Named first whole) why
+      external_actuals_refused r =
+          name_refused v first whole valueless old depth _ _ _ why (λ h. h) (omega arith)
+          (high (depth + arguments_peak s a) (arguments_peak s a) below (omega arith)) outside r
+        where
+          outside : (not (are_passable s profile.formals) || arguments_outside v a) ≡ true → is_outside v (tree.Named first whole) ≡ true
+          outside h = by_test (are_passable s profile.formals) refl h
+            where
+              none : (b : Bool) → (b && false) ≡ false
+              none true = refl
+              none false = refl
+
+              by_test : (b : Bool) → are_passable s profile.formals ≡ b → (not b || arguments_outside v a) ≡ true → is_outside v (tree.Named first whole) ≡ true
+              by_test true e k = behind_outside v first whole valueless (or_left (arguments_outside v a) false k)
+              by_test false e k =
+                  begin_outside v first whole valueless
+                  (external_made (MoreSelectors (Arguments a) NoSelectors) refl ∙ ap (λ b. is_told && b) e ∙ none is_told)
+
+-- ---- names with more behind them than a call has
+
+module _ (v : Visible) (first : Identifier) (n : ℕ) (stands : stands_first v.scope (number_of v.scope first.name) ≡ standing.Protected n) where
+  not_external : (selectors : SelectorTrees) → fixed_value (standing_of v.scope first selectors) ≡ None → is_external_call v first.name selectors ≡ false
+      → is_outside v (tree.Named first selectors) ≡ true
+  not_external selectors valueless none = begin_outside v first selectors valueless (ap (is_made v first selectors) stands ∙ none)
+
+  pub many_behind : (all : List Selector) → 3 ≤ length all → fixed_value (standing_of v.scope first (selector_trees all)) ≡ None
+      → is_outside v (tree.Named first (selector_trees all)) ≡ true
+  many_behind [] more valueless = absurd (omega (arith, more))
+  many_behind (x ∷ []) more valueless = absurd (omega (arith, more))
+  many_behind (x ∷ y ∷ []) more valueless = absurd (omega (arith, more))
+  many_behind (x ∷ y ∷ z ∷ all) more valueless =
+      not_external (selector_trees (x ∷ y ∷ z ∷ all)) valueless (three (selector_tree x) (selector_tree y) (selector_tree z) (selector_trees all))
+    where
+      three : (a b c : SelectorTree) (rest : SelectorTrees) → is_external_call v first.name (MoreSelectors a (MoreSelectors b (MoreSelectors c rest))) ≡ false
+      three (Component x) (Component y) c rest = refl
+      three (Component x) (Arguments y) c rest = refl
+      three (Component x) (Attribute y) c rest = refl
+      three (Arguments x) b c rest = refl
+      three (Attribute x) b c rest = refl
