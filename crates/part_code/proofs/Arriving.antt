@@ -52,9 +52,9 @@ module _ (i : Sections) (program : Program) (g : Package) {A : Type 0} where
       → Assigns i program g v later from to value store_after own_after
   stores_assign {v} {later} {from} {to} {value} {store_after} {own_after} h = record {
     same = h.same;
-    arrives = λ schedule k t m f fs store a p answers calm is_at locals within stands rests knows outside left.
+    arrives = λ schedule k t m f fs store a p answers calm is_at locals within stands rests own knows left.
         arrives_by schedule k t m f fs from h.mid to later (h.stack []) (λ x. store_after x store) (λ x. own_after x a) (value (call p.frames_left) p)
         h.up h.end
         (h.computes (call p.frames_left) p.frames_left (answers p.frames_left) schedule k t m f fs p [] calm knows.sees left)
-        (λ x gives. h.puts schedule k t m f fs store a p x is_at locals within stands rests knows outside gives);
+        (λ x gives. h.puts schedule k t m f fs store a p x is_at locals within stands rests own knows gives);
   }

@@ -1,6 +1,6 @@
 -- What refuses the code of assignments: of the address of what is assigned to, of the value, and of what stores it.
 use Rattle.std.proofs.Common.{◌≡◌, ◌≤◌, ◌+◌, ◌*◌, ◌⊎◌, inl, inr, ℕ, suc, List, Bool, true, false, ◌&&◌, ◌||◌, not, Option, Some, None, refl, ap, ◌∙◌, arith}
-use Rattle.std.specs.Prelude.{max}
+use Rattle.std.specs.Prelude.{max, is_some}
 use Rattle.ada_tree.specs.declared.expression.Identifier.{Identifier}
 use Rattle.ada_tree.specs.ExpressionTree.{ExprTree, NameTree, SelectorTrees}
 use Rattle.ada_tree.specs.StatementTree.{Assignment}
@@ -23,9 +23,7 @@ use Rattle.expr_code.specs.declared.visible.Slot.{Slot}
 use Rattle.expr_code.specs.declared.visible.Visible.{Visible}
 use Rattle.expr_code.proofs.Refusals.{or_left, or_right}
 use Rattle.part_code.specs.Bounds.{stmt_bound}
-use Rattle.part_code.specs.Emitting.{stored_at, stored_in}
-use Rattle.part_code.specs.Passing.{holds_variables}
-use Rattle.part_code.specs.Needs.{HasManyLabels, IsNeeding, Needs, address_needs, assigned_needs, stored_needs, has_unfit, is_object, is_stored, is_taken, takes_value, words_at}
+use Rattle.part_code.specs.Needs.{HasManyLabels, IsNeeding, Needs, address_needs, assigned_needs, stored_needs, has_unfit, is_object, is_taken, takes_value, words_at}
 use Rattle.part_code.proofs.Within.{code_refused, plain_refused, unfit_there}
 
 -- ---- what isn't stored to
@@ -37,16 +35,6 @@ otherwise w h = refl
 pub and_none : (a b : Bool) → b ≡ false → (a && b) ≡ false
 and_none true b h = h
 and_none false b h = refl
-
-pub none_stored : (r : Region) (n : ℕ) → stored_in r n ≡ None → holds_variables r ≡ false
-none_stored regions.Locals n h = cc
-none_stored regions.Plain n h = cc
-none_stored regions.Object n h = refl
-
-pub none_stored_at : (r : Region) (n : ℕ) → stored_at r n ≡ None → holds_variables r ≡ false
-none_stored_at regions.Locals n h = cc
-none_stored_at regions.Plain n h = cc
-none_stored_at regions.Object n h = refl
 
 -- ---- addresses
 
@@ -60,17 +48,14 @@ module _ (v : Visible) (depth : ℕ) (first : Identifier) (path : SelectorTrees)
   abbrev address : Needs
   address = address_needs depth v first path
 
-  unstored : (is_object begins && is_stored there) ≡ false → address.outside ≡ true
-  unstored h = or_left (not (is_object begins && is_stored there)) (selectors_outside v path) (ap not h)
+  unstored : (is_object begins && is_some there) ≡ false → address.outside ≡ true
+  unstored h = or_left (not (is_object begins && is_some there)) (selectors_outside v path) (ap not h)
 
   pub no_object : ((r : Role) (t : Subtype) → begins ≡ standing.Part r t → ⊥) → address.outside ≡ true
-  no_object h = unstored (ap (λ b. b && is_stored there) (otherwise begins h))
+  no_object h = unstored (ap (λ b. b && is_some there) (otherwise begins h))
 
   pub no_slot : there ≡ None → address.outside ≡ true
-  no_slot h = unstored (and_none (is_object begins) (is_stored there) (ap is_stored h))
-
-  pub no_variable : (slot : Slot) → there ≡ Some slot → holds_variables slot.region ≡ false → address.outside ≡ true
-  no_variable slot is h = unstored (and_none (is_object begins) (is_stored there) (ap is_stored is ∙ h))
+  no_slot h = unstored (and_none (is_object begins) (is_some there) (ap is_some h))
 
   module _ (slot : Slot) (r : Role) (whole : Subtype) (stands : begins ≡ standing.Part r whole) (is : there ≡ Some slot) where
     pub unfit_whole : HasUnfitObject v ⊎ IsUnfit v.scope whole → has_unfit v ≡ true
@@ -83,7 +68,7 @@ module _ (v : Visible) (depth : ℕ) (first : Identifier) (path : SelectorTrees)
     address_refused old n b why up high unfit outside r =
         code_refused (HasUnfitObject v ⊎ IsUnfit v.scope whole) (here old + (20 * selectors_size path + 1)) n (depth + selectors_peak v.scope 1 path)
         (selectors_outside v path) b up (over (depth + selectors_peak v.scope 1 path) b.stack b.frame high) (λ u. unfit (unfit_whole u))
-        (λ h. outside (or_right (not (is_object begins && is_stored there)) (selectors_outside v path) h)) why r
+        (λ h. outside (or_right (not (is_object begins && is_some there)) (selectors_outside v path) h)) why r
       where
         over : (p k l : ℕ) → p ≤ k → p ≤ max k l
         over p k l h = omega (arith, h)

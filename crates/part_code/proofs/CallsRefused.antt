@@ -22,12 +22,12 @@ use Rattle.expr_code.specs.declared.refusal.Refusal.{Refusal}
 use Rattle.expr_code.specs.declared.visible.Visible.{Visible}
 use Rattle.expr_code.proofs.Actuals.{nothing_behind, sizes_are}
 use Rattle.expr_code.proofs.Refusals.{or_left, or_right}
-use Rattle.part_code.specs.Passing.{EmitsPassedActuals, EmitsCopies, actuals_behind, copied_width}
+use Rattle.part_code.specs.Passing.{EmitsPassedActuals, EmitsCopies, actuals_behind, copied_width, operation_behind}
 use Rattle.part_code.specs.Needs.{IsNeeding, IsPartFit, Needs, RefusesMain, actual_needs, actuals_needs, are_unknown, beyond_if, both, check_words, copies_needs, copy_needs, destinations_for, destinations_of, has_unfit, is_unknown, passed_needs, stacked}
 use Rattle.part_code.specs.Suiting.{passed_width}
 use Rattle.part_code.specs.declared.call.Destination.{Destination}
 use Rattle.part_code.proofs.Lists.{take_all}
-use Rattle.part_code.proofs.WrittenActuals.{size_is}
+use Rattle.part_code.proofs.WrittenActuals.{size_is, behind_size}
 use Rattle.part_code.proofs.FormalWords.{CallsSoFar}
 use Rattle.part_code.proofs.Within.{Within, code_refused, in_left, in_right, needing_refused, of_right, plain_needing, stack_within, within_self}
 
@@ -161,7 +161,7 @@ counted_refused v (d ∷ ds) n h other a why less fits high unfit r =
     let up = copies_high v d ds in
     code_refused a 0 0 h false (copies_needs v (d ∷ ds)) (omega arith)
     (over h (copies_needs v (d ∷ ds)).stack (copies_needs v (d ∷ ds)).frame (omega (arith, high, words, up)))
-    (λ x. or_left (has_unfit v) (copies_needs v ds).unfit (All-get_or (IsPartFit v) (d ∷ ds) n other less fits (unfit x)))
+    (λ x. or_left (has_unfit v) (copies_needs v ds).unfit ((All-get_or (IsPartFit v) (d ∷ ds) n other less fits).unfit (unfit x)))
     (never (copies_needs v (d ∷ ds)).outside) why r
   where
     over : (p k l : ℕ) → p ≤ k → p ≤ max k l
@@ -214,14 +214,7 @@ copy_refuses v old mid ds n height other why less high p r =
 
 -- ---- a call
 
-module _ (v : Visible) (name : NameTree) (fs : List FormalParameter) (trees : ArgumentTrees) (is : actuals_behind name.selectors ≡ Some trees)
-    (why : Refusal) where
-  abbrev numbered : Needs
-  numbered = beyond_if (is_none (subprogram_of v name.first.name))
-
-  abbrev call : Needs
-  call = both numbered (passed_needs v fs (actuals_behind name.selectors))
-
+module _ (v : Visible) (fs : List FormalParameter) (trees : ArgumentTrees) (why : Refusal) where
   abbrev passing : Needs
   passing = actuals_needs 0 v fs trees
 
@@ -231,34 +224,39 @@ module _ (v : Visible) (name : NameTree) (fs : List FormalParameter) (trees : Ar
   abbrev copies : Needs
   copies = copies_needs v (destinations_of v fs trees)
 
-  part_of : (m : Needs) → Within m (both passing (both width copies)) → Within m call
-  part_of m p = of_right m numbered (passed_needs v fs (actuals_behind name.selectors)) (subst (λ o. Within m (passed_needs v fs o)) (sym is) p)
+  abbrev call : Needs
+  call = passed_needs v fs (Some trees)
 
   pub actuals_refuse : (m n : ℕ) → m ≤ n → IsNeeding m passing why → IsNeeding n call why
-  actuals_refuse m n up r = needing_refused m n passing call up (part_of passing (in_left passing (both width copies))) why r
+  actuals_refuse m n up r = needing_refused m n passing call up (in_left passing (both width copies)) why r
 
   -- the call itself
-  pub call_refuses : (m n height k : ℕ) → height ≡ 0 + total (passed_width v.scope) (take k fs) → m ≤ n → IsRefused m height false why → IsNeeding n call why
-  call_refuses m n height k high up r =
-      let within = part_of width (of_right width passing (both width copies) (in_left width copies)) in
-      let most = within.stack in
-      let few = some_words k fs in
-      plain_needing m n height call why up (stack_within height call (omega (arith, high, most, few))) r
-    where
-      some_words : (k : ℕ) (l : List FormalParameter) → total (passed_width v.scope) (take k l) ≤ total (passed_width v.scope) l
-      some_words zero l = omega arith
-      some_words (suc k) [] = omega arith
-      some_words (suc k) (g ∷ l) = (let rest = some_words k l in omega (arith, rest))
+  pub call_refuses : (m n height : ℕ) → height ≡ 0 + total (passed_width v.scope) fs → m ≤ n → IsRefused m height false why → IsNeeding n call why
+  call_refuses m n height high up r =
+      let most = (of_right width passing (both width copies) (in_left width copies)).stack in
+      plain_needing m n height call why up (stack_within height call (omega (arith, high, most))) r
 
   -- what is copied back
   pub copies_refuse : (m n : ℕ) → m ≤ n → IsNeeding m copies why → IsNeeding n call why
-  copies_refuse m n up r = needing_refused m n copies call up (part_of copies (of_right copies passing (both width copies) (in_right width copies))) why r
+  copies_refuse m n up r = needing_refused m n copies call up (of_right copies passing (both width copies) (in_right width copies)) why r
+
+  -- ... by whichever name it is called, of which something is asked too
+  pub name_refuses : (m n : ℕ) (numbered : Needs) → m ≤ n → IsNeeding m call why → IsNeeding n (both numbered call) why
+  name_refuses m n numbered up r = needing_refused m n call (both numbered call) up (in_right numbered call) why r
 
 -- the name counts its actual parameters
 pub actuals_sized : (name : NameTree) (all : List Argument) → actuals_behind name.selectors ≡ Some (argument_trees all)
     → total argument_size (map argument_tree all) + 2 ≤ stmt_size (statements.Call name)
 actuals_sized name all is =
     let size = size_is name.selectors (argument_trees all) is in
+    let same = sizes_are all in
+    omega (arith, size, same)
+
+pub external_sized : (name : NameTree) (operation : Identifier) (all : List Argument)
+    → operation_behind name.selectors ≡ Some (record { operation = operation; arguments = argument_trees all })
+    → total argument_size (map argument_tree all) + 2 ≤ stmt_size (statements.Call name)
+external_sized name operation all is =
+    let size = behind_size name.selectors (record { operation = operation; arguments = argument_trees all }) is in
     let same = sizes_are all in
     omega (arith, size, same)
 

@@ -5,6 +5,7 @@ use Rattle.std.proofs.lemmas.List.{length-append}
 use Rattle.kernel.specs.Laws.{QuietStays}
 use Rattle.ada_tree.specs.Size.{total}
 use Rattle.image.specs.Sections.{Sections}
+use Rattle.image.specs.declared.instruction.Operation.{Operation}
 use Rattle.image.specs.declared.instruction.Operation.TheVariants as op
 use Rattle.types.specs.declared.entity.Subtype.{Subtype}
 use Rattle.types.specs.Entities.{Arrays, Booleans, Integers, Records, Spans, Times, TypeForm}
@@ -25,14 +26,17 @@ use Rattle.expr_code.proofs.Actuals.{sum_then}
 use Rattle.expr_code.proofs.Flowing.{Changes, flows_same, flows_then, instruction_flows}
 use Rattle.expr_code.proofs.Growing.{added_at, added_extends, added_here, extends_self, extends_trans, holds_before, holds_later}
 use Rattle.part_code.specs.Copying.{AreCopies, IsCopy}
+use Rattle.part_code.specs.Emitting.{stored_at}
+use Rattle.part_code.specs.Suiting.{HasPlaceIn, SuitsStatements}
 use Rattle.part_code.specs.Passing.{AddsCheck, AddsCopy, AddsRange, EmitsCopies, copied_width}
 use Rattle.part_code.specs.Resting.{Framed}
 use Rattle.part_code.specs.declared.call.Destination.{Destination}
 use Rattle.part_code.proofs.Lists.{take_all}
 use Rattle.part_code.proofs.CopyingBack.{ChecksValue, HasNoRange, copies_behind, copies_by, copies_more, unranged_passes, value_checked, value_unchecked}
 use Rattle.part_code.proofs.InTurn.{taken_more}
+use Rattle.part_code.proofs.FormalFlows.{flows_under}
 use Rattle.part_code.proofs.StoresAt.{StoresAt, stores_at, writes}
-use Rattle.part_code.proofs.StoringParts.{StoresIn, block_in, word_in}
+use Rattle.part_code.proofs.StoringCode.{StoresIn, block_in, word_in}
 
 -- ---- checks
 
@@ -140,57 +144,60 @@ copies_nothing v c rest = record {
   extends = extends_self c;
   sized = omega arith;
   stands = λ i h program g f names laid. refl;
-  flows = subst (λ n. Flows (Suits v) c n c rest) (let e : rest ≡ rest + 0 = omega arith in e) (flows_same (Suits v) c rest);
+  flows = subst (λ n. Flows (SuitsStatements v) c n c rest) (let e : rest ≡ rest + 0 = omega arith in e) (flows_same (SuitsStatements v) c rest);
 }
 
 module _ (kept : AgreementIsKept) (sized : ValuesHaveWords) (quiet : QuietStays) (v : Visible) (old new : Code) (depth rest : ℕ) (d : Destination)
-    (a : AddsCopy v old depth d rest new) where
+    (place : HasPlaceIn v d.region) (a : AddsCopy v old depth d rest new) where
+  abbrev operation : Operation
+  operation = stored_at d.region a.words
+
   next : here new ≡ suc (here a.checked)
-  next = added_here a.checked new depth a.operation a.stores
+  next = added_here a.checked new depth operation a.stores
 
   grows : Extends a.checked new
-  grows = added_extends a.checked new depth a.operation a.stores
+  grows = added_extends a.checked new depth operation a.stores
 
   check : IsChecked quiet v old depth d.subtype a.checked
   check = is_checked quiet sized v old a.checked depth d.subtype (let h = a.high in omega (arith, h)) a.checks
 
-  it : StoresAt d.region a.words a.operation
-  it = stores_at d.region a.words a.operation a.stored
+  it : StoresAt d.region a.words operation
+  it = stores_at d.region a.words
 
-  changes : Changes (Suits v) a.operation depth rest
+  changes : Changes (SuitsStatements v) operation depth rest
   changes = by_count it.is
     where
-      by_count : ((a.words ≡ 1) × (op.StoreIndexed d.region ≡ a.operation)) ⊎ (op.StoreBlock d.region a.words ≡ a.operation)
-          → Changes (Suits v) a.operation depth rest
-      by_count (inl h) = subst (λ o. Changes (Suits v) o depth rest) h.1 (record {
+      by_count : ((a.words ≡ 1) × (op.StoreIndexed d.region ≡ operation)) ⊎ (op.StoreBlock d.region a.words ≡ operation)
+          → Changes (SuitsStatements v) operation depth rest
+      by_count (inl h) = subst (λ o. Changes (SuitsStatements v) o depth rest) h.1 (record {
         operands = refl;
-        names = λ i s suits. writes s d.region it.holds;
+        names = λ i s suits. writes v i s d.region suits place;
         takes = λ i s suits. (let one = h.0 in let high = a.high in omega (arith, one, high));
         leaves = λ i s suits. (let one = h.0 in let high = a.high in omega (arith, one, high));
         stays = refl;
         is_none = refl;
       })
-      by_count (inr h) = subst (λ o. Changes (Suits v) o depth rest) h (record {
+      by_count (inr h) = subst (λ o. Changes (SuitsStatements v) o depth rest) h (record {
         operands = a.block;
-        names = λ i s suits. writes s d.region it.holds;
+        names = λ i s suits. writes v i s d.region suits place;
         takes = λ i s suits. (let high = a.high in omega (arith, high));
         leaves = λ i s suits. (let high = a.high in omega (arith, high));
         stays = refl;
         is_none = refl;
       })
 
-  stores : (i : Sections) (f : Framed) → f.names ≡ v → At i (here a.checked) a.operation → (offset : ℕ) (base : List ℤ)
+  stores : (i : Sections) (f : Framed) → f.names ≡ v → At i (here a.checked) operation → (offset : ℕ) (base : List ℤ)
       → StoresIn i d.region (here a.checked) offset (words_of f.names.scope d.subtype) base (on (pos offset ∷ base))
   stores i f names at offset base =
       subst (λ n. StoresIn i d.region (here a.checked) offset n base (on (pos offset ∷ base)))
       (a.words_are ∙ ap (λ x. words_of x.scope d.subtype) (sym names)) (by_count it.is)
     where
-      by_count : ((a.words ≡ 1) × (op.StoreIndexed d.region ≡ a.operation)) ⊎ (op.StoreBlock d.region a.words ≡ a.operation)
+      by_count : ((a.words ≡ 1) × (op.StoreIndexed d.region ≡ operation)) ⊎ (op.StoreBlock d.region a.words ≡ operation)
           → StoresIn i d.region (here a.checked) offset a.words base (on (pos offset ∷ base))
       by_count (inl h) =
           subst (λ n. StoresIn i d.region (here a.checked) offset n base (on (pos offset ∷ base))) (sym h.0)
-          (word_in quiet i d.region (here a.checked) offset base it.holds (subst (At i (here a.checked)) (sym h.1) at))
-      by_count (inr h) = block_in quiet i d.region (here a.checked) offset base a.words it.holds (subst (At i (here a.checked)) (sym h) at)
+          (word_in quiet i d.region (here a.checked) offset base (subst (At i (here a.checked)) (sym h.1) at))
+      by_count (inr h) = block_in quiet i d.region (here a.checked) offset base a.words (subst (At i (here a.checked)) (sym h) at)
 
   copy_emits : EmitsCopies v old (d ∷ []) rest new
   copy_emits = record {
@@ -198,15 +205,16 @@ module _ (kept : AgreementIsKept) (sized : ValuesHaveWords) (quiet : QuietStays)
     sized = omega (arith, next, check.few);
     stands = λ i h program g f names laid.
         let up = check.extends.longer in
-        let at = added_at a.checked new depth a.operation a.stores i (here old) up h in
+        let at = added_at a.checked new depth operation a.stores i (here old) up h in
         copies_behind i program g f [] d (here old) (here old) (here new) refl
         (subst (λ n. IsCopy i program g f d (here old) n) (sym next)
-        (copies_by kept sized quiet i program g f laid d it.holds (here old) (here a.checked) up
+        (copies_by kept sized quiet i program g f laid d (here old) (here a.checked) up
         (check.checks i (holds_before i (here old) a.checked new grows h) g f.names names d.subtype refl) (stores i f names at)));
     flows = (let high = a.high in let words = a.words_are in
-        subst (λ n. Flows (Suits v) old n new rest) (let e : depth ≡ rest + (copied_width v.scope d + 0) = omega (arith, high, words) in e)
-        (flows_then (Suits v) old a.checked new depth depth rest check.extends grows check.flows
-        (instruction_flows (Suits v) a.checked new depth rest a.operation a.stores changes)));
+        subst (λ n. Flows (SuitsStatements v) old n new rest) (let e : depth ≡ rest + (copied_width v.scope d + 0) = omega (arith, high, words) in e)
+        (flows_then (SuitsStatements v) old a.checked new depth depth rest check.extends grows
+        (flows_under (Suits v) (SuitsStatements v) (λ i s suits. suits.names) old a.checked depth depth check.flows)
+        (instruction_flows (SuitsStatements v) a.checked new depth rest operation a.stores changes)));
   }
 
 module _ (v : Visible) where
@@ -219,9 +227,9 @@ module _ (v : Visible) where
         joined i program g f ds es (here a) (here b) (here c) (p.stands i (holds_before i (here a) b c q.extends h) program g f names laid)
         (q.stands i (holds_later i (here a) (here b) c p.extends.longer h) program g f names laid);
     flows = (let sum = sum_then (copied_width v.scope) ds es in
-        subst (λ n. Flows (Suits v) a n c rest) (let e : middle + total (copied_width v.scope) ds ≡ rest + total (copied_width v.scope) (ds ++ es) = omega (arith, sum, same) in e)
-        (flows_then (Suits v) a b c (middle + total (copied_width v.scope) ds) middle rest p.extends q.extends p.flows
-        (subst (λ n. Flows (Suits v) b n c rest) (sym same) q.flows)));
+        subst (λ n. Flows (SuitsStatements v) a n c rest) (let e : middle + total (copied_width v.scope) ds ≡ rest + total (copied_width v.scope) (ds ++ es) = omega (arith, sum, same) in e)
+        (flows_then (SuitsStatements v) a b c (middle + total (copied_width v.scope) ds) middle rest p.extends q.extends p.flows
+        (subst (λ n. Flows (SuitsStatements v) b n c rest) (sym same) q.flows)));
   }
     where
       joined : (i : Sections) (program : Program) (g : Package) (f : Framed) (ds es : List Destination) (from mid to : ℕ) → AreCopies i program g f from mid ds
@@ -231,14 +239,14 @@ module _ (v : Visible) where
           copies_more i program g f d (ds ++ es) from h.0 to h.3 (joined i program g f ds es h.0 mid to h.4 k)
 
   pub copies_next : AgreementIsKept → ValuesHaveWords → QuietStays → (start old new : Code) (all : List Destination) (n : ℕ) (other : Destination) (depth rest : ℕ)
-      → n < length all
+      → n < length all → HasPlaceIn v (get_or all n other).region
       → EmitsCopies v start (take n all) depth old → AddsCopy v old depth (get_or all n other) rest new → EmitsCopies v start (take (n + 1) all) rest new
-  copies_next kept sized quiet start old new all n other depth rest less before a =
+  copies_next kept sized quiet start old new all n other depth rest less place before a =
       let d = get_or all n other in
       let high = a.high in
       let words = a.words_are in
       subst (λ l. EmitsCopies v start l rest new) (sym (taken_more all n other less))
-      (copies_then start old new (take n all) (d ∷ []) depth rest (omega (arith, high, words)) before (copy_emits kept sized quiet v old new depth rest d a))
+      (copies_then start old new (take n all) (d ∷ []) depth rest (omega (arith, high, words)) before (copy_emits kept sized quiet v old new depth rest d place a))
 
   -- what is left is what the others bring
   pub left_next : (old new : Code) (all : List Destination) (n : ℕ) (other : Destination) (depth rest whole : ℕ) → n < length all

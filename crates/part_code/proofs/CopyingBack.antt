@@ -7,7 +7,7 @@ use Rattle.kernel.specs.Calm.{Calm}
 use Rattle.kernel.specs.Counting.{Done}
 use Rattle.kernel.specs.Laws.{QuietStays}
 use Rattle.image.specs.Sections.{Sections}
-use Rattle.image.specs.Frames.{Words, Frame}
+use Rattle.image.specs.Frames.{Words, Frame, own_object}
 use Rattle.image.specs.declared.instruction.Operation.TheVariants as op
 use Rattle.types.specs.declared.entity.Subtype.{Subtype}
 use Rattle.types.specs.Entities.{TypeForm, Integers, Booleans, Times, Spans, Arrays, Records}
@@ -40,7 +40,8 @@ use Rattle.part_code.specs.declared.call.Destination.{Destination}
 use Rattle.part_code.specs.Layout.{IsLaidOut}
 use Rattle.part_code.specs.Resting.{Framed, IsAt, Knows, Rests, StandsFor}
 use Rattle.part_code.specs.Storing.{Puts}
-use Rattle.part_code.proofs.StoringParts.{HoldsVariables, StoresIn, address_is, block_in, part_puts, place_of, word_in}
+use Rattle.part_code.proofs.StoringCode.{StoresIn, block_in, word_in}
+use Rattle.part_code.proofs.StoringParts.{address_is, part_puts, place_of}
 
 -- ---- subtypes with a range, whose values are checked, and those without
 
@@ -121,7 +122,7 @@ module _ (quiet : QuietStays) (i : Sections) (s : Scope) (shown t : Subtype) whe
 -- ---- one that is copied back
 
 module _ (kept : AgreementIsKept) (sized : ValuesHaveWords) (quiet : QuietStays) (i : Sections) (program : Program) (g : Package) (v : Framed)
-    (laid : IsLaidOut g v) (d : Destination) (holds : HoldsVariables d.region) where
+    (laid : IsLaidOut g v) (d : Destination) where
   pub copies_by : (from mid : ℕ) → from ≤ mid → ChecksValue quiet i v.names.scope d.subtype d.subtype from mid
       → ((offset : ℕ) (base : List ℤ) → StoresIn i d.region mid offset (words_of v.names.scope d.subtype) base (on (pos offset ∷ base)))
       → IsCopy i program g v d from (suc mid)
@@ -130,14 +131,14 @@ module _ (kept : AgreementIsKept) (sized : ValuesHaveWords) (quiet : QuietStays)
       puts : (schedule : List ScheduleLine) (k : Kernel) (t : ℕ) (m : Words) (f : Frame) (fs : List Frame) (store : Store) (a : Activation) (p : Place)
           (x : Target) (y : Value) (base : List ℤ)
           → IsAt program store p → p.locals ≡ a.locals → p.within ≡ a.within → StandsFor program g store m → Rests g v a f.locals
-          → Knows g v p (view_of i schedule k t m f fs) → a.within ≡ None → IsPlacedTarget v.names d x → has_shape (shape_of v.names.scope d.subtype) y ≡ true
+          → own_object i f ≡ a.within → Knows g v p (view_of i schedule k t m f fs) → IsPlacedTarget v d x → has_shape (shape_of v.names.scope d.subtype) y ≡ true
           → Puts i program g schedule k t m f fs mid (on (pos (address_of v.names x) ∷ base) y) base v (store_with x y store) (activation_with x y a)
-      puts schedule k t m f fs store a p x y base is_at locals within stands rests knows outside place suited =
-          let at = place_of v.names d x place in
+      puts schedule k t m f fs store a p x y base is_at locals within stands rests own knows place suited =
+          let at = place_of v d x place in
           subst (λ n. Puts i program g schedule k t m f fs mid (on (pos n ∷ base) y) base v (store_with x y store) (activation_with x y a))
-          (sym (address_is v.names d x place))
+          (sym (address_is v d x place))
           (part_puts kept sized i program g v laid d x place y suited mid base (on (pos at ∷ base)) schedule k t m f fs store a p is_at locals within stands
-          rests knows outside (stores at base))
+          rests own knows (stores at base))
 
   -- a number: PUSH of the first and of the last value, CHK, STX
   pub copies_number : (from : ℕ) → IsRanged v.names.scope d.subtype → Checks i (library_of g) from d.subtype → At i (from + 3) (op.StoreIndexed d.region)
@@ -145,7 +146,7 @@ module _ (kept : AgreementIsKept) (sized : ValuesHaveWords) (quiet : QuietStays)
   copies_number from ranged code here =
       copies_by from (from + 3) (omega arith) (value_checked quiet i v.names.scope d.subtype d.subtype (library_of g) from ranged code)
       (λ offset base. subst (λ n. StoresIn i d.region (from + 3) offset n base (on (pos offset ∷ base)))
-      (sym (ranged_single sized v.names.scope d.subtype ranged)) (word_in quiet i d.region (from + 3) offset base holds here))
+      (sym (ranged_single sized v.names.scope d.subtype ranged)) (word_in quiet i d.region (from + 3) offset base here))
 
   -- another single word: STX
   pub copies_word : (from : ℕ) → IsUnranged v.names.scope d.subtype → words_of v.names.scope d.subtype ≡ 1 → At i from (op.StoreIndexed d.region)
@@ -154,7 +155,7 @@ module _ (kept : AgreementIsKept) (sized : ValuesHaveWords) (quiet : QuietStays)
       copies_by from from (omega arith)
       (value_unchecked quiet i v.names.scope d.subtype d.subtype from (unranged_passes v.names.scope d.subtype d.subtype unranged))
       (λ offset base. subst (λ n. StoresIn i d.region from offset n base (on (pos offset ∷ base))) (sym single)
-      (word_in quiet i d.region from offset base holds here))
+      (word_in quiet i d.region from offset base here))
 
   -- several words: STB
   pub copies_block : (from : ℕ) → IsUnranged v.names.scope d.subtype → At i from (op.StoreBlock d.region (words_of v.names.scope d.subtype))
@@ -162,7 +163,7 @@ module _ (kept : AgreementIsKept) (sized : ValuesHaveWords) (quiet : QuietStays)
   copies_block from unranged here =
       copies_by from from (omega arith)
       (value_unchecked quiet i v.names.scope d.subtype d.subtype from (unranged_passes v.names.scope d.subtype d.subtype unranged))
-      (λ offset base. block_in quiet i d.region from offset base (words_of v.names.scope d.subtype) holds here)
+      (λ offset base. block_in quiet i d.region from offset base (words_of v.names.scope d.subtype) here)
 
 -- ---- one behind the other
 

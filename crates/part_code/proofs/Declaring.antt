@@ -6,7 +6,7 @@ use Rattle.kernel.specs.State.{Kernel}
 use Rattle.kernel.specs.Counting.{Spends}
 use Rattle.kernel.specs.Laws.{QuietStays}
 use Rattle.image.specs.Sections.{Sections}
-use Rattle.image.specs.Frames.{Words, Frame}
+use Rattle.image.specs.Frames.{Words, Frame, own_object}
 use Rattle.image.specs.Steps.{behaviour}
 use Rattle.image.specs.declared.instruction.Operation.TheVariants as op
 use Rattle.image.specs.declared.instruction.Region.TheVariants as regions
@@ -41,7 +41,7 @@ use Rattle.part_code.specs.Resting.{Framed, IsAt, Knows, Rests, StandsFor, AreKe
 use Rattle.part_code.specs.Statements.{IsDeclared, Numbers}
 use Rattle.part_code.specs.Storing.{ArePushed, Puts, Stores, declared, declared_from}
 use Rattle.part_code.proofs.Placing.{declared_knows}
-use Rattle.part_code.proofs.StoringCode.{StoresLocally, block_locally, computes_above, computes_pushed, passed_same, same_given, word_locally}
+use Rattle.part_code.proofs.StoringCode.{StoresLocally, block_in, computes_above, computes_pushed, passed_same, same_given, word_there}
 use Rattle.part_code.proofs.Words.{with_words, written, others_kept}
 
 -- what is known of an expression whose value is stored, beside its code: its value is of the subtype's type
@@ -89,10 +89,11 @@ module _ (kept : AgreementIsKept) (sized : ValuesHaveWords) (quiet : QuietStays)
       puts : (schedule : List ScheduleLine) (k : Kernel) (task : ℕ) (m : Words) (f : Frame) (fs : List Frame) (store : Store) (a : Activation) (p : Place)
           (x : Value)
           → IsAt program store p → p.locals ≡ a.locals → p.within ≡ a.within → StandsFor program g store m → Rests g v a f.locals
-          → Knows g v p (view_of i schedule k task m f fs) → a.within ≡ None
+          → own_object i f ≡ a.within
+          → Knows g v p (view_of i schedule k task m f fs)
           → value (call p.frames_left) p ≡ Gives x
           → Puts i program g schedule k task m f fs mid (stack [] x) [] later store (record a { locals = begun name t x ∷ a.locals })
-      puts schedule k task m f fs store a p x is_at locals within stands rests knows outside gives =
+      puts schedule k task m f fs store a p x is_at locals within stands rests own knows gives =
           let suited = suits p (view_of i schedule k task m f fs) knows.sees (is_at.scope) x gives in
           let many : length (value_words x) ≡ words_of v.names.scope t = (sized (shape_of v.names.scope t) x suited).sized in
           let fits = widens.fits in
@@ -106,9 +107,9 @@ module _ (kept : AgreementIsKept) (sized : ValuesHaveWords) (quiet : QuietStays)
             shared = stands;
             rests = record {
               small = (let l = put.long in let s = rests.small in omega (arith, l, s));
-              sees = λ p' view' sees' locals' within' words'.
+              sees = λ p' view' sees' locals' within' words' its'.
                   declared_knows kept sized g v laid a f.locals (with_words slot.offset (value_words x) f.locals) rests (begun name t x)
-                  slot.offset put p' view' sees' locals' within' words' r slot later widens region refl suited;
+                  slot.offset put p' view' sees' locals' within' words' its' r slot later widens region refl suited;
             };
             keeps = subst (λ z. AreKept z f.locals (with_words slot.offset (value_words x) f.locals)) (sym spares.reserved)
                 (others_kept v.reserved slot.offset (value_words x) f.locals enough (subst (λ n. IsFree v.reserved slot.offset n) (sym many) spares.free));
@@ -161,7 +162,7 @@ module _ (kept : AgreementIsKept) (sized : ValuesHaveWords) (quiet : QuietStays)
     pub declares_value : (from mid : ℕ) → words_of v.names.scope t ≡ 1 → from ≤ mid → ComputesChecked i (library_of g) (Sees g v.names) from mid t e
         → At i mid (op.StoreLocal slot.offset) → IsDeclared i program g numbers v from (suc mid) later (LocalObject d)
     declares_value from mid single up computes here =
-        declares_with from mid up on computes (subst (λ n. StoresLocally i mid slot.offset n (on [])) (sym single) (word_locally quiet i mid slot.offset here))
+        declares_with from mid up on computes (subst (λ n. StoresLocally i mid slot.offset n (on [])) (sym single) (word_there quiet i regions.Locals mid slot.offset here))
 
     -- several: their address, their code, and STB
     pub declares_block : (from mid : ℕ) → suc from ≤ mid → At i from (op.Push (pos slot.offset))
@@ -170,7 +171,7 @@ module _ (kept : AgreementIsKept) (sized : ValuesHaveWords) (quiet : QuietStays)
     declares_block from mid up push computes here =
         declares_with from mid (omega (arith, up)) (λ base x. on (pos slot.offset ∷ base) x)
         (computes_above quiet i (library_of g) (Sees g v.names) from mid slot.offset (λ c p. and_then (value_with c p e) (passed t)) up push computes)
-        (block_locally quiet i mid slot.offset (words_of v.names.scope t) here)
+        (block_in quiet i regions.Locals mid slot.offset [] (words_of v.names.scope t) here)
 
   -- ---- without one: a word is put on the stack
   pub declares_initial : InitialValuesHaveShape → (v later : Framed) (d : ObjectTree) (r : Role) (t : Subtype) (slot : Slot) (w : ℤ) (from : ℕ)
@@ -189,7 +190,7 @@ module _ (kept : AgreementIsKept) (sized : ValuesHaveWords) (quiet : QuietStays)
       (initial_suits shaped v t known p view sees scope x
       (ap (λ u. Gives (initial program.scope u)) (sym named) ∙ ap (λ o. declared_from program.scope d o (call p.frames_left) p) (sym valued) ∙ h)))
       (subst (λ n. StoresLocally i (suc from) slot.offset n (on [])) (sym (ap (words_of v.names.scope) named ∙ single))
-      (word_locally quiet i (suc from) slot.offset here))
+      (word_there quiet i regions.Locals (suc from) slot.offset here))
     where
       computes : Everywhere i (library_of g) (Sees g v.names) from (suc from) on (λ c p. Gives (initial program.scope t))
       computes calls left answers schedule k task m f fs p base calm sees is =
@@ -224,4 +225,4 @@ module _ (kept : AgreementIsKept) (sized : ValuesHaveWords) (quiet : QuietStays)
       (initial_suits shaped v t known p view sees scope x
       (ap (λ u. Gives (initial program.scope u)) (sym named) ∙ ap (λ o. declared_from program.scope d o (call p.frames_left) p) (sym valued) ∙ h)))
       (subst (λ u. StoresLocally i mid slot.offset (words_of v.names.scope u) (λ x. on (pos slot.offset ∷ []) x)) (sym named)
-      (block_locally quiet i mid slot.offset (words_of v.names.scope t) here))
+      (block_in quiet i regions.Locals mid slot.offset [] (words_of v.names.scope t) here))

@@ -88,12 +88,12 @@ module _ (A : Asked) where
   }
 
   -- a call of what takes and gives nothing
-  pub call_changes : (depth number : ℕ) → ((i : Sections) (q : Subprogram) → A i q → IsBare i number) → Changes A (op.Call number) depth depth
+  pub call_changes : (depth number : ℕ) → ((i : Sections) (q : Subprogram) → A i q → IsBare i q number) → Changes A (op.Call number) depth depth
   call_changes depth number bare = record {
     operands = refl;
     names = λ i q asked.
         let b = bare i q asked in
-        ap (λ o. some_and o (λ c. is_plain c.kind || calls_inside q.kind c.kind)) b.is ∙ ap (λ x. x || calls_inside q.kind b.code.kind) b.plain;
+        ap (λ o. some_and o (λ c. is_plain c.kind || calls_inside q.kind c.kind)) b.is ∙ b.kind;
     takes = λ i q asked. (let b = bare i q asked in let e = ap parameters_of b.is ∙ b.parameters in omega (arith, e));
     leaves = λ i q asked.
         (let b = bare i q asked in let e = ap parameters_of b.is ∙ b.parameters in let k = ap results_of b.is ∙ b.results in omega (arith, e, k));
@@ -227,5 +227,5 @@ pub call_flows : (v : Visible) (all : List MainStatement) (n : ℕ) (s : MainSta
 call_flows v all n s package_ procedure number old new less is called told p =
     instruction_flows (CallBare v all) old new 0 0 (op.Call number) p (call_changes (CallBare v all) 0 number bare)
   where
-    bare : (i : Sections) (q : Subprogram) → CallBare v all i q → IsBare i number
-    bare i q each = (subst (CallsBare v i) (sym is ∙ called) (All-get_or (CallsBare v i) all n s less each)) number told
+    bare : (i : Sections) (q : Subprogram) → CallBare v all i q → IsBare i q number
+    bare i q each = (subst (CallsBare v i q) (sym is ∙ called) (All-get_or (CallsBare v i q) all n s less each)) number told

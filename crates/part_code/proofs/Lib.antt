@@ -2,8 +2,11 @@ pub mod Handling
 pub mod Holding
 pub mod Words
 pub mod Names
+pub mod OperationNames
 pub mod Placing
+mod Renewing
 mod Variables
+mod Components
 pub mod StoringCode
 pub mod Declaring
 pub mod Arriving

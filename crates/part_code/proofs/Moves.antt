@@ -29,7 +29,7 @@ use Rattle.expr_code.proofs.Growing.{added_at, added_extends, added_here, extend
 use Rattle.expr_code.proofs.Legal.{branches_are}
 use Rattle.part_code.specs.Moves.{AddsMoves, EmitsMove, EmitsMoves, alone}
 use Rattle.part_code.specs.Moving.{IsMoved, IsMovedElse, IsSource, is_moved}
-use Rattle.part_code.specs.Passing.{holds_variables}
+use Rattle.part_code.specs.Suiting.{HasPlaceIn, SuitsStatements}
 use Rattle.part_code.specs.declared.moving.Moved.{Moved}
 use Rattle.part_code.specs.declared.moving.Source.{Source}
 use Rattle.part_code.proofs.Jumps.{jump_kept, same_place}
@@ -37,8 +37,8 @@ use Rattle.part_code.proofs.Lists.{mapped_next, take_all}
 use Rattle.part_code.proofs.Jumps.{added_is, patched_is}
 use Rattle.part_code.proofs.Lists.{among_both, append_again, append_none, none_before, none_behind, not_alone, one_of, same_self, shorter}
 use Rattle.part_code.proofs.Lists as opening
+use Rattle.part_code.proofs.FormalFlows.{flows_under}
 use Rattle.part_code.proofs.StoresAt.{writes}
-use Rattle.part_code.proofs.TargetsAdded.{has_place, where_variables}
 
 -- no operator gives an array or a record
 pub chain_unmoved : (v : Visible) (more : List Operand) (operator : BinaryOperator) (a b : ExprTree)
@@ -59,11 +59,13 @@ one_false false b c h = refl
 and_both : (a b : Bool) → a ≡ true → b ≡ true → (a && b) ≡ true
 and_both a b h k = ap (λ q. q && b) h ∙ k
 
-copies_words : (v : Visible) (target source : Region) (size : ℕ) → is_block size ≡ true → holds_variables target ≡ true → holds_variables source ≡ true
-    → Changes (Suits v) (op.Copy target source size) 2 0
-copies_words v target source size block holds other = record {
+copies_words : (v : Visible) (target source : Region) (size : ℕ) → is_block size ≡ true → HasPlaceIn v target → HasPlaceIn v source
+    → Changes (SuitsStatements v) (op.Copy target source size) 2 0
+copies_words v target source size block place other = record {
   operands = block;
-  names = λ i s suits. and_both (writes_region s target) (has_region s source) (writes s target (where_variables target holds)) (has_place s source other);
+  names = λ i s suits.
+      and_both (writes_region s target) (has_region s source) (writes v i s target suits place)
+      (ap (has_region s) (sym other.region) ∙ suits.names.region other.name other.slot other.there);
   takes = λ i s suits. omega arith;
   leaves = λ i s suits. omega arith;
   stays = refl;
@@ -75,7 +77,7 @@ module _ (v : Visible) (to : Moved) where
 
   module _ (old mid new : Code) (name : NameTree) (x : Source) (last : Subtype) (is : IsSource v name x)
       (legal : IsLegalExpression v.scope (Named name.first name.selectors))
-      (block : is_block to.words ≡ true) (holds : holds_variables to.region ≡ true)
+      (block : is_block to.words ≡ true) (place : HasPlaceIn v to.region)
       (q : EmitsAddress v old 1 x.slot.offset x.whole name.selectors last mid) (y : Adds mid 2 (op.Copy to.region x.slot.region to.words) new) where
     next : here new ≡ suc (here mid)
     next = added_here mid new 2 (op.Copy to.region x.slot.region to.words) y
@@ -106,9 +108,11 @@ module _ (v : Visible) (to : Moved) where
                 (q.goes i in_mid g);
             copies = added_at mid new 2 (op.Copy to.region x.slot.region to.words) y i (here old) q.extends.longer h;
           };
-      flows = flows_then (Suits v) old mid new 1 2 0 q.extends grows q.flows
-          (instruction_flows (Suits v) mid new 2 0 (op.Copy to.region x.slot.region to.words) y
-          (copies_words v to.region x.slot.region to.words block holds is.holds));
+      flows = flows_then (SuitsStatements v) old mid new 1 2 0 q.extends grows
+          (flows_under (Suits v) (SuitsStatements v) (λ i s suits. suits.names) old mid 1 2 q.flows)
+          (instruction_flows (SuitsStatements v) mid new 2 0 (op.Copy to.region x.slot.region to.words) y
+          (copies_words v to.region x.slot.region to.words block place
+          (record { name = name.first.name; slot = x.slot; there = is.there; region = refl })));
     }
 
   -- ---- branches behind branches
@@ -275,7 +279,7 @@ module _ (v : Visible) (to : Moved) where
             omega (arith, same, up),
             ap (λ m. has_depth i m 1) same ∙ next,
           )) in
-          let in_test = first.flows.flows i s (in_tested i end up j) suits (omega (arith, tested_extends.deeper, deep)) high testing.begins in
+          let in_test = first.flows.flows i s (in_tested i end up j) suits.names (omega (arith, tested_extends.deeper, deep)) high testing.begins in
           let test_kept = widened i s (here start) (here tested) (here start) end (here start) (here tested) 1 (omega arith)
           (omega (arith, two, second.extends.longer, four, end_is, up)) in_test in
           subst (λ m. AreKeptBetween i s (here start) end (here start) m 1) (sym (end_is ∙ four))

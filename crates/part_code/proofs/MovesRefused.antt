@@ -1,6 +1,6 @@
 -- What is moved by an assignment, and what refuses its code: of both addresses, and of what moves the words.
 use Rattle.std.proofs.Common.{◌≡◌, ◌≤◌, ◌<◌, ◌+◌, ◌*◌, ◌⊎◌, inl, inr, ℕ, zero, suc, List, [], ◌∷◌, length, map, take, Bool, true, false, ◌&&◌, cond, Option, Some, None, refl, sym, ap, ◌∙◌, subst, arith}
-use Rattle.std.specs.Prelude.{get_or, max}
+use Rattle.std.specs.Prelude.{get_or, max, is_some}
 use Rattle.ada_tree.specs.declared.expression.ElsifValue.{ElsifValue}
 use Rattle.ada_tree.specs.ExpressionTree.{Conditional, ExprTree, Named, NameTree, elsif_value_trees, expr_tree}
 use Rattle.ada_tree.specs.StatementTree.{Assignment}
@@ -27,8 +27,7 @@ use Rattle.expr_code.proofs.Shallow.{shallow_as, shallow_more, shallow_next}
 use Rattle.part_code.specs.Bounds.{stmt_bound}
 use Rattle.part_code.specs.Layout.{IsVariable}
 use Rattle.part_code.specs.Moves.{alone}
-use Rattle.part_code.specs.Moving.{IsSource, are_moved, is_held, is_moved, moves, names_composite, source_at, source_by, variable_at}
-use Rattle.part_code.specs.Passing.{holds_variables}
+use Rattle.part_code.specs.Moving.{IsSource, are_moved, is_moved, moves, names_composite, source_at, source_by, variable_at}
 use Rattle.part_code.specs.Needs.{HasManyLabels, IsNeeding, Needs, RefusesMove, RefusesMoves, address_needs, assignment_needs, both, has_unfit, move_needs, moved_needs, moves_needs, needs_above, needs_by, nothing, stored_needs}
 use Rattle.part_code.specs.declared.moving.Source.{Source}
 use Rattle.part_code.proofs.AssignmentsRefused.{address_refused, unfit_whole}
@@ -45,24 +44,22 @@ record IsHeldVariable (w : Standing) (o : Option Slot) (x : Source) : Type 0 whe
   pub stands : w ≡ standing.Part role x.whole
   pub variable : IsVariable role
   pub there : o ≡ Some x.slot
-  pub holds : holds_variables x.slot.region ≡ true
 
-held_by : (r : Role) (t : Subtype) (slot : Slot) (x : Source) (b : Bool) → IsVariable r → holds_variables slot.region ≡ b
-    → cond b (Some (record { slot = slot; whole = t })) None ≡ Some x → IsHeldVariable (standing.Part r t) (Some slot) x
-held_by r t slot x true variable holds is =
+held_by : (r : Role) (t : Subtype) (slot : Slot) (x : Source) → IsVariable r → Some (record { slot = slot; whole = t }) ≡ Some x
+    → IsHeldVariable (standing.Part r t) (Some slot) x
+held_by r t slot x variable is =
     subst (IsHeldVariable (standing.Part r t) (Some slot)) (some_is (record { slot = slot; whole = t }) x is)
-    (record { role = r; stands = refl; variable = variable; there = refl; holds = holds })
-held_by r t slot x false variable holds is = cc
+    (record { role = r; stands = refl; variable = variable; there = refl })
 
 variable_is : (w : Standing) (o : Option Slot) (x : Source) → variable_at w o ≡ Some x → IsHeldVariable w o x
 variable_is (standing.Part role.LoopParameter t) o x h = cc
-variable_is (standing.Part role.Variable t) (Some slot) x h = held_by role.Variable t slot x (holds_variables slot.region) tt refl h
-variable_is (standing.Part role.Constant t) (Some slot) x h = held_by role.Constant t slot x (holds_variables slot.region) tt refl h
-variable_is (standing.Part role.In t) (Some slot) x h = held_by role.In t slot x (holds_variables slot.region) tt refl h
-variable_is (standing.Part role.Out t) (Some slot) x h = held_by role.Out t slot x (holds_variables slot.region) tt refl h
-variable_is (standing.Part role.InOut t) (Some slot) x h = held_by role.InOut t slot x (holds_variables slot.region) tt refl h
-variable_is (standing.Part role.Component t) (Some slot) x h = held_by role.Component t slot x (holds_variables slot.region) tt refl h
-variable_is (standing.Part role.ReadOnlyComponent t) (Some slot) x h = held_by role.ReadOnlyComponent t slot x (holds_variables slot.region) tt refl h
+variable_is (standing.Part role.Variable t) (Some slot) x h = held_by role.Variable t slot x tt h
+variable_is (standing.Part role.Constant t) (Some slot) x h = held_by role.Constant t slot x tt h
+variable_is (standing.Part role.In t) (Some slot) x h = held_by role.In t slot x tt h
+variable_is (standing.Part role.Out t) (Some slot) x h = held_by role.Out t slot x tt h
+variable_is (standing.Part role.InOut t) (Some slot) x h = held_by role.InOut t slot x tt h
+variable_is (standing.Part role.Component t) (Some slot) x h = held_by role.Component t slot x tt h
+variable_is (standing.Part role.ReadOnlyComponent t) (Some slot) x h = held_by role.ReadOnlyComponent t slot x tt h
 variable_is w o x h = cc
 
 pub source_is : (v : Visible) (name : NameTree) (x : Source) → source_at v name ≡ Some x → IsSource v name x
@@ -78,7 +75,6 @@ source_is v name x h = by_standing (standing_of v.scope name.first name.selector
           stands = held.stands;
           variable = held.variable;
           there = held.there;
-          holds = held.holds;
           part = r;
           last = t;
           names = e;
@@ -99,7 +95,7 @@ module _ (v : Visible) (name : NameTree) (e : ExprTree) where
   stored_by false b h = refl
 
   pub needs_stored : is_moved v e ≡ false → assignment_needs v name e ≡ stored_needs v name e
-  needs_stored h = stored_by (names_composite v.scope first && (names_composite v.scope whole && is_held (slot_of v name.first.name))) (is_moved v e) h
+  needs_stored h = stored_by (names_composite v.scope first && (names_composite v.scope whole && is_some (slot_of v name.first.name))) (is_moved v e) h
 
   moved_by : (a b c d : Bool) → a ≡ true → b ≡ true → c ≡ true → d ≡ true → needs_by v name e (cond (a && (b && c)) d false) ≡ moved_needs v name e
   moved_by true true true d h k l m = ap (needs_by v name e) m
@@ -107,9 +103,9 @@ module _ (v : Visible) (name : NameTree) (e : ExprTree) where
   moved_by true false c d h k l m = cc
   moved_by true true false d h k l m = cc
 
-  pub needs_moved : names_composite v.scope first ≡ true → names_composite v.scope whole ≡ true → is_held (slot_of v name.first.name) ≡ true
+  pub needs_moved : names_composite v.scope first ≡ true → names_composite v.scope whole ≡ true → is_some (slot_of v name.first.name) ≡ true
       → is_moved v e ≡ true → assignment_needs v name e ≡ moved_needs v name e
-  needs_moved h k l m = moved_by (names_composite v.scope first) (names_composite v.scope whole) (is_held (slot_of v name.first.name)) (is_moved v e) h k l m
+  needs_moved h k l m = moved_by (names_composite v.scope first) (names_composite v.scope whole) (is_some (slot_of v name.first.name)) (is_moved v e) h k l m
 
   -- what has no place has none, whatever is moved
   pub needs_outside : (address_needs 0 v name.first name.selectors).outside ≡ true → (assignment_needs v name e).outside ≡ true

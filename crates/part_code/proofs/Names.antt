@@ -1,15 +1,16 @@
 -- What is told of names where one more is visible, and what they mean where one more object is there.
-use Rattle.std.proofs.Common.{◌≡◌, ℕ, zero, suc, ◌<◌, ◌⊎◌, inl, inr, List, [], ◌∷◌, ◌++◌, length, cond, Option, Some, None, true, false, refl, sym, ap, ◌∙◌, arith}
-use Rattle.std.specs.Prelude.{bytes_eq, pos, slice_get}
+use Rattle.std.proofs.Common.{◌≡◌, ℕ, zero, suc, ◌<◌, ◌⊎◌, inl, inr, List, [], ◌∷◌, ◌++◌, length, cond, Bool, Option, Some, None, true, false, refl, sym, ap, ◌∙◌, arith}
+use Rattle.std.specs.Prelude.{bytes_eq, is_some, pos, slice_get}
 use Rattle.std.proofs.lemmas.Slice.Eq.{bytes_eq-Decides}
 use Rattle.types.specs.declared.entity.Role.{Role}
 use Rattle.types.specs.declared.entity.Role.TheVariants as role
 use Rattle.types.specs.declared.entity.Subtype.{Subtype}
+use Rattle.types.specs.Entities.{Entity, Profile}
 use Rattle.types.specs.Entities as entity
 use Rattle.types.specs.Laws.{ValuesHaveWords}
 use Rattle.types.specs.Layouts.{words_of}
 use Rattle.types.specs.Places.{IsObject, Meaning, Object, Place, function_meaning, meaning_in_scope, meaning_of, meaning_or, object_meaning, object_of, or_else, own_components, own_function, package_function, package_object}
-use Rattle.types.specs.Scopes.{Named, Scope, form_at, number_of}
+use Rattle.types.specs.Scopes.{Named, Scope, entity_at, form_at, is_visible, number_of, with_name}
 use Rattle.types.specs.Shapes.{shape_of, value_words}
 use Rattle.types.specs.Values.{Number, Value}
 use Rattle.expr_soundness.specs.expr_rules.specs.declared.own.Own.TheVariants.{Typed}
@@ -19,8 +20,8 @@ use Rattle.expr_soundness.specs.expr_rules.proofs.TypeShapes.{numeric_value}
 use Rattle.expr_soundness.specs.Agreeing.{Agrees, MeansObject, MeansOne}
 use Rattle.expr_soundness.specs.SoundScopes.{IsSoundObject}
 use Rattle.expr_soundness.proofs.Parts.{subtype_values}
-use Rattle.expr_soundness.proofs.Positions.{found_at, item_added, item_kept, item_of_added, number_added, number_kept, number_place, same_some}
-use Rattle.expr_code.specs.Seeing.{told_of}
+use Rattle.expr_soundness.proofs.Positions.{entity_kept, entity_number, found_at, item_added, item_kept, item_of_added, number_added, number_kept, number_place, same_some}
+use Rattle.expr_code.specs.Seeing.{NamesProfile, told_of}
 use Rattle.part_code.specs.Layout.{IsVariable, NamesObject}
 
 -- ---- what is told of a name
@@ -90,6 +91,32 @@ told_of_more {X} s m all y name x long h = elim (number_added s m name t.number 
     behind : t.number ≡ length s → y ≡ Some x
     behind e = same_some y (Some x) (sym (item_added all y) ∙ ap (slice_get (all ++ y ∷ [])) (long ∙ sym e) ∙ t.there)
 
+-- what a name stands for as a subprogram it stands for where more is visible, and it did so before, where the name is not new
+pub profile_kept : (s : Scope) (more : List Named) (name : List ℕ) (p : Profile) → NamesProfile s name p → NamesProfile (s ++ more) name p
+profile_kept s more name p n = record {
+  number = n.number;
+  numbered = number_kept s more name n.number n.numbered;
+  stands = entity_kept s more n.number (entity.Subprogram p) n.stands;
+}
+
+pub profile_before : (s : Scope) (more : List Named) (name : List ℕ) (k : ℕ) (p : Profile) → number_of s name ≡ Some k → NamesProfile (s ++ more) name p
+    → NamesProfile s name p
+profile_before s more name k p e n =
+    let x = entity_number s name k e in
+    let same : n.number ≡ k = same_some n.number k (sym n.numbered ∙ number_kept s more name k e) in
+    let is : Some x.0 ≡ Some (entity.Subprogram p) =
+    sym (entity_kept s more k x.0 x.1) ∙ ap (entity_at (s ++ more)) (sym same) ∙ n.stands in
+    record { number = k; numbered = e; stands = x.1 ∙ is }
+
+pub profile_without : (s : Scope) (name : List ℕ) (e : Entity) (other : List ℕ) (k : ℕ) (p : Profile) → number_of s other ≡ Some k
+    → NamesProfile (with_name s name e) other p
+    → NamesProfile s other p
+profile_without s name e other k p h = by_visible (is_visible s name)
+  where
+    by_visible : (b : Bool) → NamesProfile (cond b s (s ++ record { name = name; entity = e } ∷ [])) other p → NamesProfile s other p
+    by_visible true n = n
+    by_visible false n = profile_before s (record { name = name; entity = e } ∷ []) other k p h n
+
 -- ---- names
 
 pub same_name : (a b : List ℕ) → bytes_eq a b ≡ true → a ≡ b
@@ -130,6 +157,21 @@ object_subtype m t u v w h k = let f : Meaning → Subtype = λ m. elim m [ IsOb
 
 pub object_value : (m : Meaning) (t u : Subtype) (v w : Value) → m ≡ IsObject t v → m ≡ IsObject u w → v ≡ w
 object_value m t u v w h k = let f : Meaning → Value = λ m. elim m [ IsObject x y ↦ y | n ↦ v ] in ap f (sym h ∙ k)
+
+-- ---- an object that is found
+
+pub object_name : (objects : List Object) (name : List ℕ) (x : Object) → object_of objects name ≡ Some x → x.name ≡ name
+object_name [] name x h = cc
+object_name (y ∷ rest) name x h = by_test (bytes_eq y.name name) refl h (object_name rest name x)
+  where
+    by_test : (b : Bool) → bytes_eq y.name name ≡ b → cond b (Some y) (object_of rest name) ≡ Some x → (object_of rest name ≡ Some x → x.name ≡ name)
+        → x.name ≡ name
+    by_test true e k later = ap (λ z. z.name) (sym (same_some y x k)) ∙ same_name y.name name e
+    by_test false e k later = later k
+
+pub found_some : (o : Option Object) → is_some o ≡ true → (x : Object) × (o ≡ Some x)
+found_some (Some x) h = (x, refl)
+found_some None h = cc
 
 -- ---- how many words the object has that a name means
 

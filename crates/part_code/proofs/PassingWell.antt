@@ -29,7 +29,6 @@ use Rattle.step_soundness.specs.Objects.{AreOf, IsOf}
 use Rattle.expr_code.specs.Computing.{ArePassed}
 use Rattle.expr_code.specs.Seeing.{Package, Sees, library_of}
 use Rattle.expr_code.specs.Views.{View}
-use Rattle.expr_code.specs.declared.visible.Visible.{Visible}
 use Rattle.expr_code.proofs.Locating.{given}
 use Rattle.part_code.specs.Copying.{ArePlaced, objects_at, passed_actual, passed_actuals, passed_expression, taken}
 use Rattle.part_code.specs.declared.call.Destination.{Destination}
@@ -38,7 +37,6 @@ use Rattle.part_code.specs.Statements.{parameter_subtype}
 use Rattle.part_code.proofs.Declaring.{IsTypedAs}
 use Rattle.part_code.proofs.Pointing.{PointsTo, placed_here, pointed, suited_here, value_here}
 use Rattle.part_code.proofs.StoringCode.{passed_same, same_given}
-use Rattle.part_code.proofs.StoringParts.{HoldsVariables}
 
 abbrev pub shapes_in : Scope → List Parameter → List Shape
 shapes_in s ps = map (shape_of s) (map parameter_subtype ps)
@@ -69,7 +67,7 @@ types_joined s false f ns [] ws h k = absurd h
 types_joined s false f ns (v ∷ []) ws h k = (h.0, k)
 types_joined s false f ns (v ∷ u ∷ vs) ws h k = absurd h.1
 
-placed_joined : (v : Visible) (ds es : List Destination) (xs ys : List Target) → ArePlaced v ds xs → ArePlaced v es ys → ArePlaced v (ds ++ es) (xs ++ ys)
+placed_joined : (v : Framed) (ds es : List Destination) (xs ys : List Target) → ArePlaced v ds xs → ArePlaced v es ys → ArePlaced v (ds ++ es) (xs ++ ys)
 placed_joined v [] es [] ys h k = k
 placed_joined v [] es (x ∷ xs) ys h k = absurd h
 placed_joined v (d ∷ ds) es [] ys h k = absurd h
@@ -79,41 +77,41 @@ module _ (program : Program) (g : Package) (scope_is : program.scope ≡ g.scope
   -- what is given fits the parameter, and where it is copied back to
   abbrev pub Fits : Bool → Parameter → List Destination → Actuals → Type 0
   Fits out f ds a =
-      ArePassed (shapes_in g.scope (taken_one out f [])) a.values × AreOf program.scope (type_taken out f []) a.values × ArePlaced v.names ds a.targets
+      ArePassed (shapes_in g.scope (taken_one out f [])) a.values × AreOf program.scope (type_taken out f []) a.values × ArePlaced v ds a.targets
 
   abbrev pub FitAll : List Parameter → List Destination → Actuals → Type 0
-  FitAll ps ds a = ArePassed (shapes_in g.scope (taken ps)) a.values × AreOf program.scope (taken_types ps) a.values × ArePlaced v.names ds a.targets
+  FitAll ps ds a = ArePassed (shapes_in g.scope (taken ps)) a.values × AreOf program.scope (taken_types ps) a.values × ArePlaced v ds a.targets
 
-  -- wherever a body outside of protected objects evaluates it
+  -- wherever a frame evaluates it that stands for the place
   abbrev pub PassesWell : Parameter → ArgumentTree → List Destination → Type 0
   PassesWell f x ds =
-      (calls : Calls) (p : Place) (view : View) (a : Actuals) → (library_of g).sound calls → Knows g v p view → p.within ≡ None
+      (calls : Calls) (p : Place) (view : View) (a : Actuals) → (library_of g).sound calls → Knows g v p view
       → passed_actual calls p f x ≡ Gives a
       → Fits (is_out f.mode) f ds a
 
   abbrev pub PassAllWell : List Parameter → ArgumentTrees → List Destination → Type 0
   PassAllWell ps xs ds =
-      (calls : Calls) (p : Place) (view : View) (a : Actuals) → (library_of g).sound calls → Knows g v p view → p.within ≡ None
+      (calls : Calls) (p : Place) (view : View) (a : Actuals) → (library_of g).sound calls → Knows g v p view
       → passed_actuals calls p ps xs ≡ Gives a
       → FitAll ps ds a
 
   pub passes_none : PassAllWell [] NoArguments []
-  passes_none calls p view a good knows outside gives = subst (λ q. FitAll [] [] q) (same_given (record { values = []; targets = [] }) a gives) (tt, tt, tt)
+  passes_none calls p view a good knows gives = subst (λ q. FitAll [] [] q) (same_given (record { values = []; targets = [] }) a gives) (tt, tt, tt)
 
   pub passes_more : (f : Parameter) (fs : List Parameter) (x : ArgumentTree) (rest : ArgumentTrees) (ds es : List Destination) → PassesWell f x ds
       → PassAllWell fs rest es
       → PassAllWell (f ∷ fs) (MoreArguments x rest) (ds ++ es)
-  passes_more f fs x rest ds es first others calls p view a good knows outside gives =
+  passes_more f fs x rest ds es first others calls p view a good knows gives =
       let one = given (passed_actual calls p f x) (λ o. and_then (passed_actuals calls p fs rest) (with_actuals o)) a gives in
       let all = given (passed_actuals calls p fs rest) (with_actuals one.0) a one.2 in
       let o = one.0 in
       let r = all.0 in
-      let h = first calls p view o good knows outside one.1 in
-      let k = others calls p view r good knows outside all.1 in
+      let h = first calls p view o good knows one.1 in
+      let k = others calls p view r good knows all.1 in
       subst (λ q. FitAll (f ∷ fs) (ds ++ es) q) (same_given (record { values = o.values ++ r.values; targets = o.targets ++ r.targets }) a all.2) (
         passed_joined g.scope (is_out f.mode) f (taken fs) o.values r.values h.0 k.0,
         types_joined program.scope (is_out f.mode) f (taken_types fs) o.values r.values h.1 k.1,
-        placed_joined v.names ds es o.targets r.targets h.2 k.2,
+        placed_joined v ds es o.targets r.targets h.2 k.2,
       )
 
   -- ---- a value that the frame sees
@@ -132,7 +130,7 @@ module _ (program : Program) (g : Package) (scope_is : program.scope ≡ g.scope
 
   -- `in`
   pub passes_in : (f : Parameter) (e : ExprTree) → f.mode ≡ mode.In → IsTypedAs v.names f.subtype e → PassesWell f (tree.Value e) []
-  passes_in f e is typed calls p view a good knows outside gives =
+  passes_in f e is typed calls p view a good knows gives =
       let now = sym (ap (λ q. passed_expression calls p (record f { mode = q }) e) is) ∙ gives in
       let one = given (and_then (value_with calls p e) (passed f.subtype)) copied_in a now in
       let x = one.0 in
@@ -147,7 +145,7 @@ module _ (program : Program) (g : Package) (scope_is : program.scope ≡ g.scope
   -- ---- targets
 
   module _ {i : Sections} {first : Identifier} {selectors : SelectorTrees} {last : Subtype} {from low : ℕ} (sized : ValuesHaveWords)
-      (way : PointsTo i g v.names first selectors last from low) (holds : HoldsVariables way.slot.region) (form : TypeForm)
+      (way : PointsTo i g v.names first selectors last from low) (form : TypeForm)
       (known : form_at v.names.scope last.type_number ≡ Some form) (f : Parameter) where
     abbrev name : ExprTree
     name = Named first selectors
@@ -157,23 +155,23 @@ module _ (program : Program) (g : Package) (scope_is : program.scope ≡ g.scope
 
     -- `out`
     pub passes_out : f.mode ≡ mode.Out → PassesWell f (tree.Value name) to_here
-    passes_out is calls p view a good knows outside gives =
+    passes_out is calls p view a good knows gives =
         let now = sym (ap (λ q. passed_expression calls p (record f { mode = q }) name) is) ∙ gives in
         let one = given (pointed first selectors calls p) copied_out a now in
         let z = one.0 in
-        let placed = placed_here sized v way holds form known calls p view good knows outside z one.1 in
+        let placed = placed_here sized v way form known calls p view good knows z one.1 in
         by_mode f to_here a mode.Out is
         (subst (λ q. Fits true f to_here q) (same_given (record { values = []; targets = z ∷ [] }) a one.2) (tt, tt, (placed, tt)))
 
     -- `in out`: the target's subtype and the parameter's are of one type
     pub passes_both : f.mode ≡ mode.InOut → last.type_number ≡ f.subtype.type_number → PassesWell f (tree.Value name) to_here
-    passes_both is same calls p view a good knows outside gives =
+    passes_both is same calls p view a good knows gives =
         let sees = knows.sees in
         let now = sym (ap (λ q. passed_expression calls p (record f { mode = q }) name) is) ∙ gives in
         let one = given (pointed first selectors calls p)
         (λ y. and_then (and_then (value_or_nothing (value_in (object_of (objects_at y p) y.name) y.parts)) (passed f.subtype)) (copied_both y)) a now in
         let z = one.0 in
-        let placed = placed_here sized v way holds form known calls p view good knows outside z one.1 in
+        let placed = placed_here sized v way form known calls p view good knows z one.1 in
         let stored = value_in (object_of (objects_at z p) z.name) z.parts in
         let two = given (and_then (value_or_nothing stored) (passed f.subtype)) (copied_both z) a one.2 in
         let x = two.0 in

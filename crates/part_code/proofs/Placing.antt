@@ -1,15 +1,17 @@
 -- What a frame knows once an object of the running activation is declared, or a value is stored in one.
-use Rattle.std.proofs.Common.{◌≡◌, ℕ, ◌≤◌, ◌⊎◌, inl, inr, ℤ, List, [], ◌∷◌, ◌++◌, length, cond, Option, Some, None, Bool, true, false, refl, sym, ap, ◌∙◌, subst, arith}
+use Rattle.std.proofs.Common.{◌≡◌, ◌≢◌, ℕ, ◌≤◌, ◌⊎◌, inl, inr, ℤ, List, [], ◌∷◌, ◌++◌, length, cond, Option, Some, None, Bool, true, false, refl, sym, ap, ◌∙◌, subst, arith}
 use Rattle.std.specs.Prelude.{bytes_eq, is_some}
+use Rattle.image.specs.Frames.{object_words}
 use Rattle.image.specs.declared.instruction.Region.{Region}
 use Rattle.image.specs.declared.instruction.Region.TheVariants as regions
 use Rattle.types.specs.declared.entity.Role.{Role}
 use Rattle.types.specs.declared.entity.Role.TheVariants as role
 use Rattle.types.specs.declared.entity.Subtype.{Subtype}
 use Rattle.types.specs.Entities as entity
+use Rattle.types.specs.Entities.{ProtectedObject, Profile}
 use Rattle.types.specs.Laws.{ValuesHaveWords}
 use Rattle.types.specs.Layouts.{words_of}
-use Rattle.types.specs.Places.{Function, IsFunction, IsObject, Object, Place, meaning_of, object_of}
+use Rattle.types.specs.Places.{Function, IsFunction, IsObject, IsProtected, Object, Place, function_of, meaning_of, object_of, own_components}
 use Rattle.types.specs.Scopes.{Named, Scope, base_range_of, integer, is_visible, number_of, with_name}
 use Rattle.types.specs.Shapes.{has_shape, shape_of, value_words}
 use Rattle.types.specs.Values.{Number, Value}
@@ -18,12 +20,13 @@ use Rattle.expr_soundness.specs.Laws.{AgreementIsKept}
 use Rattle.expr_soundness.proofs.Positions.{same_some}
 use Rattle.expr_soundness.specs.meaning.specs.Works.{Activation}
 use Rattle.expr_code.specs.Naming.{Lies}
-use Rattle.expr_code.specs.Seeing.{IsCoded, Package, SeesPackage, slot_of, subprogram_of, told_of}
+use Rattle.expr_code.specs.Seeing.{external_of, IsCoded, IsOffered, number_behind, object_named, Package, SeesPackage, slot_of, subprogram_of, told_of, NamesProfile}
 use Rattle.expr_code.specs.Views.{View}
 use Rattle.expr_code.specs.declared.visible.Slot.{Slot}
 use Rattle.part_code.specs.Layout.{AreApart, IsLaidOut, IsLaidPackage, IsVariable, NamesObject, Widens}
-use Rattle.part_code.specs.Resting.{Framed, IsAtHome, Knows, Rests}
-use Rattle.part_code.proofs.Names.{WasTold, found_behind, found_first, meant_behind, meant_first, meant_width, name_is, object_value, same_name, single_number, told_of_more}
+use Rattle.part_code.specs.Resting.{Framed, IsAtHome, IsAtHomeIn, Knows, Rests}
+use Rattle.part_code.proofs.Names.{WasTold, found_behind, found_first, meant_behind, meant_first, meant_width, name_is, object_value, profile_before, same_name, single_number, told_of_more}
+use Rattle.part_code.proofs.OperationNames.{external_was}
 use Rattle.part_code.proofs.Words.{IsWritten}
 
 -- ---- other words of the frame
@@ -47,12 +50,14 @@ package_alone g laid p view objects words small h = record {
   scope = h.scope;
   functions = h.functions;
   sound = h.sound;
+  objects = record { same = h.objects.same; suited = h.objects.suited };
   names = record { agrees = h.names.agrees; objects = λ name slot t v there means. lies name slot t v there (h.names.objects name slot t v there means) };
   components = h.components;
   now = h.now;
   schedule = h.schedule;
   task = h.task;
   small = few;
+  few = h.few;
 }
   where
     lies : (name : List ℕ) (slot : Slot) (t : Subtype) (v : Value) → g.slots None name ≡ Some slot → Lies (view.words slot.region) slot.offset v
@@ -86,7 +91,7 @@ module _ (kept : AgreementIsKept) (sized : ValuesHaveWords) (g : Package) (v : F
       by_region regions.Object apart h = h
 
   module _ (p : Place) (view : View) (sees : SeesPackage g p view) (objects : p.locals ≡ x ∷ a.locals) (within : p.within ≡ a.within)
-      (words : view.words regions.Locals ≡ after) where
+      (words : view.words regions.Locals ≡ after) (its : view.words regions.Object ≡ object_words a.within view.memory) where
     abbrev old_place : Place
     old_place = with_objects a.locals p
 
@@ -94,7 +99,7 @@ module _ (kept : AgreementIsKept) (sized : ValuesHaveWords) (g : Package) (v : F
     old_view = framed_view before view
 
     knew : Knows g v old_place old_view
-    knew = rests.sees old_place old_view (package_alone g laid.unit p view a.locals before rests.small sees) refl within refl
+    knew = rests.sees old_place old_view (package_alone g laid.unit p view a.locals before rests.small sees) refl within refl its
 
     agreed : Agrees v.names.scope old_place
     agreed = knew.sees.names.agrees
@@ -167,31 +172,44 @@ module _ (kept : AgreementIsKept) (sized : ValuesHaveWords) (g : Package) (v : F
               itself name s u w e (ap (λ y. y.region) one ∙ region) (ap (λ y. y.offset) one ∙ at) h
           by_test false e = other name s u w e told (apart e) h
 
-      stored_home : (name : List ℕ) (s : Slot) → slot_of v.names name ≡ Some s → IsAtHome s.region (object_of p.locals name)
-      stored_home name s told = subst (λ l. IsAtHome s.region (object_of l name)) (sym objects) (by_test (bytes_eq x.name name) refl)
+      stored_home : (name : List ℕ) (s : Slot) → slot_of v.names name ≡ Some s → IsAtHomeIn p name s.region
+      stored_home name s told = subst (λ l. IsAtHome s.region (object_of l name) own) (sym objects) (by_test (bytes_eq x.name name) refl)
         where
-          at_home : (z : Region) → z ≡ regions.Locals → IsAtHome z (Some x)
+          own : Option Object
+          own = object_of (own_components p p.within) name
+
+          at_home : (z : Region) → z ≡ regions.Locals → IsAtHome z (Some x) own
           at_home regions.Locals e = refl
           at_home regions.Plain e = cc
           at_home regions.Object e = cc
 
-          by_test : (b : Bool) → bytes_eq x.name name ≡ b → IsAtHome s.region (object_of (x ∷ a.locals) name)
+          by_test : (b : Bool) → bytes_eq x.name name ≡ b → IsAtHome s.region (object_of (x ∷ a.locals) name) own
           by_test true e =
               let one : s ≡ slot = same_some s slot (sym told ∙ ap (slot_of v.names) (sym (same_name x.name name e)) ∙ there) in
-              subst (IsAtHome s.region) (sym (found_first x a.locals name e)) (at_home s.region (ap (λ y. y.region) one ∙ region))
-          by_test false e = subst (IsAtHome s.region) (sym (found_behind x a.locals name e)) (knew.homes name s told)
+              subst (λ o. IsAtHome s.region o own) (sym (found_first x a.locals name e)) (at_home s.region (ap (λ y. y.region) one ∙ region))
+          by_test false e = subst (λ o. IsAtHome s.region o own) (sym (found_behind x a.locals name e)) (knew.homes name s told)
 
-      stored_function : (name : List ℕ) (number : ℕ) (f : Function) → subprogram_of v.names name ≡ Some number → meaning_of p name ≡ IsFunction f None
+      stored_function : (name : List ℕ) (number : ℕ) (f : Function) (profile : Profile) (result : Subtype) → subprogram_of v.names name ≡ Some number
+          → NamesProfile v.names.scope name profile → profile.result ≡ Some result → meaning_of p name ≡ IsFunction f None
           → IsCoded g f number
-      stored_function name number f told h = by_test (bytes_eq x.name name) refl
+      stored_function name number f profile result told named gives h = by_test (bytes_eq x.name name) refl
         where
           by_test : (b : Bool) → bytes_eq x.name name ≡ b → IsCoded g f number
           by_test true e = let k = sym (first name e) ∙ h in cc
-          by_test false e = knew.sees.functions name number f told (sym (behind name e) ∙ h)
+          by_test false e = knew.sees.functions name number f profile result told named gives (sym (behind name e) ∙ h)
+
+      stored_external : (name operation : List ℕ) (number : ℕ) (o : ProtectedObject) (f : Function) → external_of v.names name operation ≡ Some number
+          → meaning_of p name ≡ IsProtected o → function_of g.functions (Some o.number) operation ≡ Some f → IsOffered g o f number
+      stored_external name operation number o f told h found = by_test (bytes_eq x.name name) refl
+        where
+          by_test : (b : Bool) → bytes_eq x.name name ≡ b → IsOffered g o f number
+          by_test true e = let k = sym (first name e) ∙ h in cc
+          by_test false e = knew.sees.externals name operation number o f told (sym (behind name e) ∙ h) found
 
       pub stored_knows : Knows g v p view
       stored_knows = record {
-        sees = record { unit = sees; names = record { agrees = stored_agrees; objects = stored_object }; functions = stored_function };
+        sees = record { unit = sees; names = record { agrees = stored_agrees; objects = stored_object }; functions = stored_function; externals = stored_external };
+        within = knew.within;
         room = room_kept;
         homes = stored_home;
       }
@@ -249,28 +267,45 @@ module _ (kept : AgreementIsKept) (sized : ValuesHaveWords) (g : Package) (v : F
             itself name s u w (is_this name e.0) (ap (λ y. y.region) (sym one) ∙ region) (ap (λ y. y.offset) (sym one) ∙ at) h)
       ]
 
-      wider_home : (name : List ℕ) (s : Slot) → slot_of later.names name ≡ Some s → IsAtHome s.region (object_of p.locals name)
-      wider_home name s told = subst (λ l. IsAtHome s.region (object_of l name)) (sym objects) (elim (slot_was name s told) [
-        | inl e ↦ subst (IsAtHome s.region) (sym (found_behind x a.locals name (differs name e.number e.numbered))) (knew.homes name s e.told)
-        | inr e ↦ subst (IsAtHome s.region) (sym (found_first x a.locals name (is_this name e.0)))
+      wider_home : (name : List ℕ) (s : Slot) → slot_of later.names name ≡ Some s → IsAtHomeIn p name s.region
+      wider_home name s told = subst (λ l. IsAtHome s.region (object_of l name) own) (sym objects) (elim (slot_was name s told) [
+        | inl e ↦ subst (λ o. IsAtHome s.region o own) (sym (found_behind x a.locals name (differs name e.number e.numbered))) (knew.homes name s e.told)
+        | inr e ↦ subst (λ o. IsAtHome s.region o own) (sym (found_first x a.locals name (is_this name e.0)))
             (at_home s.region (ap (λ y. y.region) (sym (same_some slot s e.1)) ∙ region))
       ])
         where
-          at_home : (z : Region) → z ≡ regions.Locals → IsAtHome z (Some x)
+          own : Option Object
+          own = object_of (own_components p p.within) name
+
+          at_home : (z : Region) → z ≡ regions.Locals → IsAtHome z (Some x) own
           at_home regions.Locals e = refl
           at_home regions.Plain e = cc
           at_home regions.Object e = cc
 
-      wider_function : (name : List ℕ) (number : ℕ) (f : Function) → subprogram_of later.names name ≡ Some number → meaning_of p name ≡ IsFunction f None
+      wider_function : (name : List ℕ) (number : ℕ) (f : Function) (profile : Profile) (result : Subtype) → subprogram_of later.names name ≡ Some number
+          → NamesProfile later.names.scope name profile → profile.result ≡ Some result → meaning_of p name ≡ IsFunction f None
           → IsCoded g f number
-      wider_function name number f told h = elim (number_was name number told) [
-        | inl e ↦ knew.sees.functions name number f e.told (sym (behind name (differs name e.number e.numbered)) ∙ h)
+      wider_function name number f profile result told naming gives h = elim (number_was name number told) [
+        | inl e ↦ knew.sees.functions name number f profile result e.told
+            (profile_before v.names.scope (named ∷ []) name e.number profile e.numbered (subst (λ z. NamesProfile z name profile) scope_is naming)) gives
+            (sym (behind name (differs name e.number e.numbered)) ∙ h)
         | inr e ↦ (let k = e.1 in cc)
       ]
 
+      no_object : (o : ProtectedObject) → entity.Object r t ≢ entity.Protected o
+      no_object o e = cc
+
+      wider_external : (name operation : List ℕ) (number : ℕ) (o : ProtectedObject) (f : Function) → external_of later.names name operation ≡ Some number
+          → meaning_of p name ≡ IsProtected o → function_of g.functions (Some o.number) operation ≡ Some f → IsOffered g o f number
+      wider_external name operation number o f told h found =
+          let was = external_was v.names.operations name operation number v.names.scope named no_object
+          ((λ j. number_behind (sym widens.operations j) (object_named (sym scope_is j) name) operation) ∙ told) in
+          knew.sees.externals name operation number o f was.2 (sym (behind name (differs name was.0 was.1)) ∙ h) found
+
       pub wider_knows : Knows g later p view
       wider_knows = record {
-        sees = record { unit = sees; names = record { agrees = wider_agrees; objects = wider_object }; functions = wider_function };
+        sees = record { unit = sees; names = record { agrees = wider_agrees; objects = wider_object }; functions = wider_function; externals = wider_external };
+        within = knew.within ∙ sym widens.within;
         room = (let r = room_kept in let e = widens.room in omega (arith, r, e));
         homes = wider_home;
       }

@@ -1,6 +1,6 @@
 -- Code that leads to the address of a variable, or of a part of it: what its name names there, where its words stand, and what is copied back to it.
 use Rattle.std.proofs.Common.{◌≡◌, ℕ, suc, ◌+◌, ◌-◌, ◌≤◌, ℤ, List, [], ◌∷◌, length, Option, Some, None, true, refl, sym, ap, ◌∙◌, subst, arith}
-use Rattle.std.specs.Prelude.{pos}
+use Rattle.std.specs.Prelude.{is_some, pos}
 use Rattle.kernel.specs.Counting.{Spends}
 use Rattle.kernel.specs.Laws.{QuietStays}
 use Rattle.ada_tree.specs.declared.expression.Identifier.{Identifier}
@@ -25,7 +25,7 @@ use Rattle.expr_soundness.specs.Agreeing.{Agrees, MeansObject}
 use Rattle.expr_soundness.specs.SoundScopes.{SoundScope}
 use Rattle.expr_soundness.proofs.Positions.{same_some}
 use Rattle.expr_soundness.specs.meaning.specs.Targets.{all_selected, first_of, object_named, part_value, target_or_nothing, value_in, whole}
-use Rattle.expr_soundness.specs.meaning.specs.Works.{Home, InActivation, InPackage, Target}
+use Rattle.expr_soundness.specs.meaning.specs.Works.{Home, InActivation, InObject, InPackage, Target}
 use Rattle.expr_soundness.specs.meaning.specs.SameMeaning.{frames_of}
 use Rattle.expr_code.specs.Coming.{Comes, most_steps}
 use Rattle.expr_code.specs.Computing.{Everywhere}
@@ -39,12 +39,11 @@ use Rattle.expr_code.proofs.Coming.{after_first, more, pushes}
 use Rattle.part_code.specs.Copying.{IsHomeOf, IsPlacedTarget, address_of, objects_at, offset_or_none, shape_named}
 use Rattle.part_code.specs.Layout.{IsVariable, NamesObject}
 use Rattle.part_code.specs.Parts.{HasParts, part_offset, part_shape}
-use Rattle.part_code.specs.Resting.{Framed, IsAtHome, Knows}
-use Rattle.part_code.proofs.Assigning.{found_some, object_name}
-use Rattle.part_code.proofs.Names.{meant_width, object_value, variable_meant}
+use Rattle.part_code.specs.Resting.{Framed, IsAtHomeIn, Knows}
+use Rattle.part_code.proofs.Names.{found_some, meant_width, object_name, object_value, variable_meant}
 use Rattle.part_code.proofs.PartValues.{part_suited}
-use Rattle.part_code.proofs.StoringCode.{NamesWhole, local_named, meant_among, named_among, named_whole, own_home, own_whole, package_named, whole_of, whole_there}
-use Rattle.part_code.proofs.StoringParts.{HoldsVariables, shape_is}
+use Rattle.part_code.proofs.StoringCode.{NamesWhole, component_named, local_named, meant_among, named_among, named_whole, own_home, own_whole, package_named, whole_of, whole_there}
+use Rattle.part_code.proofs.StoringParts.{shape_is}
 use Rattle.part_code.proofs.Targeting.{IsPartly, SameWhole, address, path_comes, path_part}
 use Rattle.part_code.proofs.Words.{lies_within}
 
@@ -96,15 +95,24 @@ named_there p name t u h y is =
     ∙ is)
 
 -- ... and is at home where its words stand
-pub home_there : (p : Place) (name : List ℕ) (r : Region) → HoldsVariables r → IsAtHome r (object_of p.locals name) → p.within ≡ None → (y : Target)
-    → object_named p name ≡ Some y → IsHomeOf r y.home
-home_there p name regions.Locals holds at outside y is =
+pub home_there : (p : Place) (name : List ℕ) (r : Region) → IsAtHomeIn p name r → (y : Target) → object_named p name ≡ Some y → IsHomeOf p.within r y.home
+home_there p name regions.Locals at y is =
     let own = found_some (object_of p.locals name) at in
     ap (λ q. q.home) (sym (same_some (whole_of InActivation own.0) y (sym (local_named p name own.0 own.1) ∙ is)))
-home_there p name regions.Plain holds at outside y is =
-    let own = whole_there InPackage (object_of p.variables name) y (sym (package_named p name at outside) ∙ is) in
+home_there p name regions.Plain at y is =
+    let own = whole_there InPackage (object_of p.variables name) y (sym (package_named p name at.0 at.1) ∙ is) in
     ap (λ q. q.home) (sym own.2)
-home_there p name regions.Object holds at outside y is = absurd holds
+home_there p name regions.Object at y is = by_within p.within refl
+  where
+    by_within : (o : Option ℕ) → p.within ≡ o → IsHomeOf o regions.Object y.home
+    by_within None within = let none = sym (ap (λ q. is_some (object_of (own_components p q) name)) within) ∙ at.1 in absurd cc
+    by_within (Some o) within =
+        let own = found_some (object_of (own_components p p.within) name) at.1 in
+        let found = ap (λ q. object_of (own_components p q) name) (sym within) ∙ own.1 in (
+          o,
+          refl,
+          ap (λ q. q.home) (sym (same_some (whole_of (InObject o) own.0) y (sym (component_named p o name own.0 at.0 within found) ∙ is))),
+        )
 
 -- ---- a name and the selectors behind it
 
@@ -237,11 +245,11 @@ module _ {i : Sections} {g : Package} {names : Visible} {first : Identifier} {se
 
 -- the target is placed where it is copied back to
 pub placed_here : {i : Sections} {g : Package} {first : Identifier} {selectors : SelectorTrees} {last : Subtype} {from to : ℕ} (sized : ValuesHaveWords)
-    (v : Framed) (way : PointsTo i g v.names first selectors last from to) → HoldsVariables way.slot.region
+    (v : Framed) (way : PointsTo i g v.names first selectors last from to)
     → (form : TypeForm) → form_at v.names.scope last.type_number ≡ Some form
-    → (c : Calls) (p : Place) (view : View) → (library_of g).sound c → Knows g v p view → p.within ≡ None → (z : Target) → pointed first selectors c p ≡ Gives z
-    → IsPlacedTarget v.names (record { region = way.slot.region; subtype = last }) z
-placed_here {first = first} sized v way holds form known c p view good knows outside z gives =
+    → (c : Calls) (p : Place) (view : View) → (library_of g).sound c → Knows g v p view → (z : Target) → pointed first selectors c p ≡ Gives z
+    → IsPlacedTarget v (record { region = way.slot.region; subtype = last }) z
+placed_here {first = first} sized v way form known c p view good knows z gives =
     let part = part_here sized way c p view good knows.sees z gives in
     let name = name_here sized way c p view good knows.sees z gives in
     let start = named_here sized way p knows.sees.names.agrees in
@@ -249,8 +257,9 @@ placed_here {first = first} sized v way holds form known c p view good knows out
       slot = way.slot;
       there = ap (slot_of v.names) name ∙ way.there;
       region = refl;
-      home = subst (IsHomeOf way.slot.region) (sym part.1.home)
-          (home_there p first.name way.slot.region holds (knows.homes first.name way.slot way.there) outside start.target start.is);
+      home = subst (λ o. IsHomeOf o way.slot.region z.home) knows.within
+          (subst (IsHomeOf p.within way.slot.region) (sym part.1.home)
+          (home_there p first.name way.slot.region (knows.homes first.name way.slot way.there) start.target start.is));
       role = way.role;
       whole = way.whole;
       named = subst (λ q. NamesObject v.names.scope q way.role way.whole) (sym name) way.named;

@@ -12,9 +12,10 @@ use Rattle.kernel.specs.Counting.{Done, Spends}
 use Rattle.kernel.specs.Laws.{QuietStays}
 use Rattle.kernel.specs.RunLaws.{spends_trans}
 use Rattle.image.specs.Sections.{Sections}
-use Rattle.image.specs.Frames.{Words, Frame, arguments, word_put, words_put}
-use Rattle.image.specs.Steps.{act, behaviour, does, stored, stores_block, with_one}
+use Rattle.image.specs.Frames.{Words, Frame, arguments, locals_with, region_words, shared_with, word_put, words_put}
+use Rattle.image.specs.Steps.{Stepped, act, behaviour, does, stored, stores_block, with_one}
 use Rattle.image.specs.declared.instruction.Operation.TheVariants as op
+use Rattle.image.specs.declared.instruction.Region.{Region}
 use Rattle.image.specs.declared.instruction.Region.TheVariants as regions
 use Rattle.ada_tree.specs.ExpressionTree.{ExprTree, NameTree, NoSelectors}
 use Rattle.types.specs.declared.entity.Subtype.{Subtype}
@@ -33,9 +34,11 @@ use Rattle.expr_code.specs.Coming.{Comes, most_steps, on}
 use Rattle.expr_code.specs.Views.{At, Sight, in_frame, placed}
 use Rattle.expr_code.specs.Computing.{Everywhere, Library}
 use Rattle.expr_code.proofs.Coming.{acts, after_first, more, pushes}
+use Rattle.part_code.specs.Emitting.{stored_in}
 use Rattle.part_code.specs.Storing.{ArePushed, Assigned, assigned, assigned_to}
 use Rattle.part_code.proofs.Words.{block_put, one_put, with_words}
 use Rattle.part_code.proofs.Names.{object_subtype}
+use Rattle.expr_code.proofs.Naming.{same_words}
 
 -- ---- instructions
 
@@ -48,179 +51,104 @@ taken ws base =
     ∙ ap reverse (take-append_seam (reverse ws) base)
     ∙ reverse-reverse ws
 
+-- the frame goes on at the next place with other words of a region
+abbrev pub with_stored : Sections → Region → List ℤ → Words → Frame → List Frame → (place : ℕ) → (base : List ℤ) → Stepped
+with_stored i r after m f fs place base =
+    does Quiet (shared_with i r after m f) (record f { place = place; locals = locals_with r after f; stack = base }) fs None None
+
 module _ (quiet : QuietStays) (i : Sections) (schedule : List ScheduleLine) (k : Kernel) (t : ℕ) (m : Words) (f : Frame) (fs : List Frame) (place offset : ℕ) where
   next : place + 1 ≡ suc place
   next = omega arith
 
-  -- one word of the frame
-  pub store_local : (w : ℤ) (after : List ℤ) → At i place (op.StoreLocal offset) → word_put f.locals (pos offset) w ≡ Some after
-      → act i schedule k t (in_frame m (placed f place (w ∷ [])) fs) ≡ does Quiet m (record f { place = suc place; locals = after; stack = [] }) fs None None
-  store_local w after here is =
-      acts quiet i place (op.StoreLocal offset) here schedule k t m f fs (w ∷ [])
-      ∙ ap (λ o. stored i schedule k t m (placed f place (w ∷ [])) fs regions.Locals o []) is
-      ∙ ap (λ n. does Quiet m (record f { place = n; locals = after; stack = [] }) fs None None) next
+  pub stored_there : (r : Region) (before base after : List ℤ) (o : Option (List ℤ)) → o ≡ Some after
+      → stored i schedule k t m (placed f place before) fs r o base ≡ with_stored i r after m f fs (suc place) base
+  stored_there regions.Locals before base after o is =
+      ap (λ o. stored i schedule k t m (placed f place before) fs regions.Locals o base) is ∙ ap (λ n. with_stored i regions.Locals after m f fs n base) next
+  stored_there regions.Plain before base after o is =
+      ap (λ o. stored i schedule k t m (placed f place before) fs regions.Plain o base) is ∙ ap (λ n. with_stored i regions.Plain after m f fs n base) next
+  stored_there regions.Object before base after o is =
+      ap (λ o. stored i schedule k t m (placed f place before) fs regions.Object o base) is ∙ ap (λ n. with_stored i regions.Object after m f fs n base) next
 
-  -- one of the plain words
-  pub store_plain : (w : ℤ) (after : List ℤ) → At i place (op.StorePlain offset) → word_put m.plain (pos offset) w ≡ Some after
-      → act i schedule k t (in_frame m (placed f place (w ∷ [])) fs)
-      ≡ does Quiet (record m { plain = after }) (record f { place = suc place; locals = f.locals; stack = [] }) fs None None
-  store_plain w after here is =
-      acts quiet i place (op.StorePlain offset) here schedule k t m f fs (w ∷ [])
-      ∙ ap (λ o. stored i schedule k t m (placed f place (w ∷ [])) fs regions.Plain o []) is
-      ∙ ap (λ n. does Quiet (record m { plain = after }) (record f { place = n; locals = f.locals; stack = [] }) fs None None) next
+  -- one word
+  pub store_word : (r : Region) (w : ℤ) (after : List ℤ) → At i place (stored_in r offset) → word_put (region_words i r m f) (pos offset) w ≡ Some after
+      → act i schedule k t (in_frame m (placed f place (w ∷ [])) fs) ≡ with_stored i r after m f fs (suc place) []
+  store_word regions.Locals w after here is =
+      acts quiet i place (op.StoreLocal offset) here schedule k t m f fs (w ∷ []) ∙ stored_there regions.Locals (w ∷ []) [] after _ is
+  store_word regions.Plain w after here is =
+      acts quiet i place (op.StorePlain offset) here schedule k t m f fs (w ∷ []) ∙ stored_there regions.Plain (w ∷ []) [] after _ is
+  store_word regions.Object w after here is =
+      acts quiet i place (op.StoreObject offset) here schedule k t m f fs (w ∷ []) ∙ stored_there regions.Object (w ∷ []) [] after _ is
 
-  -- several, above their address; what is below it stays
+  -- ... above its address; what is below it stays
+  pub store_indexed : (r : Region) (base : List ℤ) (w : ℤ) (after : List ℤ) → At i place (op.StoreIndexed r)
+      → word_put (region_words i r m f) (pos offset) w ≡ Some after
+      → act i schedule k t (in_frame m (placed f place (w ∷ pos offset ∷ base)) fs) ≡ with_stored i r after m f fs (suc place) base
+  store_indexed r base w after here is =
+      acts quiet i place (op.StoreIndexed r) here schedule k t m f fs (w ∷ pos offset ∷ base)
+      ∙ stored_there r (w ∷ pos offset ∷ base) base after (word_put (region_words i r m (placed f place (w ∷ pos offset ∷ base))) (pos offset) w)
+      (ap (λ ws. word_put ws (pos offset) w) (same_words i m r f place (w ∷ pos offset ∷ base)) ∙ is)
+
+  -- several
   abbrev above : List ℤ → List ℤ → List ℤ
   above base ws = reverse ws ++ pos offset ∷ base
 
-  pub store_block_local : (base ws after : List ℤ) → At i place (op.StoreBlock regions.Locals (length ws)) → words_put f.locals (pos offset) ws ≡ Some after
-      → act i schedule k t (in_frame m (placed f place (above base ws)) fs)
-      ≡ does Quiet m (record f { place = suc place; locals = after; stack = base }) fs None None
-  store_block_local base ws after here is =
-      acts quiet i place (op.StoreBlock regions.Locals (length ws)) here schedule k t m f fs (above base ws)
+  pub store_block : (r : Region) (base ws after : List ℤ) → At i place (op.StoreBlock r (length ws))
+      → words_put (region_words i r m f) (pos offset) ws ≡ Some after
+      → act i schedule k t (in_frame m (placed f place (above base ws)) fs) ≡ with_stored i r after m f fs (suc place) base
+  store_block r base ws after here is =
+      acts quiet i place (op.StoreBlock r (length ws)) here schedule k t m f fs (above base ws)
       ∙ ap (λ l. with_one i schedule k t m (placed f place (above base ws)) fs l
-      (λ index stack. stores_block i schedule k t m (placed f place (above base ws)) fs regions.Locals index (arguments (length ws) (above base ws)) stack))
+      (λ index stack. stores_block i schedule k t m (placed f place (above base ws)) fs r index (arguments (length ws) (above base ws)) stack))
       (popped ws (pos offset ∷ base))
-      ∙ ap (λ l. stores_block i schedule k t m (placed f place (above base ws)) fs regions.Locals (pos offset) l base) (taken ws (pos offset ∷ base))
-      ∙ ap (λ o. stored i schedule k t m (placed f place (above base ws)) fs regions.Locals o base) is
-      ∙ ap (λ n. does Quiet m (record f { place = n; locals = after; stack = base }) fs None None) next
-
-  pub store_block_plain : (base ws after : List ℤ) → At i place (op.StoreBlock regions.Plain (length ws)) → words_put m.plain (pos offset) ws ≡ Some after
-      → act i schedule k t (in_frame m (placed f place (above base ws)) fs)
-      ≡ does Quiet (record m { plain = after }) (record f { place = suc place; locals = f.locals; stack = base }) fs None None
-  store_block_plain base ws after here is =
-      acts quiet i place (op.StoreBlock regions.Plain (length ws)) here schedule k t m f fs (above base ws)
-      ∙ ap (λ l. with_one i schedule k t m (placed f place (above base ws)) fs l
-      (λ index stack. stores_block i schedule k t m (placed f place (above base ws)) fs regions.Plain index (arguments (length ws) (above base ws)) stack))
-      (popped ws (pos offset ∷ base))
-      ∙ ap (λ l. stores_block i schedule k t m (placed f place (above base ws)) fs regions.Plain (pos offset) l base) (taken ws (pos offset ∷ base))
-      ∙ ap (λ o. stored i schedule k t m (placed f place (above base ws)) fs regions.Plain o base) is
-      ∙ ap (λ n. does Quiet (record m { plain = after }) (record f { place = n; locals = f.locals; stack = base }) fs None None) next
+      ∙ ap (λ l. stores_block i schedule k t m (placed f place (above base ws)) fs r (pos offset) l base) (taken ws (pos offset ∷ base))
+      ∙ stored_there r (above base ws) base after (words_put (region_words i r m (placed f place (above base ws))) (pos offset) ws)
+      (ap (λ l. words_put l (pos offset) ws) (same_words i m r f place (above base ws)) ∙ is)
 
 pub one_alone : (ws : List ℤ) → length ws ≡ 1 → (w : ℤ) × (ws ≡ w ∷ [])
 one_alone [] e = absurd (omega (arith, e))
 one_alone (w ∷ []) e = (w, refl)
 one_alone (w ∷ x ∷ ws) e = absurd (omega (arith, e))
 
--- the single word of a value is stored in the frame
-word_to_local : (quiet : QuietStays) (i : Sections) (schedule : List ScheduleLine) (k : Kernel) (t : ℕ) (m : Words) (f : Frame) (fs : List Frame) (place offset : ℕ)
-    → At i place (op.StoreLocal offset) → (ws : List ℤ) → length ws ≡ 1 → offset + 1 ≤ length f.locals
-    → act i schedule k t (in_frame m (placed f place (reverse ws ++ [])) fs)
-    ≡ does Quiet m (record f { place = suc place; locals = with_words offset ws f.locals; stack = [] }) fs None None
-word_to_local quiet i schedule k t m f fs place offset here ws one room =
-    let it = one_alone ws one in
-    subst
-    (λ l. act i schedule k t (in_frame m (placed f place (reverse l ++ [])) fs)
-    ≡ does Quiet m (record f { place = suc place; locals = with_words offset l f.locals; stack = [] }) fs None None)
-    (sym it.1)
-    (store_local quiet i schedule k t m f fs place offset it.0 (with_words offset (it.0 ∷ []) f.locals) here (one_put f.locals offset it.0 room))
-
-word_to_plain : (quiet : QuietStays) (i : Sections) (schedule : List ScheduleLine) (k : Kernel) (t : ℕ) (m : Words) (f : Frame) (fs : List Frame) (place offset : ℕ)
-    → At i place (op.StorePlain offset) → (ws : List ℤ) → length ws ≡ 1 → offset + 1 ≤ length m.plain
-    → act i schedule k t (in_frame m (placed f place (reverse ws ++ [])) fs)
-    ≡ does Quiet (record m { plain = with_words offset ws m.plain }) (record f { place = suc place; locals = f.locals; stack = [] }) fs None None
-word_to_plain quiet i schedule k t m f fs place offset here ws one room =
-    let it = one_alone ws one in
-    subst
-    (λ l. act i schedule k t (in_frame m (placed f place (reverse l ++ [])) fs)
-    ≡ does Quiet (record m { plain = with_words offset l m.plain }) (record f { place = suc place; locals = f.locals; stack = [] }) fs None None)
-    (sym it.1)
-    (store_plain quiet i schedule k t m f fs place offset it.0 (with_words offset (it.0 ∷ []) m.plain) here (one_put m.plain offset it.0 room))
-
 -- ---- instructions that store a value of so many words, which stands with its stack on the operand stack, and leave what is below
 
-abbrev pub StoresLocallyAbove : Sections → (place offset size : ℕ) → (base : List ℤ) → (Value → List ℤ) → Type 0
-StoresLocallyAbove i place offset size base stack =
+abbrev pub StoresIn : Sections → Region → (place offset size : ℕ) → (base : List ℤ) → (Value → List ℤ) → Type 0
+StoresIn i r place offset size base stack =
     (schedule : List ScheduleLine) (k : Kernel) (t : ℕ) (m : Words) (f : Frame) (fs : List Frame) (z : Value)
-    → length (value_words z) ≡ size → offset + size ≤ length f.locals
+    → length (value_words z) ≡ size → offset + size ≤ length (region_words i r m f)
     → act i schedule k t (in_frame m (placed f place (stack z)) fs)
-    ≡ does Quiet m (record f { place = suc place; locals = with_words offset (value_words z) f.locals; stack = base }) fs None None
+    ≡ with_stored i r (with_words offset (value_words z) (region_words i r m f)) m f fs (suc place) base
 
-abbrev pub StoresPlainlyAbove : Sections → (place offset size : ℕ) → (base : List ℤ) → (Value → List ℤ) → Type 0
-StoresPlainlyAbove i place offset size base stack =
-    (schedule : List ScheduleLine) (k : Kernel) (t : ℕ) (m : Words) (f : Frame) (fs : List Frame) (z : Value)
-    → length (value_words z) ≡ size → offset + size ≤ length m.plain
-    → act i schedule k t (in_frame m (placed f place (stack z)) fs)
-    ≡ does Quiet (record m { plain = with_words offset (value_words z) m.plain }) (record f { place = suc place; locals = f.locals; stack = base }) fs None None
-
--- ... where nothing is below
+-- ... in the frame, where nothing is below
 abbrev pub StoresLocally : Sections → (place offset size : ℕ) → (Value → List ℤ) → Type 0
-StoresLocally i place offset size stack = StoresLocallyAbove i place offset size [] stack
+StoresLocally i place offset size stack = StoresIn i regions.Locals place offset size [] stack
 
-abbrev pub StoresPlainly : Sections → (place offset size : ℕ) → (Value → List ℤ) → Type 0
-StoresPlainly i place offset size stack = StoresPlainlyAbove i place offset size [] stack
+module _ (quiet : QuietStays) (i : Sections) (r : Region) (place offset : ℕ) where
+  -- a single word
+  pub word_there : At i place (stored_in r offset) → StoresIn i r place offset 1 [] (on [])
+  word_there here schedule k t m f fs z many room =
+      let it = one_alone (value_words z) many in
+      subst
+      (λ l. act i schedule k t (in_frame m (placed f place (reverse l ++ [])) fs)
+      ≡ with_stored i r (with_words offset l (region_words i r m f)) m f fs (suc place) []) (sym it.1)
+      (store_word quiet i schedule k t m f fs place offset r it.0 (with_words offset (it.0 ∷ []) (region_words i r m f)) here
+      (one_put (region_words i r m f) offset it.0 room))
 
-module _ (quiet : QuietStays) (i : Sections) (place offset : ℕ) where
-  pub word_locally : At i place (op.StoreLocal offset) → StoresLocally i place offset 1 (on [])
-  word_locally here schedule k t m f fs z many room = word_to_local quiet i schedule k t m f fs place offset here (value_words z) many room
-
-  pub word_plainly : At i place (op.StorePlain offset) → StoresPlainly i place offset 1 (on [])
-  word_plainly here schedule k t m f fs z many room = word_to_plain quiet i schedule k t m f fs place offset here (value_words z) many room
-
-  pub block_locally_above : (base : List ℤ) (size : ℕ) → At i place (op.StoreBlock regions.Locals size)
-      → StoresLocallyAbove i place offset size base (on (pos offset ∷ base))
-  block_locally_above base size here schedule k t m f fs z many room =
-      store_block_local quiet i schedule k t m f fs place offset base (value_words z) (with_words offset (value_words z) f.locals)
-      (subst (λ n. At i place (op.StoreBlock regions.Locals n)) (sym many) here) (block_put f.locals offset (value_words z) (omega (arith, many, room)))
-
-  pub block_locally : (size : ℕ) → At i place (op.StoreBlock regions.Locals size) → StoresLocally i place offset size (on (pos offset ∷ []))
-  block_locally size here = block_locally_above [] size here
-
-  pub block_plainly_above : (base : List ℤ) (size : ℕ) → At i place (op.StoreBlock regions.Plain size)
-      → StoresPlainlyAbove i place offset size base (on (pos offset ∷ base))
-  block_plainly_above base size here schedule k t m f fs z many room =
-      store_block_plain quiet i schedule k t m f fs place offset base (value_words z) (with_words offset (value_words z) m.plain)
-      (subst (λ n. At i place (op.StoreBlock regions.Plain n)) (sym many) here) (block_put m.plain offset (value_words z) (omega (arith, many, room)))
-
-  pub block_plainly : (size : ℕ) → At i place (op.StoreBlock regions.Plain size) → StoresPlainly i place offset size (on (pos offset ∷ []))
-  block_plainly size here = block_plainly_above [] size here
-
--- a single word above its address
-module _ (quiet : QuietStays) (i : Sections) (place offset : ℕ) where
-  after_it : place + 1 ≡ suc place
-  after_it = omega arith
-
-  indexed_local_word : (base : List ℤ) (schedule : List ScheduleLine) (k : Kernel) (t : ℕ) (m : Words) (f : Frame) (fs : List Frame)
-      → At i place (op.StoreIndexed regions.Locals)
-      → (ws : List ℤ) → length ws ≡ 1 → offset + 1 ≤ length f.locals
-      → act i schedule k t (in_frame m (placed f place (reverse ws ++ pos offset ∷ base)) fs)
-      ≡ does Quiet m (record f { place = suc place; locals = with_words offset ws f.locals; stack = base }) fs None None
-  indexed_local_word base schedule k t m f fs here ws one room =
-      let it = one_alone ws one in
+  -- ... above its address
+  pub word_in : (base : List ℤ) → At i place (op.StoreIndexed r) → StoresIn i r place offset 1 base (on (pos offset ∷ base))
+  word_in base here schedule k t m f fs z many room =
+      let it = one_alone (value_words z) many in
       subst
       (λ l. act i schedule k t (in_frame m (placed f place (reverse l ++ pos offset ∷ base)) fs)
-      ≡ does Quiet m (record f { place = suc place; locals = with_words offset l f.locals; stack = base }) fs None None)
-      (sym it.1)
-      (acts quiet i place (op.StoreIndexed regions.Locals) here schedule k t m f fs (it.0 ∷ pos offset ∷ base)
-      ∙ ap (λ o. stored i schedule k t m (placed f place (it.0 ∷ pos offset ∷ base)) fs regions.Locals o base) (one_put f.locals offset it.0 room)
-      ∙ ap (λ n. does Quiet m (record f { place = n; locals = with_words offset (it.0 ∷ []) f.locals; stack = base }) fs None None) after_it)
+      ≡ with_stored i r (with_words offset l (region_words i r m f)) m f fs (suc place) base) (sym it.1)
+      (store_indexed quiet i schedule k t m f fs place offset r base it.0 (with_words offset (it.0 ∷ []) (region_words i r m f)) here
+      (one_put (region_words i r m f) offset it.0 room))
 
-  indexed_plain_word : (base : List ℤ) (schedule : List ScheduleLine) (k : Kernel) (t : ℕ) (m : Words) (f : Frame) (fs : List Frame)
-      → At i place (op.StoreIndexed regions.Plain)
-      → (ws : List ℤ) → length ws ≡ 1 → offset + 1 ≤ length m.plain
-      → act i schedule k t (in_frame m (placed f place (reverse ws ++ pos offset ∷ base)) fs)
-      ≡ does Quiet (record m { plain = with_words offset ws m.plain }) (record f { place = suc place; locals = f.locals; stack = base }) fs None None
-  indexed_plain_word base schedule k t m f fs here ws one room =
-      let it = one_alone ws one in
-      subst
-      (λ l. act i schedule k t (in_frame m (placed f place (reverse l ++ pos offset ∷ base)) fs)
-      ≡ does Quiet (record m { plain = with_words offset l m.plain }) (record f { place = suc place; locals = f.locals; stack = base }) fs None None)
-      (sym it.1)
-      (acts quiet i place (op.StoreIndexed regions.Plain) here schedule k t m f fs (it.0 ∷ pos offset ∷ base)
-      ∙ ap (λ o. stored i schedule k t m (placed f place (it.0 ∷ pos offset ∷ base)) fs regions.Plain o base) (one_put m.plain offset it.0 room)
-      ∙ ap (λ n. does Quiet (record m { plain = with_words offset (it.0 ∷ []) m.plain }) (record f { place = n; locals = f.locals; stack = base }) fs None None) after_it)
-
-  pub indexed_locally_above : (base : List ℤ) → At i place (op.StoreIndexed regions.Locals) → StoresLocallyAbove i place offset 1 base (on (pos offset ∷ base))
-  indexed_locally_above base here schedule k t m f fs z many room = indexed_local_word base schedule k t m f fs here (value_words z) many room
-
-  pub indexed_plainly_above : (base : List ℤ) → At i place (op.StoreIndexed regions.Plain) → StoresPlainlyAbove i place offset 1 base (on (pos offset ∷ base))
-  indexed_plainly_above base here schedule k t m f fs z many room = indexed_plain_word base schedule k t m f fs here (value_words z) many room
-
-  pub indexed_locally : At i place (op.StoreIndexed regions.Locals) → StoresLocally i place offset 1 (on (pos offset ∷ []))
-  indexed_locally here = indexed_locally_above [] here
-
-  pub indexed_plainly : At i place (op.StoreIndexed regions.Plain) → StoresPlainly i place offset 1 (on (pos offset ∷ []))
-  indexed_plainly here = indexed_plainly_above [] here
+  -- several
+  pub block_in : (base : List ℤ) (size : ℕ) → At i place (op.StoreBlock r size) → StoresIn i r place offset size base (on (pos offset ∷ base))
+  block_in base size here schedule k t m f fs z many room =
+      store_block quiet i schedule k t m f fs place offset r base (value_words z) (with_words offset (value_words z) (region_words i r m f))
+      (subst (λ n. At i place (op.StoreBlock r n)) (sym many) here)
+      (block_put (region_words i r m f) offset (value_words z) (omega (arith, many, room)))
 
 -- what computes a value computes it above an address that is pushed in front
 pub computes_above : (quiet : QuietStays) (i : Sections) (library : Library) (sight : Sight) (from mid offset : ℕ) (value : Calls → Place → Val Value) → suc from ≤ mid
@@ -347,10 +275,18 @@ whole_of home x = record { home = home; name = x.name; parts = []; subtype = x.s
 pub local_named : (p : Place) (name : List ℕ) (x : Object) → object_of p.locals name ≡ Some x → object_named p name ≡ Some (whole_of InActivation x)
 local_named p name x h = ap (λ o. first_of (whole InActivation o) (first_of (own_component p p.within name) (whole InPackage (object_of p.variables name)))) h
 
-pub package_named : (p : Place) (name : List ℕ) → object_of p.locals name ≡ None → p.within ≡ None → object_named p name ≡ whole InPackage (object_of p.variables name)
-package_named p name none outside =
+pub package_named : (p : Place) (name : List ℕ) → object_of p.locals name ≡ None → object_of (own_components p p.within) name ≡ None
+    → object_named p name ≡ whole InPackage (object_of p.variables name)
+package_named p name none no_own =
     ap (λ o. first_of (whole InActivation o) (first_of (own_component p p.within name) (whole InPackage (object_of p.variables name)))) none
-    ∙ ap (λ o. first_of (own_component p o name) (whole InPackage (object_of p.variables name))) outside
+    ∙ ap (λ o. first_of o (whole InPackage (object_of p.variables name))) (own_whole p p.within name ∙ ap (whole (own_home p.within)) no_own)
+
+pub component_named : (p : Place) (o : ℕ) (name : List ℕ) (x : Object) → object_of p.locals name ≡ None → p.within ≡ Some o
+    → object_of (p.components o) name ≡ Some x → object_named p name ≡ Some (whole_of (InObject o) x)
+component_named p o name x none within found =
+    ap (λ q. first_of (whole InActivation q) (first_of (own_component p p.within name) (whole InPackage (object_of p.variables name)))) none
+    ∙ ap (λ q. first_of (own_component p q name) (whole InPackage (object_of p.variables name))) within
+    ∙ ap (λ q. first_of (whole (InObject o) q) (whole InPackage (object_of p.variables name))) found
 
 pub whole_there : (home : Home) (o : Option Object) (x : Target) → whole home o ≡ Some x → (y : Object) × (o ≡ Some y) × (whole_of home y ≡ x)
 whole_there home (Some y) x h = (y, refl, same_some (whole_of home y) x h)
@@ -398,9 +334,9 @@ outer_meant : (f : Option Function) (y : Object) (last : Meaning) (g : Option Fu
 outer_meant (Some f) y last g t u h = cc
 outer_meant None y last g t u h = refl
 
-pub package_meant : (p : Place) (name : List ℕ) (y : Object) → object_of p.variables name ≡ Some y → object_of p.locals name ≡ None → p.within ≡ None
-    → (t : Subtype) (u : Value) → meaning_of p name ≡ IsObject t u → meaning_of p name ≡ IsObject y.subtype y.value
-package_meant p name y found none outside t u h = same ∙ outer_meant (own_function p name) y last (package_function p name) t u (sym same ∙ h)
+pub package_meant : (p : Place) (name : List ℕ) (y : Object) → object_of p.variables name ≡ Some y → object_of p.locals name ≡ None
+    → object_of (own_components p p.within) name ≡ None → (t : Subtype) (u : Value) → meaning_of p name ≡ IsObject t u → meaning_of p name ≡ IsObject y.subtype y.value
+package_meant p name y found none no_own t u h = same ∙ outer_meant (own_function p name) y last (package_function p name) t u (sym same ∙ h)
   where
     last : Meaning
     last = meaning_in_scope p.scope (number_of p.scope name)
@@ -408,5 +344,13 @@ package_meant p name y found none outside t u h = same ∙ outer_meant (own_func
     same : meaning_of p name ≡ meant_among None None (own_function p name) (Some y) (package_function p name) last
     same =
         ap (λ o. meant_among o (object_of (own_components p p.within) name) (own_function p name) (object_of p.variables name) (package_function p name) last) none
-        ∙ ap (λ w. meant_among None (object_of (own_components p w) name) (own_function p name) (object_of p.variables name) (package_function p name) last) outside
+        ∙ ap (λ o. meant_among None o (own_function p name) (object_of p.variables name) (package_function p name) last) no_own
         ∙ ap (λ o. meant_among None None (own_function p name) o (package_function p name) last) found
+
+-- ... and one that names a component of the running body's protected object
+pub component_meant : (p : Place) (name : List ℕ) (y : Object) → object_of p.locals name ≡ None → object_of (own_components p p.within) name ≡ Some y
+    → meaning_of p name ≡ IsObject y.subtype y.value
+component_meant p name y none found =
+    let last = meaning_in_scope p.scope (number_of p.scope name) in
+    ap (λ o. meant_among o (object_of (own_components p p.within) name) (own_function p name) (object_of p.variables name) (package_function p name) last) none
+    ∙ ap (λ o. meant_among None o (own_function p name) (object_of p.variables name) (package_function p name) last) found

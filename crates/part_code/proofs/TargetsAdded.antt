@@ -51,7 +51,7 @@ use Rattle.expr_code.proofs.Flowing.{Changes, flows_then, instruction_flows}
 use Rattle.expr_code.proofs.Growing.{added_at, added_extends, added_here, extends_trans, holds_before, holds_later}
 use Rattle.expr_code.proofs.Widths.{words_by_type}
 use Rattle.part_code.specs.Layout.{IsVariable, NamesObject}
-use Rattle.part_code.specs.Passing.{AddsValue, ArePassedInFront, EmitsPassedActuals, EmitsTarget, holds_variables, loaded_at}
+use Rattle.part_code.specs.Passing.{AddsValue, ArePassedInFront, EmitsPassedActuals, EmitsTarget, loaded_at}
 use Rattle.part_code.specs.Suiting.{returned_width}
 use Rattle.part_code.specs.declared.call.Destination.{Destination}
 use Rattle.part_code.proofs.ChecksAdded.{IsChecked, is_checked}
@@ -62,23 +62,12 @@ use Rattle.part_code.proofs.PassingWell.{passes_both, passes_out}
 use Rattle.part_code.proofs.Pointing.{PointsTo}
 use Rattle.part_code.proofs.ObjectNames.{changeable, names_object}
 use Rattle.part_code.proofs.StoresAt.{number_is}
-use Rattle.part_code.proofs.StoringParts.{HoldsVariables}
 
 -- ---- types and words
 
 -- subtypes of one type have as many words
 pub same_words : (s : Scope) (t u : Subtype) → t.type_number ≡ u.type_number → words_of s t ≡ words_of s u
 same_words s t u same = sym (words_by_type s t) ∙ ap (λ n. words_of s (base_range_of n)) same ∙ words_by_type s u
-
-pub where_variables : (r : Region) → holds_variables r ≡ true → HoldsVariables r
-where_variables regions.Locals h = tt
-where_variables regions.Plain h = tt
-where_variables regions.Object h = cc
-
-pub has_place : (s : Subprogram) (r : Region) → holds_variables r ≡ true → has_region s r ≡ true
-has_place s regions.Locals h = refl
-has_place s regions.Plain h = refl
-has_place s regions.Object h = cc
 
 -- ---- what is legal
 
@@ -175,8 +164,9 @@ module _ (sized : ValuesHaveWords) (quiet : QuietStays) (v : Visible) (old low :
         (shape_of x.scope d.subtype)) (sym is) (target.emits.goes i h g);
   }
 
-  holds_slot : HoldsVariables target.slot.region
-  holds_slot = where_variables target.slot.region (ap holds_variables target.region ∙ target.holds)
+  -- a subprogram that suits what is visible has the region
+  region_there : (i : Sections) (s : Subprogram) → Suits v i s → has_region s d.region ≡ true
+  region_there i s suits = ap (has_region s) (sym target.region) ∙ suits.region target.first.name target.slot target.there
 
   -- it is copied back to there
   to_here : (record { region = target.slot.region; subtype = d.subtype }) ≡ d
@@ -208,7 +198,7 @@ module _ (sized : ValuesHaveWords) (quiet : QuietStays) (v : Visible) (old low :
         (subst (λ x. ArePassedInFront i program g w (here old) (here low) (q ∷ []) (tree.Value x ∷ []) (d ∷ [])) (sym target.is)
         (subst (λ x. ArePassedInFront i program g w (here old) (here low) (q ∷ []) (tree.Value name ∷ []) (x ∷ [])) to_here
         (front_one i program g w quiet scope (here old) (here low) q (tree.Value name) (record { region = target.slot.region; subtype = d.subtype } ∷ [])
-        target.emits.extends.longer (computes_out sized quiet way q moded) (passes_out program g scope w sized way holds_slot form.0 there q moded)
+        target.emits.extends.longer (computes_out sized quiet way q moded) (passes_out program g scope w sized way form.0 there q moded)
         (sym (ap (λ m. length (cond (is_in m) [] (q.name ∷ []))) moded)))));
     high = (let wide = ap {B = ℕ} (λ m. elim m [ mode.In ↦ words_of v.scope f.subtype | mode.Out ↦ 1 | mode.InOut ↦ suc (words_of v.scope f.subtype) ]) is in
         omega (arith, up, wide));
@@ -265,7 +255,7 @@ module _ (sized : ValuesHaveWords) (quiet : QuietStays) (v : Visible) (old low :
             → Changes (Suits v) (cond b (op.LoadIndexed d.region) (op.LoadBlock d.region value.words)) (depth + 2) (depth + 1 + value.words)
         by_count true e = (let one = number_is value.words 1 e in record {
           operands = refl;
-          names = λ i s suits. has_place s d.region target.holds;
+          names = λ i s suits. region_there i s suits;
           takes = λ i s suits. omega arith;
           leaves = λ i s suits. omega (arith, one);
           stays = refl;
@@ -273,7 +263,7 @@ module _ (sized : ValuesHaveWords) (quiet : QuietStays) (v : Visible) (old low :
         })
         by_count false e = record {
           operands = value.block;
-          names = λ i s suits. has_place s d.region target.holds;
+          names = λ i s suits. region_there i s suits;
           takes = λ i s suits. omega arith;
           leaves = λ i s suits. omega arith;
           stays = refl;
@@ -336,7 +326,7 @@ module _ (sized : ValuesHaveWords) (quiet : QuietStays) (v : Visible) (old low :
           (front_one i program g w quiet scope (here old) (here new) q (tree.Value name) (record { region = target.slot.region; subtype = d.subtype } ∷ [])
           (omega (arith, up, doubled_here, loaded_here, longer))
           (computes_both sized quiet way q (here new) moded (omega (arith, doubled_here, loaded_here, longer)) dup (loads_part i w.names names load_at) checks)
-          (passes_both program g scope w sized way holds_slot form.0 there q moded (sym typed.same ∙ ap (λ t. t.type_number) subtyped))
+          (passes_both program g scope w sized way form.0 there q moded (sym typed.same ∙ ap (λ t. t.type_number) subtyped))
           (sym (ap (λ m. length (cond (is_in m) [] (q.name ∷ []))) moded)))));
       high = (let many = ap {B = ℕ} (λ m. elim m [ mode.In ↦ words_of v.scope f.subtype | mode.Out ↦ 1 | mode.InOut ↦ suc (words_of v.scope f.subtype) ]) is in
           omega (arith, value.high, wide, many));

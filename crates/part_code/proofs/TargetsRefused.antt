@@ -33,7 +33,7 @@ use Rattle.expr_code.specs.declared.visible.Slot.{Slot}
 use Rattle.expr_code.specs.declared.visible.Visible.{Visible}
 use Rattle.expr_code.proofs.Growing.{added_here}
 use Rattle.expr_code.proofs.Refusals.{or_left, or_right, refused_beside, selectors_some}
-use Rattle.part_code.specs.Passing.{AddsCheck, AddsRange, EmitsTarget, holds_variables}
+use Rattle.part_code.specs.Passing.{AddsCheck, AddsRange, EmitsTarget}
 use Rattle.part_code.specs.Needs.{IsNeeding, IsPartFit, Needs, actual_needs, address_needs, beyond, check_words, copied_needs, copy_needs, destination_at, destinations_for, destinations_if, destinations_named, has_unfit, in_needs, in_out_needs, is_taken, target_needs, words_at}
 use Rattle.part_code.specs.declared.call.Destination.{Destination}
 use Rattle.part_code.proofs.AssignmentsRefused.{address_refused}
@@ -251,7 +251,7 @@ module _ (v : Visible) (height : ℕ) (d : Destination) (old : Code) (why : Refu
 
   pub copy_block_refused : IsPartFit v d → IsRefusedBeside (IsUnfit v.scope d.subtype) 0 0 false why → IsNeeding (here old + 4) copy why
   copy_block_refused fits r =
-      code_refused (IsUnfit v.scope d.subtype) 0 (here old + 4) 0 false copy (omega arith) (omega arith) fits (never copy.outside) why r
+      code_refused (IsUnfit v.scope d.subtype) 0 (here old + 4) 0 false copy (omega arith) (omega arith) fits.unfit (never copy.outside) why r
 
   pub copy_plain_refused : (m h : ℕ) → m ≤ here old + 4 → h ≤ height → IsRefused m h false why → IsNeeding (here old + 4) copy why
   copy_plain_refused m h up high r = plain_needing m (here old + 4) h copy why up (over h copy.stack copy.frame (omega (arith, high))) r
@@ -262,14 +262,7 @@ module _ (v : Visible) (height : ℕ) (d : Destination) (old : Code) (why : Refu
   copy_check_refused m up r =
       code_refused ⊥ m (here old + 4) (height + check_words (form_at v.scope d.subtype.type_number)) (not (is_taken v.scope d.subtype)) copy up
       (over (height + check_words (form_at v.scope d.subtype.type_number)) copy.stack copy.frame (omega arith)) (λ x. absurd x)
-      (untaken_copy (holds_variables d.region) (is_taken v.scope d.subtype)) why r
-    where
-      untaken_copy : (a b : Bool) → not b ≡ true → not (a && b) ≡ true
-      untaken_copy true b h = h
-      untaken_copy false b h = refl
-
-pub copy_unstored : (v : Visible) (height : ℕ) (d : Destination) → holds_variables d.region ≡ false → (copy_needs v height d).outside ≡ true
-copy_unstored v height d h = ap (λ b. not (b && is_taken v.scope d.subtype)) h
+      (λ h. h) why r
 
 -- a check has three instructions at most
 range_few : (old : Code) (depth : ℕ) (t : Subtype) (new : Code) → AddsRange old depth t new → here new ≤ here old + 3

@@ -1,5 +1,5 @@
 -- What stands for the store once a value is stored in a variable of the package.
-use Rattle.std.proofs.Common.{◌≡◌, ◌≢◌, ℕ, ℤ, List, ◌∷◌, length, cond, Option, Some, None, Bool, true, false, refl, sym, ap, ◌∙◌, subst, arith}
+use Rattle.std.proofs.Common.{◌≡◌, ◌≢◌, ◌≤◌, ℕ, ℤ, List, ◌∷◌, length, cond, Option, Some, None, Bool, true, false, refl, sym, ap, ◌∙◌, subst, arith}
 use Rattle.std.specs.Prelude.{bytes_eq}
 use Rattle.image.specs.Frames.{Words}
 use Rattle.image.specs.declared.instruction.Region.{Region}
@@ -21,12 +21,13 @@ use Rattle.expr_soundness.proofs.Positions.{same_some}
 use Rattle.expr_soundness.specs.meaning.specs.Programs.{Program}
 use Rattle.expr_soundness.specs.meaning.specs.Works.{Store}
 use Rattle.expr_code.specs.Naming.{Lies}
-use Rattle.expr_code.specs.Seeing.{Package, SeesPackage, outside}
+use Rattle.expr_code.specs.Seeing.{AreSuited, Package, SeesPackage, objects_by, outside, subtype_among}
 use Rattle.expr_code.specs.Views.{IsSameTask, View}
 use Rattle.expr_code.specs.declared.visible.Slot.{Slot}
 use Rattle.part_code.specs.Layout.{AreApart, IsLaidPackage, NamesObject}
 use Rattle.part_code.specs.Resting.{IsAt, IsAddressable, StandsFor}
 use Rattle.part_code.proofs.Names.{meant_width, name_is, object_value, same_name}
+use Rattle.part_code.proofs.Renewing.{same_renewed, suits_renewed}
 use Rattle.part_code.proofs.Words.{IsWritten}
 
 -- ---- what a name means outside of all activations, by the variable of the package
@@ -152,11 +153,24 @@ module _ (kept : AgreementIsKept) (sized : ValuesHaveWords) (program : Program) 
             (subst (λ k. AreApart slot.offset k s.offset (words_of g.scope other.1)) (sym (wide_here own.0 own.1 own.2)) apart))
             (subst (λ r. Lies (with_plain m.plain view.words r) s.offset u) (laid.plain name s told) (before.names.objects name s t u told meant))
 
+    -- ---- the objects
+
+    same_there : (owner : Option ℕ) (name : List ℕ) → subtype_among (objects_by p owner) name ≡ subtype_among (g.first owner) name
+    same_there None name =
+        ap (λ l. subtype_among l name) is_at.variables ∙ same_renewed store.variables x old found same name ∙ before.objects.same None name
+    same_there (Some n) name = before.objects.same (Some n) name
+
+    suited_there : (owner : Option ℕ) → AreSuited g.scope (objects_by p owner)
+    suited_there None =
+        subst (AreSuited g.scope) (sym is_at.variables) (suits_renewed g.scope store.variables x suited (before.objects.suited None))
+    suited_there (Some n) = before.objects.suited (Some n)
+
     shown : SeesPackage g p view
     shown = record {
       scope = before.scope;
       functions = before.functions;
       sound = sound;
+      objects = record { same = same_there; suited = suited_there };
       names = record { agrees = agrees; objects = lies };
       components = λ object name s y told found.
           subst (λ w. Lies (w.objects object) s.offset y.value) (sym memory) (before.components object name s y told found);
@@ -164,6 +178,7 @@ module _ (kept : AgreementIsKept) (sized : ValuesHaveWords) (program : Program) 
       schedule = schedule;
       task = task;
       small = small;
+      few = λ n. subst (λ w. length (w.objects n) ≤ 65536) (sym memory) (stands.objects n);
     }
 
   pub variable_stands : StandsFor program g new_store new_words

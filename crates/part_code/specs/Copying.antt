@@ -10,7 +10,7 @@ use Rattle.ada_tree.specs.ExpressionTree as tree
 use Rattle.ada_tree.specs.ExpressionTree.{ArgumentTree, ArgumentTrees, ExprTree, MoreArguments, Named, NoArguments, Text}
 use Rattle.image.specs.Sections.{Sections}
 use Rattle.image.specs.Operations.{called, results_of}
-use Rattle.image.specs.Frames.{Frame, Words}
+use Rattle.image.specs.Frames.{Frame, Words, own_object}
 use Rattle.image.specs.Steps.{behaviour}
 use Rattle.image.specs.declared.instruction.Operation.TheVariants as op
 use Rattle.image.specs.declared.instruction.Region.{Region}
@@ -63,28 +63,28 @@ abbrev pub addresses_of : Visible → List Target → List ℕ
 addresses_of v [] = []
 addresses_of v (x ∷ xs) = address_of v x ∷ addresses_of v xs
 
--- variables in the frame are of the running activation, plain words are those of the package
-abbrev pub IsHomeOf : Region → Home → Type 0
-IsHomeOf regions.Locals h = h ≡ InActivation
-IsHomeOf regions.Plain h = h ≡ InPackage
-IsHomeOf regions.Object h = ⊥
+-- variables in the frame are of the running activation, plain words are those of the package, and those of an object are of the body's own
+abbrev pub IsHomeOf : (within : Option ℕ) → Region → Home → Type 0
+IsHomeOf within regions.Locals h = h ≡ InActivation
+IsHomeOf within regions.Plain h = h ≡ InPackage
+IsHomeOf within regions.Object h = (o : ℕ) × (within ≡ Some o) × (h ≡ InObject o)
 
 -- the target is a variable, or a part of one, that has words there
-pub record IsPlacedTarget (v : Visible) (d : Destination) (x : Target) : Type 0 where
+pub record IsPlacedTarget (v : Framed) (d : Destination) (x : Target) : Type 0 where
   pub slot : Slot
-  pub there : slot_of v x.name ≡ Some slot
+  pub there : slot_of v.names x.name ≡ Some slot
   pub region : slot.region ≡ d.region
-  pub home : IsHomeOf d.region x.home
+  pub home : IsHomeOf v.within d.region x.home
   pub role : Role
   pub whole : Subtype
-  pub named : NamesObject v.scope x.name role whole
+  pub named : NamesObject v.names.scope x.name role whole
   pub variable : IsVariable role
-  pub has : HasParts (shape_of v.scope whole) x.parts
-  pub shape : part_shape (shape_of v.scope whole) x.parts ≡ shape_of v.scope d.subtype
+  pub has : HasParts (shape_of v.names.scope whole) x.parts
+  pub shape : part_shape (shape_of v.names.scope whole) x.parts ≡ shape_of v.names.scope d.subtype
   pub subtype : x.subtype ≡ d.subtype
-  pub known : (form : TypeForm) × (form_at v.scope d.subtype.type_number ≡ Some form)
+  pub known : (form : TypeForm) × (form_at v.names.scope d.subtype.type_number ≡ Some form)
 
-abbrev pub ArePlaced : Visible → List Destination → List Target → Type 0
+abbrev pub ArePlaced : Framed → List Destination → List Target → Type 0
 ArePlaced v [] [] = ⊤
 ArePlaced v (d ∷ ds) (x ∷ xs) = IsPlacedTarget v d x × ArePlaced v ds xs
 ArePlaced v ds xs = ⊥
@@ -177,9 +177,9 @@ module _ (i : Sections) (program : Program) (g : Package) where
         → p.within ≡ a.within
         → StandsFor program g store m
         → Rests g v a f.locals
+        → own_object i f ≡ a.within
         → Knows g v p (view_of i schedule k t m f fs)
-        → a.within ≡ None
-        → IsPlacedTarget v.names d x
+        → IsPlacedTarget v d x
         → has_shape (shape_of v.names.scope d.subtype) y ≡ true
         → Puts i program g schedule k t m f fs mid (on (pos (address_of v.names x) ∷ base) y) base v (store_with x y store) (activation_with x y a)
 

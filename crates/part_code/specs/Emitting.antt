@@ -44,18 +44,16 @@ pub record IsReachable (i : Sections) (low high place : ℕ) : Type 0 where
 -- ---- stores
 
 -- what stores a word there
-abbrev pub stored_in : Region → (offset : ℕ) → Option Operation
-stored_in regions.Locals n = Some (op.StoreLocal n)
-stored_in regions.Plain n = Some (op.StorePlain n)
-stored_in regions.Object n = None
+abbrev pub stored_in : Region → (offset : ℕ) → Operation
+stored_in regions.Locals n = op.StoreLocal n
+stored_in regions.Plain n = op.StorePlain n
+stored_in regions.Object n = op.StoreObject n
 
 -- what stores so many words of a value there, at the address below them on the operand stack
-abbrev pub stored_at : Region → (words : ℕ) → Option Operation
-stored_at regions.Locals n = Some (cond (nat_eq n 1) (op.StoreIndexed regions.Locals) (op.StoreBlock regions.Locals n))
-stored_at regions.Plain n = Some (cond (nat_eq n 1) (op.StoreIndexed regions.Plain) (op.StoreBlock regions.Plain n))
-stored_at regions.Object n = None
+abbrev pub stored_at : Region → (words : ℕ) → Operation
+stored_at r n = cond (nat_eq n 1) (op.StoreIndexed r) (op.StoreBlock r n)
 
-abbrev pub store_operation : Slot → Option Operation
+abbrev pub store_operation : Slot → Operation
 store_operation x = stored_in x.region x.offset
 
 -- ---- declarations

@@ -40,7 +40,9 @@ pub record AddsParameter (v : Framed) (f : Parameter) (offset : ℕ) (next : Fra
   pub scope : next.names.scope ≡ with_name v.names.scope f.name (entity.Object (formal_role f.mode) f.subtype)
   pub slots : next.names.slots ≡ v.names.slots ++ Some slot ∷ []
   pub subprograms : next.names.subprograms ≡ v.names.subprograms ++ None ∷ []
+  pub operations : next.names.operations ≡ v.names.operations
   pub room : next.room ≡ v.room
+  pub within : next.within ≡ v.within
   pub reserved : next.reserved ≡ v.reserved
 
 -- ---- parameters in the order of the text
@@ -129,6 +131,7 @@ pub record PlacesFormals (v : Visible) (fs : List Formal) (later : Visible) (wor
   pub scope : later.scope ≡ formals_scope v.scope fs
   pub slots : later.slots ≡ v.slots ++ map slot_for placed.formals.items
   pub subprograms : later.subprograms ≡ v.subprograms ++ map no_subprogram placed.formals.items
+  pub operations : later.operations ≡ v.operations
 
 -- ---- what their code asks of a subprogram
 

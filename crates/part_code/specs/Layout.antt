@@ -9,7 +9,7 @@ use Rattle.types.specs.Layouts.{words_of}
 use Rattle.types.specs.Places.{is_among}
 use Rattle.types.specs.Scopes.{Scope, entity_at, is_visible, number_of, with_name}
 use Rattle.expr_soundness.specs.SoundScopes.{IsSoundObject}
-use Rattle.expr_code.specs.Seeing.{Package, slot_of}
+use Rattle.expr_code.specs.Seeing.{Package, slot_of, subtype_among}
 use Rattle.expr_code.specs.declared.visible.Slot.{Slot}
 use Rattle.part_code.specs.Resting.{Framed}
 
@@ -30,10 +30,16 @@ pub record IsLaid (s : Scope) (slots : (name : List ℕ) → Option Slot) : Type
       → x.region ≡ y.region
       → NamesObject s one q t → NamesObject s other r u → AreApart x.offset (words_of s t) y.offset (words_of s u)
 
--- the variables of the package stand among the plain words
+-- the variables of the package stand among the plain words, and the components of each protected object among its own, where none is another's
 pub record IsLaidPackage (g : Package) : Type 0 where
   pub laid : IsLaid g.scope (g.slots None)
   pub plain : (name : List ℕ) (x : Slot) → g.slots None name ≡ Some x → x.region ≡ regions.Plain
+  pub region : (object : ℕ) (name : List ℕ) (x : Slot) → g.slots (Some object) name ≡ Some x → x.region ≡ regions.Object
+  pub parts : (object : ℕ) (one other : List ℕ) (x y : Slot) (t u : Subtype) → one ≢ other → g.slots (Some object) one ≡ Some x
+      → g.slots (Some object) other ≡ Some y
+      → subtype_among (g.first (Some object)) one ≡ Some t
+      → subtype_among (g.first (Some object)) other ≡ Some u
+      → AreApart x.offset (words_of g.scope t) y.offset (words_of g.scope u)
 
 -- what may be stored in: a loop parameter may not (RM 5.5)
 abbrev pub IsVariable : Role → Type 0
@@ -50,11 +56,14 @@ AreFree v = (name : List ℕ) (x : Slot) (r : Role) (t : Subtype) → slot_of v.
     → IsVariable r
     → IsFree v.reserved x.offset (words_of v.names.scope t)
 
--- The places that are visible in a body: those of the package's variables are the package's, and there are as many entries as names.
+-- The places that are visible in a body: those of the package's variables are the package's, those of components are those of the body's own protected object,
+-- and there are as many entries as names.
 pub record IsLaidOut (g : Package) (v : Framed) : Type 0 where
   pub unit : IsLaidPackage g
   pub laid : IsLaid v.names.scope (slot_of v.names)
   pub shared : (name : List ℕ) (x : Slot) → slot_of v.names name ≡ Some x → x.region ≡ regions.Plain → g.slots None name ≡ Some x
+  pub own : (name : List ℕ) (x : Slot) (object : ℕ) → slot_of v.names name ≡ Some x → x.region ≡ regions.Object → v.within ≡ Some object
+      → g.slots (Some object) name ≡ Some x
   pub free : AreFree v
   pub slots : length v.names.slots ≡ length v.names.scope
   pub subprograms : length v.names.subprograms ≡ length v.names.scope
@@ -71,7 +80,9 @@ pub record Widens (v : Framed) (name : List ℕ) (r : Role) (t : Subtype) (slot 
   pub scope : later.names.scope ≡ with_name v.names.scope name (Object r t)
   pub slots : later.names.slots ≡ v.names.slots ++ Some slot ∷ []
   pub subprograms : later.names.subprograms ≡ v.names.subprograms ++ None ∷ []
+  pub operations : later.names.operations ≡ v.names.operations
   pub room : later.room ≡ v.room
+  pub within : later.within ≡ v.within
   -- its words are in the frame, and none of them is one of another object's
   pub apart : (other : List ℕ) (x : Slot) (q : Role) (u : Subtype) → slot_of v.names other ≡ Some x → x.region ≡ slot.region
       → NamesObject v.names.scope other q u → AreApart slot.offset (words_of v.names.scope t) x.offset (words_of v.names.scope u)

@@ -1,11 +1,11 @@
 -- The calls of main (RM 10.2).
-use Rattle.std.specs.Prelude.{◌≡◌, ℕ, suc, ◌+◌, ◌≤◌, List, [], ◌∷◌, length, Some, true, ⊤}
+use Rattle.std.specs.Prelude.{◌≡◌, ◌||◌, ℕ, suc, ◌+◌, ◌≤◌, List, [], ◌∷◌, length, Some, true, ⊤}
 use Rattle.std.specs.List.{All}
 use Rattle.ada_tree.specs.declared.expression.Identifier.{Identifier}
 use Rattle.ada_tree.specs.declared.program.MainStatement.{MainStatement}
 use Rattle.ada_tree.specs.declared.program.MainStatement.TheVariants as main
 use Rattle.image.specs.Operations.{called}
-use Rattle.image.specs.Rules.{is_plain}
+use Rattle.image.specs.Rules.{calls_inside, is_plain}
 use Rattle.image.specs.Sections.{Sections}
 use Rattle.image.specs.declared.instruction.Operation.TheVariants as op
 use Rattle.image.specs.declared.subprograms.Subprogram as code
@@ -29,20 +29,20 @@ pub record AddsMainCall (v : Visible) (old : Code) (procedure : Identifier) (new
   pub told : subprogram_of v procedure.name ≡ Some number
   pub adds : Adds old 0 (op.Call number) new
 
--- the subprogram that is called by a number takes and gives nothing
-pub record IsBare (i : Sections) (number : ℕ) : Type 0 where
+-- the subprogram that is called by a number may be called from this one, and takes and gives nothing
+pub record IsBare (i : Sections) (s : code.Subprogram) (number : ℕ) : Type 0 where
   pub code : code.Subprogram
   pub is : called i number ≡ Some code
-  pub plain : is_plain code.kind ≡ true
+  pub kind : (is_plain code.kind || calls_inside s.kind code.kind) ≡ true
   pub parameters : code.parameters ≡ 0
   pub results : code.results ≡ 0
 
-abbrev pub CallsBare : Visible → Sections → MainStatement → Type 0
-CallsBare v i (main.Null place) = ⊤
-CallsBare v i (main.Call package_ procedure) = (number : ℕ) → subprogram_of v procedure.name ≡ Some number → IsBare i number
+abbrev pub CallsBare : Visible → Sections → code.Subprogram → MainStatement → Type 0
+CallsBare v i s (main.Null place) = ⊤
+CallsBare v i s (main.Call package_ procedure) = (number : ℕ) → subprogram_of v procedure.name ≡ Some number → IsBare i s number
 
 abbrev pub CallBare : Visible → List MainStatement → Sections → code.Subprogram → Type 0
-CallBare v all i s = All (CallsBare v i) all
+CallBare v all i s = All (CallsBare v i s) all
 
 pub record AddsCalls (v : Visible) (old : Code) (all : List MainStatement) (new : Code) : Type 0 where
   pub extends : Extends old new

@@ -10,10 +10,11 @@ use Rattle.types.specs.Places.{is_among}
 use Rattle.expr_code.specs.Branches.{Branch, Joins, in_front}
 use Rattle.expr_code.specs.Code.{Extends, Holds, here}
 use Rattle.expr_code.specs.Flows.{AreKeptBetween, Flows}
-use Rattle.expr_code.specs.Seeing.{Package, Suits}
+use Rattle.expr_code.specs.Seeing.{Package}
 use Rattle.expr_code.specs.declared.code.Code.{Code}
 use Rattle.expr_code.specs.declared.visible.Visible.{Visible}
 use Rattle.part_code.specs.Moving.{IsMoved, IsMovedElse}
+use Rattle.part_code.specs.Suiting.{SuitsStatements}
 use Rattle.part_code.specs.declared.moving.Moved.{Moved}
 
 -- these branches without others behind them
@@ -27,7 +28,7 @@ pub record EmitsMove (v : Visible) (to : Moved) (old : Code) (e : ExprTree) (new
   pub longer : suc (here old) ≤ here new
   pub sized : here new ≤ here old + 20 * expr_size e
   pub stands : (i : Sections) → Holds i (here old) new → (g : Package) → IsMoved i g v to.region to.words (here old) (here new) e
-  pub flows : Flows (Suits v) old 1 new 0
+  pub flows : Flows (SuitsStatements v) old 1 new 0
 
 -- ... that of branches, in every image that joins the jumps which wait, and find an empty operand stack, to what stands behind; where a condition does not
 -- hold, the address is still on the operand stack
@@ -39,7 +40,7 @@ pub record EmitsMoves (v : Visible) (to : Moved) (old : Code) (all : List Branch
   pub stands : (i : Sections) (end : ℕ) → here new ≤ end → Joins i (here old) waiting end 0 new → (g : Package) (rest : ElsifValueTrees) (last : ExprTree)
       → IsMovedElse i g v to.region to.words (here new) end rest (λ x y. IsMoved i g v to.region to.words x y last)
       → IsMovedElse i g v to.region to.words (here old) end (in_front all rest) (λ x y. IsMoved i g v to.region to.words x y last)
-  pub flows : (i : Sections) (s : Subprogram) (end : ℕ) → here new ≤ end → Joins i (here old) waiting end 0 new → Suits v i s → new.deepest ≤ s.stack
+  pub flows : (i : Sections) (s : Subprogram) (end : ℕ) → here new ≤ end → Joins i (here old) waiting end 0 new → SuitsStatements v i s → new.deepest ≤ s.stack
       → 1 ≤ s.stack
       → has_depth i end 0 ≡ true → has_depth i (here new) 1 ≡ true
       → AreKeptBetween i s (here old) end (here old) (here new) 1

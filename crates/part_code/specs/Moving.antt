@@ -22,7 +22,6 @@ use Rattle.expr_code.specs.Views.{At}
 use Rattle.expr_code.specs.declared.visible.Slot.{Slot}
 use Rattle.expr_code.specs.declared.visible.Visible.{Visible}
 use Rattle.part_code.specs.Layout.{IsVariable}
-use Rattle.part_code.specs.Passing.{holds_variables}
 use Rattle.part_code.specs.declared.moving.Source.{Source}
 
 -- an array or a record, or a part that is one
@@ -30,15 +29,10 @@ abbrev pub names_composite : Scope → Standing → Bool
 names_composite s (standing.Part r t) = is_composite (form_at s t.type_number)
 names_composite s w = false
 
--- the words of a variable stand in a frame or among the plain words
-abbrev pub is_held : Option Slot → Bool
-is_held None = false
-is_held (Some x) = holds_variables x.region
-
--- the variable with this place, outside of protected objects; a loop parameter has no words
+-- the variable with this place; a loop parameter has no words
 abbrev pub variable_at : Standing → Option Slot → Option Source
 variable_at (standing.Part role.LoopParameter t) x = None
-variable_at (standing.Part r t) (Some x) = if holds_variables x.region then Some (record { slot = x; whole = t }) else None
+variable_at (standing.Part r t) (Some x) = Some (record { slot = x; whole = t })
 variable_at w x = None
 
 -- ... where a part of it is named that is an object
@@ -57,7 +51,6 @@ pub record IsSource (v : Visible) (name : NameTree) (x : Source) : Type 0 where
   pub stands : stands_first v.scope (number_of v.scope name.first.name) ≡ standing.Part role x.whole
   pub variable : IsVariable role
   pub there : slot_of v name.first.name ≡ Some x.slot
-  pub holds : holds_variables x.slot.region ≡ true
   pub part : Role
   pub last : Subtype
   pub names : standing_of v.scope name.first name.selectors ≡ standing.Part part last
@@ -76,11 +69,11 @@ abbrev mutual
   are_moved v NoElsifValues = true
   are_moved v (MoreElsifValues condition value rest) = is_moved v value && are_moved v rest
 
--- an array or a record outside of protected objects is named, or a part that is one, and the value is moved to it
+-- an array or a record is named, or a part that is one, and the value is moved to it
 abbrev pub moves : Visible → NameTree → ExprTree → Bool
 moves v name e =
     if names_composite v.scope (stands_first v.scope (number_of v.scope name.first.name))
-    && (names_composite v.scope (standing_of v.scope name.first name.selectors) && is_held (slot_of v name.first.name))
+    && (names_composite v.scope (standing_of v.scope name.first name.selectors) && is_some (slot_of v name.first.name))
     then is_moved v e else false
 
 -- ---- code that moves

@@ -29,7 +29,7 @@ use Rattle.expr_code.specs.Branches.{Branch}
 use Rattle.expr_code.specs.Code.{here}
 use Rattle.expr_code.specs.Emitting.{is_composite}
 use Rattle.expr_code.specs.Refusing.{IsRefused, IsRefusedBeside, IsUnfit, checked_peak, is_fit, is_outside, is_passable, peak, selectors_outside, selectors_peak}
-use Rattle.expr_code.specs.Seeing.{profile_named, slot_of, subprogram_of}
+use Rattle.expr_code.specs.Seeing.{profile_named, slot_of, subprogram_of, external_of, external_profile}
 use Rattle.expr_code.specs.declared.code.Code.{Code}
 use Rattle.expr_code.specs.declared.refusal.Refusal.{Refusal}
 use Rattle.expr_code.specs.declared.refusal.Refusal.TheVariants as refusal
@@ -40,8 +40,8 @@ use Rattle.part_code.specs.Bounds.{local_words, words_named}
 use Rattle.part_code.specs.Lines.{LabelledValue, is_put, line_of}
 use Rattle.part_code.specs.Moves.{alone}
 use Rattle.part_code.specs.Moving.{moves}
-use Rattle.part_code.specs.Passing.{actuals_behind, copied_width, holds_variables}
-use Rattle.part_code.specs.Suiting.{passed_width}
+use Rattle.part_code.specs.Passing.{actuals_behind, copied_width, ExternalName, operation_behind}
+use Rattle.part_code.specs.Suiting.{passed_width, HasPlaceIn}
 use Rattle.part_code.specs.declared.call.Destination.{Destination}
 use Rattle.part_code.specs.declared.formals.PlacedFormal.{PlacedFormal}
 
@@ -108,6 +108,7 @@ with_object v s taken =
       scope = s;
       slots = v.slots ++ Some (record { region = regions.Locals; offset = taken }) ∷ [];
       subprograms = v.subprograms ++ None ∷ [];
+      operations = v.operations;
     }
 
 abbrev pub local_visible : Visible → (taken : ℕ) → DeclarationTree → Visible
@@ -171,11 +172,6 @@ locals_needs v taken (d ∷ ds) = both (local_needs v taken d) (locals_needs (lo
 
 -- ---- assignments
 
--- its words are those of a frame or of the package; to those of protected objects nothing is stored yet
-abbrev pub is_stored : Option Slot → Bool
-is_stored None = false
-is_stored (Some x) = holds_variables x.region
-
 abbrev pub is_object : Standing → Bool
 is_object (standing.Part r t) = true
 is_object w = false
@@ -187,7 +183,7 @@ address_needs depth v first path =
       stack = depth + selectors_peak v.scope 1 path;
       frame = 0;
       unfit = has_unfit v;
-      outside = not (is_object (stands_first v.scope (number_of v.scope first.name)) && is_stored (slot_of v first.name)) || selectors_outside v path;
+      outside = not (is_object (stands_first v.scope (number_of v.scope first.name)) && is_some (slot_of v first.name)) || selectors_outside v path;
     }
 
 abbrev pub words_at : Scope → Standing → ℕ
@@ -327,7 +323,7 @@ copy_needs v height d =
       stack = height + check_words (form_at v.scope d.subtype.type_number);
       frame = 0;
       unfit = has_unfit v;
-      outside = not (holds_variables d.region && is_taken v.scope d.subtype);
+      outside = not (is_taken v.scope d.subtype);
     }
 
 -- of all, from the first one on
@@ -335,9 +331,10 @@ abbrev pub copies_needs : Visible → List Destination → Needs
 copies_needs v [] = nothing
 copies_needs v (d ∷ ds) = both (copy_needs v (total (copied_width v.scope) (d ∷ ds)) d) (copies_needs v ds)
 
--- wherever what it is copied back to is unfit, something that is visible is
-abbrev pub IsPartFit : Visible → Destination → Type 0
-IsPartFit v d = IsUnfit v.scope d.subtype → has_unfit v ≡ true
+-- it is copied back to where a visible name has its words; and wherever that is unfit, something that is visible is
+pub record IsPartFit (v : Visible) (d : Destination) : Type 0 where
+  pub there : HasPlaceIn v d.region
+  pub unfit : IsUnfit v.scope d.subtype → has_unfit v ≡ true
 
 abbrev pub passed_needs : Visible → List FormalParameter → Option ArgumentTrees → Needs
 passed_needs v fs None = beyond
@@ -351,9 +348,19 @@ invoked_needs v name profile =
 abbrev pub put_needs : Visible → NameTree → Needs
 put_needs v name = both (beyond_if (not (is_put (entity_named v.scope name.first.name)))) (line_needs v (line_of name))
 
+-- ... of one through the name of a protected object, whose operation has this profile
+abbrev pub external_needs : Visible → (object : List ℕ) → ExternalName → Option Profile → Needs
+external_needs v object x None = beyond
+external_needs v object x (Some profile) =
+    both (beyond_if (is_none (external_of v object x.operation.name))) (passed_needs v profile.formals (Some x.arguments))
+
+abbrev pub through_needs : Visible → NameTree → Option ExternalName → Needs
+through_needs v name None = put_needs v name
+through_needs v name (Some x) = external_needs v name.first.name x (external_profile v.scope name.first.name x.operation.name)
+
 abbrev pub called_needs : Visible → NameTree → Option Profile → Needs
 called_needs v name (Some profile) = invoked_needs v name profile
-called_needs v name None = put_needs v name
+called_needs v name None = through_needs v name (operation_behind name.selectors)
 
 abbrev pub call_needs : Visible → NameTree → Needs
 call_needs v name = called_needs v name (profile_named v.scope name.first.name)

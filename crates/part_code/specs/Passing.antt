@@ -1,7 +1,7 @@
 -- What code promises that passes actual parameters to a procedure and copies back (RM 6.4.1).
 use Rattle.std.specs.Prelude.{◌≡◌, ℕ, suc, ◌+◌, ◌*◌, ◌≤◌, List, ◌++◌, Bool, true, false, cond, length, map, nat_eq, Option, Some, None}
 use Rattle.ada_tree.specs.declared.expression.Identifier.{Identifier}
-use Rattle.ada_tree.specs.ExpressionTree.{ArgumentTree, ArgumentTrees, Arguments, ExprTree, MoreSelectors, Named, NoArguments, NoSelectors, SelectorTrees}
+use Rattle.ada_tree.specs.ExpressionTree.{ArgumentTree, ArgumentTrees, Arguments, ExprTree, MoreSelectors, Named, NoArguments, NoSelectors, SelectorTrees, Component}
 use Rattle.ada_tree.specs.Size.{argument_size, total}
 use Rattle.image.specs.Sections.{Sections}
 use Rattle.image.specs.Rules.{is_block}
@@ -40,7 +40,7 @@ use Rattle.part_code.specs.Emitting.{stored_at}
 use Rattle.part_code.specs.Layout.{IsLaidOut}
 use Rattle.part_code.specs.Resting.{Framed, Knows}
 use Rattle.part_code.specs.Statements.{parameter_subtype}
-use Rattle.part_code.specs.Suiting.{passed_width, returned_width}
+use Rattle.part_code.specs.Suiting.{passed_width, returned_width, SuitsStatements}
 use Rattle.part_code.specs.declared.call.Destination.{Destination}
 
 -- ---- actual parameters
@@ -55,19 +55,29 @@ actuals_behind NoSelectors = Some NoArguments
 actuals_behind (MoreSelectors (Arguments a) NoSelectors) = Some a
 actuals_behind other = None
 
+-- `Object.P`, `Object.P (..)`: the operation that is named behind a protected object, and the actual parameters behind that (RM 9.5)
+pub record ExternalName : Type 0 where
+  pub operation : Identifier
+  pub arguments : ArgumentTrees
+
+abbrev pub operation_behind : SelectorTrees → Option ExternalName
+operation_behind (MoreSelectors (Component operation) NoSelectors) = Some (record { operation = operation; arguments = NoArguments })
+operation_behind (MoreSelectors (Component operation) (MoreSelectors (Arguments a) NoSelectors)) = Some (record { operation = operation; arguments = a })
+operation_behind other = None
+
 module _ (i : Sections) (program : Program) (g : Package) (v : Framed) where
   -- the code between two places computes them
   abbrev pub ComputesActuals : (from to : ℕ) → List Parameter → ArgumentTrees → Type 0
   ComputesActuals from to ps rest =
       Everywhere i (library_of g) (Sees g v.names) from to (actuals_on v.names ps) (λ calls p. passed_actuals calls p ps rest)
 
-  -- outside of protected objects their values have the shapes and types of the parameters, and their targets are placed where it is copied back to
+  -- their values have the shapes and types of the parameters, and their targets are placed where it is copied back to
   abbrev pub ArePassedAndPlaced : List Parameter → ArgumentTrees → List Destination → Type 0
   ArePassedAndPlaced ps rest ds =
-      (calls : Calls) (p : Place) (view : View) (a : Actuals) → (library_of g).sound calls → Knows g v p view → p.within ≡ None
+      (calls : Calls) (p : Place) (view : View) (a : Actuals) → (library_of g).sound calls → Knows g v p view
       → passed_actuals calls p ps rest ≡ Gives a
       → ArePassed (map (shape_of g.scope) (map parameter_subtype (taken ps))) a.values × AreOf program.scope (taken_types ps) a.values
-      × ArePlaced v.names ds a.targets
+      × ArePlaced v ds a.targets
 
   -- ... in front of others, whatever these are
   pub record ArePassedInFront (from mid : ℕ) (ps : List Parameter) (all : List ArgumentTree) (ds : List Destination) : Type 0 where
@@ -99,12 +109,6 @@ pub record AddsActuals (v : Visible) (old : Code) (depth : ℕ) (fs : List Forma
 
 -- ---- targets
 
--- variables have their words there, in the frame or in the package
-abbrev pub holds_variables : Region → Bool
-holds_variables regions.Locals = true
-holds_variables regions.Plain = true
-holds_variables regions.Object = false
-
 -- what loads so many words from the address on top of the operand stack
 abbrev pub loaded_at : Region → (words : ℕ) → Operation
 loaded_at r n = cond (nat_eq n 1) (op.LoadIndexed r) (op.LoadBlock r n)
@@ -117,7 +121,6 @@ pub record EmitsTarget (v : Visible) (old : Code) (depth : ℕ) (e : ExprTree) (
   pub slot : Slot
   pub there : slot_of v first.name ≡ Some slot
   pub region : slot.region ≡ d.region
-  pub holds : holds_variables d.region ≡ true
   pub role : Role
   pub whole : Subtype
   pub stands : stands_first v.scope (number_of v.scope first.name) ≡ standing.Part role whole
@@ -164,7 +167,7 @@ pub record EmitsCopies (v : Visible) (old : Code) (ds : List Destination) (rest 
   pub sized : here new ≤ here old + 4 * length ds
   pub stands : (i : Sections) → Holds i (here old) new → (program : Program) (g : Package) (f : Framed) → f.names ≡ v → IsLaidOut g f
       → AreCopies i program g f (here old) (here new) ds
-  pub flows : Flows (Suits v) old (rest + total (copied_width v.scope) ds) new rest
+  pub flows : Flows (SuitsStatements v) old (rest + total (copied_width v.scope) ds) new rest
 
 -- the copy of one was added: its check, and the instruction that stores it above so many words
 pub record AddsCopy (v : Visible) (old : Code) (depth : ℕ) (d : Destination) (rest : ℕ) (new : Code) : Type 0 where
@@ -174,6 +177,4 @@ pub record AddsCopy (v : Visible) (old : Code) (depth : ℕ) (d : Destination) (
   pub high : depth ≡ rest + suc words
   pub checked : Code
   pub checks : AddsCheck (form_at v.scope d.subtype.type_number) old depth d.subtype checked
-  pub operation : Operation
-  pub stored : stored_at d.region words ≡ Some operation
-  pub stores : Adds checked depth operation new
+  pub stores : Adds checked depth (stored_at d.region words) new

@@ -1,9 +1,9 @@
 -- When the words of an image stand for the objects of a program, between steps: those of the package for the store, those of a frame for an activation.
 use Rattle.std.specs.Prelude.{◌≡◌, ◌≤◌, ℕ, ℤ, true, List, [], ◌∷◌, length, map, Option, Some, None, is_some, slice_get, ⊤}
-use Rattle.image.specs.Frames.{Words}
+use Rattle.image.specs.Frames.{Words, object_words}
 use Rattle.image.specs.declared.instruction.Region.{Region}
 use Rattle.image.specs.declared.instruction.Region.TheVariants as regions
-use Rattle.types.specs.Places.{Object, Place, is_among, object_of}
+use Rattle.types.specs.Places.{Object, Place, is_among, object_of, own_components}
 use Rattle.expr_soundness.specs.Answers.{FunctionsAreSound}
 use Rattle.expr_soundness.specs.meaning.specs.Programs.{Program}
 use Rattle.expr_soundness.specs.meaning.specs.Works.{Activation, Store}
@@ -38,30 +38,37 @@ pub record StandsFor (program : Program) (g : Package) (store : Store) (m : Word
   pub plain : length m.plain ≤ 65536
   pub objects : (o : ℕ) → length (m.objects o) ≤ 65536
 
--- the names that are visible to a frame, how many words of its own it has at least, and which of these statements leave alone
+-- the names that are visible to a frame, how many words of its own it has at least, which of these statements leave alone, and the protected object to whose
+-- body it belongs, if any
 pub record Framed : Type 0 where
   pub names : Visible
   pub room : ℕ
   pub reserved : List ℕ
+  pub within : Option ℕ
 
--- an object with words of this region is one of the running activation, or none of them
-abbrev pub IsAtHome : Region → Option Object → Type 0
-IsAtHome regions.Locals o = is_some o ≡ true
-IsAtHome regions.Plain o = o ≡ None
-IsAtHome regions.Object o = o ≡ None
+-- an object with words of this region is one of the running activation, or a component of the body's own protected object, or none of these
+abbrev pub IsAtHome : Region → (local own : Option Object) → Type 0
+IsAtHome regions.Locals local own = is_some local ≡ true
+IsAtHome regions.Plain local own = (local ≡ None) × (own ≡ None)
+IsAtHome regions.Object local own = (local ≡ None) × (is_some own ≡ true)
 
--- The frame stands for the place of evaluation, has its words, and has among them those of objects of the running activation alone.
+abbrev pub IsAtHomeIn : Place → (name : List ℕ) → Region → Type 0
+IsAtHomeIn p name r = IsAtHome r (object_of p.locals name) (object_of (own_components p p.within) name)
+
+-- The frame stands for the place of evaluation, within the same protected object, has its words, and has among them those of objects of the running activation
+-- alone, and among those of its protected object those of components alone.
 pub record Knows (g : Package) (v : Framed) (p : Place) (view : View) : Type 0 where
   pub sees : Sees g v.names p view
+  pub within : p.within ≡ v.within
   pub room : v.room ≤ length (view.words regions.Locals)
-  pub homes : (name : List ℕ) (slot : Slot) → slot_of v.names name ≡ Some slot → IsAtHome slot.region (object_of p.locals name)
+  pub homes : (name : List ℕ) (slot : Slot) → slot_of v.names name ≡ Some slot → IsAtHomeIn p name slot.region
 
 -- The locals of a frame stand for those of an activation where these names are visible, whatever the store and the shared words are, as long as these stand for
--- one another: so they do while the frame waits for the end of a call.
+-- one another, and the frame has the words of the activation's own protected object: so they do while the frame waits for the end of a call.
 pub record Rests (g : Package) (v : Framed) (a : Activation) (locals : List ℤ) : Type 0 where
   pub small : length locals ≤ 65536
   pub sees : (p : Place) (view : View) → SeesPackage g p view → p.locals ≡ a.locals → p.within ≡ a.within → view.words regions.Locals ≡ locals
-      → Knows g v p view
+      → view.words regions.Object ≡ object_words a.within view.memory → Knows g v p view
 
 -- a word of a frame that statements leave alone, as long as a loop over a range, or the end of the body, goes by it
 pub record HeldWord : Type 0 where

@@ -11,7 +11,10 @@ use Rattle.expr_soundness.specs.meaning.specs.SameMeaning.{frames_of}
 use Rattle.expr_soundness.specs.meaning.specs.SourceSteps.{chooses, some_covers}
 use Rattle.image.specs.Operations.{called}
 use Rattle.image.specs.Texts.{text_at}
+use Rattle.image.specs.declared.instruction.Operation.{Operation}
 use Rattle.image.specs.declared.instruction.Operation.TheVariants as op
+use Rattle.image.specs.declared.subprograms.Kind.{Kind}
+use Rattle.image.specs.declared.subprograms.Kind.TheVariants.{EntryBody, Plain, ProtectedProcedure}
 use Rattle.image.specs.declared.subprograms.Subprogram.{Subprogram}
 use Rattle.ada_tree.specs.declared.expression.Identifier.{Identifier}
 use Rattle.ada_tree.specs.declared.statement.ExceptionChoice.{ExceptionChoice}
@@ -28,7 +31,7 @@ use Rattle.types.specs.Evaluations.{Gives}
 use Rattle.types.specs.Evaluating.{Calls, val}
 use Rattle.type_rules.specs.SubtypeNames.{named_entity}
 use Rattle.expr_soundness.specs.meaning.specs.Programs.{Parameter, Procedure, Program, exception_number}
-use Rattle.expr_soundness.specs.meaning.specs.Calls.{Actuals, Callee, activation_of, callee_by, procedure_here, results}
+use Rattle.expr_soundness.specs.meaning.specs.Calls.{Actuals, Callee, activation_of, callee_by, procedure_among, procedure_here, results}
 use Rattle.step_soundness.specs.Fitting.{taken_types}
 use Rattle.step_soundness.specs.Objects.{AreOf, IsException}
 use Rattle.expr_code.specs.Views.{At, View, in_frame, placed, view_of}
@@ -67,6 +70,21 @@ parameter_type f = f.subtype.type_number
 abbrev pub Numbers : Type 0
 Numbers = Procedure → Option ℕ
 
+-- ---- how a procedure is called: within its object, or from anywhere where it has none; or through the name of its object, which opens an action (RM 9.5.1)
+
+abbrev pub procedure_operation : (through : Option ℕ) → (number : ℕ) → Operation
+procedure_operation None number = op.Call number
+procedure_operation (Some o) number = op.ProtectedCall number
+
+-- the kind of the subprogram of a procedure, or of the body of an entry, which alone has a barrier
+abbrev pub operation_kind : (object : ℕ) → (barrier : Option ExprTree) → Kind
+operation_kind o None = ProtectedProcedure o
+operation_kind o (Some barrier) = EntryBody o
+
+abbrev pub procedure_kind : (object : Option ℕ) → (barrier : Option ExprTree) → Kind
+procedure_kind None barrier = Plain
+procedure_kind (Some o) barrier = operation_kind o barrier
+
 module _ (i : Sections) (program : Program) (g : Package) (numbers : Numbers) where
   -- the shapes of the parameters that are copied in
   abbrev pub shapes_of : Procedure → List Shape
@@ -83,26 +101,25 @@ module _ (i : Sections) (program : Program) (g : Package) (numbers : Numbers) wh
       (mid : ℕ) × (number : ℕ) × (from ≤ mid) × IsValue v from mid e × At i mid (op.PutLine number) × (text_at i.labels number ≡ label) × (to ≡ suc mid)
   IsPutCode v from to s = ⊥
 
-  -- the actual parameters, the call, and what is copied back
+  -- the actual parameters, the call, through an object or not, and what is copied back
   pub record IsCall (v : Framed) (from to : ℕ) (c : Callee) : Type 0 where
     pub number : ℕ
     pub numbered : numbers c.procedure ≡ Some number
-    pub outside : c.through ≡ None
     pub plain : c.procedure.barrier ≡ None
     pub mid : ℕ
     pub up : from ≤ mid
     pub over : suc mid ≤ to
     pub computes : Everywhere i (library_of g) (Sees g v.names) from mid (actuals_on v.names c.procedure.parameters)
         (λ calls p. passed_actuals calls p c.procedure.parameters c.arguments)
-    pub calls : At i mid (op.Call number)
+    pub calls : At i mid (procedure_operation c.through number)
     pub destinations : List Destination
     pub many : length destinations ≡ length (results c.procedure.parameters)
     pub copies : AreCopies i program g v (suc mid) to destinations
-    -- outside of protected objects what is passed has the shapes, and is of the types, of the parameters; and the targets are placed where it is copied back to
-    pub passes : (calls : Calls) (p : Place) (view : View) (a : Actuals) → (library_of g).sound calls → Knows g v p view → p.within ≡ None
+    -- what is passed has the shapes, and is of the types, of the parameters; and the targets are placed where it is copied back to
+    pub passes : (calls : Calls) (p : Place) (view : View) (a : Actuals) → (library_of g).sound calls → Knows g v p view
         → passed_actuals calls p c.procedure.parameters c.arguments ≡ Gives a
         → ArePassed (shapes_of c.procedure) a.values × AreOf program.scope (taken_types c.procedure.parameters) a.values
-        × ArePlaced v.names destinations a.targets
+        × ArePlaced v destinations a.targets
 
   -- a statement of main, which calls a procedure of the package without parameters (RM 10.2)
   abbrev pub IsMainStatementCode : (from to : ℕ) → MainStatement → Type 0
@@ -234,7 +251,7 @@ module _ (i : Sections) (program : Program) (g : Package) (numbers : Numbers) wh
     pub IsStatement : Framed → Ways → Handling → (from to : ℕ) → StmtTree → Type 0
     IsStatement v w r from to (Null place) = from ≡ to
     IsStatement v w r from to (Assignment name e) = IsAssigned v from to name e × GoesBy i r from to
-    IsStatement v w r from to (Call name) = IsCalleeCode v from to name (callee_by program None name.first name.selectors) × GoesBy i r from to
+    IsStatement v w r from to (Call name) = IsCalleeCode v from to name (callee_by program v.within name.first name.selectors) × GoesBy i r from to
     IsStatement v w r from to (Exit place None) = IsJump w.exit from to
     IsStatement v w r from to (Exit place (Some e)) = IsConditionalExit v w.exit from to e × GoesBy i r from to
     IsStatement v w r from to (Return place None) = IsJump w.return from to
@@ -305,11 +322,12 @@ module _ (i : Sections) (program : Program) (g : Package) (numbers : Numbers) wh
     pub way : At i (mid + 1) (op.Jump to)
     pub statements : IsSequence later (record { exit = None; return = Some (mid + 1); handled = None }) unhandled (mid + 2) to body hs
 
-  -- the code of a procedure of the package: its `out` parameters, its declarations and statements, and what it gives back
+  -- the code of a procedure of the package or of a protected object, or of the body of an entry: its `out` parameters, its declarations and statements, and
+  -- what it gives back
   pub record IsProcedureCode (q : Procedure) (number : ℕ) : Type 0 where
     pub s : Subprogram
     pub there : called i number ≡ Some s
-    pub outside : q.object ≡ None
+    pub kind : s.kind ≡ procedure_kind q.object q.barrier
     pub parameters : (args : List values.Value) (addresses : List ℕ) → ArePassed (shapes_of q) args → length addresses ≡ length (results q.parameters)
         → length (passed_words q.parameters args addresses) ≡ s.parameters
     -- what is visible in front of its `out` parameters and behind them, and in front of its declarations, where its parameters stand in the order of the text
@@ -332,7 +350,8 @@ module _ (i : Sections) (program : Program) (g : Package) (numbers : Numbers) wh
         → length locals ≡ s.locals - s.parameters
         → RestsWith g begins (held_at begins.reserved addresses) (activation_of q args) (passed_words q.parameters args addresses ++ locals)
 
-  -- those that calls find by their names
+  -- those that calls find by their names, in the package or in a protected object
   abbrev pub HasProcedures : Type 0
   HasProcedures =
-      (name : List ℕ) (q : Procedure) (number : ℕ) → procedure_here program None name ≡ Some q → numbers q ≡ Some number → IsProcedureCode q number
+      (owner : Option ℕ) (name : List ℕ) (q : Procedure) (number : ℕ) → procedure_among program.procedures owner name ≡ Some q → numbers q ≡ Some number
+      → IsProcedureCode q number

@@ -6,7 +6,7 @@ use Rattle.kernel.specs.Calm.{Calm}
 use Rattle.kernel.specs.Counting.{Spends}
 use Rattle.kernel.specs.Effects.{Quiet}
 use Rattle.image.specs.Sections.{Sections}
-use Rattle.image.specs.Frames.{Words, Frame}
+use Rattle.image.specs.Frames.{Words, Frame, own_object}
 use Rattle.image.specs.Steps.{act, behaviour, does}
 use Rattle.image.specs.declared.instruction.Operation.TheVariants as op
 use Rattle.ada_tree.specs.ExpressionTree.{ExprTree, NameTree}
@@ -89,8 +89,8 @@ module _ (i : Sections) (program : Program) (g : Package) where
         → p.within ≡ a.within
         → StandsFor program g store m
         → Rests g v a f.locals
+        → own_object i f ≡ a.within
         → Knows g v p (view_of i schedule k t m f fs)
-        → a.within ≡ None
         → value (call p.frames_left) p ≡ Gives x
         → Puts schedule k t m f fs mid (stack [] x) [] later (store_after x store) (own_after x a)
 
@@ -123,7 +123,7 @@ module _ (i : Sections) (program : Program) (g : Package) where
         → p.within ≡ a.within
         → StandsFor program g store m
         → Rests g v a f.locals
+        → own_object i f ≡ a.within
         → Knows g v p (view_of i schedule k t m f fs)
-        → a.within ≡ None
         → p.frames_left ≡ frames_above fs
         → Arrives schedule k t m f fs from to later (λ x. store_after x store) (λ x. own_after x a) (value (call p.frames_left) p)

@@ -8,7 +8,7 @@ ghost use Rattle.expr_code.specs.Code.{here, IsShallow};
 ghost use Rattle.expr_code.specs.Emitting as expressions;
 ghost use Rattle.expr_code.specs.Refusing.{IsRefused, IsRefusedBeside, IsUnfit};
 ghost use Rattle.image.specs.Rules.{is_block};
-ghost use Rattle.part_code.specs.Passing.{actuals_behind, AddsActuals, AddsCheck, AddsCopy, AddsRange, AddsValue, copied_width, EmitsCopies, EmitsTarget, holds_variables, loaded_at};
+ghost use Rattle.part_code.specs.Passing.{actuals_behind, AddsActuals, AddsCheck, AddsCopy, AddsRange, AddsValue, copied_width, EmitsCopies, EmitsTarget, loaded_at, operation_behind};
 ghost use Rattle.part_code.specs.Needs.{actual_needs, actuals_needs, check_words, copied_needs, copies_needs, copy_needs, destinations_for, destinations_of, IsNeeding, IsPartFit, is_taken, target_needs};
 ghost use Rattle.types.specs.Layouts.{words_of};
 ghost use Rattle.types.specs.Scopes.{form_at};
@@ -16,7 +16,7 @@ ghost use Rattle.expr_soundness.specs.SoundScopes.{AreKnown, IsKnown, SoundScope
 
 use crate::storing::stored_at;
 use ada_tree::laws::{arguments_by_parts, chains_by_parts, conditional_by_parts, names_by_parts};
-use ada_tree::{Argument, Expr, Mode, NameExpr, Selector};
+use ada_tree::{Argument, Expr, Identifier, Mode, NameExpr, Selector};
 use base::limits::WORDS;
 use expr_code::{Code, Refusal, Visible, raised};
 use expr_soundness::laws::agreement_is_kept;
@@ -46,14 +46,25 @@ pub fn actuals_of(name: &NameExpr) -> Option<&[Argument]>
     }
 }
 
-/// Whether variables have their words in the region.
-pub fn holds_variables(region: Region) -> bool
-    ensures { result ≡ holds_variables region }
+/// The operation that is named behind a protected object, and the actual parameters behind that.
+pub fn operation_of(name: &NameExpr) -> Option<(&Identifier, &[Argument])>
+    ensures { option_map (λ x. record { operation = x.0.now; arguments = argument_trees x.1.now }) result ≡ operation_behind (name_tree name.now).selectors }
 {
-    match region {
-        Region::Locals => true,
-        Region::Plain => true,
-        Region::Object => false,
+    arguments_by_parts();
+    match name.selectors.as_slice() {
+        [] => None,
+        [Selector::Component(operation, ..)] => Some((operation, &[])),
+        [Selector::Arguments(..)] => None,
+        [Selector::Attribute(..)] => None,
+        [
+            Selector::Component(operation, ..),
+            Selector::Arguments(arguments, ..),
+        ] => { Some((operation, arguments)) }
+        [Selector::Component(..), Selector::Component(..)] => None,
+        [Selector::Component(..), Selector::Attribute(..)] => None,
+        [Selector::Arguments(..), _] => None,
+        [Selector::Attribute(..), _] => None,
+        [_, _, _, ..] => None,
     }
 }
 
@@ -138,9 +149,6 @@ fn add_named(
     let Some(slot) = visible.slot(&name.first.name) else {
         return Err(Refusal::Outside);
     };
-    if !holds_variables(slot.region) {
-        return Err(Refusal::Outside);
-    }
     let subtype = code.address(visible, depth, slot, whole, &name.selectors)?;
     let destination = Destination {
         region: slot.region,
@@ -292,9 +300,7 @@ fn add_copy(
     ensures refused { IfErr result (λ why. IsNeeding (here code.old + 4) (copy_needs visible.now depth destination) why) }
 {
     let words = words_of(visible, destination.subtype)?;
-    let Some(store) = stored_at(destination.region, words) else {
-        return Err(Refusal::Outside);
-    };
+    let store = stored_at(destination.region, words);
     let Some(rest) = depth.checked_sub(raised(words, 1)?) else {
         return Err(Refusal::Outside);
     };

@@ -141,6 +141,7 @@ pub fn show(visible: &mut Visible, placed: &[PlacedFormal]) -> Result<(), Refusa
     ensures scope { OnOk result (visible.new.scope ≡ visible.old.scope) }
     ensures slots { OnOk result (visible.new.slots ≡ visible.old.slots ++ map slot_for placed.now) }
     ensures subprograms { OnOk result (visible.new.subprograms ≡ visible.old.subprograms ++ map no_subprogram placed.now) }
+    ensures operations { OnOk result (visible.new.operations ≡ visible.old.operations) }
     ensures refused { IfErr result (λ why. IsRefused 0 0 false why) }
 {
     for formal in placed {

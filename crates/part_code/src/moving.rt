@@ -13,11 +13,10 @@ ghost use Rattle.expr_code.specs.Emitting as expressions;
 ghost use Rattle.expr_code.specs.Widths.{AreWide, width_of};
 ghost use Rattle.part_code.specs.Moves.{AddsMoves, alone, EmitsMove};
 ghost use Rattle.part_code.specs.Moving.{are_moved, is_moved, names_composite, source_at, variable_at};
-ghost use Rattle.part_code.specs.Passing.{holds_variables};
+ghost use Rattle.part_code.specs.Suiting.{HasPlaceIn};
 ghost use Rattle.part_code.specs.Needs.{move_needs, moves_needs, RefusesMove, RefusesMoves};
 ghost use Rattle.expr_soundness.specs.SoundScopes.{SoundScope};
 
-use crate::call::holds_variables;
 use ada_tree::laws::{chains_by_parts, conditional_by_parts, names_by_parts};
 use ada_tree::{ElsifValue, Expr, NameExpr};
 use expr_code::{Code, Refusal, Slot, Visible};
@@ -59,20 +58,18 @@ pub fn names_composite(visible: &Visible, name: &NameExpr) -> bool
     }
 }
 
-// The variable with this place, if it stands outside of protected objects.
+// The variable with this place; a loop parameter has no words.
 fn variable_at(standing: Standing, slot: Option<Slot>) -> Option<Source>
     ensures { result ≡ variable_at standing slot }
 {
     match (standing, slot) {
         (Standing::Part(Role::LoopParameter, _), _) => None,
-        (Standing::Part(_, whole), Some(slot)) if holds_variables(slot.region) => {
-            Some(Source { slot, whole })
-        }
+        (Standing::Part(_, whole), Some(slot)) => Some(Source { slot, whole }),
         _ => None,
     }
 }
 
-// The variable that a name is, or a part of which it is, if that stands outside of protected objects.
+// The variable that a name is, or a part of which it is.
 fn source_of(visible: &Visible, name: &NameExpr) -> Option<Source>
     ensures { result ≡ source_at visible.now (name_tree name.now) }
 {
@@ -124,7 +121,7 @@ fn add_named(code: &mut Code, visible: &Visible, to: Moved, name: &NameExpr) -> 
     requires legal { expressions.IsLegalExpression visible.now.scope (Named (name_tree name.now).first (name_tree name.now).selectors) }
     requires moved { is_moved visible.now (Named (name_tree name.now).first (name_tree name.now).selectors) ≡ true }
     requires block { is_block to.words ≡ true }
-    requires holds { holds_variables to.region ≡ true }
+    requires holds { HasPlaceIn visible.now to.region }
     ensures emits { OnOk result (EmitsMove visible.now to code.old (Named (name_tree name.now).first (name_tree name.now).selectors) code.new) }
     ensures refused { IfErr result (λ why. RefusesMove visible.now code.old (Named (name_tree name.now).first (name_tree name.now).selectors) why) }
     ensures shallow { OnOk result (IsShallow code.old code.new (move_needs visible.now (Named (name_tree name.now).first (name_tree name.now).selectors)).stack) }
@@ -148,7 +145,7 @@ pub fn add_move(code: &mut Code, visible: &Visible, to: Moved, e: &Expr) -> Resu
     requires legal { expressions.IsLegalExpression visible.now.scope (expr_tree e.now) }
     requires moved { is_moved visible.now (expr_tree e.now) ≡ true }
     requires block { is_block to.words ≡ true }
-    requires holds { holds_variables to.region ≡ true }
+    requires holds { HasPlaceIn visible.now to.region }
     ensures emits { OnOk result (EmitsMove visible.now to code.old (expr_tree e.now) code.new) }
     ensures refused { IfErr result (λ why. RefusesMove visible.now code.old (expr_tree e.now) why) }
     ensures shallow { OnOk result (IsShallow code.old code.new (move_needs visible.now (expr_tree e.now)).stack) }
@@ -188,7 +185,7 @@ fn add_branch(
     requires legal { expressions.IsLegalExpression visible.now.scope (expr_tree value.now) }
     requires moved { is_moved visible.now (expr_tree value.now) ≡ true }
     requires block { is_block to.words ≡ true }
-    requires holds { holds_variables to.region ≡ true }
+    requires holds { HasPlaceIn visible.now to.region }
     ensures adds { OnOk result (AddsMoves visible.now to code.old (record { condition = expr_tree condition.now; value = expr_tree value.now } ∷ []) waiting.old.items waiting.new.items code.new) }
     ensures refused { IfErr result (λ why. RefusesMoves visible.now code.old (record { condition = expr_tree condition.now; value = expr_tree value.now } ∷ []) why) }
     ensures shallow { OnOk result (IsShallow code.old code.new (moves_needs visible.now (alone (record { condition = expr_tree condition.now; value = expr_tree value.now } ∷ []))).stack) }
@@ -213,7 +210,7 @@ fn add_branches(
     requires wide { (n : ℕ) × AreWide visible.now.scope n (map branch_of elsifs.now) }
     requires moved { are_moved visible.now (alone (map branch_of elsifs.now)) ≡ true }
     requires block { is_block to.words ≡ true }
-    requires holds { holds_variables to.region ≡ true }
+    requires holds { HasPlaceIn visible.now to.region }
     ensures adds { OnOk result (AddsMoves visible.now to code.old (map branch_of elsifs.now) waiting.old.items waiting.new.items code.new) }
     ensures refused { IfErr result (λ why. RefusesMoves visible.now code.old (map branch_of elsifs.now) why) }
     ensures shallow { OnOk result (IsShallow code.old code.new (moves_needs visible.now (alone (map branch_of elsifs.now))).stack) }

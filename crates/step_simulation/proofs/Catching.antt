@@ -4,12 +4,12 @@ use Rattle.std.specs.Prelude.{if◌then◌else◌, pos, slice_get}
 use Rattle.std.proofs.lemmas.Option.{none-some, same_Some}
 use Rattle.part_code.specs.handlers.specs.Innermost.{handler_of}
 use Rattle.part_code.specs.image.specs.Sections.{Sections}
-use Rattle.part_code.specs.image.specs.Frames.{Frame}
+use Rattle.part_code.specs.image.specs.Frames.{Frame, Role, own_object}
 use Rattle.part_code.specs.ada_tree.specs.declared.statement.ExceptionChoice.{ExceptionChoice}
 use Rattle.part_code.specs.ada_tree.specs.StatementTree.{HandlerTrees, NoHandlers, MoreHandlers, StmtTrees}
 use Rattle.step_soundness.specs.meaning.specs.Programs.{Program}
 use Rattle.step_soundness.specs.meaning.specs.SourceSteps.{handled_exception, handler_for, some_covers}
-use Rattle.step_soundness.specs.meaning.specs.Works.{Item, Declares, DeclaresParameter, Sequence, Does, DoesMain, Repeats, RepeatsWhile, RepeatsFor, Handles, EndsHandler, EndsCall, Activation, ends_of_calls}
+use Rattle.step_soundness.specs.meaning.specs.Works.{Item, Declares, DeclaresParameter, Sequence, Does, DoesMain, Repeats, RepeatsWhile, RepeatsFor, Handles, EndsHandler, EndsCall, Activation}
 use Rattle.step_soundness.specs.Objects.{IsException}
 use Rattle.part_code.specs.expr_code.specs.Seeing.{Package}
 use Rattle.part_code.specs.Resting.{AreHeld, Framed, Rests, RestsWith, Shows, held_offset}
@@ -17,7 +17,7 @@ use Rattle.part_code.specs.Handling.{Handling, exception_in}
 use Rattle.part_code.specs.Counting.{in_turn}
 use Rattle.part_code.specs.Statements.{AreHandlers, Numbers, Ways}
 use Rattle.part_code.specs.Jumping.{Here, There}
-use Rattle.step_simulation.specs.Standing.{AreInner, Around, Catches, CaughtIf, Follows, Inside, IsCaught, LeadsOver, in_handler, with_visible}
+use Rattle.step_simulation.specs.Standing.{Around, Catches, CaughtIf, Follows, Inside, IsCaught, LeadsOver, frames_in, in_handler, with_visible}
 use Rattle.step_simulation.proofs.Going.{before_ends, before_follows, rest_of}
 
 -- whether a handler has a choice for the exception: it goes to the handler, or on
@@ -39,19 +39,16 @@ module _ (i : Sections) (program : Program) (g : Package) (numbers : Numbers) wh
   abbrev In : ℕ → ℕ → Type 0
   In n place = Inside i program g numbers n place
 
-  abbrev Follow : Setting → (n from : ℕ) → List Item → List Frame → List Activation → Type 0
-  Follow a n from items fs os = Follows i program g numbers a n from items fs os
+  abbrev Follow : Setting → (n from : ℕ) → List Item → Role → List Frame → List Activation → Type 0
+  Follow a n from items role fs os = Follows i program g numbers a n from items role fs os
 
   abbrev Caught : (x : ℕ) (f : Frame) (fs : List Frame) (own : Activation) (os : List Activation) → List Item → Type 0
   Caught x f fs own os items = Catches i program g numbers x f fs own os items
 
-  abbrev Removable : Frame → List Frame → Type 0
-  Removable f fs = AreInner i program g numbers f fs
-
   pub shown : (a b : Framed) (own : Activation) (locals : List ℤ) → Shows g a b → Rests g a own locals → Rests g b own locals
   shown a b own locals shows rests = record {
     small = rests.small;
-    sees = λ p view shared one two three. shows p view (rests.sees p view shared one two three);
+    sees = λ p view shared one two three four. shows p view (rests.sees p view shared one two three four);
   }
 
   -- ---- the handler for an exception, among those of a sequence
@@ -123,13 +120,12 @@ module _ (i : Sections) (program : Program) (g : Package) (numbers : Numbers) wh
     pub rests : Rests g a.handling own f.locals
     pub held : AreHeld f.locals a.held
     pub apart : map held_offset a.held ≡ a.visible.reserved
-    pub outside : own.within ≡ None
-    pub depth : length fs ≡ ends_of_calls items
-    pub inner : Removable f fs
+    pub object : own_object i f ≡ own.within
+    pub depth : length fs ≡ frames_in items
 
   -- what begins behind is dropped: this leaves the same words alone
   drop_seeing : (a : Setting) (v : Framed) (x : ℕ) (f : Frame) (fs : List Frame) (own : Activation) (i' : Item) (items : List Item)
-      → a.visible.reserved ≡ v.reserved → ends_of_calls (i' ∷ items) ≡ ends_of_calls items
+      → a.visible.reserved ≡ v.reserved → frames_in (i' ∷ items) ≡ frames_in items
       → IsRaising a x f fs own (i' ∷ items) → IsRaising (seeing v a) x f fs own items
   drop_seeing a v x f fs own i' items same ends h = record {
     known = h.known;
@@ -137,16 +133,15 @@ module _ (i : Sections) (program : Program) (g : Package) (numbers : Numbers) wh
     rests = h.rests;
     held = h.held;
     apart = h.apart ∙ same;
-    outside = h.outside;
+    object = h.object;
     depth = h.depth ∙ ends;
-    inner = h.inner;
   }
 
   -- what is under way is dropped
   drop_outer : (a outer : Setting) (x : ℕ) (f : Frame) (fs : List Frame) (own : Activation) (i' : Item) (items : List Item)
       → a.raised x ≡ outer.raised x → Shows g a.handling outer.handling → (AreHeld f.locals a.held → AreHeld f.locals outer.held)
       → (map held_offset a.held ≡ a.visible.reserved → map held_offset outer.held ≡ outer.visible.reserved)
-      → ends_of_calls (i' ∷ items) ≡ ends_of_calls items
+      → frames_in (i' ∷ items) ≡ frames_in items
       → IsRaising a x f fs own (i' ∷ items) → IsRaising outer x f fs own items
   drop_outer a outer x f fs own i' items same shows held apart ends h = record {
     known = h.known;
@@ -154,20 +149,14 @@ module _ (i : Sections) (program : Program) (g : Package) (numbers : Numbers) wh
     rests = shown a.handling outer.handling own f.locals shows h.rests;
     held = held h.held;
     apart = apart h.apart;
-    outside = h.outside;
+    object = h.object;
     depth = h.depth ∙ ends;
-    inner = h.inner;
   }
 
   shows_as : (one other : Framed) → one ≡ other → Shows g one other
   shows_as one other e = subst (λ q. Shows g one q) e (λ p view h. h)
 
   -- ---- a handler takes the exception
-
-  inner_at : (f : Frame) (fs : List Frame) (place : ℕ) (locals stack : List ℤ) → Removable f fs
-      → Removable (record f { place = place; locals = locals; stack = stack }) fs
-  inner_at f [] place locals stack h = tt
-  inner_at f (c ∷ fs) place locals stack h = h
 
   -- a frame has the words of its own that it ought to have
   abbrev pub HasRoom : Type 0
@@ -176,7 +165,7 @@ module _ (i : Sections) (program : Program) (g : Package) (numbers : Numbers) wh
   caught : HasRoom → (a : Setting) (from at to : ℕ) (outer : Setting) (x : ℕ) (f : Frame) (fs : List Frame) (own : Activation) (os : List Activation)
       (hs : HandlerTrees)
       (body : StmtTrees) (items : List Item)
-      → LeadsOver i program g numbers a f.subprogram from at to outer → Follow outer f.subprogram to items fs os
+      → LeadsOver i program g numbers a f.subprogram from at to outer → Follow outer f.subprogram to items f.role fs os
       → IsRaising a x f fs own (Handles hs ∷ items)
       → IsTaking outer.visible outer.ways outer.raised (a.raised x) at to body → IsCaught i program g numbers x f fs own os body items
   caught room a from at to outer x f fs own os hs body items over follows h t =
@@ -211,7 +200,7 @@ module _ (i : Sections) (program : Program) (g : Package) (numbers : Numbers) wh
           going = record {
             around = around;
             follows = before_follows i program g numbers body around later f.subprogram (suc t.target) mid
-                (EndsHandler x ∷ items) fs os code.statements two start_in
+                (EndsHandler x ∷ items) f.role fs os code.statements two start_in
                 mid_in (
                   (λ p view z. over.reaches.0 p view (shows p view z)),
                   (λ p view z. over.reaches.1 p view (shows p view z)),
@@ -231,11 +220,10 @@ module _ (i : Sections) (program : Program) (g : Package) (numbers : Numbers) wh
                   follows,
                 );
             rests = kept.rests;
-            outside = h.outside;
+            object = h.object;
             stack = refl;
             going = refl;
             depth = h.depth ∙ sym (before_ends i program g numbers body (EndsHandler x ∷ items));
-            inner = inner_at f fs (suc t.target) kept.locals [] h.inner;
           };
         };
       }
@@ -243,7 +231,7 @@ module _ (i : Sections) (program : Program) (g : Package) (numbers : Numbers) wh
   -- ... or none, and then it goes on behind
   by_handler : HasRoom → (a : Setting) (from at to : ℕ) (outer : Setting) (x : ℕ) (f : Frame) (fs : List Frame) (own : Activation) (os : List Activation)
       (hs : HandlerTrees) (items : List Item)
-      → LeadsOver i program g numbers a f.subprogram from at to outer → Follow outer f.subprogram to items fs os
+      → LeadsOver i program g numbers a f.subprogram from at to outer → Follow outer f.subprogram to items f.role fs os
       → AreHandlers i program g numbers outer.visible outer.ways outer.raised a.raised at to hs
       → IsRaising a x f fs own (Handles hs ∷ items)
       → (o : Option StmtTrees) → handler_for program x hs ≡ o
@@ -257,7 +245,7 @@ module _ (i : Sections) (program : Program) (g : Package) (numbers : Numbers) wh
   -- ---- all items
 
   pub catches : HasRoom → (items : List Item) (a : Setting) (from x : ℕ) (f : Frame) (fs : List Frame) (own : Activation) (os : List Activation)
-      → Follow a f.subprogram from items fs os → IsRaising a x f fs own items → Caught x f fs own os items
+      → Follow a f.subprogram from items f.role fs os → IsRaising a x f fs own items → Caught x f fs own os items
   catches room [] a from x f fs own os follows h = (h.goes ∙ follows.0.outermost.raised x, follows.2)
   catches room (Declares d ∷ items) a from x f fs own os follows h =
       catches room items (seeing follows.3 a) follows.1 x f fs own os follows.7
@@ -276,7 +264,7 @@ module _ (i : Sections) (program : Program) (g : Package) (numbers : Numbers) wh
       (drop_seeing a follows.2 x f fs own (DoesMain s) items follows.3.narrows.reserved refl h)
   catches room (Handles NoHandlers ∷ items) a from x f fs own os follows h =
       catches room items a from x f fs own os follows
-      (record { known = h.known; goes = h.goes; rests = h.rests; held = h.held; apart = h.apart; outside = h.outside; depth = h.depth; inner = h.inner })
+      (record { known = h.known; goes = h.goes; rests = h.rests; held = h.held; apart = h.apart; object = h.object; depth = h.depth })
   catches room (Handles (MoreHandlers choices own_body rest) ∷ items) a from x f fs own os follows h =
       let hs = MoreHandlers choices own_body rest in
       let outer = follows.2 in
@@ -328,8 +316,7 @@ module _ (i : Sections) (program : Program) (g : Package) (numbers : Numbers) wh
       let waits = follows.15 in
       let over = follows.18 in
       let l = ap length follows.13 in
-      let d = h.depth in
-      let inner : Removable f (c ∷ below) = subst (λ q. Removable f q) follows.13 h.inner in (
+      let d = h.depth in (
         c,
         below,
         follows.3,
@@ -345,46 +332,45 @@ module _ (i : Sections) (program : Program) (g : Package) (numbers : Numbers) wh
               rests = shown outer.visible outer.handling follows.3 c.locals waits.handles waits.rests.rests;
               held = waits.rests.held;
               apart = waits.rests.apart;
-              outside = waits.outside;
+              object = waits.object;
               depth = omega (arith, d, l);
-              inner = inner.1;
             }),
       )
   catches room (i' ∷ items) a from x f fs own os follows h = absurd follows
 
   -- ---- the exception that a handler holds
 
-  pub handling_here : (items : List Item) (a : Setting) (n from word : ℕ) (locals : List ℤ) (fs : List Frame) (os : List Activation)
-      → Follow a n from items fs os
+  pub handling_here : (items : List Item) (a : Setting) (n from word : ℕ) (locals : List ℤ) (role : Role) (fs : List Frame) (os : List Activation)
+      → Follow a n from items role fs os
       → a.ways.handled ≡ Some word → AreHeld locals a.held
       → (x : ℕ) × (handled_exception items ≡ Some x) × (slice_get locals word ≡ Some (pos x))
-  handling_here [] a n from word locals fs os follows is held = let none = follows.0.outermost.handled in absurd cc
-  handling_here (Declares d ∷ items) a n from word locals fs os follows is held =
-      handling_here items (seeing follows.3 a) n follows.1 word locals fs os follows.7 is held
-  handling_here (DeclaresParameter d ∷ items) a n from word locals fs os follows is held =
-      handling_here items (seeing follows.3 a) n follows.1 word locals fs os follows.7 is held
-  handling_here (Sequence body hs ∷ items) a n from word locals fs os follows is held =
-      handling_here items (seeing follows.2 a) n follows.1 word locals fs os follows.5 is held
-  handling_here (Does s ∷ items) a n from word locals fs os follows is held =
-      handling_here items (seeing follows.2 a) n follows.1 word locals fs os follows.5 is held
-  handling_here (DoesMain s ∷ items) a n from word locals fs os follows is held =
-      handling_here items (seeing follows.2 a) n follows.1 word locals fs os follows.5 is held
-  handling_here (Handles NoHandlers ∷ items) a n from word locals fs os follows is held = handling_here items a n from word locals fs os follows is held
-  handling_here (Handles (MoreHandlers choices body rest) ∷ items) a n from word locals fs os follows is held =
-      handling_here items follows.2 n follows.1 word locals fs os follows.5 (sym (ap (λ q. q.ways.handled) follows.3.sequence) ∙ is)
+  handling_here [] a n from word locals role fs os follows is held = let none = follows.0.outermost.handled in absurd cc
+  handling_here (Declares d ∷ items) a n from word locals role fs os follows is held =
+      handling_here items (seeing follows.3 a) n follows.1 word locals role fs os follows.7 is held
+  handling_here (DeclaresParameter d ∷ items) a n from word locals role fs os follows is held =
+      handling_here items (seeing follows.3 a) n follows.1 word locals role fs os follows.7 is held
+  handling_here (Sequence body hs ∷ items) a n from word locals role fs os follows is held =
+      handling_here items (seeing follows.2 a) n follows.1 word locals role fs os follows.5 is held
+  handling_here (Does s ∷ items) a n from word locals role fs os follows is held =
+      handling_here items (seeing follows.2 a) n follows.1 word locals role fs os follows.5 is held
+  handling_here (DoesMain s ∷ items) a n from word locals role fs os follows is held =
+      handling_here items (seeing follows.2 a) n follows.1 word locals role fs os follows.5 is held
+  handling_here (Handles NoHandlers ∷ items) a n from word locals role fs os follows is held = handling_here items a n from word locals role fs os follows is held
+  handling_here (Handles (MoreHandlers choices body rest) ∷ items) a n from word locals role fs os follows is held =
+      handling_here items follows.2 n follows.1 word locals role fs os follows.5 (sym (ap (λ q. q.ways.handled) follows.3.sequence) ∙ is)
       (subst (λ q. AreHeld locals q) (ap (λ q. q.held) follows.3.sequence) held)
-  handling_here (EndsHandler x ∷ items) a n from word locals fs os follows is held =
+  handling_here (EndsHandler x ∷ items) a n from word locals role fs os follows is held =
       let e : Some follows.1 ≡ Some word = sym (ap (λ q. q.ways.handled) follows.3.handler) ∙ is in
       let there = subst (λ q. AreHeld locals q) (ap (λ q. q.held) follows.3.handler) held in
       (x, refl, subst (λ q. slice_get locals q ≡ Some (pos x)) (same_Some follows.1 word e) there.0)
-  handling_here (Repeats body ∷ items) a n from word locals fs os follows is held =
-      handling_here items follows.2 n follows.1 word locals fs os follows.5 (sym (ap (λ q. q.ways.handled) follows.3.loop) ∙ is)
+  handling_here (Repeats body ∷ items) a n from word locals role fs os follows is held =
+      handling_here items follows.2 n follows.1 word locals role fs os follows.5 (sym (ap (λ q. q.ways.handled) follows.3.loop) ∙ is)
       (subst (λ q. AreHeld locals q) (ap (λ q. q.held) follows.3.loop) held)
-  handling_here (RepeatsWhile e body ∷ items) a n from word locals fs os follows is held =
-      handling_here items follows.2 n follows.1 word locals fs os follows.5 (sym (ap (λ q. q.ways.handled) follows.3.loop) ∙ is)
+  handling_here (RepeatsWhile e body ∷ items) a n from word locals role fs os follows is held =
+      handling_here items follows.2 n follows.1 word locals role fs os follows.5 (sym (ap (λ q. q.ways.handled) follows.3.loop) ∙ is)
       (subst (λ q. AreHeld locals q) (ap (λ q. q.held) follows.3.loop) held)
-  handling_here (RepeatsFor parameter reversed now last body ∷ items) a n from word locals fs os follows is held =
-      handling_here items follows.2 n follows.1 word locals fs os follows.6 (sym (ap (λ q. q.ways.handled) follows.4.loop) ∙ is)
+  handling_here (RepeatsFor parameter reversed now last body ∷ items) a n from word locals role fs os follows is held =
+      handling_here items follows.2 n follows.1 word locals role fs os follows.6 (sym (ap (λ q. q.ways.handled) follows.4.loop) ∙ is)
       (subst (λ q. AreHeld locals q) (ap (λ q. q.held) follows.4.loop) held).1.1
-  handling_here (EndsCall names opened xs ∷ items) a n from word locals fs os follows is held = let none = follows.9.outermost.handled in absurd cc
-  handling_here (i' ∷ items) a n from word locals fs os follows is held = absurd follows
+  handling_here (EndsCall names opened xs ∷ items) a n from word locals role fs os follows is held = let none = follows.9.outermost.handled in absurd cc
+  handling_here (i' ∷ items) a n from word locals role fs os follows is held = absurd follows

@@ -10,7 +10,7 @@ use Rattle.kernel.specs.RunLaws.{spends_more, spends_trans}
 use Rattle.step_soundness.specs.meaning.specs.Meeting.{Last}
 use Rattle.step_soundness.specs.meaning.specs.MeetingLaws.{spends_takes}
 use Rattle.part_code.specs.image.specs.Sections.{Sections}
-use Rattle.part_code.specs.image.specs.Frames.{Words, Frame, TaskState}
+use Rattle.part_code.specs.image.specs.Frames.{Words, Frame, TaskState, Role}
 use Rattle.part_code.specs.image.specs.Steps as steps
 use Rattle.part_code.specs.image.specs.Steps.{act, behaviour, caught, does_operation, removed, unwind}
 use Rattle.part_code.specs.image.specs.declared.instruction.Operation.TheVariants as op
@@ -97,11 +97,8 @@ module _ (this : Scene) where
   abbrev In : ℕ → ℕ → Type 0
   In n place = scene.In this n place
 
-  abbrev Follow : Setting → (n from : ℕ) → List Item → List Frame → List Activation → Type 0
-  Follow a n from items above waiting = scene.Follow this a n from items above waiting
-
-  abbrev Removable : Frame → List Frame → Type 0
-  Removable above fs = scene.Removable this above fs
+  abbrev Follow : Setting → (n from : ℕ) → List Item → Role → List Frame → List Activation → Type 0
+  Follow a n from items role above waiting = scene.Follow this a n from items role above waiting
 
   abbrev Reaching : Frame → List Frame → (n from to : ℕ) → Type 0
   Reaching above fs n from to = scene.Reaching this above fs n from to
@@ -225,12 +222,11 @@ module _ (this : Scene) where
         (scene.met_value this f fs (r.0 - f.place) r.0 (mid - r.0) mid (on []) (source.evaluate now items e) items
         (λ v. source.alternative now (source.alternative_for p v all) items)
         (scene.jumps_spend this f fs f.place r.0 leads.jumps)
-        (scene.evaluates this r.2 r.0 mid on (λ calls p. value_with calls p e) items f fs code.3 rests h.depth)
+        (scene.evaluates this r.2 r.0 mid on (λ calls p. value_with calls p e) items f fs code.3 rests h.object h.depth)
         (omega (arith, x.0, y.1, up, le, up'))
         (ap (λ q. work_step now q) is)
-        (subst (λ q. items_size items < work_size q) (sym is) (let c = item_counts (Does (Case place e all)) items in omega (arith, c))) h.inner
-        (scene.handled_by this s (seeing r.2 h.around) r.2 r.1 items (source.evaluate now items e) r.0 mid r.5 code.5 rests refl leads.reaches.2 h.outside h.depth
-        h.inner)
+        (subst (λ q. items_size items < work_size q) (sym is) (let c = item_counts (Does (Case place e all)) items in omega (arith, c)))
+        (scene.handled_by this s (seeing r.2 h.around) r.2 r.1 items (source.evaluate now items e) r.0 mid r.5 code.5 rests refl leads.reaches.2 h.object h.depth)
         (λ v ev there spends. chosen v ev (source.alternative_for p v all) refl there spends))
       where
         chosen : (v : Value) → source.evaluate now items e ≡ Gives v → (o : Option StmtTrees) → source.alternative_for (place_of now items) v all ≡ o
@@ -250,7 +246,8 @@ module _ (this : Scene) where
             let y = leads.to_inside in
             let up = jumps_up i program g numbers f.place r.0 leads.jumps in
             let rests = scene.narrowed this s h.around.visible r.2 w.own f.locals leads.narrows h.rests in
-            let taken = taken_from r.2 h.around.ways h.around.raised e (place_of now items) v (scene.sees_here this r.2 items f fs rests).sees ev all mid r.1 body code.4
+            let taken = taken_from r.2 h.around.ways h.around.raised e (place_of now items) v (scene.sees_here this r.2 items f fs rests h.object).sees ev all
+            mid r.1 body code.4
             found in
             let start = taken.start in
             let joint = taken.joint in
@@ -270,9 +267,9 @@ module _ (this : Scene) where
             (omega (arith, x.0, y.1, up, le, up'))
             (λ other same. subst (λ q. CodeStands i program g numbers k t (source.goes now all').solo.task q) (sym same)
             (Going all' refl (scene.goes_on this s all' w.own (seeing r.2 h.around) start f.locals
-            (before_follows i program g numbers body h.around r.2 f.subprogram start joint items fs w.callers taken.statements u2 start_in joint_in
+            (before_follows i program g numbers body h.around r.2 f.subprogram start joint items f.role fs w.callers taken.statements u2 start_in joint_in
             leads.reaches
-            (earlier i program g numbers items (seeing r.2 h.around) r.2 f.subprogram joint r.1 fs w.callers (There taken.jump u3 Here)
+            (earlier i program g numbers items (seeing r.2 h.around) r.2 f.subprogram joint r.1 f.role fs w.callers (There taken.jump u3 Here)
             (narrows_same g r.2) joint_in r.5))
-            rests h.outside (h.depth ∙ sym (before_ends i program g numbers body items)) h.inner)))
+            rests h.object (h.depth ∙ sym (before_ends i program g numbers body items)))))
             (subst (λ q. suc (items_size all') < work_size q) (sym is) (omega (arith, size, total)))

@@ -1,5 +1,5 @@
 -- Results of a call on their way to their targets: each is checked and stored.
-use Rattle.std.proofs.Common.{◌≡◌, ℕ, suc, ◌-◌, ◌<◌, ◌≤◌, ℤ, pos, List, [], ◌∷◌, length, None, Bool, true, false, refl, sym, ap, ◌∙◌, subst, arith}
+use Rattle.std.proofs.Common.{◌≡◌, ℕ, suc, ◌-◌, ◌<◌, ℤ, pos, List, [], ◌∷◌, length, None, Bool, true, false, refl, sym, ap, ◌∙◌, subst, arith}
 use Rattle.std.specs.Prelude.{if◌then◌else◌, is_some}
 use Rattle.part_code.specs.base.specs.declared.exceptions.PredefinedException.TheVariants.{ConstraintError}
 use Rattle.part_code.specs.base.specs.declared.schedule.ScheduleLine.{ScheduleLine}
@@ -9,7 +9,7 @@ use Rattle.kernel.specs.Calm.{Calm}
 use Rattle.kernel.specs.Counting.{Done}
 use Rattle.kernel.specs.Laws.{QuietStays}
 use Rattle.part_code.specs.image.specs.Sections.{Sections}
-use Rattle.part_code.specs.image.specs.Frames.{Words, Frame, TaskState}
+use Rattle.part_code.specs.image.specs.Frames.{Words, Frame, TaskState, Role}
 use Rattle.part_code.specs.image.specs.Steps as steps
 use Rattle.part_code.specs.image.specs.Steps.{act}
 use Rattle.part_code.specs.types.specs.declared.entity.Subtype.{Subtype}
@@ -24,17 +24,15 @@ use Rattle.step_soundness.specs.meaning.specs.Programs.{Program}
 use Rattle.step_soundness.specs.meaning.specs.Targets.{activation_with, stored_in}
 use Rattle.step_soundness.specs.meaning.specs.SourceSteps as source
 use Rattle.step_soundness.specs.meaning.specs.SourceSteps.{place_of, work_step}
-use Rattle.step_soundness.specs.meaning.specs.Works.{Item, Copies, Activation, Home, InActivation, InObject, InPackage, Store, Target, TaskWork, ends_of_calls}
+use Rattle.step_soundness.specs.meaning.specs.Works.{Item, Copies, Activation, Home, InActivation, InObject, InPackage, Store, Target, TaskWork}
 use Rattle.step_soundness.specs.Judged.{IsWorkOf}
 use Rattle.step_soundness.specs.Objects.{AreOf, AreTargets}
 use Rattle.part_code.specs.expr_code.specs.Views.{in_frame, placed}
 use Rattle.part_code.specs.expr_code.specs.Coming.{Comes, on}
 use Rattle.part_code.specs.expr_code.specs.Seeing.{Package}
-use Rattle.part_code.specs.expr_code.specs.declared.visible.Visible.{Visible}
-use Rattle.part_code.specs.Resting.{RestsWith, Shows, StandsFor}
+use Rattle.part_code.specs.Resting.{Framed, StandsFor}
 use Rattle.part_code.specs.Copying.{AreCopies, ArePlaced, address_of, addresses_of, copies_on}
 use Rattle.part_code.specs.declared.call.Destination.{Destination}
-use Rattle.part_code.specs.Handling.{GoesBy}
 use Rattle.part_code.specs.Statements.{Numbers}
 use Rattle.step_simulation.specs.Standing.{CodeStands, Copying, Going, IsCopying, items_size, work_size}
 use Rattle.part_code.proofs.Holding.{held_kept}
@@ -49,7 +47,7 @@ passed_is t v y e = by (fits t v) e
     by true e = cc
     by false e = cc
 
-pub placed_many : (v : Visible) (ds : List Destination) (xs : List Target) → ArePlaced v ds xs → length (addresses_of v xs) ≡ length ds
+pub placed_many : (v : Framed) (ds : List Destination) (xs : List Target) → ArePlaced v ds xs → length (addresses_of v.names xs) ≡ length ds
 placed_many v [] [] h = refl
 placed_many v (d ∷ ds) (x ∷ xs) h = ap suc (placed_many v ds xs h.1)
 placed_many v [] (x ∷ xs) h = absurd h
@@ -120,59 +118,31 @@ module _ (this : Scene) where
   abbrev In : ℕ → ℕ → Type 0
   In n place = scene.In this n place
 
-  abbrev Follow : Setting → (n from : ℕ) → List Item → List Frame → List Activation → Type 0
-  Follow a n from items above waiting = scene.Follow this a n from items above waiting
-
-  abbrev Removable : Frame → List Frame → Type 0
-  Removable above fs = scene.Removable this above fs
+  abbrev Follow : Setting → (n from : ℕ) → List Item → Role → List Frame → List Activation → Type 0
+  Follow a n from items role above waiting = scene.Follow this a n from items role above waiting
 
   -- what is still to be copied back is on the operand stack, if there is any
-  pub copying_stands : (vs : List Value) (xs : List Target) (items : List Item) (own : Activation) (os : List Activation) (k' : Kernel) (f' : Frame)
-      (above : List Frame) (a : Setting) (ds : List Destination) (to : ℕ)
-      → ArePlaced a.visible.names ds xs → length vs ≡ length xs → f'.place ≤ to → AreCopies i program g a.visible f'.place to ds
-      → In f'.subprogram f'.place → In f'.subprogram to → Follow a f'.subprogram to items above os
-      → RestsWith g a.visible a.held own f'.locals → own.within ≡ None
-      → f'.stack ≡ copies_on vs (addresses_of a.visible.names xs) []
-      → length above ≡ ends_of_calls items → Removable f' above → GoesBy i a.raised f'.place to → Shows g a.visible a.handling
-      → CodeStands i program g numbers k' t (record { work = source.copying vs xs items; own = own; callers = os })
-      (record { frame = f'; callers = above; raising = None })
-  copying_stands [] [] items own os k' f' above a [] to places many up copies x y follows rests outside stack depth inner goes handles =
+  pub copying_stands : (vs : List Value) (xs : List Target) (items : List Item) (own : Activation) (os : List Activation) (k' : Kernel) (s : TaskState)
+      → IsCopying i program g numbers vs xs items own os s
+      → CodeStands i program g numbers k' t (record { work = source.copying vs xs items; own = own; callers = os }) s
+  copying_stands [] [] items own os k' s h =
       Going items refl (record {
-        around = a;
-        follows = subst (λ q. Follow a f'.subprogram q items above os) (sym copies) follows;
-        rests = rests;
-        outside = outside;
-        stack = stack;
-        going = refl;
-        depth = depth;
-        inner = inner;
+        around = h.around;
+        follows = subst (λ q. Follow h.around s.frame.subprogram q items s.frame.role s.callers os) (sym (ends h.destinations h.placed h.copies)) h.follows;
+        rests = h.rests;
+        object = h.object;
+        stack = h.stack;
+        going = h.going;
+        depth = h.depth;
       })
-  copying_stands [] [] items own os k' f' above a (d ∷ ds) to places many up copies x y follows rests outside stack depth inner goes handles = absurd places
-  copying_stands [] (z ∷ xs) items own os k' f' above a ds to places many up copies x y follows rests outside stack depth inner goes handles =
-      absurd (omega (arith, many))
-  copying_stands (v ∷ vs) [] items own os k' f' above a ds to places many up copies x y follows rests outside stack depth inner goes handles =
-      absurd (omega (arith, many))
-  copying_stands (v ∷ vs) (z ∷ xs) items own os k' f' above a ds to places many up copies x y follows rests outside stack depth inner goes handles =
-      Copying (v ∷ vs) (z ∷ xs) items refl (record {
-        around = a;
-        destinations = ds;
-        to = to;
-        placed = places;
-        many = many;
-        up = up;
-        copies = copies;
-        from_inside = x;
-        to_inside = y;
-        follows = follows;
-        rests = rests;
-        outside = outside;
-        stack = stack;
-        going = refl;
-        depth = depth;
-        inner = inner;
-        goes = goes;
-        handles = handles;
-      })
+    where
+      ends : (ds : List Destination) → ArePlaced h.around.visible ds [] → AreCopies i program g h.around.visible s.frame.place h.to ds
+          → s.frame.place ≡ h.to
+      ends [] places copies = copies
+      ends (d ∷ ds) places copies = absurd places
+  copying_stands [] (z ∷ xs) items own os k' s h = let e = h.many in absurd (omega (arith, e))
+  copying_stands (v ∷ vs) [] items own os k' s h = let e = h.many in absurd (omega (arith, e))
+  copying_stands (v ∷ vs) (z ∷ xs) items own os k' s h = Copying (v ∷ vs) (z ∷ xs) items refl h
 
   module _ (s : TaskState) where
     abbrev f : Frame
@@ -193,11 +163,7 @@ module _ (this : Scene) where
     pub met_copies : (vs : List Value) (xs : List Target) (items : List Item) → w.work ≡ Copies vs xs items
         → IsCopying i program g numbers vs xs items w.own w.callers s → Meet s
     met_copies [] [] items is h =
-        scene.met_still this s (source.goes now items) (ap (λ q. work_step now q) is) refl refl
-        (subst (λ q. CodeStands i program g numbers k t (record { work = source.copying [] [] items; own = w.own; callers = w.callers }) q)
-        (sym (stands_is [] h.stack h.going))
-        (copying_stands [] [] items w.own w.callers k (placed f f.place []) fs h.around h.destinations h.to h.placed h.many h.up h.copies h.from_inside
-        h.to_inside h.follows h.rests h.outside refl h.depth (scene.inner_placed this f fs f.place [] h.inner) h.goes h.handles))
+        scene.met_still this s (source.goes now items) (ap (λ q. work_step now q) is) refl refl (copying_stands [] [] items w.own w.callers k s h)
         (subst (λ q. suc (items_size items) < work_size q) (sym is) (omega arith))
     met_copies [] (x ∷ xs) items is h = let e = h.many in absurd (omega (arith, e))
     met_copies (v ∷ vs) [] items is h = let e = h.many in absurd (omega (arith, e))
@@ -215,22 +181,17 @@ module _ (this : Scene) where
         go : Value → source.SourceStepped
         go y = source.stores now x y (source.copying vs xs items)
 
-        shaped : (d : Destination) → ArePlaced a.visible.names (d ∷ []) (x ∷ []) → has_shape (shape_of a.visible.names.scope d.subtype) v ≡ true
+        shaped : (d : Destination) → ArePlaced a.visible (d ∷ []) (x ∷ []) → has_shape (shape_of a.visible.names.scope d.subtype) v ≡ true
         shaped d p =
             let task = this.known.task in
             let sound = subst (λ q. IsWorkOf program None w.own task.scope task.outer task.around q) is task.work in
-            let knows = scene.sees_here this a.visible items f fs h.rests in
+            let knows = scene.sees_here this a.visible items f fs h.rests h.object in
             let known = ap is_some p.0.known.1 in
             sym (place_values a.visible.names.scope (place_of now items) knows.sees.names.agrees d.subtype v known)
             ∙ subtype_values program.scope d.subtype v
             ∙ typed sound.0 v vs x xs d sound.1 sound.2 p.0.subtype
 
-        inner_next : (above : List Frame) (locals stack : List ℤ) (place : ℕ) → Removable f above
-            → Removable (record { subprogram = f.subprogram; place = place; locals = locals; stack = stack; role = f.role }) above
-        inner_next [] locals stack place h = tt
-        inner_next (c ∷ above) locals stack place h = h
-
-        by_places : (ds : List Destination) → ArePlaced a.visible.names ds (x ∷ xs) → AreCopies i program g a.visible f.place h.to ds → Meet s
+        by_places : (ds : List Destination) → ArePlaced a.visible ds (x ∷ xs) → AreCopies i program g a.visible f.place h.to ds → Meet s
         by_places [] p c = absurd p
         by_places (d ∷ ds) p c =
             let copy = c.3 in
@@ -249,29 +210,46 @@ module _ (this : Scene) where
             (copy.checks schedule k t m f fs (pos at ∷ rest) v calm fit))
             (omega (arith, l.0, r.1, up, end, le))
             (ap (λ q. work_step now q) is)
-            (subst (λ q. items_size items < work_size q) (sym is) (omega arith)) h.inner
+            (subst (λ q. items_size items < work_size q) (sym is) (omega arith))
             (scene.handled_by this s a a.visible h.to items (passed x.subtype v) f.place copy.mid h.follows
-            (goes_within i a.raised f.place f.place copy.mid h.to h.goes (omega arith) (omega (arith, end, le))) h.rests refl h.handles h.outside h.depth h.inner)
+            (goes_within i a.raised f.place f.place copy.mid h.to h.goes (omega arith) (omega (arith, end, le))) h.rests refl h.handles h.object h.depth)
             (λ y ey.
             let same = passed_is x.subtype v y ey in
+            let knows = scene.sees_here this a.visible items f fs h.rests h.object in
             let put = copy.puts schedule k t m f fs store w.own (place_of now items) x y rest
             (record { scope = refl; functions = refl; variables = refl; components = refl }) refl refl shares h.rests.rests
-            (scene.sees_here this a.visible items f fs h.rests) h.outside p.0
+            h.object knows p.0
             (subst (λ q. has_shape (shape_of a.visible.names.scope d.subtype) q ≡ true) same fit) in
             let next : ℕ → Frame = λ q. record { subprogram = f.subprogram; place = q; locals = put.locals; stack = rest; role = f.role } in (
               steps.does Quiet put.words (next c.0) fs None None,
               put.acts ∙ ap (λ q. steps.does Quiet put.words (next q) fs None None) (sym end),
               record {
                 effect = refl;
-                code = copying_stands vs xs items (activation_with x y w.own) w.callers (after t Quiet k) (next c.0) fs a ds h.to p.1 (let e = h.many in omega (arith, e)) le c.4
-                    next_in r h.follows
+                code = copying_stands vs xs items (activation_with x y w.own) w.callers (after t Quiet k)
+                    (record { frame = next c.0; callers = fs; raising = None })
                     (record {
-                      rests = put.rests;
-                      held = held_kept a.held a.visible.reserved f.locals put.locals h.rests.apart put.keeps h.rests.held;
-                      apart = h.rests.apart;
-                    })
-                    (same_within x y w.own ∙ h.outside) refl h.depth (inner_next fs put.locals rest c.0 h.inner)
-                    (goes_within i a.raised f.place c.0 h.to h.to h.goes (omega (arith, up, end)) (omega arith)) h.handles;
+                      around = a;
+                      destinations = ds;
+                      to = h.to;
+                      placed = p.1;
+                      many = (let e = h.many in omega (arith, e));
+                      up = le;
+                      copies = c.4;
+                      from_inside = next_in;
+                      to_inside = r;
+                      follows = h.follows;
+                      rests = record {
+                        rests = put.rests;
+                        held = held_kept a.held a.visible.reserved f.locals put.locals h.rests.apart put.keeps h.rests.held;
+                        apart = h.rests.apart;
+                      };
+                      object = h.object ∙ sym (same_within x y w.own);
+                      stack = refl;
+                      going = refl;
+                      depth = h.depth;
+                      goes = goes_within i a.raised f.place c.0 h.to h.to h.goes (omega (arith, up, end)) (omega arith);
+                      handles = h.handles;
+                    });
                 words = put.shared;
               },
             )))

@@ -8,7 +8,7 @@ use Rattle.kernel.specs.Calm.{Calm}
 use Rattle.kernel.specs.Counting.{Spends}
 use Rattle.kernel.specs.Laws.{QuietStays}
 use Rattle.part_code.specs.image.specs.Sections.{Sections}
-use Rattle.part_code.specs.image.specs.Frames.{Words, Frame, TaskState}
+use Rattle.part_code.specs.image.specs.Frames.{Words, Frame, TaskState, Role, own_object}
 use Rattle.part_code.specs.image.specs.Steps as steps
 use Rattle.part_code.specs.image.specs.Steps.{behaviour}
 use Rattle.part_code.specs.image.specs.declared.instruction.Operation.TheVariants as op
@@ -25,7 +25,7 @@ use Rattle.step_soundness.specs.meaning.specs.Programs.{Program}
 use Rattle.step_soundness.specs.meaning.specs.SameMeaning.{frames_of}
 use Rattle.step_soundness.specs.meaning.specs.SourceSteps as source
 use Rattle.step_soundness.specs.meaning.specs.SourceSteps.{place_of, program_behaviour, with_value, work_step}
-use Rattle.step_soundness.specs.meaning.specs.Works.{Item, Does, RepeatsFor, Goes, Activation, Store, TaskWork, ends_of_calls, frames_left}
+use Rattle.step_soundness.specs.meaning.specs.Works.{Item, Does, RepeatsFor, Goes, Activation, Store, TaskWork, frames_left}
 use Rattle.part_code.specs.expr_code.specs.Views.{in_frame, placed}
 use Rattle.part_code.specs.expr_code.specs.Coming.{most_steps}
 use Rattle.part_code.specs.expr_code.specs.Seeing.{Package}
@@ -34,7 +34,7 @@ use Rattle.part_code.specs.Resting.{Framed, RestsWith, StandsFor}
 use Rattle.part_code.specs.Counting.{Bounds, GoesOn, IsCounted, IsRange, bounds, in_turn, number_bounds, turn_first, turn_last, with_last, with_parameter}
 use Rattle.part_code.specs.Statements.{Numbers}
 use Rattle.part_code.specs.Jumping.{Here}
-use Rattle.step_simulation.specs.Standing.{CodeStands, Going, in_range, items_size, work_size}
+use Rattle.step_simulation.specs.Standing.{CodeStands, Going, frames_in, in_range, items_size, work_size}
 use Rattle.step_simulation.proofs.Going.{before_ends, before_follows, jumps_up, narrows_same, rest_of}
 use Rattle.step_simulation.proofs.Sizes.{before_size, item_counts}
 use Rattle.step_simulation.proofs.Turning as turn
@@ -100,11 +100,8 @@ module _ (this : Scene) where
   abbrev In : ℕ → ℕ → Type 0
   In n place = scene.In this n place
 
-  abbrev Follow : Setting → (n from : ℕ) → List Item → List Frame → List Activation → Type 0
-  Follow a n from items above waiting = scene.Follow this a n from items above waiting
-
-  abbrev Removable : Frame → List Frame → Type 0
-  Removable above fs = scene.Removable this above fs
+  abbrev Follow : Setting → (n from : ℕ) → List Item → Role → List Frame → List Activation → Type 0
+  Follow a n from items role above waiting = scene.Follow this a n from items role above waiting
 
   abbrev Reaching : Frame → List Frame → (n from to : ℕ) → Type 0
   Reaching above fs n from to = scene.Reaching this above fs n from to
@@ -139,21 +136,20 @@ module _ (this : Scene) where
         → Spent n (placed f f.place []) (placed f mid start)
         → Spent n' (placed f mid start) (goes_at f target locals)
         → n + (n' + 1) < most_steps i (in_frame m f fs).task
-        → Follow a f.subprogram target items fs w.callers
+        → Follow a f.subprogram target items f.role fs w.callers
         → RestsWith g a.visible a.held own locals
-        → own.within ≡ None
-        → length fs ≡ ends_of_calls items
-        → Removable f fs
+        → own_object i f ≡ own.within
+        → length fs ≡ frames_in items
         → suc (items_size items) < work_size w.work
         → Meet (in_frame m (placed f f.place []) fs).task
-    met_goes_on n n' mid target start locals items own a is first second low follows rests outside depth inner less =
+    met_goes_on n n' mid target start locals items own a is first second low follows rests object depth less =
         let end = in_frame m (goes_at f target locals) fs in
         scene.met_quiet this f fs (n + (n' + 1)) end.task (left_with own items) is refl refl
         (spends_takes (behaviour i schedule) t frames_of (most_steps i) (n' + 1) k end first
         (spends_takes (behaviour i schedule) t frames_of (most_steps i) 1 k end second (Last refl)))
         low
         (λ other e. subst (λ q. CodeStands i program g numbers k t (left_with own items).solo.task q) (sym e)
-        (Going items refl (scene.goes_on this s items own a target locals follows rests outside depth inner)))
+        (Going items refl (scene.goes_on this s items own a target locals follows rests object depth)))
         less
 
     -- ---- the range
@@ -175,7 +171,8 @@ module _ (this : Scene) where
         by_first Meaningless = refl
 
     pub met_for : (place : ℕ) (parameter : Identifier) (reversed : Bool) (range : RangeTree) (body : StmtTrees) (items : List Item)
-        → w.work ≡ Goes (Does (Loop place (For parameter reversed range) body) ∷ items) → (h : IsAtItems (Does (Loop place (For parameter reversed range) body) ∷ items))
+        → w.work ≡ Goes (Does (Loop place (For parameter reversed range) body) ∷ items)
+        → (h : IsAtItems (Does (Loop place (For parameter reversed range) body) ∷ items))
         → Meet s
     met_for place parameter reversed range body items is h =
         let u1 = c.up in
@@ -193,17 +190,16 @@ module _ (this : Scene) where
         items
         (λ b. source.for_range now parameter reversed body items b.first b.last)
         (turn.reaches_head this s r.0 r.0 r.3.jumps c.skip)
-        (scene.evaluates this r.2 (r.0 + 2) begin.mid begin.stack (bounds range) items f fs begin.computes here h.depth)
+        (scene.evaluates this r.2 (r.0 + 2) begin.mid begin.stack (bounds range) items f fs begin.computes here h.object h.depth)
         (omega (arith, x.0, y.1, up, u1, u2, u3, u4, u5, u6))
         (ap (λ q. work_step now q) is ∙ range_is range (source.for_range now parameter reversed body items) items p)
         (subst (λ q. items_size items < work_size q) (sym is)
         (let e = item_counts (Does (Loop place (For parameter reversed range) body)) items in omega (arith, e)))
-        h.inner
         (scene.handled_by this s outer r.2 r.1 items (bounds range (call (frames_left items)) p) (r.0 + 2) begin.mid r.5
-        (goes_within i outer.raised (r.0 + 2) (r.0 + 2) begin.mid c.start r.4.3 (omega arith) u6) here refl r.3.reaches.2 h.outside h.depth h.inner)
+        (goes_within i outer.raised (r.0 + 2) (r.0 + 2) begin.mid c.start r.4.3 (omega arith) u6) here refl r.3.reaches.2 h.object h.depth)
         (λ b eb there spends. by_bounds b.first b.last eb there spends))
       where
-        r : Follow h.around f.subprogram f.place (Does (Loop place (For parameter reversed range) body) ∷ items) fs w.callers
+        r : Follow h.around f.subprogram f.place (Does (Loop place (For parameter reversed range) body) ∷ items) f.role fs w.callers
         r = h.follows
 
         outer : Setting
@@ -259,7 +255,7 @@ module _ (this : Scene) where
             let total = before_size body loop in
             met_goes_on (((r.0 - f.place) + 1) + (begin.mid - (r.0 + 2))) (c.start - begin.mid) begin.mid c.start (begin.stack [] b) on.locals
             (source.before body loop) (with_parameter parameter.name now' w.own) turn_setting there spends on.spends (few tt)
-            (before_follows i program g numbers body turn_setting c.inner f.subprogram c.start c.back loop fs w.callers r.4.2 u2 start_in back_in
+            (before_follows i program g numbers body turn_setting c.inner f.subprogram c.start c.back loop f.role fs w.callers r.4.2 u2 start_in back_in
             (c.shows, (λ q view z. r.3.reaches.1 q view (c.shows q view z)), λ q view z. r.3.reaches.2 q view (c.shows q view z)) (
               r.0,
               r.1,
@@ -279,7 +275,7 @@ module _ (this : Scene) where
               r.5,
               r.4.4,
             ))
-            on.rests h.outside (h.depth ∙ sym (before_ends i program g numbers body loop)) h.inner
+            on.rests h.object (h.depth ∙ sym (before_ends i program g numbers body loop))
             (subst (λ q. suc (items_size (source.before body loop)) < work_size q) (sym is) (omega (arith, total)))
 
         of_numbers : (x y : ℤ) → bounds range (call (frames_left items)) (place_of now items) ≡ Gives (number_bounds x y)
@@ -289,10 +285,10 @@ module _ (this : Scene) where
           where
             by_null : (b : Bool) → int_lt y x ≡ b → Meet (in_frame m (placed f f.place []) fs).task
             by_null true null =
-                let on = begin.null schedule k t m f fs h.around.held w.own (place_of now items) x y calm refl (scene.sees_here this r.2 items f fs here) here eb null in
+                let on = begin.null schedule k t m f fs h.around.held w.own (place_of now items) x y calm refl
+                (scene.sees_here this r.2 items f fs here h.object) here eb null in
                 met_goes_on (((r.0 - f.place) + 1) + (begin.mid - (r.0 + 2))) (c.start - begin.mid) begin.mid r.1 (begin.stack [] (number_bounds x y)) on.locals
-                items w.own outer (there ∙ ap (λ q. if q then source.goes now items else started) null) spends on.spends (few tt) r.5 on.rests h.outside h.depth
-                h.inner
+                items w.own outer (there ∙ ap (λ q. if q then source.goes now items else started) null) spends on.spends (few tt) r.5 on.rests h.object h.depth
                 (subst (λ q. suc (items_size items) < work_size q) (sym is)
                 (let e = item_counts (Does (Loop place (For parameter reversed range) body)) items in omega (arith, e)))
               where
@@ -303,9 +299,11 @@ module _ (this : Scene) where
                 (there ∙ ap (λ q. if q then source.goes now items else (if reversed then source.for_turn now parameter.name true y x body items
                 else source.for_turn now parameter.name false x y body items)) full ∙ directed reversed)
                 spends
-                (begin.begins schedule k t m f fs h.around.held w.own (place_of now items) x y calm refl (scene.sees_here this r.2 items f fs here) here eb full)
+                (begin.begins schedule k t m f fs h.around.held w.own (place_of now items) x y calm refl (scene.sees_here this r.2 items f fs here h.object)
+                here eb full)
               where
-                directed : (d : Bool) → (if d then source.for_turn now parameter.name true y x body items else source.for_turn now parameter.name false x y body items)
+                directed : (d : Bool) → (if d then source.for_turn now parameter.name true y x body items else source.for_turn now parameter.name false x y
+                    body items)
                     ≡ source.for_turn now parameter.name d (turn_first d x y) (turn_last d x y) body items
                 directed true = refl
                 directed false = refl
@@ -327,7 +325,7 @@ module _ (this : Scene) where
         → w.work ≡ Goes (RepeatsFor parameter reversed now' last body ∷ items) → (h : IsAtItems (RepeatsFor parameter reversed now' last body ∷ items)) → Meet s
     met_next parameter reversed now' last body items is h = subst Meet (sym (scene.going_is this s h.stack h.going)) (by_end (are_same now' last) refl)
       where
-        r : Follow h.around f.subprogram f.place (RepeatsFor parameter reversed now' last body ∷ items) fs w.callers
+        r : Follow h.around f.subprogram f.place (RepeatsFor parameter reversed now' last body ∷ items) f.role fs w.callers
         r = h.follows
 
         outer : Setting
@@ -365,8 +363,8 @@ module _ (this : Scene) where
             let u4 = c.end in
             met_goes_on (c.back - f.place) (c.turn - c.back) c.back r.1 [] on.locals items w.own outer
             (step ∙ ap (λ q. if q then source.goes now items else with_value now (source.next_number now reversed now') items go) same)
-            (scene.jumps_spend this f fs f.place c.back r.4.jumps) on.spends (omega (arith, x.0, y.1, up, u3, u4)) r.6 (behind on.locals on.rests) h.outside h.depth
-            h.inner (subst (λ q. suc (items_size items) < work_size q) (sym is) (omega arith))
+            (scene.jumps_spend this f fs f.place c.back r.4.jumps) on.spends (omega (arith, x.0, y.1, up, u3, u4)) r.6 (behind on.locals on.rests) h.object
+            h.depth (subst (λ q. suc (items_size items) < work_size q) (sym is) (omega arith))
         by_end false other =
             let x = r.4.from_inside in
             let y = r.4.to_inside in
@@ -382,10 +380,10 @@ module _ (this : Scene) where
             (c.next.counts schedule k t m f fs outer.held w.own now' last calm here other)
             (omega (arith, x.0, y.1, up, u3, u4, u5, u6))
             (step ∙ ap (λ q. if q then source.goes now items else with_value now (source.next_number now reversed now') items go) other)
-            (subst (λ q. items_size items < work_size q) (sym is) (omega arith)) h.inner
+            (subst (λ q. items_size items < work_size q) (sym is) (omega arith))
             (scene.handled_by this s outer outer.visible r.1 items (source.next_number now reversed now') c.back c.next.mid r.6
-            (goes_within i outer.raised c.back c.back c.next.mid r.1 r.7 (omega arith) (omega (arith, u4, u6))) (behind f.locals here) refl r.4.handles h.outside
-            h.depth h.inner)
+            (goes_within i outer.raised c.back c.back c.next.mid r.1 r.7 (omega arith) (omega (arith, u4, u6))) (behind f.locals here) refl r.4.handles h.object
+            h.depth)
             (λ next ez there spends.
             let on = c.next.goes schedule k t m f fs outer.held w.own now' last next calm here in
             let own' = with_parameter parameter next w.own in
@@ -405,7 +403,7 @@ module _ (this : Scene) where
             (record {
               effect = refl;
               code = Going (source.before body loop) refl (scene.goes_on this s (source.before body loop) own' turn_setting c.start on.locals
-                  (before_follows i program g numbers body turn_setting c.inner f.subprogram c.start c.back loop fs w.callers r.5 u2 start_in back_in
+                  (before_follows i program g numbers body turn_setting c.inner f.subprogram c.start c.back loop f.role fs w.callers r.5 u2 start_in back_in
                   (c.shows, (λ q view z. r.4.reaches q view (c.shows q view z)), λ q view z. r.4.handles q view (c.shows q view z)) (
                     r.0,
                     r.1,
@@ -425,6 +423,6 @@ module _ (this : Scene) where
                     r.6,
                     r.7,
                   ))
-                  on.rests h.outside (h.depth ∙ sym (before_ends i program g numbers body loop)) h.inner);
+                  on.rests h.object (h.depth ∙ sym (before_ends i program g numbers body loop)));
               words = shares;
             }))

@@ -7,6 +7,7 @@ mod Scenes
 mod Turning
 mod Choosing
 mod Copying
+mod Opening
 mod Calling
 mod Counting
 mod Delaying

@@ -5,7 +5,7 @@ use Rattle.kernel.specs.State.{Kernel}
 use Rattle.kernel.specs.Calm.{Calm}
 use Rattle.kernel.specs.Laws.{QuietStays}
 use Rattle.part_code.specs.image.specs.Sections.{Sections}
-use Rattle.part_code.specs.image.specs.Frames.{Words, Frame, TaskState}
+use Rattle.part_code.specs.image.specs.Frames.{Role, Words, Frame, TaskState}
 use Rattle.part_code.specs.image.specs.Steps as steps
 use Rattle.part_code.specs.image.specs.Steps.{act, behaviour, caught, does_operation, removed, unwind}
 use Rattle.part_code.specs.ada_tree.specs.StatementTree.{ObjectTree, DeclarationTree, LocalObject, LocalTask, LocalProtected, StmtTree, Null, Assignment, Exit, Return, Raise, Delay, DelayUntil, If, Case, Loop, Block, Abort, Requeue, Accept, Select, StmtTrees, NoStmts, MoreStmts, ElsifTrees, NoElsifs, MoreElsifs, Forever, While, For, HandlerTrees, NoHandlers}
@@ -24,7 +24,7 @@ use Rattle.step_soundness.specs.Laws.{StepsAreSound}
 use Rattle.part_code.specs.expr_code.specs.Seeing.{Package}
 use Rattle.part_code.specs.Resting.{Framed, StandsFor}
 use Rattle.part_code.specs.Statements.{IsCalleeCode, IsPutCode, Numbers}
-use Rattle.step_simulation.specs.Standing.{Catching, CodeStands, Copying, Going, IsCatching, Over as Ended, Raised, items_size, work_size}
+use Rattle.step_simulation.specs.Standing.{Catching, Closing, CodeStands, Copying, Going, IsCatching, Over as Ended, Raised, items_size, work_size}
 use Rattle.step_simulation.specs.Laws.{HasCode, StepsAreMet}
 use Rattle.step_simulation.proofs.Scenes.{AtOnce, Keeping, Scene}
 use Rattle.step_simulation.proofs.Scenes as scene
@@ -98,11 +98,8 @@ module _ (this : Scene) where
   abbrev In : ℕ → ℕ → Type 0
   In n place = scene.In this n place
 
-  abbrev Follow : Setting → (n from : ℕ) → List Item → List Frame → List Activation → Type 0
-  Follow a n from items above waiting = scene.Follow this a n from items above waiting
-
-  abbrev Removable : Frame → List Frame → Type 0
-  Removable above fs = scene.Removable this above fs
+  abbrev Follow : Setting → (n from : ℕ) → List Item → Role → List Frame → List Activation → Type 0
+  Follow a n from items role above waiting = scene.Follow this a n from items role above waiting
 
   abbrev Reaching : Frame → List Frame → (n from to : ℕ) → Type 0
   Reaching above fs n from to = scene.Reaching this above fs n from to
@@ -127,21 +124,29 @@ module _ (this : Scene) where
         (subst (λ q. suc (items_size items) < work_size q) (sym is) (omega arith)) h.stack h.going
         (seeing h.around.visible h.around)
         (scene.reached this s h.around f.place r.0 r.1 r.2 items r.3
-        (subst (λ q. Follow (seeing r.2 h.around) f.subprogram q items fs w.callers) (sym r.4) r.5))
-        h.rests h.outside h.depth h.inner
+        (subst (λ q. Follow (seeing r.2 h.around) f.subprogram q items f.role fs w.callers) (sym r.4) r.5))
+        h.rests h.object h.depth
     met_main (main.Call package_ procedure) items is h = calls.met_main_call this s package_ procedure items is h
 
     -- ---- all
 
+    -- a statement belongs to the protected object of the running body
+    within_is : {st : StmtTree} (items : List Item) → (h : IsAtItems (Does st ∷ items)) → (let r = h.follows in w.own.within ≡ r.2.within)
+    within_is items h =
+        let r = h.follows in
+        (scene.sees_here this r.2 items f fs (scene.narrowed this s h.around.visible r.2 w.own f.locals r.3.narrows h.rests) h.object).within
+
     met_called : (name : NameTree) (items : List Item) → w.work ≡ Goes (Does (tree.Call name) ∷ items) → (h : IsAtItems (Does (tree.Call name) ∷ items))
-        → (o : Option Callee) → callee_by program None name.first name.selectors ≡ o
+        → (o : Option Callee) → (let r = h.follows in callee_by program r.2.within name.first name.selectors ≡ o)
         → (let r = h.follows in IsCalleeCode i program g numbers r.2 r.0 r.1 name o) → Meet s
     met_called name items is h (Some c) e code =
-        calls.met_call this s name c items is h e (ap (λ q. source.call_or_put now name (callee_by program q name.first name.selectors) items) h.outside ∙ ap
+        calls.met_call this s name c items is h e
+        (ap (λ q. source.call_or_put now name (callee_by program q name.first name.selectors) items) (within_is items h) ∙ ap
         (λ q. source.call_or_put now name q items) e) code
     met_called name items is h None e code =
         by_selectors name.selectors code.1
-        (ap (λ q. source.call_or_put now name (callee_by program q name.first name.selectors) items) h.outside ∙ ap (λ q. source.call_or_put now name q items) e
+        (ap (λ q. source.call_or_put now name (callee_by program q name.first name.selectors) items) (within_is items h) ∙ ap
+        (λ q. source.call_or_put now name q items) e
         ∙ ap (λ q. source.put_call now q name.selectors items) code.0)
       where
         by_selectors : (selectors : SelectorTrees) → (let r = h.follows in IsPutCode i program g numbers r.2 r.0 r.1 selectors)
@@ -153,7 +158,8 @@ module _ (this : Scene) where
     met_statement : (st : StmtTree) (items : List Item) → w.work ≡ Goes (Does st ∷ items) → (h : IsAtItems (Does st ∷ items)) → Meet s
     met_statement (Null place) items is h = scene.met_null this s place items is h
     met_statement (Assignment name e) items is h = turn.met_assignment this s name e items is h
-    met_statement (tree.Call name) items is h = met_called name items is h (callee_by program None name.first name.selectors) refl h.follows.4.0
+    met_statement (tree.Call name) items is h =
+        met_called name items is h (let r = h.follows in callee_by program r.2.within name.first name.selectors) refl h.follows.4.0
     met_statement (Exit place None) items is h = scene.met_exit this s place items is h
     met_statement (Exit place (Some e)) items is h = turn.met_exit_when this s place e items is h
     met_statement (Return place None) items is h = scene.met_return this s place items is h
@@ -195,7 +201,8 @@ module _ (this : Scene) where
   met_by s (Going items is h) = met_going s items is h s (AtOnce refl)
   met_by s (Copying vs xs items is h) = copy.met_copies this s vs xs items is h s (AtOnce refl)
   met_by s (Catching items is h) = met_catching s items is h
-  met_by s (Raised x items g' gs is throws inner caught) = raising.met_raised this s x items g' gs is throws inner caught
+  met_by s (Raised x items g' gs is throws caught) = raising.met_raised this s x items g' gs is throws caught
+  met_by s (Closing o done items next is ends h) = calls.met_closing this s o done items next is ends h
   met_by s (Ended o h) = let e = calm.runs.on in absurd cc
 
 pub steps_are_met : QuietStays → StepsAreSound → StepsAreMet

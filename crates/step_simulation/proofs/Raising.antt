@@ -4,12 +4,12 @@ use Rattle.std.specs.Prelude.{◌&&◌, if◌then◌else◌, nat_le, pos}
 use Rattle.part_code.specs.base.specs.declared.schedule.ScheduleLine.{ScheduleLine}
 use Rattle.kernel.specs.State.{Kernel}
 use Rattle.kernel.specs.State as kernels
-use Rattle.kernel.specs.Effects.{Quiet, Dies}
+use Rattle.kernel.specs.Effects.{Quiet, Dies, Ends}
 use Rattle.kernel.specs.Calm.{Calm}
 use Rattle.kernel.specs.Laws.{QuietStays}
 use Rattle.part_code.specs.handlers.specs.Innermost.{handler_of}
 use Rattle.part_code.specs.image.specs.Sections.{Sections}
-use Rattle.part_code.specs.image.specs.Frames.{Words, Frame, TaskState}
+use Rattle.part_code.specs.image.specs.Frames.{Inner, Opened, Words, Frame, TaskState}
 use Rattle.part_code.specs.image.specs.Scalars.{exception_of}
 use Rattle.part_code.specs.image.specs.Steps as steps
 use Rattle.part_code.specs.image.specs.Steps.{act, behaviour, caught, loaded, raises_number, removed, unwind}
@@ -23,7 +23,7 @@ use Rattle.step_soundness.specs.meaning.specs.Programs.{Program}
 use Rattle.step_soundness.specs.meaning.specs.SameMeaning.{frames_of}
 use Rattle.step_soundness.specs.meaning.specs.SourceSteps as source
 use Rattle.step_soundness.specs.meaning.specs.SourceSteps.{before, handler_for, program_behaviour, work_step}
-use Rattle.step_soundness.specs.meaning.specs.Works.{Item, Declares, DeclaresParameter, Sequence, Does, DoesMain, Repeats, RepeatsWhile, RepeatsFor, Handles, EndsHandler, EndsCall, EndsAction, EndsServed, Queued, Goes, Raising, Activation, Store, Target, TaskWork}
+use Rattle.step_soundness.specs.meaning.specs.Works.{Item, Declares, DeclaresParameter, Sequence, Does, DoesMain, Repeats, RepeatsWhile, RepeatsFor, Handles, EndsHandler, EndsCall, EndsAction, EndsServed, Pending, Queued, Goes, Raising, Activation, Store, Target, TaskWork}
 use Rattle.step_soundness.specs.Objects.{IsException}
 use Rattle.part_code.specs.expr_code.specs.Views.{At, in_frame, placed}
 use Rattle.part_code.specs.expr_code.specs.Coming.{Throws, most_steps}
@@ -32,7 +32,7 @@ use Rattle.part_code.specs.expr_code.proofs.Coming.{acts}
 use Rattle.part_code.specs.expr_code.proofs.Coming as coming
 use Rattle.part_code.specs.Resting.{StandsFor}
 use Rattle.part_code.specs.Statements.{Numbers}
-use Rattle.step_simulation.specs.Standing.{AreInner, Catches, Catching, CaughtIf, CodeStands, Over as Ended, Raised, items_size, relation, work_size}
+use Rattle.step_simulation.specs.Standing.{Catches, Catching, Closing, CaughtIf, CodeStands, Over as Ended, Raised, items_size, relation, work_size}
 use Rattle.step_simulation.specs.Laws.{HasCode}
 use Rattle.step_simulation.proofs.Catching.{handling_here}
 use Rattle.step_simulation.proofs.Going.{jumps_up}
@@ -101,20 +101,24 @@ module _ (this : Scene) where
   abbrev Meet : TaskState → Type 0
   Meet s = scene.Meet this s
 
-  abbrev Removable : Frame → List Frame → Type 0
-  Removable f fs = AreInner i program g numbers f fs
-
   abbrev Caught : (x : ℕ) (f : Frame) (fs : List Frame) (own : Activation) (os : List Activation) → List Item → Type 0
   Caught x f fs own os items = Catches i program g numbers x f fs own os items
 
   -- ---- frames that are removed
 
   -- no handler takes the exception in this frame
-  passes : (x : ℕ) (f c : Frame) (below : List Frame) (m' : Words) → handler_of i.rows f.place x ≡ None → Removable f (c ∷ below)
+  passes : (x : ℕ) (f c : Frame) (below : List Frame) (m' : Words) → handler_of i.rows f.place x ≡ None → f.role ≡ Inner
       → unwind i m' x f (c ∷ below) ≡ unwind i m' x c below
   passes x f c below m' none inner =
       ap (λ o. caught i m' x o f (c ∷ below) (removed i m' x f.role c below (unwind i m' x c below))) none
-      ∙ ap (λ r. removed i m' x r c below (unwind i m' x c below)) inner.0
+      ∙ ap (λ r. removed i m' x r c below (unwind i m' x c below)) inner
+
+  -- ... and with it an action ends that its call has opened
+  closes : (x o : ℕ) (f c : Frame) (below : List Frame) (m' : Words) → handler_of i.rows f.place x ≡ None → f.role ≡ Opened o
+      → unwind i m' x f (c ∷ below) ≡ steps.does (Ends (steps.is_open i m' o)) m' c below (Some x) None
+  closes x o f c below m' none opened =
+      ap (λ q. caught i m' x q f (c ∷ below) (removed i m' x f.role c below (unwind i m' x c below))) none
+      ∙ ap (λ r. removed i m' x r c below (unwind i m' x c below)) opened
 
   lands : (x target : ℕ) (f : Frame) (fs : List Frame) → handler_of i.rows f.place x ≡ Some target
       → unwind i m x f fs ≡ steps.does Quiet m (placed f target (pos x ∷ [])) fs None None
@@ -150,36 +154,49 @@ module _ (this : Scene) where
     -- an item is dropped
     met_dropped : (i' : Item) (items : List Item) (f : Frame) (fs : List Frame) → w.work ≡ Raising x (i' ∷ items)
         → work_step now w.work ≡ source.raises now x items
-        → Throws i k t x s f fs → Removable f fs → Caught x f fs w.own w.callers items → MetFrom s
-    met_dropped i' items f fs is step throws inner c =
-        met_still (source.raises now x items) step refl refl (Raised x items f fs refl throws inner c)
+        → Throws i k t x s f fs → Caught x f fs w.own w.callers items → MetFrom s
+    met_dropped i' items f fs is step throws c =
+        met_still (source.raises now x items) step refl refl (Raised x items f fs refl throws c)
         (subst (λ q. items_size items < work_size q) (sym is) (item_counts i' items))
 
-    -- the activation of a call is left, and its frame is removed
+    -- the activation of a call is left, and its frame is removed: at once, or in the step that ends the action which the call has opened
     met_left : (names : List (List ℕ)) (opened : Option ℕ) (xs : List Target) (items : List Item) (f : Frame) (fs : List Frame)
-        → w.work ≡ Raising x (EndsCall names opened xs ∷ items) → Throws i k t x s f fs → Removable f fs
+        → w.work ≡ Raising x (EndsCall names opened xs ∷ items) → Throws i k t x s f fs
         → Caught x f fs w.own w.callers (EndsCall names opened xs ∷ items) → MetFrom s
-    met_left names opened xs items f fs is throws inner c =
+    met_left names None xs items f fs is throws c =
         let above = c.0 in
         let below = c.1 in
         let after' : source.SourceStepped = source.leaves now Quiet (c.2 ∷ c.3) (Raising x items) None in
-        let stack : Removable f (above ∷ below) = subst (λ q. Removable f q) c.6 inner in
         met_still after'
-        (ap (λ q. work_step now q) is ∙ ap (λ q. source.leaves now Quiet w.callers (source.call_raised x q items) None) c.4
-        ∙ ap (λ q. source.leaves now Quiet q (Raising x items) None) c.7)
+        (ap (λ q. work_step now q) is ∙ ap (λ q. source.leaves now Quiet q (Raising x items) None) c.7)
         refl refl
         (Raised x items above below refl
         (record {
           throws = λ schedule' l m' opened' ranked. throws.throws schedule' l m' opened' ranked ∙ ap (λ q. unwind i m' x f q) c.6
-              ∙ passes x f above below m' c.5 stack;
+              ∙ passes x f above below m' c.5 c.4;
         })
-        stack.1 c.8)
-        (subst (λ q. items_size items < work_size q) (sym is) (item_counts (EndsCall names opened xs) items))
+        c.8)
+        (subst (λ q. items_size items < work_size q) (sym is) (item_counts (EndsCall names None xs) items))
+    met_left names (Some o) xs items f fs is throws c =
+        let above = c.0 in
+        let below = c.1 in
+        let work = Goes (EndsAction o (Pending x) ∷ items) in
+        let after' : source.SourceStepped = source.leaves now Quiet (c.2 ∷ c.3) work None in
+        met_still after'
+        (ap (λ q. work_step now q) is ∙ ap (λ q. source.leaves now Quiet q work None) c.7)
+        refl refl
+        (Closing o (Pending x) items (record { frame = above; callers = below; raising = Some x }) refl
+        (record {
+          ends = λ schedule' l m' opened' ranked. throws.throws schedule' l m' opened' ranked ∙ ap (λ q. unwind i m' x f q) c.6
+              ∙ closes x o f above below m' c.5 c.4;
+        })
+        (refl, c.8))
+        (subst (λ q. work_size work < work_size q) (sym is) (omega arith))
 
     -- a handler takes it, or not
     met_handlers : (hs : HandlerTrees) (items : List Item) (f : Frame) (fs : List Frame) → w.work ≡ Raising x (Handles hs ∷ items) → Throws i k t x s f fs
-        → Removable f fs → Caught x f fs w.own w.callers (Handles hs ∷ items) → MetFrom s
-    met_handlers hs items f fs is throws inner c = by_handler (handler_for program x hs) refl c
+        → Caught x f fs w.own w.callers (Handles hs ∷ items) → MetFrom s
+    met_handlers hs items f fs is throws c = by_handler (handler_for program x hs) refl c
       where
         by_handler : (o : Option StmtTrees) → handler_for program x hs ≡ o
             → CaughtIf i program g numbers x f fs w.own w.callers items o (Caught x f fs w.own w.callers items) → MetFrom s
@@ -193,7 +210,7 @@ module _ (this : Scene) where
               words = shares;
             })
         by_handler None found h =
-            met_dropped (Handles hs) items f fs is (ap (λ q. work_step now q) is ∙ ap (λ o. source.handled now x o items) found) throws inner h
+            met_dropped (Handles hs) items f fs is (ap (λ q. work_step now q) is ∙ ap (λ o. source.handled now x o items) found) throws h
 
     -- nothing is left to do: the exception ends the task
     met_last : (f : Frame) (fs : List Frame) → w.work ≡ Raising x [] → Throws i k t x s f fs → Caught x f fs w.own w.callers [] → MetFrom s
@@ -202,28 +219,28 @@ module _ (this : Scene) where
         (throws.throws schedule k m refl refl ∙ ap (λ q. unwind i m x f q) c.1 ∙ dies x f c.0)
         (record { effect = refl; code = Ended (kernels.Unhandled x t) refl; words = shares })
 
-    pub met_raised : (items : List Item) (f : Frame) (fs : List Frame) → w.work ≡ Raising x items → Throws i k t x s f fs → Removable f fs
+    pub met_raised : (items : List Item) (f : Frame) (fs : List Frame) → w.work ≡ Raising x items → Throws i k t x s f fs
         → Caught x f fs w.own w.callers items → MetFrom s
-    met_raised [] f fs is throws inner c = met_last f fs is throws c
-    met_raised (Declares d ∷ items) f fs is throws inner c = met_dropped (Declares d) items f fs is (ap (λ q. work_step now q) is) throws inner c
-    met_raised (DeclaresParameter p ∷ items) f fs is throws inner c =
-        met_dropped (DeclaresParameter p) items f fs is (ap (λ q. work_step now q) is) throws inner c
-    met_raised (Sequence body hs ∷ items) f fs is throws inner c =
-        met_dropped (Sequence body hs) items f fs is (ap (λ q. work_step now q) is) throws inner c
-    met_raised (Does st ∷ items) f fs is throws inner c = met_dropped (Does st) items f fs is (ap (λ q. work_step now q) is) throws inner c
-    met_raised (DoesMain st ∷ items) f fs is throws inner c = met_dropped (DoesMain st) items f fs is (ap (λ q. work_step now q) is) throws inner c
-    met_raised (Repeats body ∷ items) f fs is throws inner c = met_dropped (Repeats body) items f fs is (ap (λ q. work_step now q) is) throws inner c
-    met_raised (RepeatsWhile e body ∷ items) f fs is throws inner c =
-        met_dropped (RepeatsWhile e body) items f fs is (ap (λ q. work_step now q) is) throws inner c
-    met_raised (RepeatsFor p r a b body ∷ items) f fs is throws inner c =
-        met_dropped (RepeatsFor p r a b body) items f fs is (ap (λ q. work_step now q) is) throws inner c
-    met_raised (Handles hs ∷ items) f fs is throws inner c = met_handlers hs items f fs is throws inner c
-    met_raised (EndsHandler y ∷ items) f fs is throws inner c = met_dropped (EndsHandler y) items f fs is (ap (λ q. work_step now q) is) throws inner c
-    met_raised (EndsCall names opened xs ∷ items) f fs is throws inner c = met_left names opened xs items f fs is throws inner c
-    met_raised (EndsAction o completion ∷ items) f fs is throws inner c =
-        met_dropped (EndsAction o completion) items f fs is (ap (λ q. work_step now q) is) throws inner c
-    met_raised (EndsServed o names completion ∷ items) f fs is throws inner c = absurd c
-    met_raised (Queued q vs xs ∷ items) f fs is throws inner c = met_dropped (Queued q vs xs) items f fs is (ap (λ q. work_step now q) is) throws inner c
+    met_raised [] f fs is throws c = met_last f fs is throws c
+    met_raised (Declares d ∷ items) f fs is throws c = met_dropped (Declares d) items f fs is (ap (λ q. work_step now q) is) throws c
+    met_raised (DeclaresParameter p ∷ items) f fs is throws c =
+        met_dropped (DeclaresParameter p) items f fs is (ap (λ q. work_step now q) is) throws c
+    met_raised (Sequence body hs ∷ items) f fs is throws c =
+        met_dropped (Sequence body hs) items f fs is (ap (λ q. work_step now q) is) throws c
+    met_raised (Does st ∷ items) f fs is throws c = met_dropped (Does st) items f fs is (ap (λ q. work_step now q) is) throws c
+    met_raised (DoesMain st ∷ items) f fs is throws c = met_dropped (DoesMain st) items f fs is (ap (λ q. work_step now q) is) throws c
+    met_raised (Repeats body ∷ items) f fs is throws c = met_dropped (Repeats body) items f fs is (ap (λ q. work_step now q) is) throws c
+    met_raised (RepeatsWhile e body ∷ items) f fs is throws c =
+        met_dropped (RepeatsWhile e body) items f fs is (ap (λ q. work_step now q) is) throws c
+    met_raised (RepeatsFor p r a b body ∷ items) f fs is throws c =
+        met_dropped (RepeatsFor p r a b body) items f fs is (ap (λ q. work_step now q) is) throws c
+    met_raised (Handles hs ∷ items) f fs is throws c = met_handlers hs items f fs is throws c
+    met_raised (EndsHandler y ∷ items) f fs is throws c = met_dropped (EndsHandler y) items f fs is (ap (λ q. work_step now q) is) throws c
+    met_raised (EndsCall names opened xs ∷ items) f fs is throws c = met_left names opened xs items f fs is throws c
+    met_raised (EndsAction o completion ∷ items) f fs is throws c =
+        met_dropped (EndsAction o completion) items f fs is (ap (λ q. work_step now q) is) throws c
+    met_raised (EndsServed o names completion ∷ items) f fs is throws c = absurd c
+    met_raised (Queued q vs xs ∷ items) f fs is throws c = met_dropped (Queued q vs xs) items f fs is (ap (λ q. work_step now q) is) throws c
 
   -- ---- statements that raise (RM 11.3)
 
@@ -282,8 +299,8 @@ module _ (this : Scene) where
           },
         )
         (omega (arith, a.0, b.1, up, end)) step
-        (subst (λ q. items_size items < work_size q) (sym is) (let c = item_counts (Does (Raise place name)) items in omega (arith, c))) h.inner
-        (scene.handled_by this s around r.2 r.1 items v r.0 r.1 r.5 r.4.1 rests refl leads.reaches.2 h.outside h.depth h.inner)
+        (subst (λ q. items_size items < work_size q) (sym is) (let c = item_counts (Does (Raise place name)) items in omega (arith, c)))
+        (scene.handled_by this s around r.2 r.1 items v r.0 r.1 r.5 r.4.1 rests refl leads.reaches.2 h.object h.depth)
         (λ z ez next spends. absurd cc))
 
     following : (at : ℕ) (stack : List ℤ) → steps.does Quiet m (placed f (at + 1) stack) fs None None ≡ steps.does Quiet m (placed f
@@ -302,7 +319,7 @@ module _ (this : Scene) where
         let r = h.follows in
         let code = r.4.0 in
         let around = scene.seeing this r.2 h.around in
-        let held = handling_here i program g numbers items around f.subprogram r.1 code.0 f.locals fs w.callers r.5 code.1 h.rests.held in
+        let held = handling_here i program g numbers items around f.subprogram r.1 code.0 f.locals f.role fs w.callers r.5 code.1 h.rests.held in
         met_throws held.0 place None items is h
         (ap (λ q. work_step now q) is ∙ ap (λ o. source.raise_number now o items) held.1) code.3 code.4
         (acts quiet i r.0 (op.LoadLocal code.0) code.2 schedule k t m f fs []

@@ -10,11 +10,12 @@ use Rattle.kernel.specs.Counting.{Spends, Done}
 use Rattle.kernel.specs.Laws.{QuietStays}
 use Rattle.kernel.specs.RunLaws.{spends_trans, spends_more}
 use Rattle.part_code.specs.image.specs.Sections.{Sections}
-use Rattle.part_code.specs.image.specs.Frames.{Inner, Words, Frame, TaskState, object_words, own_object}
+use Rattle.part_code.specs.image.specs.Frames.{Inner, Words, Frame, TaskState, object_words, own_object, Role}
 use Rattle.part_code.specs.image.specs.Steps as steps
 use Rattle.part_code.specs.image.specs.Steps.{act, behaviour, does_operation}
 use Rattle.part_code.specs.image.specs.declared.instruction.Operation.{Operation}
 use Rattle.part_code.specs.image.specs.declared.instruction.Operation.TheVariants as op
+use Rattle.part_code.specs.image.specs.declared.instruction.Region.{Region}
 use Rattle.part_code.specs.image.specs.declared.instruction.Region.TheVariants as regions
 use Rattle.part_code.specs.ada_tree.specs.StatementTree.{Null, Exit, Return}
 use Rattle.part_code.specs.types.specs.Evaluations.{Val, Gives, Raises, Meaningless}
@@ -27,12 +28,12 @@ use Rattle.step_soundness.specs.meaning.specs.Programs.{Program}
 use Rattle.step_soundness.specs.meaning.specs.SameMeaning.{frames_of}
 use Rattle.step_soundness.specs.meaning.specs.SourceSteps as source
 use Rattle.step_soundness.specs.meaning.specs.SourceSteps.{here_of, place_of, program_behaviour, with_value, work_step}
-use Rattle.step_soundness.specs.meaning.specs.Works.{Item, Does, Goes, Activation, Store, TaskWork, ends_of_calls, frames_left}
+use Rattle.step_soundness.specs.meaning.specs.Works.{Item, Does, Goes, Activation, Store, TaskWork, frames_left}
 use Rattle.step_soundness.specs.Holding.{IsSoundStep}
 use Rattle.step_soundness.specs.Laws.{Premises, StepsAreSound}
 use Rattle.step_soundness.specs.Objects.{IsException}
 use Rattle.step_soundness.specs.Opened.{opened_in}
-use Rattle.part_code.specs.expr_code.specs.Views.{At, IsSameTask, in_frame, placed, view_of}
+use Rattle.part_code.specs.expr_code.specs.Views.{At, IsSameTask, View, in_frame, placed, view_of}
 use Rattle.part_code.specs.expr_code.specs.Coming.{Comes, Throws, most_steps, size_of}
 use Rattle.part_code.specs.expr_code.specs.Computing.{Everywhere}
 use Rattle.part_code.specs.expr_code.specs.Seeing.{Package, Sees, SeesPackage, library_of}
@@ -42,7 +43,7 @@ use Rattle.part_code.specs.Resting.{Framed, HeldWord, IsAddressable, Knows, Narr
 use Rattle.part_code.specs.Handling.{GoesBy}
 use Rattle.part_code.specs.Statements.{Numbers}
 use Rattle.part_code.specs.Jumping.{Here, Jumps, There}
-use Rattle.step_simulation.specs.Standing.{AreInner, Around, Catches, CodeStands, Follows, Going, Inside, IsGoingOn, LeadsByWays, Note, with_visible, Raised, items_size, relation, work_size}
+use Rattle.step_simulation.specs.Standing.{Around, Catches, CodeStands, Follows, Going, Inside, IsGoingOn, LeadsByWays, Note, frames_in, with_visible, Raised, items_size, relation, work_size}
 use Rattle.step_simulation.specs.Laws.{HasCode, IsKnownHere}
 use Rattle.step_simulation.proofs.Going.{Drops, earlier, jumps_up, shows_then, way_back, way_out}
 use Rattle.step_simulation.proofs.Catching.{catches}
@@ -148,11 +149,8 @@ module _ (this : Scene) where
   abbrev pub In : ℕ → ℕ → Type 0
   In n place = Inside i program g numbers n place
 
-  abbrev pub Follow : Setting → (n from : ℕ) → List Item → List Frame → List Activation → Type 0
+  abbrev pub Follow : Setting → (n from : ℕ) → List Item → Role → List Frame → List Activation → Type 0
   Follow a n from items above waiting = Follows i program g numbers a n from items above waiting
-
-  abbrev pub Removable : Frame → List Frame → Type 0
-  Removable f fs = AreInner i program g numbers f fs
 
   -- ---- the step of the source is sound
 
@@ -173,14 +171,14 @@ module _ (this : Scene) where
 
   -- ---- what is seen
 
+  small_object : (o : Option ℕ) → length (object_words o m) ≤ 65536
+  small_object None = omega arith
+  small_object (Some o) = shares.objects o
+
   pub is_small : (f : Frame) → length f.locals ≤ 65536 → (fs : List Frame) → IsAddressable (view_of i schedule k t m f fs)
   is_small f small fs regions.Locals = small
   is_small f small fs regions.Plain = shares.plain
-  is_small f small fs regions.Object = of_object (own_object i f)
-    where
-      of_object : (o : Option ℕ) → length (object_words o m) ≤ 65536
-      of_object None = omega arith
-      of_object (Some o) = shares.objects o
+  is_small f small fs regions.Object = small_object (own_object i f)
 
   -- the task has the open actions, the base priority and the ceilings that the kernel knows
   same_task : (items : List Item) (f : Frame) (fs : List Frame) → IsSameTask (place_of now items) (view_of i schedule k t m f fs)
@@ -198,24 +196,37 @@ module _ (this : Scene) where
   has_room v a locals rests =
       let f : Frame = record { subprogram = 0; place = 0; locals = locals; stack = []; role = Inner } in
       let p : Place = record (place_of now []) { locals = a.locals; within = a.within } in
-      let view = view_of i schedule k t m f [] in
+      let view : View = record (view_of i schedule k t m f []) { words = words_for locals a.within } in
       (rests.sees p view
       (shares.shared p view (record { scope = refl; functions = refl; variables = refl; components = refl }) refl refl (same_task [] f []) refl refl
-      (is_small f rests.small []) (known.store.functions p)) refl refl refl).room
+      small (known.store.functions p)) refl refl refl refl).room
+    where
+      -- those of a frame of some body of the object
+      words_for : List ℤ → Option ℕ → Region → List ℤ
+      words_for locals within regions.Locals = locals
+      words_for locals within regions.Plain = m.plain
+      words_for locals within regions.Object = object_words within m
+
+      small : (r : Region) → length (words_for locals a.within r) ≤ 65536
+      small regions.Locals = rests.small
+      small regions.Plain = shares.plain
+      small regions.Object = small_object a.within
 
   pub sees_here : {held : List HeldWord} (v : Framed) (items : List Item) (f : Frame) (fs : List Frame) → RestsWith g v held w.own f.locals
-      → Knows g v (place_of now items) (view_of i schedule k t m f fs)
-  sees_here v items f fs rests =
+      → own_object i f ≡ w.own.within → Knows g v (place_of now items) (view_of i schedule k t m f fs)
+  sees_here v items f fs rests object =
       rests.rests.sees (place_of now items) (view_of i schedule k t m f fs) (sees_package items f fs rests.rests.small) refl refl refl
+      (ap (λ o. object_words o m) object)
 
   -- what code computes, the frame comes to
   pub evaluates : {A : Type 0} {held : List HeldWord} (v : Framed) (from to : ℕ) (stack : List ℤ → A → List ℤ) (value : Calls → Place
       → Val A) (items : List Item) (f : Frame) (fs : List Frame)
-      → Everywhere i (library_of g) (Sees g v.names) from to stack value → RestsWith g v held w.own f.locals → length fs ≡ ends_of_calls items
+      → Everywhere i (library_of g) (Sees g v.names) from to stack value → RestsWith g v held w.own f.locals → own_object i f ≡ w.own.within
+      → length fs ≡ frames_in items
       → Comes i schedule k t m (placed f from []) fs (to - from) to (stack []) (value (call (frames_left items)) (place_of now items))
-  evaluates v from to stack value items f fs h rests depth =
+  evaluates v from to stack value items f fs h rests object depth =
       h (call (frames_left items)) (frames_left items) (has.functions (frames_left items)) schedule k t m f fs (place_of now items) [] calm
-      (sees_here v items f fs rests).sees
+      (sees_here v items f fs rests object).sees
       (ap (λ n. FRAMES - suc n) (sym depth))
 
   -- ---- steps of code
@@ -259,10 +270,6 @@ module _ (this : Scene) where
     pub effect : y.effect ≡ x.effect
     pub code : CodeStands i program g numbers (after t x.effect k) t x.solo.task y.solo.task
     pub words : StandsFor program g x.solo.memory y.solo.memory
-
-  pub inner_placed : (f : Frame) (fs : List Frame) (place : ℕ) (stack : List ℤ) → Removable f fs → Removable (placed f place stack) fs
-  inner_placed f [] place stack h = tt
-  inner_placed f (c ∷ fs) place stack h = h
 
   -- no more steps than a frame may take, and fewer where its subprogram has code
   abbrev pub IsLow : TaskState → ℕ → Type 0
@@ -319,7 +326,8 @@ module _ (this : Scene) where
       (record { memory = store; task = w }) (record { memory = m; task = b })
       l.0 c x y is there l.1 l.2 meets.effect meets.words meets.code
 
-  pub met_quiet_on : (base : List ℤ) (f : Frame) (fs : List Frame) (n : ℕ) (c : TaskState) (x : source.SourceStepped) → work_step now w.work ≡ x → x.effect ≡ Quiet
+  pub met_quiet_on : (base : List ℤ) (f : Frame) (fs : List Frame) (n : ℕ) (c : TaskState) (x : source.SourceStepped) → work_step now w.work ≡ x
+      → x.effect ≡ Quiet
       → x.solo.memory ≡ store
       → (all : Takes (behaviour i schedule) t frames_of (most_steps i) (suc (length fs)) n k (in_frame m (placed f f.place base) fs) k
       (record { memory = m; task = c }))
@@ -345,27 +353,26 @@ module _ (this : Scene) where
       → n + n' < size_of i f.subprogram + size_of i f.subprogram
       → work_step now w.work ≡ with_value now v items go
       → items_size items < work_size w.work
-      → Removable f fs
       → Handled f fs v items from to
       → ((x : A) → v ≡ Gives x → work_step now w.work ≡ go x
       → Spends (behaviour i schedule) t frames_of (most_steps i) (suc (length fs)) (n + n') k (in_frame m (placed f f.place base) fs) k
       (in_frame m (placed f to (stack x)) fs)
       → Meet (in_frame m (placed f f.place base) fs).task)
       → Meet (in_frame m (placed f f.place base) fs).task
-  met_value_on base start f fs n from n' to stack (Gives x) items go first comes low is less inner handled last =
+  met_value_on base start f fs n from n' to stack (Gives x) items go first comes low is less handled last =
       last x refl is (spends_trans (behaviour i schedule) t frames_of (most_steps i) n' k (in_frame m (placed f to (stack x)) fs) first comes)
-  met_value_on base start f fs n from n' to stack (Raises x) items go first comes low is less inner handled last =
+  met_value_on base start f fs n from n' to stack (Raises x) items go first comes low is less handled last =
       let place = comes.1 in
       let left = comes.2 in
       let f' = placed f place left in
       let raised = source.raises now x items in
       let all = spends_takes (behaviour i schedule) t frames_of (most_steps i) (suc n') k (record { memory = m; task = comes.0 }) first comes.3 in
       let stands : (s : TaskState) → Throws i k t x s f' fs → CodeStands i program g numbers k t raised.solo.task s =
-      λ s throws. Raised x items f' fs refl throws (inner_placed f fs place left inner)
+      λ s throws. Raised x items f' fs refl throws
       (handled x place left (raises_known x items is) refl comes.4 comes.5) in
       met_quiet_on base f fs (n + suc n') comes.0 raised is refl refl all (omega (arith, low)) (λ s e. stands s (subst (λ q. Throws i k t x q f' fs)
       (sym e) comes.6)) less
-  met_value_on base start f fs n from n' to stack Meaningless items go first comes low is less inner handled last = absurd (has_meaning items is)
+  met_value_on base start f fs n from n' to stack Meaningless items go first comes low is less handled last = absurd (has_meaning items is)
 
   -- ... and is then met by the code's last instruction
   pub met_comes_on : {A : Type 0} (base start : List ℤ) (f : Frame) (fs : List Frame) (n from n' to : ℕ) (stack : A → List ℤ) (v : Val A)
@@ -376,12 +383,11 @@ module _ (this : Scene) where
       → n + n' < size_of i f.subprogram + size_of i f.subprogram
       → work_step now w.work ≡ with_value now v items go
       → items_size items < work_size w.work
-      → Removable f fs
       → Handled f fs v items from to
       → ((x : A) → v ≡ Gives x → (y : steps.Stepped) × (act i schedule k t (in_frame m (placed f to (stack x)) fs) ≡ y) × Meets (go x) y)
       → Meet (in_frame m (placed f f.place base) fs).task
-  met_comes_on base start f fs n from n' to stack v items go first comes low is less inner handled last =
-      met_value_on base start f fs n from n' to stack v items go first comes low is less inner handled
+  met_comes_on base start f fs n from n' to stack v items go first comes low is less handled last =
+      met_value_on base start f fs n from n' to stack v items go first comes low is less handled
       (λ x ev there spends.
       let y = last x ev in
       moves_from (in_frame m (placed f f.place base) fs).task ((n + n') + 1) (in_frame m (placed f to (stack x)) fs) (go x) y.0 there y.1
@@ -399,13 +405,13 @@ module _ (this : Scene) where
       → Meet (in_frame m (placed f f.place []) fs).task
   met_quiet f fs n c x = met_quiet_on [] f fs n c x
 
-  pub met_value : {A : Type 0} (f : Frame) (fs : List Frame) (n from n' to : ℕ) (stack : A → List ℤ) (v : Val A) (items : List Item) (go : A → source.SourceStepped)
+  pub met_value : {A : Type 0} (f : Frame) (fs : List Frame) (n from n' to : ℕ) (stack : A → List ℤ) (v : Val A) (items : List Item)
+      (go : A → source.SourceStepped)
       → Reaching f fs n f.place from
       → Comes i schedule k t m (placed f from []) fs n' to stack v
       → n + n' < size_of i f.subprogram + size_of i f.subprogram
       → work_step now w.work ≡ with_value now v items go
       → items_size items < work_size w.work
-      → Removable f fs
       → Handled f fs v items from to
       → ((x : A) → v ≡ Gives x → work_step now w.work ≡ go x
       → Spends (behaviour i schedule) t frames_of (most_steps i) (suc (length fs)) (n + n') k (in_frame m (placed f f.place []) fs) k
@@ -414,13 +420,13 @@ module _ (this : Scene) where
       → Meet (in_frame m (placed f f.place []) fs).task
   met_value f fs n from n' to stack v items go = met_value_on [] [] f fs n from n' to stack v items go
 
-  pub met_comes : {A : Type 0} (f : Frame) (fs : List Frame) (n from n' to : ℕ) (stack : A → List ℤ) (v : Val A) (items : List Item) (go : A → source.SourceStepped)
+  pub met_comes : {A : Type 0} (f : Frame) (fs : List Frame) (n from n' to : ℕ) (stack : A → List ℤ) (v : Val A) (items : List Item)
+      (go : A → source.SourceStepped)
       → Reaching f fs n f.place from
       → Comes i schedule k t m (placed f from []) fs n' to stack v
       → n + n' < size_of i f.subprogram + size_of i f.subprogram
       → work_step now w.work ≡ with_value now v items go
       → items_size items < work_size w.work
-      → Removable f fs
       → Handled f fs v items from to
       → ((x : A) → v ≡ Gives x → (y : steps.Stepped) × (act i schedule k t (in_frame m (placed f to (stack x)) fs) ≡ y) × Meets (go x) y)
       → Meet (in_frame m (placed f f.place []) fs).task
@@ -445,10 +451,6 @@ module _ (this : Scene) where
   abbrev pub goes_at : Frame → ℕ → List ℤ → Frame
   goes_at f place locals = record { subprogram = f.subprogram; place = place; locals = locals; stack = []; role = f.role }
 
-  pub inner_at : (f : Frame) (fs : List Frame) (place : ℕ) (locals : List ℤ) → Removable f fs → Removable (goes_at f place locals) fs
-  inner_at f [] place locals h = tt
-  inner_at f (c ∷ fs) place locals h = h
-
   module _ (s : TaskState) where
     abbrev pub f : Frame
     f = s.frame
@@ -460,27 +462,26 @@ module _ (this : Scene) where
     IsAtItems items = IsGoingOn i program g numbers items w.own w.callers s
 
     -- the same frame goes on elsewhere
-    pub goes_on : (items : List Item) (own : Activation) (a : Setting) (place : ℕ) (locals : List ℤ) → Follow a f.subprogram place items fs w.callers
+    pub goes_on : (items : List Item) (own : Activation) (a : Setting) (place : ℕ) (locals : List ℤ) → Follow a f.subprogram place items f.role fs w.callers
         → RestsWith g a.visible a.held own locals
-        → own.within ≡ None → length fs ≡ ends_of_calls items → Removable f fs
+        → own_object i f ≡ own.within → length fs ≡ frames_in items
         → IsGoingOn i program g numbers items own w.callers (record { frame = goes_at f place locals; callers = fs; raising = None })
-    goes_on items own a place locals follows rests outside depth inner =
+    goes_on items own a place locals follows rests object depth =
         record {
           around = a;
           follows = follows;
           rests = rests;
-          outside = outside;
+          object = object;
           stack = refl;
           going = refl;
           depth = depth;
-          inner = inner_at f fs place locals inner;
         }
 
     pub shown : (a b : Framed) (own : Activation) (locals : List ℤ) → Shows g a b → Rests g a own locals → Rests g b own locals
     shown a b own locals shows rests = record {
       small = rests.small;
-      sees = λ p view shared one two three. shows p view
-          (rests.sees p view shared one two three);
+      sees = λ p view shared one two three four. shows p view
+          (rests.sees p view shared one two three four);
     }
 
     pub narrowed : {held : List HeldWord} (a b : Framed) (own : Activation) (locals : List ℤ) → NarrowsFrame g a b → RestsWith g a held own locals
@@ -493,11 +494,11 @@ module _ (this : Scene) where
 
     -- what takes the exceptions of these places, where the items follow
     pub handled_by : {A : Type 0} (a : Setting) (now' : Framed) (to : ℕ) (items : List Item) (v : Val A) (from' to' : ℕ)
-        → Follow a f.subprogram to items fs w.callers
+        → Follow a f.subprogram to items f.role fs w.callers
         → GoesBy i a.raised from' to' → RestsWith g now' a.held w.own f.locals → now'.reserved ≡ a.visible.reserved → Shows g now' a.handling
-        → w.own.within ≡ None
-        → length fs ≡ ends_of_calls items → Removable f fs → Handled f fs v items from' to'
-    handled_by a now' to items v from' to' follows goes rests same shows outside depth inner = λ x place left known is low high.
+        → own_object i f ≡ w.own.within
+        → length fs ≡ frames_in items → Handled f fs v items from' to'
+    handled_by a now' to items v from' to' follows goes rests same shows object depth = λ x place left known is low high.
         catches i program g numbers has_room items a to x (placed f place left) fs w.own w.callers follows
         (record {
           known = known;
@@ -505,9 +506,8 @@ module _ (this : Scene) where
           rests = shown now' a.handling w.own f.locals shows rests.rests;
           held = rests.held;
           apart = rests.apart ∙ same;
-          outside = outside;
+          object = object;
           depth = depth;
-          inner = inner_placed f fs place left inner;
         })
 
     -- a step without a value: jumps, and one instruction
@@ -527,12 +527,12 @@ module _ (this : Scene) where
         (omega (arith, a.0, b.1, up), λ some. omega (arith, a.0, b.1, up)) meets)
 
     -- it goes on with other items at a place, and nothing else changes
-    pub goes_to : (items : List Item) (a : Setting) (place : ℕ) → Follow a f.subprogram place items fs w.callers
-        → RestsWith g a.visible a.held w.own f.locals → w.own.within ≡ None → length fs ≡ ends_of_calls items → Removable f fs
+    pub goes_to : (items : List Item) (a : Setting) (place : ℕ) → Follow a f.subprogram place items f.role fs w.callers
+        → RestsWith g a.visible a.held w.own f.locals → own_object i f ≡ w.own.within → length fs ≡ frames_in items
         → Meets (source.goes now items) (steps.does Quiet m (goes_at f place f.locals) fs None None)
-    goes_to items a place follows rests outside depth inner = record {
+    goes_to items a place follows rests object depth = record {
       effect = refl;
-      code = Going items refl (goes_on items w.own a place f.locals follows rests outside depth inner);
+      code = Going items refl (goes_on items w.own a place f.locals follows rests object depth);
       words = shares;
     }
 
@@ -566,39 +566,37 @@ module _ (this : Scene) where
               refl,
             );
             rests = h.rests;
-            outside = h.outside;
+            object = h.object;
             stack = refl;
             going = refl;
             depth = refl;
-            inner = tt;
           });
           words = shares;
         })
 
     -- the code of the next items is reached by jumps
     pub reached : (a : Setting) (from at to : ℕ) (now' : Framed) (items : List Item) → LeadsByWays i program g numbers a f.subprogram from at to now'
-        → Follow (seeing now' a) f.subprogram at items fs w.callers
-        → Follow (seeing a.visible a) f.subprogram from items fs w.callers
-    reached a from at to now' items leads follows = earlier i program g numbers items (seeing now' a) a.visible f.subprogram from at fs w.callers
+        → Follow (seeing now' a) f.subprogram at items f.role fs w.callers
+        → Follow (seeing a.visible a) f.subprogram from items f.role fs w.callers
+    reached a from at to now' items leads follows = earlier i program g numbers items (seeing now' a) a.visible f.subprogram from at f.role fs w.callers
         leads.jumps leads.narrows leads.from_inside follows
 
     -- nothing but what is left to do changes
     pub met_items : (x : source.SourceStepped) (items : List Item) → work_step now w.work ≡ source.goes now items → suc (items_size items) < work_size w.work
         → s.frame.stack ≡ [] → s.raising ≡ None
-        → (a : Setting) → Follow a f.subprogram f.place items fs w.callers → RestsWith g a.visible a.held w.own f.locals → w.own.within ≡ None
-        → length fs ≡ ends_of_calls items
-        → Removable f fs → Meet s
-    met_items x items is less stack going a follows rests outside depth inner =
+        → (a : Setting) → Follow a f.subprogram f.place items f.role fs w.callers → RestsWith g a.visible a.held w.own f.locals → own_object i f ≡ w.own.within
+        → length fs ≡ frames_in items
+        → Meet s
+    met_items x items is less stack going a follows rests object depth =
         met_still s (source.goes now items) is refl refl
         (Going items refl (record {
           around = a;
           follows = follows;
           rests = rests;
-          outside = outside;
+          object = object;
           stack = stack;
           going = going;
           depth = depth;
-          inner = inner;
         })) less
 
     pub met_null : (place : ℕ) (items : List Item) → w.work ≡ Goes (Does (Null place) ∷ items) → (h : IsAtItems (Does (Null place) ∷ items)) → Meet s
@@ -607,8 +605,8 @@ module _ (this : Scene) where
         met_items (source.goes now items) items (ap (λ q. work_step now q) is) (subst (λ q. suc (items_size items) < work_size q) (sym is) (omega arith))
         h.stack h.going
         (seeing h.around.visible h.around)
-        (reached h.around f.place r.0 r.1 r.2 items r.3 (subst (λ q. Follow (seeing r.2 h.around) f.subprogram q items fs w.callers) (sym r.4) r.5))
-        h.rests h.outside h.depth h.inner
+        (reached h.around f.place r.0 r.1 r.2 items r.3 (subst (λ q. Follow (seeing r.2 h.around) f.subprogram q items f.role fs w.callers) (sym r.4) r.5))
+        h.rests h.object h.depth
 
     -- ---- ways out
 
@@ -627,7 +625,7 @@ module _ (this : Scene) where
         let leads = r.3 in
         let code = r.4 in
         let e = code.0 in
-        let out = way_out i program g numbers items (seeing r.2 h.around) f.subprogram r.1 e fs w.callers r.5 code.1 in
+        let out = way_out i program g numbers items (seeing r.2 h.around) f.subprogram r.1 e f.role fs w.callers r.5 code.1 in
         let x = leads.from_inside in
         let y = leads.to_inside in
         let up = jumps_up i program g numbers f.place r.0 leads.jumps in
@@ -636,8 +634,8 @@ module _ (this : Scene) where
         (ap (λ q. work_step now q) is) h.stack h.going
         leads.jumps x (omega (arith, x.0, up), omega (arith, y.1, end)) code.2 refl
         (goes_to (source.behind_loop items) out.outer e out.follows
-        (way_rests h.around out.outer r.2 h.around.behind h.rests leads.narrows leads.reaches.0 out.visible out.drops) h.outside
-        (h.depth ∙ sym out.ends) h.inner)
+        (way_rests h.around out.outer r.2 h.around.behind h.rests leads.narrows leads.reaches.0 out.visible out.drops) h.object
+        (h.depth ∙ sym out.ends))
 
     pub met_return : (place : ℕ) (items : List Item) → w.work ≡ Goes (Does (Return place None) ∷ items) → (h : IsAtItems (Does (Return place None) ∷ items))
         → Meet s
@@ -646,7 +644,7 @@ module _ (this : Scene) where
         let leads = r.3 in
         let code = r.4 in
         let e = code.0 in
-        let out = way_back i program g numbers items (seeing r.2 h.around) f.subprogram r.1 e fs w.callers r.5 code.1 in
+        let out = way_back i program g numbers items (seeing r.2 h.around) f.subprogram r.1 e f.role fs w.callers r.5 code.1 in
         let x = leads.from_inside in
         let y = leads.to_inside in
         let up = jumps_up i program g numbers f.place r.0 leads.jumps in
@@ -655,5 +653,5 @@ module _ (this : Scene) where
         (ap (λ q. work_step now q) is) h.stack h.going
         leads.jumps x (omega (arith, x.0, up), omega (arith, y.1, end)) code.2 refl
         (goes_to (source.end_of_body items) out.end e out.follows
-        (way_rests h.around out.end r.2 h.around.ending h.rests leads.narrows leads.reaches.1 out.visible out.drops) h.outside
-        (h.depth ∙ sym out.ends) h.inner)
+        (way_rests h.around out.end r.2 h.around.ending h.rests leads.narrows leads.reaches.1 out.visible out.drops) h.object
+        (h.depth ∙ sym out.ends))

@@ -2,7 +2,7 @@
 use Rattle.std.proofs.Common.{◌≡◌, ℕ, suc, ◌<◌, ◌≤◌, List, ◌∷◌, map, refl, sym, ap, ◌∙◌, subst, arith}
 use Rattle.std.specs.Prelude.{◌++◌}
 use Rattle.part_code.specs.image.specs.Sections.{Sections}
-use Rattle.part_code.specs.image.specs.Frames.{Frame, TaskState}
+use Rattle.part_code.specs.image.specs.Frames.{Frame, TaskState, Role}
 use Rattle.part_code.specs.ada_tree.specs.StatementTree.{DeclarationTree, Block, StmtTrees, HandlerTrees, NoHandlers, MoreHandlers}
 use Rattle.step_soundness.specs.meaning.specs.Programs.{Program}
 use Rattle.step_soundness.specs.meaning.specs.SourceSteps as source
@@ -49,8 +49,8 @@ module _ (this : Scene) where
   abbrev In : ℕ → ℕ → Type 0
   In n place = scene.In this n place
 
-  abbrev Follow : Setting → (n from : ℕ) → List Item → List Frame → List Activation → Type 0
-  Follow a n from items above waiting = scene.Follow this a n from items above waiting
+  abbrev Follow : Setting → (n from : ℕ) → List Item → Role → List Frame → List Activation → Type 0
+  Follow a n from items role above waiting = scene.Follow this a n from items role above waiting
 
   module _ (s : TaskState) where
     abbrev f : Frame
@@ -67,14 +67,14 @@ module _ (this : Scene) where
     met_handles hs items is h =
         scene.met_items this s (source.goes now items) items (ap (λ q. work_step now q) is) (subst (λ q. suc (items_size items) < work_size q) (sym is)
         (omega arith))
-        h.stack h.going (behind hs h.follows).0 (behind hs h.follows).1 (behind hs h.follows).2 h.outside h.depth h.inner
+        h.stack h.going (behind hs h.follows).0 (behind hs h.follows).1 (behind hs h.follows).2 h.object h.depth
       where
-        behind : (hs : HandlerTrees) → Follow h.around f.subprogram f.place (Handles hs ∷ items) fs w.callers
-            → (a : Setting) × Follow a f.subprogram f.place items fs w.callers × RestsWith g a.visible a.held w.own f.locals
+        behind : (hs : HandlerTrees) → Follow h.around f.subprogram f.place (Handles hs ∷ items) f.role fs w.callers
+            → (a : Setting) × Follow a f.subprogram f.place items f.role fs w.callers × RestsWith g a.visible a.held w.own f.locals
         behind NoHandlers r = (h.around, r, h.rests)
         behind (MoreHandlers choices body rest) r = (
           seeing h.around.visible r.2,
-          earlier i program g numbers items r.2 h.around.visible f.subprogram f.place r.1 fs w.callers r.3.jumps r.3.narrows r.3.from_inside r.5,
+          earlier i program g numbers items r.2 h.around.visible f.subprogram f.place r.1 f.role fs w.callers r.3.jumps r.3.narrows r.3.from_inside r.5,
           subst (λ q. RestsWith g h.around.visible q w.own f.locals) (ap (λ q. q.held) r.3.sequence) h.rests,
         )
 
@@ -87,25 +87,25 @@ module _ (this : Scene) where
         scene.met_items this s (source.goes now items) items (ap (λ q. work_step now q) is) (subst (λ q. suc (items_size items) < work_size q) (sym is)
         (omega arith))
         h.stack h.going (seeing outer.visible outer)
-        (earlier i program g numbers items outer outer.visible f.subprogram f.place r.0 fs w.callers last.jumps
+        (earlier i program g numbers items outer outer.visible f.subprogram f.place r.0 f.role fs w.callers last.jumps
         (narrows_same g outer.visible) last.from_inside r.4)
         (record {
           rests = scene.shown this s h.around.visible outer.visible w.own f.locals last.shows h.rests.rests;
           held = drops.held f.locals h.rests.held;
           apart = drops.apart h.rests.apart;
         })
-        h.outside h.depth h.inner
+        h.object h.depth
 
     -- a sequence begins
     begins : (body : StmtTrees) (hs : HandlerTrees) (items : List Item) (a : Setting) (now' : Framed) (at to : ℕ)
         → IsSequence i program g numbers now' a.ways a.raised at to body hs → at ≤ to → In f.subprogram at → In f.subprogram to
-        → ReachesWays i program g numbers a now' → Follow (seeing now' a) f.subprogram to items fs w.callers
-        → (b : Setting) × (b.visible ≡ now') × (b.held ≡ a.held) × Follow b f.subprogram at (source.before body (Handles hs ∷ items)) fs w.callers
+        → ReachesWays i program g numbers a now' → Follow (seeing now' a) f.subprogram to items f.role fs w.callers
+        → (b : Setting) × (b.visible ≡ now') × (b.held ≡ a.held) × Follow b f.subprogram at (source.before body (Handles hs ∷ items)) f.role fs w.callers
     begins body NoHandlers items a now' at to code le x y reach rest = (
       seeing now' a,
       refl,
       refl,
-      before_follows i program g numbers body a now' f.subprogram at to (Handles NoHandlers ∷ items) fs w.callers code le x y reach rest,
+      before_follows i program g numbers body a now' f.subprogram at to (Handles NoHandlers ∷ items) f.role fs w.callers code le x y reach rest,
     )
     begins body (MoreHandlers choices own others) items a now' at to code le x y reach rest =
         let mid = code.0 in
@@ -118,7 +118,7 @@ module _ (this : Scene) where
           refl,
           refl,
           before_follows i program g numbers body b now' f.subprogram at mid (Handles
-              (MoreHandlers choices own others) ∷ items) fs w.callers code.4 one x mid_in
+              (MoreHandlers choices own others) ∷ items) f.role fs w.callers code.4 one x mid_in
               (reach.0, reach.1, (narrows_same g now').shows) (
                 suc mid,
                 to,
@@ -153,10 +153,10 @@ module _ (this : Scene) where
         scene.met_items this s (source.goes now all) all (ap (λ q. work_step now q) is)
         (subst (λ q. suc (items_size all) < work_size q) (sym is) (omega (arith, e))) h.stack h.going
         (seeing h.around.visible b)
-        (earlier i program g numbers all b h.around.visible f.subprogram f.place r.0 fs w.callers leads.jumps
+        (earlier i program g numbers all b h.around.visible f.subprogram f.place r.0 f.role fs w.callers leads.jumps
         (subst (λ q. NarrowsFrame g h.around.visible q) (sym inner.1) leads.narrows) x inner.3)
-        (subst (λ q. RestsWith g h.around.visible q w.own f.locals) (sym inner.2) h.rests) h.outside
-        (h.depth ∙ sym (before_ends i program g numbers body (Handles hs ∷ items))) h.inner
+        (subst (λ q. RestsWith g h.around.visible q w.own f.locals) (sym inner.2) h.rests) h.object
+        (h.depth ∙ sym (before_ends i program g numbers body (Handles hs ∷ items)))
 
     pub met_block : (place : ℕ) (ds : List DeclarationTree) (body : StmtTrees) (hs : HandlerTrees) (items : List Item)
         → w.work ≡ Goes (Does (Block place ds body hs) ∷ items)
@@ -178,7 +178,7 @@ module _ (this : Scene) where
         (subst (λ q. suc (items_size (map Declares ds ++ all)) < work_size q) (sym is) (omega (arith, e))) h.stack h.going
         (seeing h.around.visible h.around)
         (scene.reached this s h.around f.place r.0 r.1 r.2 (map Declares ds ++ all) leads
-        (declares_follow i program g numbers ds h.around r.2 code.1 f.subprogram r.0 code.0 all fs w.callers code.4 code.6 one at_in mid_in leads.reaches
+        (declares_follow i program g numbers ds h.around r.2 code.1 f.subprogram r.0 code.0 all f.role fs w.callers code.4 code.6 one at_in mid_in leads.reaches
         (λ nar. (
           code.0,
           r.1,
@@ -196,6 +196,6 @@ module _ (this : Scene) where
             to_inside = y;
           }),
           code.5,
-          earlier i program g numbers items (seeing r.2 h.around) code.1 f.subprogram r.1 r.1 fs w.callers Here nar y r.5,
+          earlier i program g numbers items (seeing r.2 h.around) code.1 f.subprogram r.1 r.1 f.role fs w.callers Here nar y r.5,
         ))))
-        h.rests h.outside (h.depth ∙ sym (declares_end i program g numbers ds all)) h.inner
+        h.rests h.object (h.depth ∙ sym (declares_end i program g numbers ds all))

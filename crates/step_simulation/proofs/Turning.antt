@@ -9,7 +9,7 @@ use Rattle.kernel.specs.Calm.{Calm}
 use Rattle.kernel.specs.Laws.{QuietStays}
 use Rattle.kernel.specs.RunLaws.{spends_trans}
 use Rattle.part_code.specs.image.specs.Sections.{Sections}
-use Rattle.part_code.specs.image.specs.Frames.{Words, Frame, TaskState}
+use Rattle.part_code.specs.image.specs.Frames.{Words, Frame, TaskState, Role, own_object}
 use Rattle.part_code.specs.image.specs.Steps as steps
 use Rattle.part_code.specs.image.specs.Steps.{act, behaviour, caught, does_operation, removed, unwind}
 use Rattle.part_code.specs.image.specs.declared.instruction.Operation.{Operation}
@@ -28,7 +28,7 @@ use Rattle.step_soundness.specs.meaning.specs.Targets.{activation_with, store_wi
 use Rattle.step_soundness.specs.meaning.specs.SameMeaning.{frames_of}
 use Rattle.step_soundness.specs.meaning.specs.SourceSteps as source
 use Rattle.step_soundness.specs.meaning.specs.SourceSteps.{here_of, place_of, program_behaviour, with_value, work_step}
-use Rattle.step_soundness.specs.meaning.specs.Works.{Item, Declares, DeclaresParameter, Does, Repeats, RepeatsWhile, Goes, Activation, Home, InActivation, InObject, InPackage, Store, Target, TaskWork, ends_of_calls, frames_left}
+use Rattle.step_soundness.specs.meaning.specs.Works.{Item, Declares, DeclaresParameter, Does, Repeats, RepeatsWhile, Goes, Activation, Home, InActivation, InObject, InPackage, Store, Target, TaskWork, frames_left}
 use Rattle.part_code.specs.expr_code.specs.Views.{At, in_frame, placed}
 use Rattle.part_code.specs.expr_code.specs.Coming.{Comes, most_steps, on, size_of}
 use Rattle.part_code.specs.expr_code.specs.Seeing.{Package}
@@ -40,12 +40,13 @@ use Rattle.part_code.specs.Handling.{GoesBy}
 use Rattle.part_code.specs.Storing.{Arrives, Assigned, Assigns, Puts, assigned, assigned_to, declared, declared_from, object_declared}
 use Rattle.part_code.specs.Statements.{AreStatements, IsOtherwise, IsPutCode, IsWhile, Numbers, within_loop}
 use Rattle.part_code.specs.Jumping.{Here, Jumps, There}
-use Rattle.step_simulation.specs.Standing.{Going, LeadsByWays, LeadsInto, ReachesWays, in_loop, items_size, work_size}
+use Rattle.step_simulation.specs.Standing.{Going, LeadsByWays, LeadsInto, ReachesWays, frames_in, in_loop, items_size, work_size}
 use Rattle.step_simulation.proofs.Going.{before_ends, before_follows, earlier, into, jumps_up, narrows_same, way_out}
 use Rattle.step_simulation.proofs.Sizes.{item_counts}
 use Rattle.part_code.proofs.Handling.{goes_within}
 use Rattle.part_code.proofs.StoringCode.{same_given}
 use Rattle.part_code.proofs.Arriving.{by_evaluation, stores_assign}
+use Rattle.step_simulation.proofs.Copying.{same_within}
 use Rattle.step_simulation.proofs.Scenes.{Scene}
 use Rattle.step_simulation.proofs.Scenes as scene
 
@@ -107,11 +108,8 @@ module _ (this : Scene) where
   abbrev In : ℕ → ℕ → Type 0
   In n place = scene.In this n place
 
-  abbrev Follow : Setting → (n from : ℕ) → List Item → List Frame → List Activation → Type 0
-  Follow a n from items above waiting = scene.Follow this a n from items above waiting
-
-  abbrev Removable : Frame → List Frame → Type 0
-  Removable above fs = scene.Removable this above fs
+  abbrev Follow : Setting → (n from : ℕ) → List Item → Role → List Frame → List Activation → Type 0
+  Follow a n from items role above waiting = scene.Follow this a n from items role above waiting
 
   abbrev Reaching : Frame → List Frame → (n from to : ℕ) → Type 0
   Reaching above fs n from to = scene.Reaching this above fs n from to
@@ -134,12 +132,12 @@ module _ (this : Scene) where
 
     -- what takes the exceptions of these places of a statement
     pub handled_at : {A : Type 0} {i' : Item} (items : List Item) (v : Val A) (h : IsAtItems (i' ∷ items)) (now' : Framed) (at to end : ℕ)
-        → ends_of_calls (i' ∷ items) ≡ ends_of_calls items
-        → LeadsByWays i program g numbers h.around f.subprogram f.place at to now' → Follow (seeing now' h.around) f.subprogram to items fs w.callers
+        → frames_in (i' ∷ items) ≡ frames_in items
+        → LeadsByWays i program g numbers h.around f.subprogram f.place at to now' → Follow (seeing now' h.around) f.subprogram to items f.role fs w.callers
         → GoesBy i h.around.raised at to → end ≤ to → Handled v items at end
     handled_at items v h now' at to end ends leads rest goes le =
         scene.handled_by this s (seeing now' h.around) now' to items v at end rest (goes_within i h.around.raised at at end to goes (omega arith) le)
-        (scene.narrowed this s h.around.visible now' w.own f.locals leads.narrows h.rests) refl leads.reaches.2 h.outside (h.depth ∙ ends) h.inner
+        (scene.narrowed this s h.around.visible now' w.own f.locals leads.narrows h.rests) refl leads.reaches.2 h.object (h.depth ∙ ends)
 
     -- ---- conditions
 
@@ -159,7 +157,7 @@ module _ (this : Scene) where
         → work_step now w.work ≡ with_value now (source.condition now items e) items
         (λ holds. source.goes now (if holds then (if jumps_on then when_jumps else when_not) else (if jumps_on then when_not else when_jumps)))
         → items_size items < work_size w.work
-        → Removable f fs → Handled (source.condition now items e) items from mid
+        → Handled (source.condition now items e) items from mid
         → Reaching f fs n f.place from
         → Comes i schedule k t m (placed f from []) fs (mid - from) mid (on []) (source.evaluate now items e)
         → n + (mid - from) < size_of i f.subprogram + size_of i f.subprogram
@@ -169,11 +167,11 @@ module _ (this : Scene) where
         → Meets (source.goes now when_jumps) (steps.does Quiet m (goes_at f target f.locals) fs None None)
         → Meets (source.goes now when_not) (steps.does Quiet m (goes_at f (mid + 1) f.locals) fs None None)
         → Meet s
-    met_test o jumps_on items when_jumps when_not stack going v from mid n target e is less inner handled first comes low here there at_target at_next =
+    met_test o jumps_on items when_jumps when_not stack going v from mid n target e is less handled first comes low here there at_target at_next =
         subst Meet (sym (scene.going_is this s stack going))
         (scene.met_comes this f fs n from (mid - from) mid (λ b. word_of b ∷ []) (source.condition now items e) items
         (λ holds. source.goes now (if holds then (if jumps_on then when_jumps else when_not) else (if jumps_on then when_not else when_jumps)))
-        first (holds_comes from mid (mid - from) (source.evaluate now items e) comes) low is less inner handled
+        first (holds_comes from mid (mid - from) (source.evaluate now items e) comes) low is less handled
         (λ b eb. (
           steps.does Quiet m (goes_at f (if b then (if jumps_on then target else mid + 1) else (if jumps_on then mid + 1 else target)) f.locals) fs None None,
           acts quiet i mid o here schedule k t m f fs (word_of b ∷ []) ∙ there b,
@@ -211,7 +209,7 @@ module _ (this : Scene) where
         let mid = code.1 in
         let le = code.3 in
         let end = code.6 in
-        let out = way_out i program g numbers items (seeing r.2 h.around) f.subprogram r.1 target fs w.callers r.5 code.2 in
+        let out = way_out i program g numbers items (seeing r.2 h.around) f.subprogram r.1 target f.role fs w.callers r.5 code.2 in
         let x = leads.from_inside in
         let y = leads.to_inside in
         let up = jumps_up i program g numbers f.place r.0 leads.jumps in
@@ -219,30 +217,31 @@ module _ (this : Scene) where
         let next : r.1 ≡ mid + 1 = omega (arith, end) in
         met_test (op.JumpIfNotZero target) true items (source.behind_loop items) items h.stack h.going r.2 r.0 mid (r.0 - f.place) target e
         (ap (λ q. work_step now q) is)
-        (subst (λ q. items_size items < work_size q) (sym is) (let c = item_counts (Does (Exit place (Some e))) items in omega (arith, c))) h.inner
+        (subst (λ q. items_size items < work_size q) (sym is) (let c = item_counts (Does (Exit place (Some e))) items in omega (arith, c)))
         (handled_at items (source.condition now items e) h r.2 r.0 r.1 mid refl leads r.5 r.4.1 (omega (arith, end)))
         (scene.jumps_spend this f fs f.place r.0 leads.jumps) (scene.evaluates this r.2 r.0 mid on (λ calls p. value_with calls p e) items f fs code.4 rests
-        h.depth)
+        h.object h.depth)
         (omega (arith, x.0, y.1, up, le, end)) code.5 (on_one mid target)
         (scene.goes_to this s (source.behind_loop items) out.outer target out.follows
-        (scene.way_rests this s h.around out.outer r.2 h.around.behind h.rests leads.narrows leads.reaches.0 out.visible out.drops) h.outside
-        (h.depth ∙ sym out.ends) h.inner)
-        (scene.goes_to this s items (seeing r.2 h.around) (mid + 1) (subst (λ q. Follow (seeing r.2 h.around) f.subprogram q items fs w.callers) next r.5)
-        rests h.outside h.depth h.inner)
+        (scene.way_rests this s h.around out.outer r.2 h.around.behind h.rests leads.narrows leads.reaches.0 out.visible out.drops) h.object
+        (h.depth ∙ sym out.ends))
+        (scene.goes_to this s items (seeing r.2 h.around) (mid + 1) (subst (λ q. Follow (seeing r.2 h.around) f.subprogram q items f.role fs w.callers) next r.5)
+        rests h.object h.depth)
 
     -- the parts of an `if` behind its first statements
     pub otherwise_follows : (place : ℕ) (elsifs : ElsifTrees) (others : StmtTrees) (a : Setting) (now' : Framed) (from to : ℕ) (items : List Item)
-        → IsOtherwise i program g numbers now' a.ways a.raised from to elsifs (λ x y. AreStatements i program g numbers now' a.ways a.raised x y others) → from ≤ to
+        → IsOtherwise i program g numbers now' a.ways a.raised from to elsifs (λ x y. AreStatements i program g numbers now' a.ways a.raised x y others)
+        → from ≤ to
         → In f.subprogram from → In f.subprogram to → ReachesWays i program g numbers a now'
-        → Follow (seeing now' a) f.subprogram to items fs w.callers
-        → Follow (seeing now' a) f.subprogram from (source.otherwise place elsifs others items) fs w.callers
+        → Follow (seeing now' a) f.subprogram to items f.role fs w.callers
+        → Follow (seeing now' a) f.subprogram from (source.otherwise place elsifs others items) f.role fs w.callers
     otherwise_follows place NoElsifs others a now' from to items code le x y reach rest = before_follows i program g numbers others a now' f.subprogram from
-        to items fs w.callers code le x y reach rest
+        to items f.role fs w.callers code le x y reach rest
     otherwise_follows place (MoreElsifs e body more) others a now' from to items code le x y reach rest =
         (from, to, now', (record { jumps = Here; narrows = narrows_same g now'; reaches = reach; from_inside = x; up = le; to_inside = y }), code, rest)
 
     pub otherwise_ends : (place : ℕ) (elsifs : ElsifTrees) (others : StmtTrees) (items : List Item)
-        → ends_of_calls (source.otherwise place elsifs others items) ≡ ends_of_calls items
+        → frames_in (source.otherwise place elsifs others items) ≡ frames_in items
     otherwise_ends place NoElsifs others items = before_ends i program g numbers others items
     otherwise_ends place (MoreElsifs e body more) others items = refl
 
@@ -271,19 +270,20 @@ module _ (this : Scene) where
         (r.0 - f.place) (suc joint) e
         (ap (λ q. work_step now q) is)
         (subst (λ q. items_size items < work_size q) (sym is) (let c = item_counts (Does (If place e body elsifs others)) items in omega (arith, c)))
-        h.inner (scene.handled_by this s a r.2 r.1 items (source.condition now items e) r.0 mid r.5 code.10 rests refl leads.reaches.2 h.outside h.depth h.inner)
+        (scene.handled_by this s a r.2 r.1 items (source.condition now items e) r.0 mid r.5 code.10 rests refl leads.reaches.2 h.object h.depth)
         (scene.jumps_spend this f fs f.place r.0 leads.jumps) (scene.evaluates this r.2 r.0 mid on (λ calls p. value_with calls p e) items f fs code.5 rests
-        h.depth)
+        h.object h.depth)
         (omega (arith, x.0, y.1, up, le, between, above)) code.6 (on_zero mid (suc joint))
         (scene.goes_to this s (source.otherwise place elsifs others items) a (suc joint)
-        (otherwise_follows place elsifs others h.around r.2 (suc joint) r.1 items code.9 above else_in y leads.reaches r.5) rests h.outside
-        (h.depth ∙ sym (otherwise_ends place elsifs others items)) h.inner)
+        (otherwise_follows place elsifs others h.around r.2 (suc joint) r.1 items code.9 above else_in y leads.reaches r.5) rests h.object
+        (h.depth ∙ sym (otherwise_ends place elsifs others items)))
         (scene.goes_to this s (source.before body items) a (mid + 1)
-        (before_follows i program g numbers body h.around r.2 f.subprogram (mid + 1) joint items fs w.callers
-        (subst (λ q. AreStatements i program g numbers r.2 h.around.ways h.around.raised q joint body) one code.7) (omega (arith, between)) then_in joint_in leads.reaches
-        (earlier i program g numbers items a r.2 f.subprogram joint r.1 fs w.callers (There code.8 above Here) (narrows_same g r.2) joint_in r.5)) rests
-        h.outside
-        (h.depth ∙ sym (before_ends i program g numbers body items)) h.inner)
+        (before_follows i program g numbers body h.around r.2 f.subprogram (mid + 1) joint items f.role fs w.callers
+        (subst (λ q. AreStatements i program g numbers r.2 h.around.ways h.around.raised q joint body) one code.7) (omega (arith, between)) then_in joint_in
+        leads.reaches
+        (earlier i program g numbers items a r.2 f.subprogram joint r.1 f.role fs w.callers (There code.8 above Here) (narrows_same g r.2) joint_in r.5)) rests
+        h.object
+        (h.depth ∙ sym (before_ends i program g numbers body items)))
 
     -- ---- loops
 
@@ -311,7 +311,7 @@ module _ (this : Scene) where
         (ap (λ q. work_step now q) is) h.stack h.going
         leads.jumps x (omega (arith, x.0, up), omega (arith, y.1, le, end)) code.2 refl
         (scene.goes_to this s all inner (at + 2)
-        (before_follows i program g numbers body inner r.2 f.subprogram (at + 2) back (Repeats body ∷ items) fs w.callers code.4 le turn_in back_in
+        (before_follows i program g numbers body inner r.2 f.subprogram (at + 2) back (Repeats body ∷ items) f.role fs w.callers code.4 le turn_in back_in
         ((narrows_same g r.2).shows, leads.reaches.1, leads.reaches.2) (
           at,
           r.1,
@@ -333,7 +333,7 @@ module _ (this : Scene) where
           code,
           r.5,
         ))
-        rests h.outside (h.depth ∙ sym (before_ends i program g numbers body (Repeats body ∷ items))) h.inner)
+        rests h.object (h.depth ∙ sym (before_ends i program g numbers body (Repeats body ∷ items))))
 
     -- a loop holds the same words as what is around it
     turned : (v : Framed) (one other : List HeldWord) → one ≡ other → RestsWith g v one w.own f.locals → RestsWith g v other w.own f.locals
@@ -364,7 +364,7 @@ module _ (this : Scene) where
         (ap (λ q. work_step now q) is) h.stack h.going
         leads.jumps x (omega (arith, x.0, up), omega (arith, y.1, there)) leads.jump refl
         (scene.goes_to this s all inner (head + 2)
-        (before_follows i program g numbers body inner outer.visible f.subprogram (head + 2) last (Repeats body ∷ items) fs w.callers code.4 le turn_in
+        (before_follows i program g numbers body inner outer.visible f.subprogram (head + 2) last (Repeats body ∷ items) f.role fs w.callers code.4 le turn_in
         back_in ((narrows_same g outer.visible).shows, leads.reaches, leads.handles) (
           head,
           r.1,
@@ -386,7 +386,7 @@ module _ (this : Scene) where
           code,
           r.5,
         ))
-        rests h.outside (h.depth ∙ sym (before_ends i program g numbers body (Repeats body ∷ items))) h.inner)
+        rests h.object (h.depth ∙ sym (before_ends i program g numbers body (Repeats body ∷ items))))
 
     -- a loop whose condition is evaluated
     pub met_turn : (i' : Item) (e : ExprTree) (body : StmtTrees) (items : List Item) → w.work ≡ Goes (i' ∷ items)
@@ -397,17 +397,16 @@ module _ (this : Scene) where
         (λ exit x y. AreStatements i program g numbers outer.visible (within_loop exit outer.ways) outer.raised x y body))
         → Shows g outer.visible outer.ending
         → Shows g outer.visible outer.handling
-        → Follow outer f.subprogram to items fs w.callers
+        → Follow outer f.subprogram to items f.role fs w.callers
         → RestsWith g outer.visible outer.held w.own f.locals
-        → w.own.within ≡ None
-        → length fs ≡ ends_of_calls items
-        → Removable f fs
+        → own_object i f ≡ w.own.within
+        → length fs ≡ frames_in items
         → In f.subprogram head
         → In f.subprogram to
         → Reaching f fs n f.place (head + 2)
         → n + (code.0 - (head + 2)) < size_of i f.subprogram + size_of i f.subprogram
         → Meet s
-    met_turn i' e body items is same stack going head to n outer code reaches handles rest rests outside depth inner z y first low =
+    met_turn i' e body items is same stack going head to n outer code reaches handles rest rests object depth z y first low =
         let mid = code.0 in
         let back = code.1 in
         let le = code.2 in
@@ -420,13 +419,14 @@ module _ (this : Scene) where
         let back_in : In f.subprogram back = (omega (arith, z.0, le, between), omega (arith, y.1, end)) in
         met_test (op.JumpIfZero to) false items items all stack going outer.visible (head + 2) mid n to e
         (ap (λ q. work_step now q) is ∙ same)
-        (subst (λ q. items_size items < work_size q) (sym is) (let c = item_counts i' items in omega (arith, c))) inner
-        (scene.handled_by this s outer outer.visible to items (source.condition now items e) (head + 2) mid rest code.11 rests refl handles outside depth inner) first
-        (scene.evaluates this outer.visible (head + 2) mid on (λ calls p. value_with calls p e) items f fs code.6 rests depth) low code.7 (on_zero mid to)
-        (scene.goes_to this s items outer to rest rests outside depth inner)
+        (subst (λ q. items_size items < work_size q) (sym is) (let c = item_counts i' items in omega (arith, c)))
+        (scene.handled_by this s outer outer.visible to items (source.condition now items e) (head + 2) mid rest code.11 rests refl handles object depth) first
+        (scene.evaluates this outer.visible (head + 2) mid on (λ calls p. value_with calls p e) items f fs code.6 rests object depth) low code.7 (on_zero mid to)
+        (scene.goes_to this s items outer to rest rests object depth)
         (scene.goes_to this s all loop (mid + 1)
-        (before_follows i program g numbers body loop outer.visible f.subprogram (mid + 1) back (RepeatsWhile e body ∷ items) fs w.callers
-        (subst (λ q. AreStatements i program g numbers outer.visible (within_loop (head + 1) outer.ways) outer.raised q back body) one code.8) (omega (arith, between))
+        (before_follows i program g numbers body loop outer.visible f.subprogram (mid + 1) back (RepeatsWhile e body ∷ items) f.role fs w.callers
+        (subst (λ q. AreStatements i program g numbers outer.visible (within_loop (head + 1) outer.ways) outer.raised q back body) one code.8)
+        (omega (arith, between))
         turn_in back_in ((narrows_same g outer.visible).shows, reaches, handles) (
           head,
           to,
@@ -448,7 +448,7 @@ module _ (this : Scene) where
           code,
           rest,
         ))
-        rests outside (depth ∙ sym (before_ends i program g numbers body (RepeatsWhile e body ∷ items))) inner)
+        rests object (depth ∙ sym (before_ends i program g numbers body (RepeatsWhile e body ∷ items))))
 
     -- jumps, and one more jump to the condition of a loop
     pub reaches_head : (at head : ℕ) → Jumps i f.place at → At i at (op.Jump (head + 2))
@@ -476,7 +476,7 @@ module _ (this : Scene) where
         let head_in : In f.subprogram at = (omega (arith, x.0, up), omega (arith, y.1, le, between, end)) in
         met_turn (Does (Loop place (While e) body)) e body items is refl h.stack h.going at r.1 ((at - f.place) + 1) (seeing r.2 h.around) code
         leads.reaches.1 leads.reaches.2 r.5
-        (scene.narrowed this s h.around.visible r.2 w.own f.locals leads.narrows h.rests) h.outside h.depth h.inner head_in y
+        (scene.narrowed this s h.around.visible r.2 w.own f.locals leads.narrows h.rests) h.object h.depth head_in y
         (reaches_head at at leads.jumps code.4)
         (omega (arith, x.0, y.1, up, le, between, end))
 
@@ -497,7 +497,7 @@ module _ (this : Scene) where
         let up = jumps_up i program g numbers f.place leads.back leads.jumps in
         met_turn (RepeatsWhile e body) e body items is refl h.stack h.going r.0 r.1 ((leads.back - f.place) + 1) r.2 code leads.reaches leads.handles r.5
         (turned r.2.visible h.around.held r.2.held (ap (λ q. q.held) leads.loop)
-        (scene.narrowed this s h.around.visible r.2.visible w.own f.locals leads.narrows h.rests)) h.outside h.depth h.inner z y
+        (scene.narrowed this s h.around.visible r.2.visible w.own f.locals leads.narrows h.rests)) h.object h.depth z y
         (reaches_head leads.back r.0 leads.jumps leads.jump)
         (omega (arith, x.0, y.1, z.0, up, le, between, end, there))
 
@@ -507,10 +507,9 @@ module _ (this : Scene) where
     stored_meets : (items : List Item) (now' later : Framed) (mid to : ℕ) (store' : Store) (own' : Activation) (a : Setting) (stack : List ℤ)
         → Jumps i (suc mid) to → In f.subprogram (suc mid) → later.reserved ≡ now'.reserved
         → RestsWith g now' a.held w.own f.locals
-        → Follow (seeing later a) f.subprogram to items fs w.callers
-        → own'.within ≡ None
-        → length fs ≡ ends_of_calls items
-        → Removable f fs
+        → Follow (seeing later a) f.subprogram to items f.role fs w.callers
+        → own_object i f ≡ own'.within
+        → length fs ≡ frames_in items
         → Puts i program g schedule k t m f fs mid stack [] later store' own'
         → (y : steps.Stepped) × (act i schedule k t (in_frame m (placed f mid stack) fs) ≡ y)
         × Meets
@@ -519,7 +518,7 @@ module _ (this : Scene) where
           solo = record { memory = store'; task = record { work = Goes items; own = own'; callers = w.callers } };
           given = None;
         }) y
-    stored_meets items now' later mid to store' own' a stack jumps inside same here rest outside depth inner put =
+    stored_meets items now' later mid to store' own' a stack jumps inside same here rest object depth put =
         let kept : RestsWith g later a.held own' put.locals =
         record {
           rests = put.rests;
@@ -532,8 +531,8 @@ module _ (this : Scene) where
             effect = refl;
             code = Going items refl
                 (scene.goes_on this s items own' (seeing later a) (suc mid) put.locals
-                (earlier i program g numbers items (seeing later a) later f.subprogram (suc mid) to fs w.callers jumps (narrows_same g later) inside rest)
-                kept outside depth inner);
+                (earlier i program g numbers items (seeing later a) later f.subprogram (suc mid) to f.role fs w.callers jumps (narrows_same g later) inside rest)
+                kept object depth);
             words = put.shared;
           },
         )
@@ -543,7 +542,6 @@ module _ (this : Scene) where
         (own_after : A → Activation) (u : Val A)
         → work_step now w.work ≡ with_value now u items go
         → items_size items < work_size w.work
-        → Removable f fs
         → Handled u items from to
         → Reaching f fs n f.place from
         → n + (to - from) < size_of i f.subprogram + size_of i f.subprogram
@@ -552,22 +550,22 @@ module _ (this : Scene) where
         → (y : steps.Stepped) × (act i schedule k t (in_frame m (placed f mid stack) fs) ≡ y) × Meets (go z) y)
         → Arrives i program g schedule k t m f fs from to later store_after' own_after u
         → Meet (in_frame m (placed f f.place []) fs).task
-    met_arrived {A} items go n from to later store_after' own_after u is less inner handled first low meets h =
+    met_arrived {A} items go n from to later store_after' own_after u is less handled first low meets h =
         by_evaluation (Arrives i program g schedule k t m f fs from to later store_after' own_after) (Meet (in_frame m (placed f f.place []) fs).task) u
         (λ z e it.
         let up = it.2 in
         let over = it.3 in
         scene.met_comes this f fs n from (it.0 - from) it.0 (λ y. it.1) (Gives z) items go first it.5 (lower n from it.0 to _ up over low)
-        (is ∙ ap (λ q. with_value now q items go) e) less inner
+        (is ∙ ap (λ q. with_value now q items go) e) less
         (λ x place left known ex low' high. absurd cc)
         (λ x ex. meets x it.0 it.1 up over it.4
         (subst (λ y. Puts i program g schedule k t m f fs it.0 it.1 [] later (store_after' y) (own_after y)) (same_given z x ex) it.6)))
         (λ x e it.
         scene.met_comes this f fs n from (to - from) to (λ (y : A). []) (Raises x) items go first it low (is ∙ ap (λ q. with_value now q items go) e) less
-        inner (λ y place left known ey low' high. handled y place left known (e ∙ ey) low' high) (λ y ey. cc))
+        (λ y place left known ey low' high. handled y place left known (e ∙ ey) low' high) (λ y ey. cc))
         (λ e it.
         scene.met_comes this f fs n from (to - from) to (λ (y : A). []) Meaningless items go first tt low (is ∙ ap (λ q. with_value now q items go) e) less
-        inner (λ x place left known ex low' high. absurd cc) (λ y ey. cc))
+        (λ x place left known ex low' high. absurd cc) (λ y ey. cc))
         h
       where
         lower : (n from mid to most : ℕ) → from ≤ mid → suc mid ≤ to → n + (to - from) < most → n + (mid - from) < most
@@ -588,20 +586,20 @@ module _ (this : Scene) where
         → (a : Setting) (now' : Framed)
         → LeadsInto i program g numbers a.visible f.subprogram f.place at to now'
         → Assigns i program g now' later at to value store_after' own_after
-        → Follow (seeing later a) f.subprogram to items fs w.callers
+        → Follow (seeing later a) f.subprogram to items f.role fs w.callers
         → RestsWith g a.visible a.held w.own f.locals
-        → w.own.within ≡ None
-        → ((x : A) → (own_after x w.own).within ≡ None)
-        → length fs ≡ ends_of_calls items
-        → Removable f fs
+        → own_object i f ≡ w.own.within
+        → ((x : A) → (own_after x w.own).within ≡ w.own.within)
+        → length fs ≡ frames_in items
         → Handled (value (call (frames_left items)) (place_of now items)) items at to
         → Meet s
-    met_assigns i' items is stack going v later at to value store_after' own_after same a now' leads code rest rests before outside depth inner handled =
+    met_assigns i' items is stack going v later at to value store_after' own_after same a now' leads code rest rests object stays depth handled =
         let le = leads.up in
         let x = leads.from_inside in
         let y = leads.to_inside in
         let up = jumps_up i program g numbers f.place at leads.jumps in
         let here = scene.narrowed this s a.visible now' w.own f.locals leads.narrows rests in
+        let knows = scene.sees_here this now' items f fs here object in
         subst Meet (sym (scene.going_is this s stack going))
         (met_arrived items
         (λ z. record {
@@ -610,14 +608,14 @@ module _ (this : Scene) where
           given = None;
         }) (at - f.place) at to later (λ z. store_after' z store) (λ z. own_after z w.own)
         (value (call (frames_left items)) (place_of now items)) (ap (λ q. work_step now q) is ∙ same)
-        (subst (λ q. items_size items < work_size q) (sym is) (let h = item_counts i' items in omega (arith, h))) inner handled
+        (subst (λ q. items_size items < work_size q) (sym is) (let h = item_counts i' items in omega (arith, h))) handled
         (scene.jumps_spend this f fs f.place at leads.jumps) (omega (arith, x.0, y.1, up, le))
         (λ z mid left low high jumps put.
         stored_meets items now' later mid to (store_after' z store) (own_after z w.own) a left jumps
-        (omega (arith, x.0, up, low), omega (arith, y.1, high)) code.same here rest (outside z) depth inner put)
+        (omega (arith, x.0, up, low), omega (arith, y.1, high)) code.same here rest (object ∙ sym (stays z)) depth put)
         (code.arrives schedule k t m f fs store w.own (place_of now items) this.has.functions calm
         (record { scope = refl; functions = refl; variables = refl; components = refl }) refl refl shares here.rests
-        (scene.sees_here this now' items f fs here) before (ap (λ n. FRAMES - suc n) (sym depth))))
+        object knows (ap (λ n. FRAMES - suc n) (sym depth))))
 
     -- an `out` parameter
     pub met_parameter : (p : Parameter) (items : List Item) → w.work ≡ Goes (DeclaresParameter p ∷ items) → (h : IsAtItems (DeclaresParameter p ∷ items))
@@ -626,7 +624,7 @@ module _ (this : Scene) where
         let r = h.follows in
         met_assigns (DeclaresParameter p) items is h.stack h.going r.2 r.3 r.0 r.1 (λ calls q. Gives (initial program.scope p.subtype)) (λ x m. m)
         (λ x a. record a { locals = record { name = p.name; subtype = p.subtype; value = x } ∷ a.locals })
-        refl h.around r.2 r.4 (stores_assign i program g r.6) r.7 h.rests h.outside (λ x. h.outside) h.depth h.inner (λ x place left known e low high. absurd cc)
+        refl h.around r.2 r.4 (stores_assign i program g r.6) r.7 h.rests h.object (λ x. refl) h.depth (λ x place left known e low high. absurd cc)
 
     pub met_declares : (d : ObjectTree) (items : List Item) → w.work ≡ Goes (Declares (LocalObject d) ∷ items)
         → (h : IsAtItems (Declares (LocalObject d) ∷ items)) → Meet s
@@ -634,10 +632,11 @@ module _ (this : Scene) where
         let r = h.follows in
         met_assigns (Declares (LocalObject d)) items is h.stack h.going r.2 r.3 r.0 r.1 (declared program.scope d) (λ x m. m)
         (λ x a. record a { locals = object_declared program.scope d x ∷ a.locals })
-        (by_value d d.value) h.around r.2 (into i program g numbers h.around f.subprogram f.place r.0 r.1 r.2 r.4) (stores_assign i program g r.6) r.7 h.rests h.outside
-        (λ x. h.outside) h.depth h.inner
+        (by_value d d.value) h.around r.2 (into i program g numbers h.around f.subprogram f.place r.0 r.1 r.2 r.4) (stores_assign i program g r.6) r.7 h.rests
+        h.object
+        (λ x. refl) h.depth
         (scene.handled_by this s (seeing r.3 h.around) r.2 r.1 items (declared program.scope d (call (frames_left items)) (place_of now items)) r.0 r.1 r.7 r.8
-        (scene.narrowed this s h.around.visible r.2 w.own f.locals r.4.narrows h.rests) (sym r.5.reserved) r.4.reaches.2 h.outside h.depth h.inner)
+        (scene.narrowed this s h.around.visible r.2 w.own f.locals r.4.narrows h.rests) (sym r.5.reserved) r.4.reaches.2 h.object h.depth)
       where
         by_value : (d : ObjectTree) (e : Option ExprTree)
             → with_value now (source.declared_value now items d e) items (λ v. source.with_object now (object_declared program.scope d v) items)
@@ -660,8 +659,9 @@ module _ (this : Scene) where
         let r = h.follows in
         met_assigns (Does (Assignment name e)) items is h.stack h.going r.2 r.2 r.0 r.1 (assigned name e) (λ x m. store_with x.target x.value m)
         (λ x a. activation_with x.target x.value a)
-        (by_target (target (place_of now items) name.first.name name.selectors)) h.around r.2 (into i program g numbers h.around f.subprogram f.place r.0 r.1 r.2 r.3) r.4.0 r.5 h.rests
-        h.outside (λ x. same_object x.target x.value w.own ∙ h.outside) h.depth h.inner
+        (by_target (target (place_of now items) name.first.name name.selectors)) h.around r.2
+        (into i program g numbers h.around f.subprogram f.place r.0 r.1 r.2 r.3) r.4.0 r.5 h.rests
+        h.object (λ x. same_within x.target x.value w.own) h.depth
         (handled_at items (assigned name e (call (frames_left items)) (place_of now items)) h r.2 r.0 r.1 r.1 refl r.3 r.5 r.4.1 (omega arith))
       where
         go : Assigned → source.SourceStepped
@@ -689,16 +689,6 @@ module _ (this : Scene) where
         by_target (Gives x) = by_value x (and_then (source.evaluate now items e) (passed x.subtype))
         by_target (Raises y) = refl
         by_target Meaningless = refl
-
-        same_object : (x : Target) (v : Value) (a : Activation) → (activation_with x v a).within ≡ a.within
-        same_object x v a = of_home x.home
-          where
-            of_home : (home : Home)
-                → (let y : Activation = elim home [ InActivation ↦ record a { locals = stored_in a.locals x v } | InPackage ↦ a | InObject o ↦ a ] in
-                y).within ≡ a.within
-            of_home InActivation = refl
-            of_home InPackage = refl
-            of_home (InObject o) = refl
 
     -- ---- numbers, of lines and of delays
 
@@ -750,11 +740,11 @@ module _ (this : Scene) where
         (λ z. source.works now (Says label z) (Goes items))
         (scene.jumps_spend this f fs f.place r.0 leads.jumps)
         (number_comes (source.evaluate now items e) r.0 mid (scene.evaluates this r.2 r.0 mid on (λ calls p. value_with calls p e) items f fs code.3 rests
-        h.depth))
+        h.object h.depth))
         (omega (arith, x.0, y.1, up, le, end))
         (ap (λ q. work_step now q) is ∙ same ∙ by_number (source.evaluate now items e) items (source.put_line now label items)
         (λ z. source.works now (Says label z) (Goes items)) line_numbers)
-        (subst (λ q. items_size items < work_size q) (sym is) (let c = item_counts (Does (tree.Call name)) items in omega (arith, c))) h.inner
+        (subst (λ q. items_size items < work_size q) (sym is) (let c = item_counts (Does (tree.Call name)) items in omega (arith, c)))
         (handled_at items (and_then (source.evaluate now items e) number_of_value) h r.2 r.0 r.1 mid refl leads r.5 r.4.1 (omega (arith, end)))
         (λ z ez. (
           steps.does (Says label z) m (goes_at f r.1 f.locals) fs None None,
@@ -762,7 +752,7 @@ module _ (this : Scene) where
               (λ j. steps.does (Says (named j) z) m (goes_at f (next j) f.locals) fs None None),
           record {
             effect = refl;
-            code = Going items refl (scene.goes_on this s items w.own (seeing r.2 h.around) r.1 f.locals r.5 rests h.outside h.depth h.inner);
+            code = Going items refl (scene.goes_on this s items w.own (seeing r.2 h.around) r.1 f.locals r.5 rests h.object h.depth);
             words = shares;
           },
         )))

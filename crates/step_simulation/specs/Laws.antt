@@ -5,8 +5,9 @@ use Rattle.kernel.specs.State.{Kernel}
 use Rattle.kernel.specs.Calm.{Calm}
 use Rattle.part_code.specs.image.specs.Sections.{Sections}
 use Rattle.part_code.specs.image.specs.Frames.{TaskState, Words}
-use Rattle.part_code.specs.image.specs.Steps.{behaviour}
+use Rattle.part_code.specs.image.specs.Steps.{behaviour, is_open}
 use Rattle.part_code.specs.types.specs.Evaluating.{call}
+use Rattle.step_soundness.specs.meaning.specs.Calls as calls
 use Rattle.step_soundness.specs.meaning.specs.Meeting.{Met}
 use Rattle.step_soundness.specs.meaning.specs.Programs.{Program, program_partition}
 use Rattle.step_soundness.specs.meaning.specs.SameMeaning.{frames_of}
@@ -22,12 +23,14 @@ use Rattle.part_code.specs.Resting.{StandsFor}
 use Rattle.part_code.specs.Statements.{HasProcedures, Numbers}
 use Rattle.step_simulation.specs.Standing.{CodeStands, Note, relation}
 
--- an image that has the exceptions of a program, the predefined ones among them, and the code of its functions and procedures
+-- An image that has the exceptions of a program, the predefined ones among them, and the code of its functions and procedures; and whose barriers are open
+-- where those of the program are, whatever store and words are, as where no protected object has an entry (RM 9.5.2).
 pub record HasCode (i : Sections) (program : Program) (g : Package) (numbers : Numbers) : Type 0 where
   pub exceptions : i.exceptions ≡ program.exceptions
   pub predefined : 4 ≤ length program.exceptions
   pub functions : (left : ℕ) → Answers i (library_of g) (call left) left
   pub procedures : HasProcedures i program g numbers
+  pub barriers : (m : Store) (words : Words) (o : ℕ) → calls.is_open program m o ≡ is_open i words o
 
 -- What is known of task t, which is to take a step, in each world of a program's run: the store and the task's work break no rule, the task waits in no entry
 -- call, and the kernel knows the protected actions that its items will end, and the program's priorities and ceilings.

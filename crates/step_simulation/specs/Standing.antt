@@ -5,16 +5,16 @@ use Rattle.part_code.specs.ada_tree.specs.StatementTree.{NoHandlers, MoreHandler
 use Rattle.part_code.specs.base.specs.declared.schedule.ScheduleLine.{ScheduleLine}
 use Rattle.part_code.specs.handlers.specs.Innermost.{handler_of}
 use Rattle.kernel.specs.State.{Kernel, Outcome}
-use Rattle.kernel.specs.Effects.{Quiet, after}
+use Rattle.kernel.specs.Effects.{Ends, Quiet, after}
 use Rattle.part_code.specs.image.specs.Sections.{Sections, first_place}
 use Rattle.part_code.specs.image.specs.Operations.{called, results_of}
-use Rattle.part_code.specs.image.specs.Frames.{Inner, Frame, TaskState, Words}
+use Rattle.part_code.specs.image.specs.Frames.{Inner, Opened, Role, Frame, TaskState, Words, own_object}
 use Rattle.part_code.specs.image.specs.Steps as steps
 use Rattle.part_code.specs.image.specs.declared.instruction.Operation.TheVariants as op
 use Rattle.part_code.specs.types.specs.Values.{Value}
 use Rattle.step_soundness.specs.meaning.specs.Meeting.{Relation}
 use Rattle.step_soundness.specs.meaning.specs.Programs.{Program}
-use Rattle.step_soundness.specs.meaning.specs.Works.{Item, Declares, DeclaresParameter, Sequence, Does, DoesMain, Repeats, RepeatsWhile, RepeatsFor, Handles, EndsHandler, EndsCall, EndsServed, Work, Goes, Copies, Raising, Activation, GivenToCaller, Store, Target, TaskWork, ends_of_calls}
+use Rattle.step_soundness.specs.meaning.specs.Works.{Item, Declares, DeclaresParameter, Sequence, Does, DoesMain, Repeats, RepeatsWhile, RepeatsFor, Handles, EndsHandler, EndsCall, EndsAction, EndsServed, Completion, Completed, Pending, Work, Goes, Copies, Raising, Activation, GivenToCaller, Store, Target, TaskWork, ends_of_calls}
 use Rattle.step_soundness.specs.meaning.specs.SourceSteps.{before, handler_for}
 use Rattle.part_code.specs.expr_code.specs.Views.{At, placed}
 use Rattle.part_code.specs.expr_code.specs.Coming.{Throws, size_of}
@@ -33,6 +33,7 @@ abbrev item_size : Item → ℕ
 item_size (Declares d) = 4 * declaration_size d
 item_size (Sequence body hs) = 4 * stmts_size body + 2
 item_size (Does s) = 4 * stmt_size s
+item_size (EndsCall names opened xs) = 3
 item_size i = 1
 
 abbrev pub items_size : List Item → ℕ
@@ -43,6 +44,15 @@ abbrev pub work_size : Work → ℕ
 work_size (Goes items) = suc (items_size items)
 work_size (Copies vs xs items) = suc (suc (items_size items))
 work_size (Raising x items) = items_size items
+
+-- how many frames stand below that of a task which has still to do these items
+abbrev pub frames_in : List Item → ℕ
+frames_in items = ends_of_calls items
+
+-- the role of the frame of a call, which has opened an action of this object, or none
+abbrev pub role_of : (opened : Option ℕ) → Role
+role_of None = Inner
+role_of (Some o) = Opened o
 
 -- the addresses that each task has passed in the entry call in which it waits
 abbrev pub Note : Type 0
@@ -188,109 +198,116 @@ module _ (i : Sections) (program : Program) (g : Package) (numbers : Numbers) wh
 
   -- the frame and the activation that wait for the end of the call, and go on behind it
   pub record WaitsFor (outer : Around) (c : Frame) (o : Activation) : Type 0 where
-    pub outside : o.within ≡ None
+    pub object : own_object i c ≡ o.within
     pub rests : RestsWith g outer.visible outer.held o c.locals
     pub stack : c.stack ≡ []
     pub here : Inside c.subprogram c.place
     pub next : Inside c.subprogram (suc c.place)
     pub handles : Shows g outer.visible outer.handling
 
-  -- The code at a place of the subprogram goes on with the items, above these frames and activations.
-  abbrev pub Follows : Around → (n from : ℕ) → List Item → List Frame → List Activation → Type 0
-  Follows a n from [] fs os =
+  -- The code at a place of the subprogram goes on with the items, in a frame with this role, above these frames and activations.
+  abbrev pub Follows : Around → (n from : ℕ) → List Item → Role → List Frame → List Activation → Type 0
+  Follows a n from [] role fs os =
       LeadsOut a n from × ((ret : ℕ) → a.ways.return ≡ Some ret → (a.visible.reserved ≡ a.ending.reserved) × LeadsOut a n ret) × (fs ≡ [])
-  Follows a n from (Declares d ∷ items) fs os =
+  Follows a n from (Declares d ∷ items) role fs os =
       (at : ℕ) × (to : ℕ) × (now : Framed) × (later : Framed) × LeadsByWays a n from at to now × NarrowsFrame g later now
       × IsDeclared i program g numbers now at to later d
-      × Follows (with_visible later a) n to items fs os
+      × Follows (with_visible later a) n to items role fs os
       × GoesBy i a.raised at to
-  Follows a n from (DeclaresParameter f ∷ items) fs os =
+  Follows a n from (DeclaresParameter f ∷ items) role fs os =
       (at : ℕ) × (to : ℕ) × (now : Framed) × (later : Framed) × LeadsInto a.visible n from at to now × NarrowsFrame g later now
       × IsParameterDeclared i program g numbers now at to later f
-      × Follows (with_visible later a) n to items fs os
-  Follows a n from (Sequence body hs ∷ items) fs os =
+      × Follows (with_visible later a) n to items role fs os
+  Follows a n from (Sequence body hs ∷ items) role fs os =
       (at : ℕ) × (to : ℕ) × (now : Framed) × LeadsByWays a n from at to now
       × IsSequence i program g numbers now a.ways a.raised at to body hs
-      × Follows (with_visible now a) n to items fs os
-  Follows a n from (Does s ∷ items) fs os =
+      × Follows (with_visible now a) n to items role fs os
+  Follows a n from (Does s ∷ items) role fs os =
       (at : ℕ) × (to : ℕ) × (now : Framed) × LeadsByWays a n from at to now
       × IsStatement i program g numbers now a.ways a.raised at to s
-      × Follows (with_visible now a) n to items fs os
-  Follows a n from (DoesMain s ∷ items) fs os =
+      × Follows (with_visible now a) n to items role fs os
+  Follows a n from (DoesMain s ∷ items) role fs os =
       (at : ℕ) × (to : ℕ) × (now : Framed) × LeadsByWays a n from at to now
       × IsMainStatementCode i program g numbers at to s
-      × Follows (with_visible now a) n to items fs os
+      × Follows (with_visible now a) n to items role fs os
       × GoesBy i a.raised at to
-  Follows a n from (Handles NoHandlers ∷ items) fs os = Follows a n from items fs os
-  Follows a n from (Handles (MoreHandlers choices body rest) ∷ items) fs os =
+  Follows a n from (Handles NoHandlers ∷ items) role fs os = Follows a n from items role fs os
+  Follows a n from (Handles (MoreHandlers choices body rest) ∷ items) role fs os =
       (at : ℕ) × (to : ℕ) × (outer : Around) × LeadsOver a n from at to outer
       × AreHandlers i program g numbers outer.visible outer.ways outer.raised a.raised at to (MoreHandlers choices body rest)
-      × Follows outer n to items fs os
-  Follows a n from (EndsHandler x ∷ items) fs os =
-      (to : ℕ) × (word : ℕ) × (outer : Around) × LeadsBehind a n from to word x outer × Follows outer n to items fs os
-  Follows a n from (Repeats body ∷ items) fs os =
+      × Follows outer n to items role fs os
+  Follows a n from (EndsHandler x ∷ items) role fs os =
+      (to : ℕ) × (word : ℕ) × (outer : Around) × LeadsBehind a n from to word x outer × Follows outer n to items role fs os
+  Follows a n from (Repeats body ∷ items) role fs os =
       (head : ℕ) × (to : ℕ) × (outer : Around) × LeadsBack a n from head to outer
       × IsForever i program g numbers head to (λ exit x y. AreStatements i program g numbers outer.visible (within_loop exit outer.ways) outer.raised x y body)
-      × Follows outer n to items fs os
-  Follows a n from (RepeatsWhile e body ∷ items) fs os =
+      × Follows outer n to items role fs os
+  Follows a n from (RepeatsWhile e body ∷ items) role fs os =
       (head : ℕ) × (to : ℕ) × (outer : Around) × LeadsBack a n from head to outer
       × IsWhile i program g numbers outer.visible outer.raised head to e
       (λ exit x y. AreStatements i program g numbers outer.visible (within_loop exit outer.ways) outer.raised x y body)
-      × Follows outer n to items fs os
-  Follows a n from (RepeatsFor parameter reversed now last body ∷ items) fs os =
+      × Follows outer n to items role fs os
+  Follows a n from (RepeatsFor parameter reversed now last body ∷ items) role fs os =
       (head : ℕ) × (to : ℕ) × (outer : Around) × (c : IsCounted i g outer.visible head to parameter reversed)
       × LeadsNext a n from head to c.back c.counter c.limit now last c.inner outer
       × AreStatements i program g numbers c.inner (within_loop (head + 1) outer.ways) outer.raised c.start c.back body
-      × Follows outer n to items fs os
+      × Follows outer n to items role fs os
       × GoesBy i outer.raised c.back to
-  Follows a n from (EndsCall names opened xs ∷ items) fs os =
+  Follows a n from (EndsCall names opened xs ∷ items) role fs os =
       (ret : ℕ) × (c : Frame) × (below : List Frame) × (o : Activation) × (older : List Activation) × (outer : Around) × (ds : List Destination) × (to : ℕ)
-      × (opened ≡ None)
+      × (role ≡ role_of opened)
       × LeadsEnd a n from a.visible names (addresses_of outer.visible.names xs)
       × (a.ways.return ≡ Some ret) × (a.visible.reserved ≡ a.ending.reserved)
       × LeadsEnd a n ret a.ending names (addresses_of outer.visible.names xs)
       × (fs ≡ c ∷ below) × (os ≡ o ∷ older) × WaitsFor outer c o
-      × (length ds ≡ length names) × ArePlaced outer.visible.names ds xs
+      × (length ds ≡ length names) × ArePlaced outer.visible ds xs
       × (suc c.place ≤ to) × Inside c.subprogram to × AreCopies i program g outer.visible (suc c.place) to ds
-      × Follows outer c.subprogram to items below older
+      × Follows outer c.subprogram to items c.role below older
       × GoesBy i outer.raised c.place to
-  Follows a n from (i ∷ items) fs os = ⊥
+  Follows a n from (i ∷ items) role fs os = ⊥
 
-  -- frames that an exception removes one by one
-  abbrev pub AreInner : Frame → List Frame → Type 0
-  AreInner f [] = Unit {0}
-  AreInner f (c ∷ fs) = (f.role ≡ Inner) × AreInner c fs
+  -- from which places of which subprogram code goes on with what is left to do, around these names
+  abbrev pub Places : Type 1
+  Places = Around → (n from : ℕ) → Type 0
 
-  pub record IsGoingOn (items : List Item) (own : Activation) (os : List Activation) (s : TaskState) : Type 0 where
+  abbrev pub FollowsIn : List Item → Role → List Frame → List Activation → Places
+  FollowsIn items role fs os = λ a n from. Follows a n from items role fs os
+
+  -- The frame goes on with the items at its place.
+  pub record GoesOnBy (goes_on : Places) (items : List Item) (own : Activation) (s : TaskState) : Type 0 where
     pub around : Around
-    pub follows : Follows around s.frame.subprogram s.frame.place items s.callers os
+    pub follows : goes_on around s.frame.subprogram s.frame.place
     pub rests : RestsWith g around.visible around.held own s.frame.locals
-    pub outside : own.within ≡ None
+    pub object : own_object i s.frame ≡ own.within
     pub stack : s.frame.stack ≡ []
     pub going : s.raising ≡ None
-    pub depth : length s.callers ≡ ends_of_calls items
-    pub inner : AreInner s.frame s.callers
+    pub depth : length s.callers ≡ frames_in items
+
+  abbrev pub IsGoingOn : List Item → (own : Activation) → List Activation → TaskState → Type 0
+  IsGoingOn items own os s = GoesOnBy (FollowsIn items s.frame.role s.callers os) items own s
 
   -- The results of a call stand on the operand stack, each above its address; the code stores them, and goes on with the items.
-  pub record IsCopying (vs : List Value) (xs : List Target) (items : List Item) (own : Activation) (os : List Activation) (s : TaskState) : Type 0 where
+  pub record CopiesBy (goes_on : Places) (vs : List Value) (xs : List Target) (items : List Item) (own : Activation) (s : TaskState) : Type 0 where
     pub around : Around
     pub destinations : List Destination
     pub to : ℕ
-    pub placed : ArePlaced around.visible.names destinations xs
+    pub placed : ArePlaced around.visible destinations xs
     pub many : length vs ≡ length xs
     pub up : s.frame.place ≤ to
     pub copies : AreCopies i program g around.visible s.frame.place to destinations
     pub from_inside : Inside s.frame.subprogram s.frame.place
     pub to_inside : Inside s.frame.subprogram to
-    pub follows : Follows around s.frame.subprogram to items s.callers os
+    pub follows : goes_on around s.frame.subprogram to
     pub rests : RestsWith g around.visible around.held own s.frame.locals
-    pub outside : own.within ≡ None
+    pub object : own_object i s.frame ≡ own.within
     pub stack : s.frame.stack ≡ copies_on vs (addresses_of around.visible.names xs) []
     pub going : s.raising ≡ None
-    pub depth : length s.callers ≡ ends_of_calls items
-    pub inner : AreInner s.frame s.callers
+    pub depth : length s.callers ≡ frames_in items
     pub goes : GoesBy i around.raised s.frame.place to
     pub handles : Shows g around.visible around.handling
+
+  abbrev pub IsCopying : List Value → List Target → List Item → (own : Activation) → List Activation → TaskState → Type 0
+  IsCopying vs xs items own os s = CopiesBy (FollowsIn items s.frame.role s.callers os) vs xs items own s
 
   -- The frame has come to a handler with the exception on its operand stack; its next instruction keeps it, and then the code goes on with the items.
   pub record IsCatching (items : List Item) (own : Activation) (os : List Activation) (s : TaskState) : Type 0 where
@@ -320,10 +337,22 @@ module _ (i : Sections) (program : Program) (g : Package) (numbers : Numbers) wh
   Catches x f fs own os (Handles hs ∷ items) = CaughtIf x f fs own os items (handler_for program x hs) (Catches x f fs own os items)
   Catches x f fs own os (EndsCall names opened xs ∷ items) =
       (c : Frame) × (below : List Frame) × (o : Activation) × (older : List Activation)
-      × (opened ≡ None) × (handler_of i.rows f.place x ≡ None) × (fs ≡ c ∷ below) × (os ≡ o ∷ older)
+      × (f.role ≡ role_of opened) × (handler_of i.rows f.place x ≡ None) × (fs ≡ c ∷ below) × (os ≡ o ∷ older)
       × Catches x c below o older items
   Catches x f fs own os (EndsServed o names completion ∷ items) = ⊥
   Catches x f fs own os (i ∷ items) = Catches x f fs own os items
+
+  -- Once the action has ended that a call opened: the results are copied back, or the exception goes on in the frame that called.
+  abbrev pub IsCompleted : Completion → List Item → (own : Activation) → List Activation → TaskState → Type 0
+  IsCompleted (Completed vs xs) items own os s = IsCopying vs xs items own os s
+  IsCompleted (Pending x) items own os s = (s.raising ≡ Some x) × Catches x s.frame s.callers own os items
+
+  -- The next step of task t ends the action of this object, whatever the words are, and leaves this state: in each kernel in which the task has the same
+  -- actions open, and priorities and ceilings are the same.
+  pub record EndsItsAction (k : Kernel) (t o : ℕ) (s next : TaskState) : Type 0 where
+    pub ends : (schedule : List ScheduleLine) (l : Kernel) (m : Words) → l.actions t ≡ k.actions t → l.partition ≡ k.partition
+        → steps.act i schedule l t (record { memory = m; task = s })
+        ≡ steps.does (Ends (steps.is_open i m o)) m next.frame next.callers next.raising None
 
   -- what the state of task t stands for in a kernel
   pub data CodeStands (k : Kernel) (t : ℕ) (w : TaskWork) (s : TaskState) : Type 0 where
@@ -331,8 +360,12 @@ module _ (i : Sections) (program : Program) (g : Package) (numbers : Numbers) wh
     Copying : (vs : List Value) (xs : List Target) (items : List Item) → w.work ≡ Copies vs xs items → IsCopying vs xs items w.own w.callers s
         → CodeStands k t w s
     Catching : (items : List Item) → w.work ≡ Goes items → IsCatching items w.own w.callers s → CodeStands k t w s
-    Raised : (x : ℕ) (items : List Item) (f : Frame) (fs : List Frame) → w.work ≡ Raising x items → Throws i k t x s f fs → AreInner f fs
+    Raised : (x : ℕ) (items : List Item) (f : Frame) (fs : List Frame) → w.work ≡ Raising x items → Throws i k t x s f fs
         → Catches x f fs w.own w.callers items
+        → CodeStands k t w s
+    -- the body of a call has ended that opened an action, or an exception has left it: its frame is still there, until the action ends
+    Closing : (o : ℕ) (done : Completion) (items : List Item) (next : TaskState) → w.work ≡ Goes (EndsAction o done ∷ items) → EndsItsAction k t o s next
+        → IsCompleted done items w.own w.callers next
         → CodeStands k t w s
     Over : (o : Outcome) → k.outcome ≡ Some o → CodeStands k t w s
 

@@ -14,6 +14,7 @@ loop-destination-preserved c =
     let all = c.args.destinations.now in (
       copies_next v c.agreement_is_kept.ensures c.values_have_words.ensures c.quiet_stays.ensures c.args.code.now c.loop-destination.code c.add_copy.new.code all
           c.loop-destination.destination-index _ c.loop-destination.height c.in_ok-height-2.height c.loop-destination-test.true
+          (All-get_or (IsPartFit v) all c.loop-destination.destination-index _ c.loop-destination-test.true c.requires.fits).there
           c.loop-destination.invariant.0 c.in_ok-height-2.ensures.adds,
       left_next v c.loop-destination.code c.add_copy.new.code all c.loop-destination.destination-index _ c.loop-destination.height
           c.in_ok-height-2.height (total (copied_width v.scope) all) c.loop-destination-test.true c.loop-destination.invariant.1

@@ -1,11 +1,11 @@
-use Rattle.std.proofs.Common.{◌≡◌, ◌+◌, ◌∙◌, arith, rules, suc, sym}
-use Rattle.part_code.proofs.AssignmentsRefused.{none_stored_at}
-use Rattle.part_code.proofs.TargetsRefused.{checked_few, copy_block_refused, copy_check_refused, copy_plain_refused, copy_unstored}
+use Rattle.std.proofs.Common.{◌≡◌, ◌+◌, arith, rules, subst, suc}
+use Rattle.expr_code.specs.Code.{Adds}
+use Rattle.part_code.proofs.TargetsRefused.{checked_few, copy_block_refused, copy_check_refused, copy_plain_refused}
 use Rattle.part_code.proofs.call.add_copy.Goals as goal
 
 pub returns-clause-adds : goal.returns-clause-adds
 returns-clause-adds c =
-    let high : c.args.depth ≡ c.in-Some-checked_sub.rest + suc c.in_ok-words.words = search rules in
+    let high : c.args.depth ≡ c.in-Some.rest + suc c.in_ok-words.words = search rules in
     record {
       words = c.in_ok-words.words;
       words_are = c.in_ok-words.ensures.words;
@@ -13,9 +13,7 @@ returns-clause-adds c =
       high = high;
       checked = c.add_check.new.code;
       checks = c.in_ok-add_check.ensures.adds;
-      operation = c.in-Some.store;
-      stored = sym c.in-Some.ensures;
-      stores = c.in_ok-emit.ensures.adds;
+      stores = subst (λ o. Adds c.add_check.new.code c.args.depth o c.emit.new.self) c.stored_at-store.ensures c.in_ok-emit.ensures.adds;
     }
 
 pub returns-in_err-words-clause-refused : goal.returns-in_err-words-clause-refused
@@ -23,11 +21,6 @@ returns-in_err-words-clause-refused c =
     let whole = copy_block_refused c.args.visible.now c.args.depth c.args.destination c.args.code.now c.in_err-words.field-0.0 c.requires.fits
     c.in_err-words.ensures.refused in
     search (rules, whole)
-
-pub returns-in_default-clause-refused : goal.returns-in_default-clause-refused
-returns-in_default-clause-refused c =
-    copy_unstored c.args.visible.now c.args.depth c.args.destination
-    (none_stored_at c.args.destination.region c.in_ok-words.words (sym c.stored_at.ensures ∙ c.in_default.is))
 
 pub returns-in_err-raised-clause-refused : goal.returns-in_err-raised-clause-refused
 returns-in_err-raised-clause-refused c =

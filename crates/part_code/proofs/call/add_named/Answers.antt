@@ -1,4 +1,4 @@
-use Rattle.std.proofs.Common.{◌≡◌, ◌+◌, ◌∙◌, inr, rules, subst}
+use Rattle.std.proofs.Common.{◌≡◌, ◌+◌, ◌∙◌, inr, refl, rules, subst}
 use Rattle.std.specs.Prelude.{Some}
 use Rattle.ada_tree.specs.ExpressionTree.{name_tree, selector_trees}
 use Rattle.types.specs.declared.standing.Standing.TheVariants as standing
@@ -41,7 +41,10 @@ returns-clause-fits c =
     let t = c.in-Part.whole in
     let stands : stands_first v.scope (number_of v.scope name.first.name) ≡ standing.Part c.in-Part.field-0 t = search rules in
     let there : slot_of v name.first.name ≡ Some c.in-Some.slot = search rules in
-    λ u. unfit_whole v c.args.depth name.first name.selectors c.in-Some.slot c.in-Part.field-0 t stands there (inr (c.in_ok-subtype.ensures.fit u))
+    record {
+      there = record { name = name.first.name; slot = c.in-Some.slot; there = there; region = refl };
+      unfit = λ u. unfit_whole v c.args.depth name.first name.selectors c.in-Some.slot c.in-Part.field-0 t stands there (inr (c.in_ok-subtype.ensures.fit u));
+    }
 
 pub returns-clause-shallow : goal.returns-clause-shallow
 returns-clause-shallow c =

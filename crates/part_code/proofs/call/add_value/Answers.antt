@@ -26,7 +26,7 @@ pub returns-in_err-words-clause-refused : goal.returns-in_err-words-clause-refus
 returns-in_err-words-clause-refused c =
     let v = c.args.visible.now in
     let t = c.args.destination.subtype in
-    let whole = block_refused v c.args.depth (words_of v.scope t) c.args.subtype c.args.code.now c.in_err-words.field-0.0 (IsUnfit v.scope t) c.requires.fits
+    let whole = block_refused v c.args.depth (words_of v.scope t) c.args.subtype c.args.code.now c.in_err-words.field-0.0 (IsUnfit v.scope t) c.requires.fits.unfit
     c.in_err-words.ensures.refused in
     search (rules, whole)
 

@@ -7,3 +7,4 @@ invariant-loop-formal l =
     (l.visible.scope ≡ l.fn.visible.scope)
     × (l.visible.slots ≡ l.fn.visible.slots ++ map slot_for (take l.formal-index l.placed))
     × (l.visible.subprograms ≡ l.fn.visible.subprograms ++ map no_subprogram (take l.formal-index l.placed))
+    × (l.visible.operations ≡ l.fn.visible.operations)
