@@ -5,7 +5,7 @@ use Rattle.base.specs.declared.schedule.ScheduleLine.{ScheduleLine}
 use Rattle.kernel.specs.State.{Kernel}
 use Rattle.kernel.specs.Laws.{QuietStays}
 use Rattle.image.specs.Sections.{Sections}
-use Rattle.image.specs.Frames.{Words, Frame}
+use Rattle.image.specs.Frames.{Words, Frame, own_object}
 use Rattle.image.specs.declared.instruction.Operation.TheVariants as op
 use Rattle.image.specs.declared.instruction.Region.TheVariants as regions
 use Rattle.ada_tree.specs.ExpressionTree.{ExprTree, NameTree}
@@ -40,12 +40,9 @@ use Rattle.part_code.specs.Storing.{Assigned, Puts, assigned, assigned_to}
 use Rattle.part_code.proofs.Arriving.{stores_assign}
 use Rattle.part_code.proofs.Declaring.{IsTypedAs, value_suits}
 use Rattle.part_code.proofs.Pointing.{PointsTo, address_here, computes_pointed, part_here, place_in, placed_here, pointed}
-use Rattle.part_code.proofs.StoringCode.{comes_part, given_value}
-use Rattle.part_code.proofs.StoringParts.{HoldsVariables, StoresIn, address_is, block_in, part_puts, place_of, word_in}
-
-pub form_there : (o : Option TypeForm) → is_some o ≡ true → (form : TypeForm) × (o ≡ Some form)
-form_there (Some form) h = (form, refl)
-form_there None h = cc
+use Rattle.part_code.proofs.Assigning.{form_there}
+use Rattle.part_code.proofs.StoringCode.{StoresIn, block_in, comes_part, given_value, word_in}
+use Rattle.part_code.proofs.StoringParts.{address_is, part_puts, place_of}
 
 module _ (kept : AgreementIsKept) (sized : ValuesHaveWords) (calls : CallsAreTyped) (quiet : QuietStays) (i : Sections) (program : Program) (g : Package)
     (numbers : Numbers) (v : Framed) (name : NameTree) (e : ExprTree) (r : Role) (t last : Subtype) (slot : Slot) (laid : IsLaidOut g v)
@@ -96,9 +93,9 @@ module _ (kept : AgreementIsKept) (sized : ValuesHaveWords) (calls : CallsAreTyp
         (and_then (value_with c p e) (passed u))) (sym part.0.subtype) (computes c left answers schedule k task m f fs p (pos (place y) ∷ base) calm sees is))))
 
     -- the value is stored where the target is placed
-    assigns_part : HoldsVariables slot.region → ((a : ℕ) → StoresIn i slot.region mid a (words_of v.names.scope last) [] (on (pos a ∷ [])))
+    assigns_part : ((a : ℕ) → StoresIn i slot.region mid a (words_of v.names.scope last) [] (on (pos a ∷ [])))
         → IsAssigned i program g numbers v from (suc mid) name e
-    assigns_part holds stores = stores_assign i program g (record {
+    assigns_part stores = stores_assign i program g (record {
       mid = mid;
       up = omega (arith, le, up);
       end = refl;
@@ -111,10 +108,11 @@ module _ (kept : AgreementIsKept) (sized : ValuesHaveWords) (calls : CallsAreTyp
         puts : (schedule : List ScheduleLine) (k : Kernel) (task : ℕ) (m : Words) (f : Frame) (fs : List Frame) (store : Store) (a : Activation) (p : Place)
             (y : Assigned)
             → IsAt program store p → p.locals ≡ a.locals → p.within ≡ a.within → StandsFor program g store m → Rests g v a f.locals
-            → Knows g v p (view_of i schedule k task m f fs) → a.within ≡ None
+            → own_object i f ≡ a.within
+            → Knows g v p (view_of i schedule k task m f fs)
             → assigned name e (call p.frames_left) p ≡ Gives y
             → Puts i program g schedule k task m f fs mid (both_on [] y) [] v (store_with y.target y.value store) (activation_with y.target y.value a)
-        puts schedule k task m f fs store a p y is_at locals within stands rests knows outside gives =
+        puts schedule k task m f fs store a p y is_at locals within stands rests own knows gives =
             let c = call p.frames_left in
             let view = view_of i schedule k task m f fs in
             let good : (library_of g).sound c = λ q s. calls.answered q s p.frames_left in
@@ -124,8 +122,8 @@ module _ (kept : AgreementIsKept) (sized : ValuesHaveWords) (calls : CallsAreTyp
             let value = given_value (and_then (value_with c p e) (passed z.subtype)) z y target.2 in
             let part = part_here sized way c p view good knows.sees z target.1 in
             let form = form_there (form_at v.names.scope last.type_number) typed.known in
-            let here = placed_here sized v way holds form.0 form.1 c p view good knows (within ∙ outside) z target.1 in
-            let at : place_of v.names to z here ≡ place z = sym (address_is v.names to z here) ∙ address_here sized way c p view good knows.sees z target.1 in
+            let here = placed_here sized v way form.0 form.1 c p view good knows z target.1 in
+            let at : place_of v to z here ≡ place z = sym (address_is v to z here) ∙ address_here sized way c p view good knows.sees z target.1 in
             let suited = value_suits calls g v last e typed p view knows.sees value.0
             (ap (λ u. and_then (value_with c p e) (passed u)) (sym part.0.subtype) ∙ value.1) in
             subst
@@ -133,41 +131,14 @@ module _ (kept : AgreementIsKept) (sized : ValuesHaveWords) (calls : CallsAreTyp
             (activation_with w.target w.value a)) value.2
             (subst
             (λ n. Puts i program g schedule k task m f fs mid (on (pos n ∷ []) value.0) [] v (store_with z value.0 store) (activation_with z value.0 a)) at
-            (part_puts kept sized i program g v laid to z here value.0 suited mid [] (on (pos (place_of v.names to z here) ∷ [])) schedule k task m f fs store
-            a p is_at locals within stands rests knows outside (stores (place_of v.names to z here))))
+            (part_puts kept sized i program g v laid to z here value.0 suited mid [] (on (pos (place_of v to z here) ∷ [])) schedule k task m f fs store
+            a p is_at locals within stands rests own knows (stores (place_of v to z here))))
 
     -- a single word: STX, above its address
-    pub assigns_component : HoldsVariables slot.region → words_of v.names.scope last ≡ 1 → At i mid (op.StoreIndexed slot.region)
-        → IsAssigned i program g numbers v from (suc mid) name e
-    assigns_component holds single here =
-        assigns_part holds (λ a. subst (λ n. StoresIn i slot.region mid a n [] (on (pos a ∷ []))) (sym single)
-        (word_in quiet i slot.region mid a [] holds here))
+    pub assigns_component : words_of v.names.scope last ≡ 1 → At i mid (op.StoreIndexed slot.region) → IsAssigned i program g numbers v from (suc mid) name e
+    assigns_component single here =
+        assigns_part (λ a. subst (λ n. StoresIn i slot.region mid a n [] (on (pos a ∷ []))) (sym single) (word_in quiet i slot.region mid a [] here))
 
     -- several: STB
-    pub assigns_components : HoldsVariables slot.region → At i mid (op.StoreBlock slot.region (words_of v.names.scope last))
-        → IsAssigned i program g numbers v from (suc mid) name e
-    assigns_components holds here = assigns_part holds (λ a. block_in quiet i slot.region mid a [] (words_of v.names.scope last) holds here)
-
-    -- ---- of an object of the running activation
-
-    pub assigns_local_component : slot.region ≡ regions.Locals → words_of v.names.scope last ≡ 1 → At i mid (op.StoreIndexed regions.Locals)
-        → IsAssigned i program g numbers v from (suc mid) name e
-    assigns_local_component region single here =
-        assigns_component (subst HoldsVariables (sym region) tt) single (subst (λ q. At i mid (op.StoreIndexed q)) (sym region) here)
-
-    pub assigns_local_components : slot.region ≡ regions.Locals → At i mid (op.StoreBlock regions.Locals (words_of v.names.scope last))
-        → IsAssigned i program g numbers v from (suc mid) name e
-    assigns_local_components region here =
-        assigns_components (subst HoldsVariables (sym region) tt) (subst (λ q. At i mid (op.StoreBlock q (words_of v.names.scope last))) (sym region) here)
-
-    -- ---- of a variable of the package
-
-    pub assigns_plain_component : slot.region ≡ regions.Plain → words_of v.names.scope last ≡ 1 → At i mid (op.StoreIndexed regions.Plain)
-        → IsAssigned i program g numbers v from (suc mid) name e
-    assigns_plain_component region single here =
-        assigns_component (subst HoldsVariables (sym region) tt) single (subst (λ q. At i mid (op.StoreIndexed q)) (sym region) here)
-
-    pub assigns_plain_components : slot.region ≡ regions.Plain → At i mid (op.StoreBlock regions.Plain (words_of v.names.scope last))
-        → IsAssigned i program g numbers v from (suc mid) name e
-    assigns_plain_components region here =
-        assigns_components (subst HoldsVariables (sym region) tt) (subst (λ q. At i mid (op.StoreBlock q (words_of v.names.scope last))) (sym region) here)
+    pub assigns_components : At i mid (op.StoreBlock slot.region (words_of v.names.scope last)) → IsAssigned i program g numbers v from (suc mid) name e
+    assigns_components here = assigns_part (λ a. block_in quiet i slot.region mid a [] (words_of v.names.scope last) here)

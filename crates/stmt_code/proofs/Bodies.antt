@@ -1,4 +1,4 @@
--- What a frame knows when the body of a procedure is entered: the names of the package in front of it, its parameters, and the addresses that it was passed.
+-- What a frame knows when the body of a procedure is entered: what stands in front of it, its parameters, and the addresses that it was passed.
 use Rattle.std.proofs.Common.{◌≡◌, ℕ, suc, ◌+◌, ◌≤◌, ℤ, List, [], ◌∷◌, ◌++◌, length, map, Option, Some, None, Bool, true, false, refl, sym, ap, ◌∙◌, subst, arith}
 use Rattle.std.specs.Prelude.{bytes_eq, drop, if◌then◌else◌, ⊤}
 use Rattle.std.proofs.lemmas.Slice.Eq.{bytes_eq-Decides}
@@ -18,7 +18,7 @@ use Rattle.part_code.specs.Copying.{held_at, passed_words}
 use Rattle.part_code.specs.Layout.{IsLaidPackage}
 use Rattle.part_code.specs.Resting.{AreHeld, Framed, Rests, RestsWith, held_offset}
 use Rattle.stmt_code.proofs.Beginning.{Enters, EntersOne, begun, entered}
-use Rattle.stmt_code.proofs.Entering.{IsOfPackage, rests_alike, rests_package}
+use Rattle.stmt_code.proofs.Entering.{BeginsBody, rests_alike}
 
 -- ---- parameters of different names are found in either order
 
@@ -93,8 +93,8 @@ offsets_held (n ∷ ns) (a ∷ rest) h = ap (λ l. n ∷ l) (offsets_held ns res
 
 -- ---- the frame of a body
 
-module _ (kept : AgreementIsKept) (sized : ValuesHaveWords) (program : Program) (g : Package) (laid : IsLaidPackage g) (q : Procedure) (outside : q.object ≡ None)
-    (front last : Framed) (of_package : IsOfPackage g front) (distinct : AreDistinct q.parameters) where
+module _ (kept : AgreementIsKept) (sized : ValuesHaveWords) (program : Program) (g : Package) (laid : IsLaidPackage g) (q : Procedure)
+    (front last : Framed) (begins : BeginsBody g front q.object) (distinct : AreDistinct q.parameters) where
   pub body_rests : (vs : List Value) (addresses : List ℕ) (locals : List ℤ) (places : List ℕ)
       → Enters program g front 0 places q.parameters last
       → last.reserved ≡ places
@@ -105,16 +105,15 @@ module _ (kept : AgreementIsKept) (sized : ValuesHaveWords) (program : Program) 
       → RestsWith g last (held_at last.reserved addresses) (activation_of q vs) words)
   body_rests vs addresses locals places enters reserved of many small room =
       let words = passed_words q.parameters vs addresses ++ locals in
-      let bare = rests_package kept g front of_package words small room in
-      let found = begun kept sized program g None words q.parameters vs addresses front last [] locals places [] enters of many refl bare in
+      let bare = begins words small room in
+      let found = begun kept sized program g q.object words q.parameters vs addresses front last [] locals places [] enters of many refl bare in
       let l = bound q.parameters vs in
       let held = subst (λ p. AreHeld words (held_at p addresses)) (sym reserved) found.1 in
       let as_many = places_many program g q.parameters front last 0 places enters in
       let lasts = ap length reserved in
       record {
-        rests = subst (λ o. Rests g last (record { within = o; locals = l }) words) (sym outside)
-            (rests_alike g laid last (record { within = None; locals = entered q.parameters vs [] }) l words
-            (λ name. nothing_behind (object_of l name) ∙ sym (entered_alike q.parameters vs [] name distinct)) found.0);
+        rests = rests_alike g laid last (record { within = q.object; locals = entered q.parameters vs [] }) l words
+            (λ name. nothing_behind (object_of l name) ∙ sym (entered_alike q.parameters vs [] name distinct)) found.0;
         held = held;
         apart = offsets_held last.reserved addresses (omega (arith, lasts, as_many, many));
       }

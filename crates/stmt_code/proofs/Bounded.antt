@@ -11,7 +11,7 @@ use Rattle.image.specs.declared.instruction.Region.TheVariants as regions
 use Rattle.image.specs.declared.subprograms.Subprogram.{Subprogram}
 use Rattle.types.specs.declared.entity.Role.TheVariants as role
 use Rattle.types.specs.Entities as entity
-use Rattle.types.specs.Entities.{Entity}
+use Rattle.types.specs.Entities.{Entity, Profile}
 use Rattle.types.specs.Laws.{ShapesStay, ValuesHaveWords}
 use Rattle.types.specs.Layouts.{words_of}
 use Rattle.types.specs.Places.{Object}
@@ -36,7 +36,7 @@ use Rattle.expr_soundness.specs.meaning.specs.Calls.{procedure_here}
 use Rattle.expr_soundness.specs.meaning.specs.Programs.{Procedure, Program}
 use Rattle.part_code.specs.step_soundness.specs.Fitting.{IsFound, entity_named}
 use Rattle.expr_code.specs.Emitting as expressions
-use Rattle.expr_code.specs.Seeing.{Package, subprogram_of}
+use Rattle.expr_code.specs.Seeing.{Package, subprogram_of, NamesProfile}
 use Rattle.expr_code.specs.Widths.{width_of}
 use Rattle.expr_code.specs.declared.visible.Slot.{Slot}
 use Rattle.expr_code.specs.declared.visible.Visible.{Visible}
@@ -50,11 +50,11 @@ use Rattle.stmt_code.specs.declared.draft.Draft.{Draft}
 use Rattle.part_code.specs.declared.turns.Turns.{Turns}
 use Rattle.stmt_code.proofs.Adding.{wanted_legal}
 use Rattle.stmt_code.proofs.Laying.{AddsObject}
-use Rattle.part_code.proofs.Names.{single_number}
+use Rattle.part_code.proofs.Names.{single_number, is_told, profile_without}
 use Rattle.stmt_code.proofs.Parameters.{AreBelow, HoldsRange, holds_behind, parameter_below, parameter_ends, parameter_laid}
 use Rattle.part_code.specs.Statements.{Numbers}
 use Rattle.part_code.specs.Suiting.{SuitsStatements}
-use Rattle.stmt_code.proofs.Suiting.{entries_wider, number_wider, slots_first, stands_wider, subprograms_first, suits_wider}
+use Rattle.stmt_code.proofs.Suiting.{entries_wider, external_wider, number_wider, slots_first, stands_wider, subprograms_first, suits_wider}
 use Rattle.stmt_code.proofs.Widening.{scope_wider}
 
 -- ---- what is legal
@@ -168,14 +168,14 @@ module _ (stay : ShapesStay) (v later : Visible) (start opened : Draft) (paramet
   pub suits_inside : (i : Sections) (s : Subprogram) → t.counter < s.locals → SuitsStatements v i s → SuitsStatements later i s
   suits_inside i s within suits =
       suits_wider stay v later parameter.name role.LoopParameter (base_range_of of_type.number) slot sound entries hidden scope_is r.slots r.subprograms
-      i s refl within suits
+      i s r.operations refl within suits
 
   -- ---- the frame in the loop
 
   module _ (kept : AgreementIsKept) (sized : ValuesHaveWords) (program : Program) (g : Package) (numbers : Numbers) (f : Framed)
       (serves : Serves program g numbers (seeing f v) start.words.taken) (room : opened.words.most ≤ f.room) where
     abbrev pub inner : Framed
-    inner = record { names = later; room = f.room; reserved = t.counter ∷ t.limit ∷ f.reserved }
+    inner = record { names = later; room = f.room; reserved = t.counter ∷ t.limit ∷ f.reserved; within = f.within }
 
     single : words_of v.scope (base_range_of of_type.number) ≡ 1
     single = single_number sized v.scope (base_range_of of_type.number) of_type.integers
@@ -187,7 +187,9 @@ module _ (stay : ShapesStay) (v later : Visible) (start opened : Draft) (paramet
       scope = scope_is;
       slots = r.slots;
       subprograms = r.subprograms;
+      operations = r.operations;
       room = refl;
+      within = refl;
       region = refl;
       offset = r.counter;
       fits = (let n = r.takes.taken in let m = r.takes.most in let k = single in omega (arith, n, m, k, room));
@@ -210,6 +212,10 @@ module _ (stay : ShapesStay) (v later : Visible) (start opened : Draft) (paramet
     serves_inside = record {
       finds = finds;
       numbered = numbered;
+      externals = λ name operation n o q told.
+          serves.externals name operation n o q
+          (external_wider stay v later parameter.name role.LoopParameter (base_range_of of_type.number) slot sound entries hidden scope_is r.slots r.subprograms
+          r.operations name operation n told);
       scope = serves.scope;
       place = record serves.place { locals = object ∷ serves.place.locals };
       here = serves.here;
@@ -227,16 +233,22 @@ module _ (stay : ShapesStay) (v later : Visible) (start opened : Draft) (paramet
         object : Object
         object = record { name = parameter.name; subtype = integer; value = Number (pos 0) }
 
-        finds : (name : List ℕ) (e : Entity) → entity_named later.scope name ≡ Some e → IsFound program None name e
+        finds : (name : List ℕ) (e : Entity) → entity_named later.scope name ≡ Some e → IsFound program f.within name e
         finds name e h =
             elim (stands_wider stay v later parameter.name role.LoopParameter (base_range_of of_type.number) slot sound entries hidden scope_is r.slots
             r.subprograms name e h) [
               | inl old ↦ serves.finds name e old
-              | inr is ↦ subst (IsFound program None name) (sym is.1) tt
+              | inr is ↦ subst (IsFound program f.within name) (sym is.1) tt
             ]
 
-        numbered : (name : List ℕ) (q : Procedure) (n : ℕ) → procedure_here program None name ≡ Some q → subprogram_of later name ≡ Some n → numbers q ≡ Some n
-        numbered name q n found told =
-            serves.numbered name q n found
+        numbered : (name : List ℕ) (q : Procedure) (n : ℕ) (profile : Profile) → procedure_here program f.within name ≡ Some q
+            → subprogram_of later name ≡ Some n → NamesProfile later.scope name profile → profile.result ≡ None
+            → numbers q ≡ Some n
+        numbered name q n profile found told naming none =
+            let old =
             (number_wider stay v later parameter.name role.LoopParameter (base_range_of of_type.number) slot sound entries hidden scope_is r.slots r.subprograms
-            name n told).0
+            name n told).0 in
+            let before = is_told v.scope v.subprograms name n old in
+            serves.numbered name q n profile found old
+            (profile_without v.scope parameter.name (entity.Object role.LoopParameter (base_range_of of_type.number)) name before.number profile before.numbered
+            (subst (λ z. NamesProfile z name profile) scope_is naming)) none

@@ -1,103 +1,224 @@
--- Code of calls of procedures that was added: the actual parameters, CALL, and what is copied back (RM 6.4, 6.4.1).
-use Rattle.std.proofs.Common.{◌≡◌, ℕ, suc, ◌+◌, inl, inr, List, [], ◌++◌, length, map, Bool, true, not, ◌||◌, Some, None, refl, sym, ap, ◌∙◌, subst, arith}
-use Rattle.std.specs.Prelude.{slice_get}
+-- Code of calls of procedures that was added: the actual parameters, CALL or PCALL, and what is copied back (RM 6.4, 6.4.1, 9.5.1).
+use Rattle.std.proofs.Common.{◌≡◌, ℕ, suc, ◌+◌, inl, inr, List, [], ◌++◌, length, map, Bool, true, false, not, ◌||◌, Some, None, Option, refl, sym, ap, ◌∙◌, subst, arith, ◌≤◌, ◌-◌}
+use Rattle.std.specs.Prelude.{slice_get, bytes_eq, option_map, position}
 use Rattle.base.specs.declared.faults.TheConstants.{NAME_NOT_VISIBLE}
 use Rattle.kernel.specs.Laws.{QuietStays}
 use Rattle.ada_tree.specs.declared.expression.Argument.{Argument}
 use Rattle.ada_tree.specs.declared.expression.Identifier.{Identifier}
-use Rattle.ada_tree.specs.ExpressionTree.{ArgumentTrees, Arguments, Attribute, Component, MoreSelectors, NameTree, NoArguments, NoSelectors, SelectorTrees, argument_tree, argument_trees}
+use Rattle.ada_tree.specs.ExpressionTree.{ArgumentTree, ArgumentTrees, Arguments, Attribute, Component, MoreSelectors, NameTree, NoArguments, NoSelectors, SelectorTrees, argument_tree, argument_trees}
 use Rattle.ada_tree.specs.StatementTree as statements
-use Rattle.ada_tree.specs.Size.{total}
+use Rattle.ada_tree.specs.Size.{total, arguments_size, selectors_size}
 use Rattle.image.specs.Sections.{Sections}
 use Rattle.image.specs.Operations.{called, parameters_of, results_of}
-use Rattle.image.specs.Rules.{calls_inside, is_plain, some_and}
+use Rattle.image.specs.Rules.{calls_inside, is_plain, some_and, is_external}
 use Rattle.image.specs.declared.instruction.Operation.TheVariants as op
+use Rattle.types.specs.declared.standing.Callee as standings
 use Rattle.types.specs.declared.standing.Callee.TheVariants as callee
 use Rattle.types.specs.declared.standing.Standing.{Standing}
 use Rattle.types.specs.declared.standing.Standing.TheVariants as standing
 use Rattle.types.specs.Entities as entity
 use Rattle.types.specs.Entities.{Profile}
-use Rattle.types.specs.Scopes.{is_visible, number_of, profile_of}
-use Rattle.types.specs.Standings.{count, select_all, standing_of, stands_first, stands_for}
+use Rattle.types.specs.Scopes.{is_visible, number_of, profile_of, Scope, protected_of}
+use Rattle.types.specs.Standings.{count, select_all, standing_of, stands_first, stands_for, callee_profile, operation_profile, profile_among}
 use Rattle.expr_soundness.specs.expr_rules.specs.ExpressionRules.{arguments_faults, selectors_faults}
-use Rattle.expr_soundness.specs.expr_rules.specs.Faults.{rule}
+use Rattle.expr_soundness.specs.expr_rules.specs.Faults.{rule, Faults}
 use Rattle.expr_soundness.specs.expr_rules.specs.NameRules.{call_rule}
 use Rattle.expr_soundness.specs.expr_rules.proofs.TypedLaw.{back_empty, front_empty}
 use Rattle.type_rules.specs.SubtypeNames.{entity_at_or_none}
-use Rattle.expr_soundness.specs.meaning.specs.Calls.{Callee, callee_by, callee_with, procedure_here}
-use Rattle.expr_soundness.specs.meaning.specs.Programs.{Parameter, Program}
+use Rattle.expr_soundness.specs.meaning.specs.Calls.{Callee, callee_by, callee_with, procedure_here, callee_through, procedure_among}
+use Rattle.expr_soundness.specs.meaning.specs.Programs.{Parameter, Program, Procedure, object_numbered}
 use Rattle.part_code.specs.step_soundness.specs.Fitting as fitting
-use Rattle.part_code.specs.step_soundness.specs.Fitting.{IsProcedure, entity_named}
-use Rattle.part_code.specs.step_soundness.proofs.Naming.{HasArguments, IsCall, called_with}
+use Rattle.part_code.specs.step_soundness.specs.Fitting.{IsProcedure, entity_named, formal_of}
+use Rattle.part_code.specs.step_soundness.proofs.Naming.{HasArguments, IsCall, called_with, IsOperationCall, operation_called}
 use Rattle.expr_code.specs.Actuals.{ArePassedLegally, arguments_in_front}
 use Rattle.expr_code.specs.Code.{Adds, Extends, Holds, here}
 use Rattle.expr_code.specs.Flows.{Flows}
-use Rattle.expr_code.specs.Seeing.{NamesProfile, Package, Sees, Suits, library_of, subprogram_of}
+use Rattle.expr_code.specs.Seeing.{NamesProfile, Package, Sees, Suits, library_of, subprogram_of, external_of, external_profile}
 use Rattle.expr_code.specs.declared.code.Code.{Code}
 use Rattle.expr_code.specs.declared.visible.Visible.{Visible}
-use Rattle.expr_code.proofs.Actuals.{actual_legal, counted, nothing_behind, sizes_are, trees_are}
+use Rattle.expr_code.proofs.Actuals.{argument_legal, counted, nothing_behind, sizes_are, trees_are}
 use Rattle.expr_code.proofs.Flowing.{Changes, flows_then, instruction_flows, widened}
 use Rattle.expr_code.proofs.Growing.{added_at, added_extends, added_here, extends_trans, holds_before, holds_later}
 use Rattle.part_code.specs.Copying.{AreCopies}
 use Rattle.part_code.specs.declared.call.Destination.{Destination}
-use Rattle.stmt_code.specs.Emitting.{EmitsStatement, IsLegalStatement, Serves}
-use Rattle.part_code.specs.Passing.{ArePassedInFront, ArePassedAndPlaced, ComputesActuals, EmitsPassedActuals, EmitsCopies, actuals_behind, copied_width}
-use Rattle.part_code.specs.Suiting.{SuitsStatements}
+use Rattle.stmt_code.specs.Emitting.{EmitsStatement, IsLegalStatement, Serves, AddsInvocation}
+use Rattle.part_code.specs.Passing.{ArePassedInFront, ArePassedAndPlaced, ComputesActuals, EmitsPassedActuals, EmitsCopies, actuals_behind, copied_width, ExternalName, operation_behind}
+use Rattle.part_code.specs.Suiting.{SuitsStatements, IsCallableProcedure}
 use Rattle.part_code.specs.Resting.{Framed}
-use Rattle.part_code.specs.Statements.{IsCalleeCode, Numbers, Ways}
+use Rattle.part_code.specs.Statements.{IsCalleeCode, Numbers, Ways, procedure_operation}
 use Rattle.stmt_code.specs.declared.draft.Draft.{Draft}
 use Rattle.part_code.proofs.Actuals.{computes_none}
 use Rattle.stmt_code.proofs.Adding.{IsBeside, labels_beside, most_beside, taken_beside}
 use Rattle.stmt_code.proofs.RowsAdded.{goes_kept, rows_kept}
 use Rattle.stmt_code.proofs.CodeOfCalls.{calls_procedure}
 use Rattle.part_code.proofs.PassingWell.{passes_none}
-use Rattle.part_code.proofs.WrittenActuals.{same_some, size_is}
+use Rattle.part_code.proofs.WrittenActuals.{behind_size, same_some as same_trees, size_is}
+use Rattle.image.specs.declared.instruction.Operation.{Operation}
+use Rattle.image.specs.declared.subprograms.Kind.{Kind}
+use Rattle.types.specs.declared.entity.FormalParameter.{FormalParameter}
+use Rattle.expr_soundness.specs.SoundScopes.{AreKnown, SoundScope}
+use Rattle.expr_soundness.proofs.Positions.{same_some}
+use Rattle.expr_code.proofs.Externals.{IsBehind, is_behind}
+use Rattle.expr_code.specs.Views.{At}
+use Rattle.stmt_code.proofs.Suiting.{profile_sound}
 
 -- ---- the form
 
-callee_is : (program : Program) (first : Identifier) (path : SelectorTrees) (x : ArgumentTrees) → actuals_behind path ≡ Some x
-    → callee_by program None first path ≡ callee_with (procedure_here program None first.name) None x
-callee_is program first NoSelectors x h = ap (callee_with (procedure_here program None first.name) None) (same_some NoArguments x h)
-callee_is program first (MoreSelectors (Arguments a) NoSelectors) x h = ap (callee_with (procedure_here program None first.name) None) (same_some a x h)
-callee_is program first (MoreSelectors (Arguments a) (MoreSelectors y rest)) x h = cc
-callee_is program first (MoreSelectors (Component name) rest) x h = cc
-callee_is program first (MoreSelectors (Attribute name) rest) x h = cc
+callee_is : (program : Program) (within : Option ℕ) (first : Identifier) (path : SelectorTrees) (x : ArgumentTrees) → actuals_behind path ≡ Some x
+    → callee_by program within first path ≡ callee_with (procedure_here program within first.name) None x
+callee_is program within first NoSelectors x h = ap (callee_with (procedure_here program within first.name) None) (same_trees NoArguments x h)
+callee_is program within first (MoreSelectors (Arguments a) NoSelectors) x h = ap (callee_with (procedure_here program within first.name) None) (same_trees a x h)
+callee_is program within first (MoreSelectors (Arguments a) (MoreSelectors y rest)) x h = cc
+callee_is program within first (MoreSelectors (Component name) rest) x h = cc
+callee_is program within first (MoreSelectors (Attribute name) rest) x h = cc
 
 same_actuals : (path : SelectorTrees) (a x : ArgumentTrees) → HasArguments path a → actuals_behind path ≡ Some x → a ≡ x
-same_actuals path a x (inl h) is = h.1 ∙ same_some NoArguments x (ap actuals_behind (sym h.0) ∙ is)
-same_actuals path a x (inr h) is = same_some a x (ap actuals_behind (sym h) ∙ is)
+same_actuals path a x (inl h) is = h.1 ∙ same_trees NoArguments x (ap actuals_behind (sym h.0) ∙ is)
+same_actuals path a x (inr h) is = same_trees a x (ap actuals_behind (sym h) ∙ is)
+
+abbrev callee_through_if : Program → Option ℕ → Option ExternalName → Option Callee
+callee_through_if program o (Some x) = callee_through program o x.operation.name x.arguments
+callee_through_if program o None = None
+
+external_is : (program : Program) (within : Option ℕ) (first : Identifier) (path : SelectorTrees) (x : ExternalName) → operation_behind path ≡ Some x
+    → callee_by program within first path ≡ callee_through program (object_numbered program.scope first) x.operation.name x.arguments
+external_is program within first (MoreSelectors (Component y) NoSelectors) x h =
+    ap (λ o. callee_through_if program (object_numbered program.scope first) o) h
+external_is program within first (MoreSelectors (Component y) (MoreSelectors (Arguments a) NoSelectors)) x h =
+    ap (λ o. callee_through_if program (object_numbered program.scope first) o) h
+external_is program within first NoSelectors x h = cc
+external_is program within first (MoreSelectors (Arguments a) rest) x h = cc
+external_is program within first (MoreSelectors (Attribute y) rest) x h = cc
+external_is program within first (MoreSelectors (Component y) (MoreSelectors (Arguments a) (MoreSelectors z rest))) x h = cc
+external_is program within first (MoreSelectors (Component y) (MoreSelectors (Component z) rest)) x h = cc
+external_is program within first (MoreSelectors (Component y) (MoreSelectors (Attribute z) rest)) x h = cc
+
+-- what is written behind the name of an operation are its actual parameters
+same_external : (path rest : SelectorTrees) (name : Identifier) (a : ArgumentTrees) (x : ExternalName) → path ≡ MoreSelectors (Component name) rest
+    → HasArguments rest a → operation_behind path ≡ Some x → x ≡ record { operation = name; arguments = a }
+same_external path rest name a x written (inl h) is =
+    same_some x (record { operation = name; arguments = a })
+    (sym is ∙ ap operation_behind (written ∙ ap (MoreSelectors (Component name)) h.0) ∙ ap (λ b. Some (record { operation = name; arguments = b })) (sym h.1))
+same_external path rest name a x written (inr h) is =
+    same_some x (record { operation = name; arguments = a })
+    (sym is ∙ ap operation_behind (written ∙ ap (MoreSelectors (Component name)) h))
 
 -- ---- what is legal
 
-module _ (v : Visible) (name : NameTree) (profile : Profile) (names : NamesProfile v.scope name.first.name profile) (legal : IsLegalStatement v.scope (statements.Call name)) where
-  abbrev it : Standing
-  it = standing.Callee (callee.Direct names.number)
+module _ (s : Scope) (place : ℕ) (f : standings.Callee) (profile : Profile) (is : callee_profile s f ≡ Some profile) (path : SelectorTrees)
+    (call : IsCall s f profile path) (all : List Argument) (same : call.arguments ≡ argument_trees all) where
+  arguments_counted : length all ≡ length profile.formals
+  arguments_counted = sym (ap count same ∙ counted all) ∙ call.counted
 
-  stands : stands_first v.scope (number_of v.scope name.first.name) ≡ it
-  stands = ap (stands_first v.scope) names.numbered ∙ ap (stands_for names.number) names.stands
+  arguments_legal : ArePassedLegally s profile.formals (map argument_tree all)
+  arguments_legal k f' a at_formal at_argument =
+      let from_none : 0 + k ≡ k = omega arith in
+      argument_legal s place profile f is 0 all (ap (arguments_faults s (standing.Callee f) 0) (sym same) ∙ call.legal) k f' a
+      (ap (slice_get profile.formals) from_none ∙ at_formal) at_argument
+
+module _ (v : Visible) (name : NameTree) (legal : IsLegalStatement v.scope (statements.Call name)) (first : Standing)
+    (stands : stands_first v.scope (number_of v.scope name.first.name) ≡ first) where
+  abbrev faults_first : Faults
+  faults_first = rule NAME_NOT_VISIBLE name.first.place (not (is_visible v.scope name.first.name))
+
+  abbrev faults_behind : Faults
+  faults_behind = selectors_faults v.scope name.first.place (stands_first v.scope (number_of v.scope name.first.name)) name.selectors
+
+  -- the rules of what stands behind the first name, and that of calls
+  selectors_legal : selectors_faults v.scope name.first.place first name.selectors ≡ []
+  selectors_legal =
+      ap (λ w. selectors_faults v.scope name.first.place w name.selectors) (sym stands)
+      ∙ back_empty faults_first faults_behind
+      (front_empty (faults_first ++ faults_behind) (call_rule name.first.place (standing_of v.scope name.first name.selectors)) legal.unbroken)
+
+  whole_called : call_rule name.first.place (select_all v.scope first name.selectors) ≡ []
+  whole_called =
+      ap (λ w. call_rule name.first.place (select_all v.scope w name.selectors)) (sym stands)
+      ∙ back_empty (faults_first ++ faults_behind) (call_rule name.first.place (standing_of v.scope name.first name.selectors)) legal.unbroken
+
+-- ---- a procedure that is named
+
+module _ (v : Visible) (name : NameTree) (profile : Profile) (names : NamesProfile v.scope name.first.name profile) (legal : IsLegalStatement v.scope (statements.Call name)) where
+  stands_direct : stands_first v.scope (number_of v.scope name.first.name) ≡ standing.Callee (callee.Direct names.number)
+  stands_direct = ap (stands_first v.scope) names.numbered ∙ ap (stands_for names.number) names.stands
 
   call : IsCall v.scope (callee.Direct names.number) profile name.selectors
   call =
-      let first = name.first in
-      let hidden = rule NAME_NOT_VISIBLE first.place (not (is_visible v.scope first.name)) in
-      let all = selectors_faults v.scope first.place (stands_first v.scope (number_of v.scope first.name)) name.selectors in
-      let ends = call_rule first.place (standing_of v.scope first name.selectors) in
-      called_with v.scope first.place (callee.Direct names.number) profile name.selectors (ap profile_of names.stands)
-      (ap (λ w. selectors_faults v.scope first.place w name.selectors) (sym stands) ∙ back_empty hidden all (front_empty (hidden ++ all) ends legal.unbroken))
-      (ap (λ w. call_rule first.place (select_all v.scope w name.selectors)) (sym stands) ∙ back_empty (hidden ++ all) ends legal.unbroken)
+      called_with v.scope name.first.place (callee.Direct names.number) profile name.selectors (ap profile_of names.stands)
+      (selectors_legal v name legal (standing.Callee (callee.Direct names.number)) stands_direct)
+      (whole_called v name legal (standing.Callee (callee.Direct names.number)) stands_direct)
 
   module _ (all : List Argument) (written : actuals_behind name.selectors ≡ Some (argument_trees all)) where
     same : call.arguments ≡ argument_trees all
     same = same_actuals name.selectors call.arguments (argument_trees all) call.written written
 
     pub call_counted : length all ≡ length profile.formals
-    call_counted = sym (ap count same ∙ counted all) ∙ call.counted
+    call_counted =
+        arguments_counted v.scope name.first.place (callee.Direct names.number) profile (ap profile_of names.stands) name.selectors call all same
 
     pub call_legal : ArePassedLegally v.scope profile.formals (map argument_tree all)
-    call_legal k f a at_formal at_argument =
-        let from_none : 0 + k ≡ k = omega arith in
-        actual_legal v name.first profile names 0 all (ap (arguments_faults v.scope it 0) (sym same) ∙ call.legal) k f a
-        (ap (slice_get profile.formals) from_none ∙ at_formal) at_argument
+    call_legal = arguments_legal v.scope name.first.place (callee.Direct names.number) profile (ap profile_of names.stands) name.selectors call all same
+
+-- ---- one that is named behind its protected object
+
+module _ (v : Visible) (name : NameTree) (operation : Identifier) (all : List Argument) (profile : Profile)
+    (behind : operation_behind name.selectors ≡ Some (record { operation = operation; arguments = argument_trees all }))
+    (told : external_profile v.scope name.first.name operation.name ≡ Some profile) (legal : IsLegalStatement v.scope (statements.Call name)) where
+  abbrev at : IsBehind v.scope name.first.name operation.name profile
+  at = is_behind v.scope name.first.name operation.name profile told
+
+  stands_protected : stands_first v.scope (number_of v.scope name.first.name) ≡ standing.Protected at.number
+  stands_protected = ap (stands_first v.scope) at.numbered ∙ ap (stands_for at.number) at.stands
+
+  abbrev through : IsOperationCall v.scope at.number at.protected name.selectors
+  through =
+      operation_called v.scope name.first.place at.number at.protected name.selectors (ap protected_of at.stands)
+      (selectors_legal v name legal (standing.Protected at.number) stands_protected) (whole_called v name legal (standing.Protected at.number) stands_protected)
+
+  abbrev given : ExternalName
+  given = record { operation = operation; arguments = argument_trees all }
+
+  abbrev written_name : ExternalName
+  written_name = record { operation = through.name; arguments = through.call.arguments }
+
+  same_there : given ≡ written_name
+  same_there = same_external name.selectors through.rest through.name through.call.arguments given through.written through.call.written behind
+
+  written_there : through.call.arguments ≡ argument_trees all
+  written_there = sym (ap (λ x. x.arguments) same_there)
+
+  same_place : through.place ≡ at.place
+  same_place =
+      same_some through.place at.place
+      (sym through.found ∙ ap (λ x. position (λ y. bytes_eq y.name x.operation.name) at.protected.operations) (sym same_there) ∙ at.placed)
+
+  same_profile : through.operation.profile ≡ profile
+  same_profile =
+      ap (λ x. x.profile) (same_some through.operation at.entry (sym through.there ∙ ap (slice_get at.protected.operations) same_place ∙ at.found))
+      ∙ at.profiled
+
+  abbrev called_there : standings.Callee
+  called_there = callee.Operation at.number through.place
+
+  profile_there : callee_profile v.scope called_there ≡ Some through.operation.profile
+  profile_there = ap (λ o. profile_among o through.place) (ap protected_of at.stands) ∙ ap operation_profile through.there
+
+  pub external_counted : length all ≡ length profile.formals
+  external_counted =
+      arguments_counted v.scope name.first.place called_there through.operation.profile profile_there through.rest through.call all written_there
+      ∙ ap (λ x. length x.formals) same_profile
+
+  pub external_legal : ArePassedLegally v.scope profile.formals (map argument_tree all)
+  external_legal =
+      subst (λ x. ArePassedLegally v.scope x.formals (map argument_tree all)) same_profile
+      (arguments_legal v.scope name.first.place called_there through.operation.profile profile_there through.rest through.call all written_there)
+
+  external_none : profile.result ≡ None
+  external_none = ap (λ x. x.result) (sym same_profile) ∙ through.call.none
+
+  -- its formals are known
+  pub external_known : SoundScope v.scope → AreKnown v.scope profile.formals
+  external_known sound = (profile_sound v.scope sound name.first.name operation.name profile told).known
 
 -- ---- the code
 
@@ -105,43 +226,66 @@ module _ (v : Visible) (name : NameTree) (profile : Profile) (names : NamesProfi
 flows_too : (v : Visible) (a c : Code) (one two : ℕ) → Flows (Suits v) a one c two → Flows (SuitsStatements v) a one c two
 flows_too v a c one two p = record { flows = λ i s h suits deep high is. p.flows i s h suits.names deep high is }
 
-module _ (quiet : QuietStays) (v : Visible) (w : Ways) (a c : Draft) (m n : Code) (name : NameTree) (profile : Profile)
-    (names : NamesProfile v.scope name.first.name profile) (legal : IsLegalStatement v.scope (statements.Call name)) (number : ℕ)
-    (told : subprogram_of v name.first.name ≡ Some number) (all : List Argument) (written : actuals_behind name.selectors ≡ Some (argument_trees all))
-    (ds : List Destination) (height : ℕ) (p : EmitsPassedActuals v a.code 0 profile.formals (map argument_tree all) ds height m)
-    (q : Adds m height (op.Call number) n) (r : EmitsCopies v n ds 0 c.code) (beside : IsBeside a c) where
+-- a call that was added, by its parts
+pub invocation_added : (v : Visible) (old passed called new : Code) (fs : List FormalParameter) (all : List ArgumentTree) (operation : Operation)
+    (ds : List Destination) (height : ℕ) → EmitsPassedActuals v old 0 fs all ds height passed → Adds passed height operation called
+    → EmitsCopies v called ds 0 new
+    → AddsInvocation v old fs all operation new
+invocation_added v old passed called new fs all operation ds height p q r =
+    record { destinations = ds; height = height; passed = passed; called = called; actuals = p; adds = q; copies = r }
+
+-- what is called is a procedure with these formals, by this instruction with the number of its subprogram
+record Calls (program : Program) (numbers : Numbers) (f : Framed) (name : NameTree) (fs : List FormalParameter) (trees : ArgumentTrees)
+    (operation : Operation) : Type 0 where
+  callee : Callee
+  is : callee_by program f.within name.first name.selectors ≡ Some callee
+  formals : map formal_of callee.procedure.parameters ≡ fs
+  plain : callee.procedure.barrier ≡ None
+  number : ℕ
+  numbered : numbers callee.procedure ≡ Some number
+  way : operation ≡ procedure_operation callee.through number
+  arguments : callee.arguments ≡ trees
+
+module _ (quiet : QuietStays) (v : Visible) (w : Ways) (a c : Draft) (name : NameTree) (fs : List FormalParameter) (all : List Argument) (operation : Operation)
+    (size : arguments_size (argument_trees all) ≤ selectors_size name.selectors) (r : AddsInvocation v a.code fs (map argument_tree all) operation c.code)
+    (beside : IsBeside a c)
+    (reaches : (program : Program) (g : Package) (numbers : Numbers) (f : Framed) → f.names ≡ v → Serves program g numbers f a.words.taken
+    → Calls program numbers f name fs (argument_trees all) operation)
+    (changes : Changes (SuitsStatements v) operation r.height (0 + total (copied_width v.scope) r.destinations)) where
+  abbrev m : Code
+  m = r.passed
+
+  abbrev n : Code
+  n = r.called
+
+  abbrev ds : List Destination
+  ds = r.destinations
+
   next : here n ≡ suc (here m)
-  next = added_here m n height (op.Call number) q
+  next = added_here m n r.height operation r.adds
 
   grows : Extends m n
-  grows = added_extends m n height (op.Call number) q
+  grows = added_extends m n r.height operation r.adds
 
   to_call : Extends a.code n
-  to_call = extends_trans a.code m n p.extends grows
-
-  none : profile.result ≡ None
-  none = (call v name profile names legal).none
+  to_call = extends_trans a.code m n r.actuals.extends grows
 
   module _ (i : Sections) (h : Holds i (here a.code) c.code) (program : Program) (g : Package) (numbers : Numbers) (f : Framed) (seen : f.names ≡ v)
       (serves : Serves program g numbers f a.words.taken) where
-    named : entity_named f.names.scope name.first.name ≡ Some (entity.Subprogram profile)
-    named = ap (λ x. entity_named x.scope name.first.name) seen ∙ ap (entity_at_or_none v.scope) names.numbered ∙ names.stands
-
-    found : IsProcedure (procedure_here program None name.first.name) profile
-    found = subst (fitting.IsCalled (procedure_here program None name.first.name) profile) none
-        (serves.finds name.first.name (entity.Subprogram profile) named)
-
-    abbrev callee_here : Callee
-    callee_here = record { procedure = found.procedure; through = None; arguments = argument_trees all }
+    abbrev reached : Calls program numbers f name fs (argument_trees all) operation
+    reached = reaches program g numbers f seen serves
 
     abbrev parameters : List Parameter
-    parameters = found.procedure.parameters
+    parameters = reached.callee.procedure.parameters
+
+    abbrev callee_here : Callee
+    callee_here = record reached.callee { arguments = argument_trees all }
 
     in_actuals : Holds i (here a.code) m
-    in_actuals = holds_before i (here a.code) m c.code (extends_trans m n c.code grows r.extends) h
+    in_actuals = holds_before i (here a.code) m c.code (extends_trans m n c.code grows r.copies.extends) h
 
     passed : ArePassedInFront i program g f (here a.code) (here m) parameters (map argument_tree all) ds
-    passed = p.stands i in_actuals program g f seen serves.scope parameters found.formals
+    passed = r.actuals.stands i in_actuals program g f seen serves.scope parameters reached.formals
 
     computes : ComputesActuals i program g f (here a.code) (here m) parameters (argument_trees all)
     computes =
@@ -158,59 +302,163 @@ module _ (quiet : QuietStays) (v : Visible) (w : Ways) (a c : Draft) (m n : Code
 
     copies : AreCopies i program g f (suc (here m)) (here c.code) ds
     copies = subst (λ x. AreCopies i program g f x (here c.code) ds) next
-        (r.stands i (holds_later i (here a.code) (here n) c.code to_call.longer h) program g f seen serves.laid)
+        (r.copies.stands i (holds_later i (here a.code) (here n) c.code to_call.longer h) program g f seen serves.laid)
 
-    calls : IsCalleeCode i program g numbers f (here a.code) (here c.code) name (callee_by program None name.first name.selectors)
+    calls : IsCalleeCode i program g numbers f (here a.code) (here c.code) name (callee_by program f.within name.first name.selectors)
     calls =
         subst (IsCalleeCode i program g numbers f (here a.code) (here c.code) name)
-        (sym (callee_is program name.first name.selectors (argument_trees all) written
-        ∙ ap (λ o. callee_with o None (argument_trees all)) found.is))
-        (calls_procedure quiet i program g serves.scope numbers f callee_here number
-        (serves.numbered name.first.name found.procedure number found.is (ap (λ x. subprogram_of x name.first.name) seen ∙ told)) refl found.barrier
-        (here a.code) (here m) (here c.code) p.extends.longer computes
-        (added_at m n height (op.Call number) q i (here a.code) p.extends.longer (holds_before i (here a.code) n c.code r.extends h))
+        (sym (reached.is ∙ (λ j. Some (record reached.callee { arguments = reached.arguments j }))))
+        (calls_procedure quiet i program g serves.scope numbers f callee_here reached.number reached.numbered reached.plain
+        (here a.code) (here m) (here c.code) r.actuals.extends.longer computes
+        (subst (At i (here m)) reached.way
+        (added_at m n r.height operation r.adds i (here a.code) r.actuals.extends.longer (holds_before i (here a.code) n c.code r.copies.extends h)))
         ds passed.many copies passes)
-
-  called_plain : (b : Bool) → (true || b) ≡ true
-  called_plain b = refl
-
-  changes : Changes (SuitsStatements v) (op.Call number) height (0 + total (copied_width v.scope) ds)
-  changes = record {
-    operands = refl;
-    names = λ i s suits.
-        let it = suits.procedures name.first.name number profile told names none in
-        ap (λ o. some_and o (λ x. is_plain x.kind || calls_inside s.kind x.kind)) it.is ∙ ap (λ b. b || calls_inside s.kind it.code.kind) it.plain;
-    takes = λ i s suits.
-        let it = suits.procedures name.first.name number profile told names none in
-        let many : parameters_of (called i number) ≡ it.code.parameters = ap parameters_of it.is in
-        omega (arith, many, it.parameters, p.high);
-    leaves = λ i s suits.
-        let it = suits.procedures name.first.name number profile told names none in
-        let many : parameters_of (called i number) ≡ it.code.parameters = ap parameters_of it.is in
-        let some : results_of (called i number) ≡ it.code.results = ap results_of it.is in
-        omega (arith, many, some, it.parameters, it.results, p.high, p.back);
-    stays = refl;
-    is_none = refl;
-  }
 
   flows : Flows (SuitsStatements v) a.code 0 c.code 0
   flows =
-      flows_then (SuitsStatements v) a.code n c.code 0 (0 + total (copied_width v.scope) ds) 0 to_call r.extends
-      (flows_then (SuitsStatements v) a.code m n 0 height (0 + total (copied_width v.scope) ds) p.extends grows
-      (flows_too v a.code m 0 height p.flows)
-      (instruction_flows (SuitsStatements v) m n height (0 + total (copied_width v.scope) ds) (op.Call number) q changes))
-      (flows_too v n c.code (0 + total (copied_width v.scope) ds) 0 r.flows)
+      flows_then (SuitsStatements v) a.code n c.code 0 (0 + total (copied_width v.scope) ds) 0 to_call r.copies.extends
+      (flows_then (SuitsStatements v) a.code m n 0 r.height (0 + total (copied_width v.scope) ds) r.actuals.extends grows
+      (flows_too v a.code m 0 r.height r.actuals.flows)
+      (instruction_flows (SuitsStatements v) m n r.height (0 + total (copied_width v.scope) ds) operation r.adds changes))
+      r.copies.flows
 
-  pub call_emits : EmitsStatement v w a (statements.Call name) c
-  call_emits = record {
-    extends = extends_trans a.code n c.code to_call r.extends;
+  invocation_emits : EmitsStatement v w a (statements.Call name) c
+  invocation_emits = record {
+    extends = extends_trans a.code n c.code to_call r.copies.extends;
     labels = labels_beside a c beside;
     taken = taken_beside a c beside;
     most = (let most = most_beside a c beside in omega (arith, most));
-    sized = (let size = size_is name.selectors (argument_trees all) written in let same = sizes_are all in omega (arith, p.sized, r.sized, next, size, same));
+    sized = (let same = sizes_are all in omega (arith, r.actuals.sized, r.copies.sized, next, size, same));
     rows = rows_kept a c beside.2;
     stands = λ i h l program g numbers f seen serves room handling goes.
         (calls i h program g numbers f seen serves, goes_kept a c beside.2 i program handling goes);
     flows = λ i s low high down up h l suits deep wide ends ways.
         widened i s (here a.code) (here c.code) low high (here a.code) (here c.code) 0 down up (flows.flows i s h suits deep (omega arith) ends);
   }
+
+-- a call takes what is passed and gives what comes back
+module _ (v : Visible) (profile : Profile) (number : ℕ) (operation : Operation) (old new : Code) (all : List Argument)
+    (r : AddsInvocation v old profile.formals (map argument_tree all) operation new) (i : Sections) (test : Kind → Bool)
+    (it : IsCallableProcedure i v.scope test number profile) where
+  call_takes : parameters_of (called i number) ≤ r.height
+  call_takes = let many : parameters_of (called i number) ≡ it.code.parameters = ap parameters_of it.is in omega (arith, many, it.parameters, r.actuals.high)
+
+  call_leaves : r.height - parameters_of (called i number) + results_of (called i number) ≡ 0 + total (copied_width v.scope) r.destinations
+  call_leaves =
+      let many : parameters_of (called i number) ≡ it.code.parameters = ap parameters_of it.is in
+      let some : results_of (called i number) ≡ it.code.results = ap results_of it.is in
+      omega (arith, many, some, it.parameters, it.results, r.actuals.high, r.actuals.back)
+
+-- ---- a call of a procedure that is named
+
+module _ (quiet : QuietStays) (v : Visible) (w : Ways) (a c : Draft) (name : NameTree) (profile : Profile)
+    (names : NamesProfile v.scope name.first.name profile) (legal : IsLegalStatement v.scope (statements.Call name)) (number : ℕ)
+    (told : subprogram_of v name.first.name ≡ Some number) (all : List Argument) (written : actuals_behind name.selectors ≡ Some (argument_trees all))
+    (r : AddsInvocation v a.code profile.formals (map argument_tree all) (op.Call number) c.code) (beside : IsBeside a c) where
+  none : profile.result ≡ None
+  none = (call v name profile names legal).none
+
+  reaches : (program : Program) (g : Package) (numbers : Numbers) (f : Framed) → f.names ≡ v → Serves program g numbers f a.words.taken
+      → Calls program numbers f name profile.formals (argument_trees all) (op.Call number)
+  reaches program g numbers f seen serves =
+      let named : entity_named f.names.scope name.first.name ≡ Some (entity.Subprogram profile) =
+      ap (λ x. entity_named x.scope name.first.name) seen ∙ ap (entity_at_or_none v.scope) names.numbered ∙ names.stands in
+      let found = subst (fitting.IsCalled (procedure_here program f.within name.first.name) profile) none
+      (serves.finds name.first.name (entity.Subprogram profile) named) in
+      record {
+        callee = record { procedure = found.procedure; through = None; arguments = argument_trees all };
+        is = callee_is program f.within name.first name.selectors (argument_trees all) written ∙ ap (λ o. callee_with o None (argument_trees all)) found.is;
+        formals = found.formals;
+        plain = found.barrier;
+        number = number;
+        numbered =
+            serves.numbered name.first.name found.procedure number profile found.is (ap (λ x. subprogram_of x name.first.name) seen ∙ told)
+            (subst (λ x. NamesProfile x.scope name.first.name profile) (sym seen) names) none;
+        way = refl;
+        arguments = refl;
+      }
+
+  changes : Changes (SuitsStatements v) (op.Call number) r.height (0 + total (copied_width v.scope) r.destinations)
+  changes = record {
+    operands = refl;
+    names = λ i s suits.
+        let it = suits.procedures name.first.name number profile told names none in
+        ap (λ o. some_and o (λ x. is_plain x.kind || calls_inside s.kind x.kind)) it.is ∙ it.kind;
+    takes = λ i s suits.
+        call_takes v profile number (op.Call number) a.code c.code all r i _ (suits.procedures name.first.name number profile told names none);
+    leaves = λ i s suits.
+        call_leaves v profile number (op.Call number) a.code c.code all r i _ (suits.procedures name.first.name number profile told names none);
+    stays = refl;
+    is_none = refl;
+  }
+
+  pub call_emits : EmitsStatement v w a (statements.Call name) c
+  call_emits =
+      invocation_emits quiet v w a c name profile.formals all (op.Call number) (size_is name.selectors (argument_trees all) written) r beside reaches changes
+
+-- ---- a call through the name of a protected object
+
+-- what is found behind it is a procedure, or an entry
+operation_found : (program : Program) (x : Option Procedure) (is_entry : Bool) (profile : Profile) → profile.result ≡ None
+    → fitting.IsOperation program x is_entry profile
+    → (q : Procedure) × (x ≡ Some q) × (map formal_of q.parameters ≡ profile.formals)
+operation_found program x true profile without h = (h.procedure, h.is, h.formals)
+operation_found program x false profile without h = let p = subst (fitting.IsCalled x profile) without h in (p.procedure, p.is, p.formals)
+
+module _ (quiet : QuietStays) (v : Visible) (w : Ways) (a c : Draft) (name : NameTree) (operation : Identifier) (profile : Profile)
+    (legal : IsLegalStatement v.scope (statements.Call name)) (number : ℕ)
+    (numbered_there : external_of v name.first.name operation.name ≡ Some number) (all : List Argument)
+    (behind : operation_behind name.selectors ≡ Some (record { operation = operation; arguments = argument_trees all }))
+    (told : external_profile v.scope name.first.name operation.name ≡ Some profile)
+    (r : AddsInvocation v a.code profile.formals (map argument_tree all) (op.ProtectedCall number) c.code) (beside : IsBeside a c) where
+  abbrev there : IsBehind v.scope name.first.name operation.name profile
+  there = is_behind v.scope name.first.name operation.name profile told
+
+  no_result : profile.result ≡ None
+  no_result = external_none v name operation all profile behind told legal
+
+  reaches_through : (program : Program) (g : Package) (numbers : Numbers) (f : Framed) → f.names ≡ v → Serves program g numbers f a.words.taken
+      → Calls program numbers f name profile.formals (argument_trees all) (op.ProtectedCall number)
+  reaches_through program g numbers f seen serves =
+      let named : entity_named f.names.scope name.first.name ≡ Some (entity.Protected there.protected) =
+      ap (λ x. entity_named x.scope name.first.name) seen ∙ ap (entity_at_or_none v.scope) there.numbered ∙ there.stands in
+      let object = serves.finds name.first.name (entity.Protected there.protected) named in
+      let o = object.object.number in
+      let called_by = object.operations operation.name there.place there.entry there.placed there.found in
+      let found = operation_found program (procedure_among program.procedures (Some o) operation.name) there.entry.is_entry there.entry.profile
+      (ap (λ x. x.result) there.profiled ∙ no_result) called_by in
+      let serving = serves.externals name.first.name operation.name number object.object found.0
+      (ap (λ x. external_of x name.first.name operation.name) seen ∙ numbered_there) object.is found.1 in
+      record {
+        callee = record { procedure = found.0; through = Some o; arguments = argument_trees all };
+        is = external_is program f.within name.first name.selectors (record { operation = operation; arguments = argument_trees all }) behind
+            ∙ ap (λ e. callee_through program (option_map (λ x. x.number) (protected_of e)) operation.name (argument_trees all)) object.is
+            ∙ ap (λ q. callee_with q (Some o) (argument_trees all)) found.1;
+        formals = found.2 ∙ ap (λ x. x.formals) there.profiled;
+        plain = serving.1;
+        number = number;
+        numbered = serving.0;
+        way = refl;
+        arguments = refl;
+      }
+
+  changes_through : Changes (SuitsStatements v) (op.ProtectedCall number) r.height (0 + total (copied_width v.scope) r.destinations)
+  changes_through = record {
+    operands = refl;
+    names = λ i s suits.
+        let it = suits.externals name.first.name operation.name number profile numbered_there told no_result in
+        ap (λ o. some_and o (λ x. is_external x.kind)) it.is ∙ it.kind;
+    takes = λ i s suits.
+        call_takes v profile number (op.ProtectedCall number) a.code c.code all r i is_external
+        (suits.externals name.first.name operation.name number profile numbered_there told no_result);
+    leaves = λ i s suits.
+        call_leaves v profile number (op.ProtectedCall number) a.code c.code all r i is_external
+        (suits.externals name.first.name operation.name number profile numbered_there told no_result);
+    stays = refl;
+    is_none = refl;
+  }
+
+  pub external_emits : EmitsStatement v w a (statements.Call name) c
+  external_emits =
+      invocation_emits quiet v w a c name profile.formals all (op.ProtectedCall number)
+      (behind_size name.selectors (record { operation = operation; arguments = argument_trees all }) behind) r beside reaches_through changes_through

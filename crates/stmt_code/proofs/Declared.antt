@@ -16,7 +16,7 @@ use Rattle.image.specs.declared.subprograms.Subprogram.{Subprogram}
 use Rattle.types.specs.declared.entity.Role.{Role}
 use Rattle.types.specs.declared.entity.Subtype.{Subtype}
 use Rattle.types.specs.Entities as entity
-use Rattle.types.specs.Entities.{Arrays, Booleans, Entity, Integers, Records, Spans, Times, TypeForm}
+use Rattle.types.specs.Entities.{Arrays, Booleans, Entity, Integers, Records, Spans, Times, TypeForm, Profile}
 use Rattle.types.specs.Laws.{InitialValuesHaveShape, ShapesStay, ValuesHaveWords}
 use Rattle.types.specs.Layouts.{capped, words_of}
 use Rattle.types.specs.Places.{Object}
@@ -42,7 +42,7 @@ use Rattle.expr_code.specs.Code.{Adds, Extends, Holds, here}
 use Rattle.expr_code.specs.Computing.{ComputesChecked}
 use Rattle.expr_code.specs.Emitting.{EmitsChecked, EmitsFitting}
 use Rattle.expr_code.specs.Flows.{AreKeptBetween, Flows}
-use Rattle.expr_code.specs.Seeing.{Package, Sees, Suits, library_of, subprogram_of}
+use Rattle.expr_code.specs.Seeing.{Package, Sees, Suits, library_of, subprogram_of, NamesProfile, external_of}
 use Rattle.expr_code.specs.declared.code.Code.{Code}
 use Rattle.expr_code.specs.declared.visible.Slot.{Slot}
 use Rattle.expr_code.specs.declared.visible.Visible.{Visible}
@@ -68,8 +68,9 @@ use Rattle.stmt_code.proofs.Narrowing.{narrows_wider}
 use Rattle.part_code.specs.Storing.{ArePushed}
 use Rattle.part_code.proofs.ObjectNames.{less_true}
 use Rattle.part_code.proofs.StoresAt.{store_changes}
-use Rattle.stmt_code.proofs.Suiting.{entries_wider, number_wider, slots_first, stands_wider, subprograms_first, suits_wider}
+use Rattle.stmt_code.proofs.Suiting.{entries_wider, external_wider, number_wider, slots_first, stands_wider, subprograms_first, suits_wider}
 use Rattle.stmt_code.proofs.Widening.{scope_wider}
+use Rattle.part_code.proofs.Names.{is_told, profile_without}
 
 -- ---- words
 
@@ -93,7 +94,7 @@ module _ (kept : AgreementIsKept) (sized : ValuesHaveWords) (calls : CallsAreTyp
       (takes : TakesWords a.words (words_of v.scope t) c.words) (first_is : first ≡ a.words.taken) (same : c.labels ≡ a.labels) (same_rows : KeepsRows a c)
       (scope : later.scope ≡ local_object_scope v.scope d)
       (slots : later.slots ≡ v.slots ++ Some (record { region = regions.Locals; offset = first }) ∷ [])
-      (subprograms : later.subprograms ≡ v.subprograms ++ None ∷ []) where
+      (subprograms : later.subprograms ≡ v.subprograms ++ None ∷ []) (operations : later.operations ≡ v.operations) where
     abbrev size : ℕ
     size = words_of v.scope t
 
@@ -259,7 +260,7 @@ module _ (kept : AgreementIsKept) (sized : ValuesHaveWords) (calls : CallsAreTyp
             }))
             (flows_then (Suits v) l m c.code 1 (1 + size) 0 grown finished runs
             (instruction_flows (Suits v) m c.code (1 + size) 0 (op.StoreBlock regions.Locals size) store
-            (store_changes v regions.Locals size (op.StoreBlock regions.Locals size) block (record { holds = tt; is = inr refl }))))
+            (store_changes (Suits v) regions.Locals size (op.StoreBlock regions.Locals size) (λ i s suits. refl) block (record { is = inr refl }))))
 
         words_flow : (i : Sections) (s : Subprogram) (low high : ℕ) → low ≤ here a.code → here c.code ≤ high → Holds i (here a.code) c.code → SuitsStatements v i s
             → c.code.deepest ≤ s.stack → first + size ≤ s.locals → has_depth i (here c.code) 0 ≡ true
@@ -352,7 +353,9 @@ module _ (kept : AgreementIsKept) (sized : ValuesHaveWords) (calls : CallsAreTyp
         scope = scope_is ∙ ap (λ x. with_name x.scope d.name.name (entity.Object r t)) (sym names);
         slots = slots ∙ ap (λ x. x.slots ++ Some slot ∷ []) (sym names);
         subprograms = subprograms ∙ ap (λ x. x.subprograms ++ None ∷ []) (sym names);
+        operations = operations ∙ ap (λ x. x.operations) (sym names);
         room = refl;
+        within = refl;
         region = refl;
         offset = first_is;
         fits = (let n = takes.taken in let p = takes.most in let k = size_here in omega (arith, n, p, k, room));
@@ -374,6 +377,10 @@ module _ (kept : AgreementIsKept) (sized : ValuesHaveWords) (calls : CallsAreTyp
       serves_later = record {
         finds = finds;
         numbered = numbered;
+        externals = λ name operation n o q told.
+            serves.externals name operation n o q
+            (ap (λ x. external_of x name operation) names
+            ∙ external_wider stay v later d.name.name r t slot sound entries hidden scope_is slots subprograms operations name operation n told);
         scope = serves.scope;
         place = record serves.place { locals = object ∷ serves.place.locals };
         here = serves.here;
@@ -389,17 +396,23 @@ module _ (kept : AgreementIsKept) (sized : ValuesHaveWords) (calls : CallsAreTyp
           object : Object
           object = record { name = d.name.name; subtype = t; value = initial f.names.scope t }
 
-          finds : (name : List ℕ) (e : Entity) → entity_named later.scope name ≡ Some e → IsFound program None name e
+          finds : (name : List ℕ) (e : Entity) → entity_named later.scope name ≡ Some e → IsFound program f.within name e
           finds name e h =
               elim (stands_wider stay v later d.name.name r t slot sound entries hidden scope_is slots subprograms name e h) [
                 | inl old ↦ serves.finds name e (ap (λ x. entity_named x.scope name) names ∙ old)
-                | inr is ↦ subst (IsFound program None name) (sym is.1) tt
+                | inr is ↦ subst (IsFound program f.within name) (sym is.1) tt
               ]
 
-          numbered : (name : List ℕ) (q : Procedure) (n : ℕ) → procedure_here program None name ≡ Some q → subprogram_of later name ≡ Some n → numbers q ≡ Some n
-          numbered name q n found told =
+          numbered : (name : List ℕ) (q : Procedure) (n : ℕ) (profile : Profile) → procedure_here program f.within name ≡ Some q
+              → subprogram_of later name ≡ Some n → NamesProfile later.scope name profile → profile.result ≡ None
+              → numbers q ≡ Some n
+          numbered name q n profile found told naming none =
               let old = (number_wider stay v later d.name.name r t slot sound entries hidden scope_is slots subprograms name n told).0 in
-              serves.numbered name q n found (ap (λ x. subprogram_of x name) names ∙ old)
+              let before = is_told v.scope v.subprograms name n old in
+              serves.numbered name q n profile found (ap (λ x. subprogram_of x name) names ∙ old)
+              (subst (λ x. NamesProfile x.scope name profile) (sym names)
+              (profile_without v.scope d.name.name (entity.Object r t) name before.number profile before.numbered
+              (subst (λ z. NamesProfile z name profile) scope_is naming))) none
 
     -- ---- the whole
 
@@ -414,6 +427,7 @@ module _ (kept : AgreementIsKept) (sized : ValuesHaveWords) (calls : CallsAreTyp
       scope = scope;
       slots = slots_first stay v later d.name.name r t slot sound entries hidden scope_is slots subprograms;
       subprograms = subprograms_first stay v later d.name.name r t slot sound entries hidden scope_is slots subprograms;
+      operations = operations;
       sound = subst SoundScope (sym scope_is) (scope_wider scopes v.scope d.name.name r t hidden is_sound sound);
       entries = entries_wider stay v later d.name.name r t slot sound entries hidden scope_is slots subprograms;
       stands = λ i h l program g numbers f names serves room. (
@@ -431,7 +445,7 @@ module _ (kept : AgreementIsKept) (sized : ValuesHaveWords) (calls : CallsAreTyp
       flows = λ i s low high down up h suits deep wide ends.
           this.flows i s low high down up h suits deep (let n = takes.taken in let k = takes.most in omega (arith, n, k, wide, first_is)) ends;
       suits = λ i s suits wide.
-          suits_wider stay v later d.name.name r t slot sound entries hidden scope_is slots subprograms i s refl
+          suits_wider stay v later d.name.name r t slot sound entries hidden scope_is slots subprograms i s operations refl
           (let n = takes.taken in let k = takes.most in let one = this.some in omega (arith, n, k, one, wide, first_is)) suits;
     }
 
@@ -480,6 +494,7 @@ no_declarations v a sound entries = record {
   scope = refl;
   slots = all_taken v.slots;
   subprograms = all_taken v.subprograms;
+  operations = refl;
   sound = sound;
   entries = entries;
   stands = λ i h l program g numbers f names serves room. ((refl, same f v names), subst (λ x. Serves program g numbers x a.words.taken) (sym (same f v names)) serves);
@@ -506,6 +521,7 @@ declarations_then v behind later a b c ds es p q = record {
   scope = q.scope ∙ ap (λ s. locals_scope s es) p.scope ∙ sym (locals_again v.scope ds es);
   slots = taken_again v.slots behind.slots later.slots p.slots q.slots;
   subprograms = taken_again v.subprograms behind.subprograms later.subprograms p.subprograms q.subprograms;
+  operations = q.operations ∙ p.operations;
   sound = q.sound;
   entries = q.entries;
   stands = λ i h l program g numbers f names serves room.

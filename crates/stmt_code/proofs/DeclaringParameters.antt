@@ -24,7 +24,7 @@ use Rattle.part_code.specs.Resting.{Framed}
 use Rattle.part_code.specs.Statements.{IsParameterDeclared, Numbers}
 use Rattle.part_code.specs.Storing.{ArePushed}
 use Rattle.part_code.proofs.Declaring.{begins_by, initial_suits}
-use Rattle.part_code.proofs.StoringCode.{StoresLocally, block_locally, computes_above, computes_pushed, word_locally}
+use Rattle.part_code.proofs.StoringCode.{StoresLocally, block_in, computes_above, computes_pushed, word_there}
 
 module _ (kept : AgreementIsKept) (sized : ValuesHaveWords) (quiet : QuietStays) (shaped : InitialValuesHaveShape) (i : Sections) (program : Program)
     (g : Package) (numbers : Numbers) (v later : Framed) (f : Parameter) (r : Role) (slot : Slot) (laid : IsLaidOut g v)
@@ -49,7 +49,7 @@ module _ (kept : AgreementIsKept) (sized : ValuesHaveWords) (quiet : QuietStays)
       let many = ap length word in
       parameter_by from (suc from) (omega arith) on
       (computes_pushed quiet i (library_of g) (Sees g v.names) from (suc from) start (subst (ArePushed i from) (sym word) (push, tt)) (omega (arith, many)))
-      (subst (λ n. StoresLocally i (suc from) slot.offset n (on [])) (sym single) (word_locally quiet i (suc from) slot.offset here))
+      (subst (λ n. StoresLocally i (suc from) slot.offset n (on [])) (sym single) (word_there quiet i regions.Locals (suc from) slot.offset here))
 
   -- several: PUSH of their place, PUSH of each, STB
   pub declares_parameter_block : (from mid : ℕ) → At i from (op.Push (pos slot.offset)) → ArePushed i (suc from) (value_words start)
@@ -59,4 +59,4 @@ module _ (kept : AgreementIsKept) (sized : ValuesHaveWords) (quiet : QuietStays)
       parameter_by from mid (omega (arith, end)) (λ base x. on (pos slot.offset ∷ base) x)
       (computes_above quiet i (library_of g) (Sees g v.names) from mid slot.offset (λ c p. Gives start) (omega (arith, end)) push
       (computes_pushed quiet i (library_of g) (Sees g v.names) (suc from) mid start pushed end))
-      (block_locally quiet i mid slot.offset (words_of v.names.scope f.subtype) here)
+      (block_in quiet i regions.Locals mid slot.offset [] (words_of v.names.scope f.subtype) here)

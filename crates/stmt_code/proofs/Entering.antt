@@ -2,13 +2,14 @@
 use Rattle.std.proofs.Common.{◌≡◌, ℕ, ◌≤◌, inl, ℤ, List, [], ◌∷◌, length, Option, Some, None, Bool, true, false, refl, sym, ap, ◌∙◌, subst, arith}
 use Rattle.std.specs.Prelude.{bytes_eq, if◌then◌else◌}
 use Rattle.std.proofs.lemmas.Slice.Eq.{bytes_eq-Decides}
+use Rattle.image.specs.Frames.{object_words}
 use Rattle.image.specs.declared.instruction.Region.{Region}
 use Rattle.image.specs.declared.instruction.Region.TheVariants as regions
 use Rattle.types.specs.declared.entity.Role.{Role}
-use Rattle.types.specs.Entities.{Entity, OfSubtype, OfType, Predefined, Protected}
+use Rattle.types.specs.Entities.{Entity, OfSubtype, OfType, Predefined, Protected, ProtectedObject}
 use Rattle.types.specs.Laws.{ValuesHaveWords}
-use Rattle.types.specs.Places.{Function, IsFunction, IsObject, Meaning, Object, Place, function_meaning, function_of, is_of, meaning_in_scope, meaning_of, meaning_of_entity, meaning_or, object_meaning, object_of, or_else, own_components}
-use Rattle.types.specs.Scopes.{Scope, entity_at, number_of}
+use Rattle.types.specs.Places.{Function, IsFunction, IsObject, IsProtected, Meaning, Object, Place, function_meaning, function_of, is_of, meaning_in_scope, meaning_of, meaning_of_entity, meaning_or, object_meaning, object_of, or_else, own_components, own_function, own_object, package_function, package_object}
+use Rattle.types.specs.Scopes.{Scope, entity_at, number_of, protected_at, protected_of}
 use Rattle.types.specs.Shapes.{has_shape, shape_of}
 use Rattle.types.specs.Values.{Value}
 use Rattle.declaring.specs.Laws.{StandsFirst}
@@ -19,11 +20,11 @@ use Rattle.expr_soundness.proofs.Agreement.{changed_agrees}
 use Rattle.expr_soundness.proofs.Positions.{same_some}
 use Rattle.expr_soundness.specs.meaning.specs.Works.{Activation}
 use Rattle.expr_code.specs.Naming.{Lies}
-use Rattle.expr_code.specs.Seeing.{IsCoded, Package, SeesPackage, outside, slot_of, subprogram_of}
+use Rattle.expr_code.specs.Seeing.{external_of, IsCoded, IsOffered, object_named, Package, SeesPackage, outside, slot_of, subprogram_of}
 use Rattle.expr_code.specs.Views.{View}
 use Rattle.expr_code.specs.declared.visible.Slot.{Slot}
 use Rattle.part_code.specs.Layout.{IsLaidOut, IsLaidPackage, Widens}
-use Rattle.part_code.specs.Resting.{Framed, IsAtHome, Knows, Rests}
+use Rattle.part_code.specs.Resting.{Framed, IsAtHome, IsAtHomeIn, Knows, Rests}
 use Rattle.part_code.proofs.Names.{meant_by}
 use Rattle.part_code.proofs.Placing.{declared_knows, framed_view, package_alone, with_locals, with_objects}
 
@@ -36,8 +37,8 @@ pub rests_more : (kept : AgreementIsKept) (sized : ValuesHaveWords) (g : Package
     → Rests g later (record a { locals = x ∷ a.locals }) words
 rests_more kept sized g v later laid a words x r slot rests widens region suited lies = record {
   small = rests.small;
-  sees = λ p view sees objects within is.
-      declared_knows kept sized g v laid a words words rests x slot.offset (record { long = refl; there = lies; others = λ b u apart h. h }) p view sees objects within is r
+  sees = λ p view sees objects within is its.
+      declared_knows kept sized g v laid a words words rests x slot.offset (record { long = refl; there = lies; others = λ b u apart h. h }) p view sees objects within is its r
       slot later widens region refl suited;
 }
 
@@ -45,9 +46,10 @@ rests_more kept sized g v later laid a words x r slot rests widens region suited
 
 module _ (g : Package) (laid : IsLaidPackage g) (v : Framed) (a : Activation) (l : List Object) (words : List ℤ)
     (alike : (name : List ℕ) → object_of l name ≡ object_of a.locals name) (rests : Rests g v a words) where
-  module _ (p : Place) (view : View) (sees : SeesPackage g p view) (objects : p.locals ≡ l) (within : p.within ≡ a.within) (is : view.words regions.Locals ≡ words) where
+  module _ (p : Place) (view : View) (sees : SeesPackage g p view) (objects : p.locals ≡ l) (within : p.within ≡ a.within) (is : view.words regions.Locals ≡ words)
+      (its : view.words regions.Object ≡ object_words a.within view.memory) where
     knew : Knows g v (with_objects a.locals p) (framed_view words view)
-    knew = rests.sees (with_objects a.locals p) (framed_view words view) (package_alone g laid p view a.locals words rests.small sees) refl within refl
+    knew = rests.sees (with_objects a.locals p) (framed_view words view) (package_alone g laid p view a.locals words rests.small sees) refl within refl its
 
     found : (name : List ℕ) → object_of p.locals name ≡ object_of a.locals name
     found name = ap (λ q. object_of q name) objects ∙ alike name
@@ -77,10 +79,14 @@ module _ (g : Package) (laid : IsLaidPackage g) (v : Framed) (a : Activation) (l
           agrees = agrees;
           objects = λ name slot t u told h. lies slot u (knew.sees.names.objects name slot t u told (sym (means name) ∙ h));
         };
-        functions = λ name n f told h. knew.sees.functions name n f told (sym (means name) ∙ h);
+        functions = λ name n f profile result told naming gives h.
+            knew.sees.functions name n f profile result told naming gives (sym (means name) ∙ h);
+        externals = λ name operation n o f told h found. knew.sees.externals name operation n o f told (sym (means name) ∙ h) found;
       };
+      within = knew.within;
       room = (let k = knew.room in let e = ap length is in omega (arith, k, e));
-      homes = λ name slot told. subst (IsAtHome slot.region) (sym (found name)) (knew.homes name slot told);
+      homes = λ name slot told.
+          subst (λ o. IsAtHome slot.region o (object_of (own_components p p.within) name)) (sym (found name)) (knew.homes name slot told);
     }
 
   pub rests_alike : Rests g v (record a { locals = l }) words
@@ -95,11 +101,11 @@ no_function (Some (Predefined o p)) f h = cc
 no_function (Some (Protected o)) f h = cc
 no_function e f h = cc
 
-no_scope_function : (s : Scope) (n : Option ℕ) (f : Function) → meaning_in_scope s n ≡ IsFunction f None → ⊥
+pub no_scope_function : (s : Scope) (n : Option ℕ) (f : Function) → meaning_in_scope s n ≡ IsFunction f None → ⊥
 no_scope_function s (Some n) f h = no_function (entity_at s n) f h
 no_scope_function s None f h = cc
 
-same_function : (a b : Function) → IsFunction a None ≡ IsFunction b None → a ≡ b
+pub same_function : (a b : Function) → IsFunction a None ≡ IsFunction b None → a ≡ b
 same_function a b h = let f : Meaning → Function = λ m. elim m [ IsFunction x t ↦ x | other ↦ a ] in ap f h
 
 outer_function : (found : Option Function) (o : Option Object) (last : Meaning) (f : Function) → ((last ≡ IsFunction f None) → ⊥)
@@ -109,7 +115,7 @@ outer_function (Some y) o last f never h = ap Some (same_function y f h)
 outer_function None (Some x) last f never h = cc
 outer_function None None last f never h = absurd (never h)
 
-function_is : (fs : List Function) (owner : Option ℕ) (name : List ℕ) (f : Function) → function_of fs owner name ≡ Some f
+pub function_is : (fs : List Function) (owner : Option ℕ) (name : List ℕ) (f : Function) → function_of fs owner name ≡ Some f
     → (is_of f.object owner ≡ true) × (bytes_eq f.name name ≡ true)
 function_is [] owner name f h = cc
 function_is (y ∷ fs) owner name f h = by_test (is_of y.object owner) (bytes_eq y.name name) refl refl h (function_is fs owner name f)
@@ -133,9 +139,42 @@ pub record IsOfPackage (g : Package) (v : Framed) : Type 0 where
   pub plain : (name : List ℕ) (slot : Slot) → slot_of v.names name ≡ Some slot → slot.region ≡ regions.Plain
   pub slots : (name : List ℕ) (slot : Slot) → slot_of v.names name ≡ Some slot → g.slots None name ≡ Some slot
   pub calls : (name : List ℕ) (number : ℕ) → subprogram_of v.names name ≡ Some number → g.subprograms None name ≡ Some number
+  pub within : v.within ≡ None
+  pub externals : (name operation : List ℕ) (number : ℕ) (o : ProtectedObject) (f : Function) → external_of v.names name operation ≡ Some number
+      → object_named g.scope name ≡ Some o → function_of g.functions (Some o.number) operation ≡ Some f → IsOffered g o f number
+
+-- what means a protected object is named so in the package
+scope_object : (a b : Option Object) (f h : Option Function) (m : Meaning) (o : ProtectedObject)
+    → meaning_or (or_else (object_meaning a) (function_meaning f)) (meaning_or (or_else (object_meaning b) (function_meaning h)) m) ≡ IsProtected o
+    → m ≡ IsProtected o
+scope_object (Some a) b f h m o is = cc
+scope_object None b (Some f) h m o is = cc
+scope_object None (Some b) None h m o is = cc
+scope_object None None None (Some h) m o is = cc
+scope_object None None None None m o is = is
+
+named_object : (s : Scope) (n : Option ℕ) (o : ProtectedObject) → meaning_in_scope s n ≡ IsProtected o
+    → elim n [ None ↦ None | Some k ↦ protected_at s k ] ≡ Some o
+named_object s (Some n) o is = by_entity (entity_at s n) is
+  where
+    by_entity : (e : Option Entity) → meaning_of_entity e ≡ IsProtected o → protected_of e ≡ Some o
+    by_entity (Some (Protected p)) h = let f : Meaning → Option ProtectedObject = λ m. elim m [ IsProtected x ↦ Some x | m ↦ None ] in ap f h
+    by_entity e h = cc
+named_object s None o is = cc
+
+pub object_meant : (p : Place) (name : List ℕ) (o : ProtectedObject) → meaning_of p name ≡ IsProtected o → object_named p.scope name ≡ Some o
+object_meant p name o is =
+    named_object p.scope (number_of p.scope name) o
+    (scope_object (own_object p name) (package_object p name) (own_function p name) (package_function p name)
+    (meaning_in_scope p.scope (number_of p.scope name)) o is)
+
+-- whatever words the frame of a body begins with, it knows what stands in front of the body, where that belongs to this protected object, if any
+abbrev pub BeginsBody : Package → Framed → (owner : Option ℕ) → Type 0
+BeginsBody g front owner = (words : List ℤ) → length words ≤ 65536 → front.room ≤ length words → Rests g front (record { within = owner; locals = [] }) words
 
 module _ (kept : AgreementIsKept) (g : Package) (v : Framed) (of_package : IsOfPackage g v) (words : List ℤ) (small : length words ≤ 65536) (room : v.room ≤ length words) where
-  module _ (p : Place) (view : View) (sees : SeesPackage g p view) (objects : p.locals ≡ []) (within : p.within ≡ None) (is : view.words regions.Locals ≡ words) where
+  module _ (p : Place) (view : View) (sees : SeesPackage g p view) (objects : p.locals ≡ []) (within : p.within ≡ None) (is : view.words regions.Locals ≡ words)
+      (its : view.words regions.Object ≡ []) where
     bare : outside p ≡ p
     bare = λ j. record p { locals = (sym objects) j; within = (sym within) j }
 
@@ -162,11 +201,15 @@ module _ (kept : AgreementIsKept) (g : Package) (v : Framed) (of_package : IsOfP
           agrees = subst (Agrees v.names.scope) bare (kept.narrowed v.names.scope g.scope (outside p) of_package.first of_package.sound sees.names.agrees);
           objects = λ name slot t u told h. sees.names.objects name slot t u (of_package.slots name slot told) (at name (IsObject t u) h);
         };
-        functions = coded;
+        functions = λ name number f profile result told naming gives h. coded name number f told h;
+        externals = λ name operation number o f told h found.
+            of_package.externals name operation number o f told (ap (λ s. object_named s name) (sym sees.scope) ∙ object_meant p name o h) found;
       };
+      within = within ∙ sym of_package.within;
       room = (let e = ap length is in omega (arith, room, e));
       homes = λ name slot told.
-          subst (λ q. IsAtHome q (object_of p.locals name)) (sym (of_package.plain name slot told)) (ap (λ l. object_of l name) objects);
+          subst (λ q. IsAtHomeIn p name q) (sym (of_package.plain name slot told))
+          (ap (λ l. object_of l name) objects, ap (λ o. object_of (own_components p o) name) within);
     }
 
   pub rests_package : Rests g v (record { within = None; locals = [] }) words

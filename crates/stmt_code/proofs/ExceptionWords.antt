@@ -21,15 +21,15 @@ abbrev pub reserving : ℕ → Framed → Framed
 reserving word v = record v { reserved = word ∷ v.reserved }
 
 knows_reserving : (g : Package) (v : Framed) (word : ℕ) (p : Place) (view : View) → Knows g v p view → Knows g (reserving word v) p view
-knows_reserving g v word p view h = record { sees = h.sees; room = h.room; homes = h.homes }
+knows_reserving g v word p view h = record { sees = h.sees; within = h.within; room = h.room; homes = h.homes }
 
 knows_more : (g : Package) (v : Framed) (word : ℕ) (p : Place) (view : View) → Knows g (reserving word v) p view → Knows g v p view
-knows_more g v word p view h = record { sees = h.sees; room = h.room; homes = h.homes }
+knows_more g v word p view h = record { sees = h.sees; within = h.within; room = h.room; homes = h.homes }
 
 rests_reserving : (g : Package) (v : Framed) (word : ℕ) (a : Activation) (locals : List ℤ) → Rests g v a locals → Rests g (reserving word v) a locals
 rests_reserving g v word a locals h = record {
   small = h.small;
-  sees = λ p view shared one two three. knows_reserving g v word p view (h.sees p view shared one two three);
+  sees = λ p view shared one two three four. knows_reserving g v word p view (h.sees p view shared one two three four);
 }
 
 module _ (quiet : QuietStays) (sized : ValuesHaveWords) (i : Sections) (g : Package) (v : Framed) (laid : IsLaidOut g v) (word place : ℕ)

@@ -1,7 +1,8 @@
--- What a frame sees when the body of a function of the package is entered: the names in front of it, and its formals with their values (RM 6.4).
-use Rattle.std.proofs.Common.{◌≡◌, ℕ, ◌+◌, ◌≤◌, ℤ, List, [], ◌∷◌, ◌++◌, length, map, append_assoc, None, Some, true, refl, sym, ap, ◌∙◌, subst, arith}
+-- What a frame sees when the body of a function is entered: the names in front of it, and its formals with their values (RM 6.4).
+use Rattle.std.proofs.Common.{◌≡◌, ℕ, ◌+◌, ◌≤◌, ℤ, List, [], ◌∷◌, ◌++◌, length, map, append_assoc, Option, None, Some, true, refl, sym, ap, ◌∙◌, subst, arith}
 use Rattle.std.proofs.lemmas.List.{length-append}
 use Rattle.ada_tree.specs.declared.declaration.Mode.TheVariants as mode
+use Rattle.image.specs.Frames.{object_words}
 use Rattle.image.specs.declared.instruction.Region.{Region}
 use Rattle.image.specs.declared.instruction.Region.TheVariants as regions
 use Rattle.types.specs.Laws.{ValuesHaveWords}
@@ -25,7 +26,7 @@ use Rattle.expr_code.specs.declared.visible.Slot.{Slot}
 use Rattle.part_code.specs.Layout.{IsLaidPackage}
 use Rattle.part_code.specs.Resting.{Framed, Rests}
 use Rattle.stmt_code.proofs.Beginning.{Begins, value_begins, width}
-use Rattle.stmt_code.proofs.Entering.{IsOfPackage, rests_package}
+use Rattle.stmt_code.proofs.Entering.{BeginsBody}
 
 -- a formal of a function, which is copied in
 abbrev pub as_parameter : Formal → Parameter
@@ -41,27 +42,27 @@ module _ (kept : AgreementIsKept) (sized : ValuesHaveWords) (program : Program) 
   is_of : (t : Subtype) (x : Value) → has_shape (shape_of g.scope t) x ≡ true → IsOf program.scope t.type_number x
   is_of t x h = subst (λ s. has_shape (type_shape s t.type_number) x ≡ true) same (sym (subtype_values g.scope t x) ∙ h)
 
-  formals_begun : (words : List ℤ) (fs : List Formal) (vs : List Value) (v last : Framed) (front more : List ℤ) (l : List Object)
+  formals_begun : (within : Option ℕ) (words : List ℤ) (fs : List Formal) (vs : List Value) (v last : Framed) (front more : List ℤ) (l : List Object)
       → EntersFormals program g v (length front) fs last
       → ArePassed (map (shape_of g.scope) (map formal_subtype fs)) vs
       → words ≡ front ++ (all_words vs ++ more)
-      → Rests g v (record { within = None; locals = l }) words
-      → Rests g last (record { within = None; locals = bound fs vs l }) words
-  formals_begun words [] [] v last front more l h passed is rests = subst (λ q. Rests g q (record { within = None; locals = l }) words) (sym h) rests
-  formals_begun words [] (x ∷ xs) v last front more l h passed is rests = absurd passed
-  formals_begun words (f ∷ fs) [] v last front more l h passed is rests = absurd passed
-  formals_begun words (f ∷ fs) (x ∷ xs) v last front more l h passed is rests =
+      → Rests g v (record { within = within; locals = l }) words
+      → Rests g last (record { within = within; locals = bound fs vs l }) words
+  formals_begun within words [] [] v last front more l h passed is rests = subst (λ q. Rests g q (record { within = within; locals = l }) words) (sym h) rests
+  formals_begun within words [] (x ∷ xs) v last front more l h passed is rests = absurd passed
+  formals_begun within words (f ∷ fs) [] v last front more l h passed is rests = absurd passed
+  formals_begun within words (f ∷ fs) (x ∷ xs) v last front more l h passed is rests =
       let value = value_words x in
       let of = is_of f.subtype x passed.0 in
-      let wide = width kept sized program g None words v h.0 (as_parameter f) x (length front) h.1 of in
+      let wide = width kept sized program g within words v h.0 (as_parameter f) x (length front) h.1 of in
       let long = length-append front value in
       let at : length front + words_of v.names.scope f.subtype ≡ length (front ++ value) = omega (arith, wide, long) in
       let placed : words ≡ front ++ (value ++ (all_words xs ++ more)) = is ∙ ap (λ q. front ++ q) (append_assoc value (all_words xs) more) in
-      let first = value_begins kept sized program g None words v h.0 (as_parameter f) x front (all_words xs ++ more) l h.1 of placed rests in
-      formals_begun words fs xs h.0 last (front ++ value) more (record { name = f.name; subtype = f.subtype; value = x } ∷ l)
+      let first = value_begins kept sized program g within words v h.0 (as_parameter f) x front (all_words xs ++ more) l h.1 of placed rests in
+      formals_begun within words fs xs h.0 last (front ++ value) more (record { name = f.name; subtype = f.subtype; value = x } ∷ l)
       (subst (λ n. EntersFormals program g h.0 n fs last) at h.2) passed.1 (placed ∙ sym (append_assoc front value (all_words xs ++ more))) first
 
-  module _ (laid : IsLaidPackage g) (function : Function) (outside : function.object ≡ None) (front last : Framed) (of_package : IsOfPackage g front)
+  module _ (laid : IsLaidPackage g) (function : Function) (front last : Framed) (begins : BeginsBody g front function.object)
       (formals : EntersFormals program g front 0 function.formals last) where
     -- whatever calls it, with values of the formals' shapes
     pub function_sees : (p : Place) (view inner : View) (args : List Value) (left : ℕ) (locals : List ℤ)
@@ -73,20 +74,24 @@ module _ (kept : AgreementIsKept) (sized : ValuesHaveWords) (program : Program) 
         → inner.memory ≡ view.memory
         → inner.words regions.Locals ≡ all_words args ++ locals
         → inner.words regions.Plain ≡ view.words regions.Plain
-        → inner.words regions.Object ≡ []
+        → inner.words regions.Object ≡ object_words function.object view.memory
         → length (all_words args ++ locals) ≤ 65536
         → front.room ≤ length (all_words args ++ locals)
         → Sees g last.names (entered p function args left) inner
     function_sees p view inner args left locals sees passed schedule now task memory words plain object small room =
         let all = all_words args ++ locals in
-        let bare = rests_package kept g front of_package all small room in
-        let rests = formals_begun all function.formals args front last [] locals [] formals passed refl bare in
-        (rests.sees (entered p function args left) inner package_seen refl outside words).sees
+        let bare = begins all small room in
+        let rests = formals_begun function.object all function.formals args front last [] locals [] formals passed refl bare in
+        (rests.sees (entered p function args left) inner package_seen refl refl words (object ∙ ap (object_words function.object) (sym memory))).sees
       where
+        few_of : (o : Option ℕ) → length (object_words o view.memory) ≤ 65536
+        few_of None = omega arith
+        few_of (Some o) = sees.few o
+
         few : (r : Region) → length (inner.words r) ≤ 65536
         few regions.Locals = let e = ap length words in omega (arith, e, small)
         few regions.Plain = let e = ap length plain in let s = sees.small regions.Plain in omega (arith, e, s)
-        few regions.Object = let e = ap length object in omega (arith, e)
+        few regions.Object = let e = ap length object in let s = few_of function.object in omega (arith, e, s)
 
         lies : (name : List ℕ) (slot : Slot) (t : Subtype) (u : Value) → g.slots None name ≡ Some slot
             → Lies (view.words slot.region) slot.offset u → Lies (inner.words slot.region) slot.offset u
@@ -100,6 +105,7 @@ module _ (kept : AgreementIsKept) (sized : ValuesHaveWords) (program : Program) 
           scope = sees.scope;
           functions = sees.functions;
           sound = sees.sound;
+          objects = record { same = sees.objects.same; suited = sees.objects.suited };
           names = record {
             agrees = kept.circumstances g.scope (record p { locals = []; within = None }) p.schedule p.now p.actions p.priority left sees.names.agrees;
             objects = λ name slot t u told means. lies name slot t u told (sees.names.objects name slot t u told means);
@@ -110,4 +116,5 @@ module _ (kept : AgreementIsKept) (sized : ValuesHaveWords) (program : Program) 
           schedule = sees.schedule ∙ sym schedule;
           task = task;
           small = few;
+          few = λ o. subst (λ w. length (w.objects o) ≤ 65536) (sym memory) (sees.few o);
         }

@@ -34,10 +34,9 @@ use Rattle.expr_code.proofs.Coming.{pushes}
 use Rattle.part_code.specs.Copying.{GivesBack, copies_on, held_at}
 use Rattle.part_code.specs.Formals.{IsLoadingCode}
 use Rattle.part_code.specs.Layout.{NamesObject}
-use Rattle.part_code.specs.Resting.{AreHeld, Framed, IsAtHome, Knows}
-use Rattle.part_code.proofs.Assigning.{found_some}
+use Rattle.part_code.specs.Resting.{AreHeld, Framed, IsAtHomeIn, Knows}
 use Rattle.part_code.proofs.Loading.{Goes, loads_block, loads_single, loads_word}
-use Rattle.part_code.proofs.Names.{found_meant, meant_width}
+use Rattle.part_code.proofs.Names.{found_meant, meant_width, found_some}
 
 -- the words of so many values, and of an address each
 abbrev pub words_back : Scope → List Subtype → ℕ
@@ -124,7 +123,7 @@ module _ (i : Sections) (v : Framed) where
       all_given (name ∷ names) (n ∷ held) (s ∷ ts) (a ∷ rest) from to h words many =
           let mid = h.0 in
           let one = h.4 in
-          let own = found_some (object_of p.locals name) (subst (λ q. IsAtHome q (object_of p.locals name)) one.region (knows.homes name one.slot one.there)) in
+          let own = found_some (object_of p.locals name) (subst (λ q. IsAtHomeIn p name q) one.region (knows.homes name one.slot one.there)) in
           let x = own.0 in
           let meant = found_meant p name x own.1 in
           let here = view_of i schedule k t m f fs in

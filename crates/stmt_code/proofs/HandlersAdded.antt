@@ -72,6 +72,7 @@ module _ (program : Program) (g : Package) (numbers : Numbers) (f : Framed) (tak
     unit = serves.laid.unit;
     laid = serves.laid.laid;
     shared = serves.laid.shared;
+    own = serves.laid.own;
     free = λ name x r t told local named variable.
         free_one_more word f.reserved x.offset (words_of f.names.scope t) (unseen name x r t told local named)
         (serves.laid.free name x r t told local named variable);
@@ -83,6 +84,7 @@ module _ (program : Program) (g : Package) (numbers : Numbers) (f : Framed) (tak
   serves_reserving more is = record {
     finds = serves.finds;
     numbered = serves.numbered;
+    externals = serves.externals;
     scope = serves.scope;
     place = serves.place;
     here = serves.here;

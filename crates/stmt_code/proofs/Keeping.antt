@@ -1,5 +1,5 @@
 -- The code of whole subprograms keeps the rules of images: of procedures, functions and main.
-use Rattle.std.proofs.Common.{◌≡◌, ℕ, zero, suc, ◌<◌, ◌≤◌, List, [], ◌∷◌, ◌++◌, length, map, None, Some, Option, refl, sym, ap, ◌∙◌, subst, arith}
+use Rattle.std.proofs.Common.{◌≡◌, ◌≢◌, ℕ, zero, suc, ◌<◌, ◌≤◌, true, false, List, [], ◌∷◌, ◌++◌, length, map, None, Some, Option, refl, sym, ap, ◌∙◌, subst, arith}
 use Rattle.std.specs.Prelude.{drop, slice_get, ⊤}
 use Rattle.std.specs.List.{All}
 use Rattle.std.proofs.lemmas.List.{take-append-drop}
@@ -17,12 +17,15 @@ use Rattle.image.specs.Sections.{Sections}
 use Rattle.image.specs.declared.instruction.Operation.TheVariants as op
 use Rattle.image.specs.declared.instruction.Region.TheVariants as regions
 use Rattle.image.specs.declared.subprograms.Subprogram.{Subprogram}
+use Rattle.types.specs.declared.entity.Role.{Role}
 use Rattle.types.specs.declared.entity.Subtype.{Subtype}
 use Rattle.types.specs.Laws.{ShapesStay}
 use Rattle.types.specs.Layouts.{words_of}
-use Rattle.types.specs.Scopes.{Scope}
+use Rattle.types.specs.Entities.{Protected, ProtectedObject}
+use Rattle.types.specs.Scopes.{Scope, entity_at}
+use Rattle.type_rules.specs.ObjectRules.{object_entity}
 use Rattle.type_rules.specs.SubtypeNames.{subtype_of}
-use Rattle.declaring.specs.BodyNames.{formals_scope}
+use Rattle.declaring.specs.BodyNames.{formal_role, formal_scope, formals_scope}
 use Rattle.declaring.specs.Laws.{NamesAreAdded}
 use Rattle.expr_soundness.specs.SoundScopes.{IsKnown, SoundScope}
 use Rattle.expr_soundness.proofs.Positions.{same_some}
@@ -47,7 +50,8 @@ use Rattle.stmt_code.specs.declared.subprogram.SubprogramWords.{SubprogramWords}
 use Rattle.stmt_code.proofs.Adding.{labels_stay}
 use Rattle.part_code.proofs.FormalFlows.{return_kept}
 use Rattle.stmt_code.proofs.RowsAdded.{Surrounds, finds_later, rows_around, rows_kept}
-use Rattle.stmt_code.proofs.Suiting.{suits_behind, words_behind}
+use Rattle.expr_code.specs.Seeing.{Suits}
+use Rattle.stmt_code.proofs.Suiting.{names_behind, object_in_front, suits_behind, words_behind}
 
 -- ---- the words of formal parameters are within the frame
 
@@ -125,6 +129,18 @@ placed_none [] k n h = cc
 placed_none (x ∷ xs) zero n h = let f : Option ℕ → Type 0 = λ o. elim o [ None ↦ ⊤ | Some y ↦ ⊥ ] in subst f (same_some None (Some n) h) tt
 placed_none (x ∷ xs) (suc k) n h = placed_none xs k n h
 
+-- a formal parameter is no protected object
+formals_objects : (s : Scope) (fs : List Formal) (n : ℕ) (o : ProtectedObject) → entity_at (formals_scope s fs) n ≡ Some (Protected o)
+    → entity_at s n ≡ Some (Protected o)
+formals_objects s [] n o h = h
+formals_objects s (f ∷ fs) n o h =
+    object_in_front s f.name.name (object_entity (formal_role f.mode) (subtype_of s f.subtype)) (no_object (formal_role f.mode) (subtype_of s f.subtype)) n o
+    (formals_objects (formal_scope s f) fs n o h)
+  where
+    no_object : (r : Role) (t : Option Subtype) (x : ProtectedObject) → object_entity r t ≢ Protected x
+    no_object r (Some t) x e = cc
+    no_object r None x e = cc
+
 -- ---- in front of a body
 
 module _ (stay : ShapesStay) (added : NamesAreAdded) (v later : Visible) (fs : List Formal) (framed : FrameWords) (placed : PlacedFormals)
@@ -159,10 +175,18 @@ module _ (stay : ShapesStay) (added : NamesAreAdded) (v later : Visible) (fs : L
     pub room_for : HaveFormalRoom later.scope items i s
     room_for = begun_within s.locals wide
 
+    no_object : (n : ℕ) (o : ProtectedObject) → entity_at later.scope n ≡ Some (Protected o) → entity_at v.scope n ≡ Some (Protected o)
+    no_object n o h = formals_objects v.scope fs n o (ap (λ z. entity_at z n) (sym places.scope) ∙ h)
+
+    pub names_body : Suits v i s → Suits later i s
+    names_body =
+        names_behind stay v later more (map slot_for items) (map no_subprogram items) sound entries scope_behind places.slots places.subprograms
+        (placed_none items) i s places.operations no_object (placed_slot later.scope s.locals items (begun_within s.locals wide))
+
     pub suits_body : SuitsStatements v i s → SuitsStatements later i s
     suits_body =
         suits_behind stay v later more (map slot_for items) (map no_subprogram items) sound entries scope_behind places.slots places.subprograms
-        (placed_none items) i s (placed_slot later.scope s.locals items (begun_within s.locals wide))
+        (placed_none items) i s places.operations no_object (placed_slot later.scope s.locals items (begun_within s.locals wide))
 
 -- ---- procedures
 
@@ -238,7 +262,7 @@ module _ (stay : ShapesStay) (added : NamesAreAdded) (v : Visible) (old : Draft)
     still = finds_later adds.run.code new.code adds.returns.extends;
   }
 
-  pub procedure_keeps : KeepsRules v old words new
+  pub procedure_keeps : KeepsRules true v old words new
   procedure_keeps = record {
     extends = extends_trans (fresh old.code) adds.initial new.code adds.initialises.extends
         (extends_trans adds.initial adds.run.code new.code adds.runs.extends adds.returns.extends);
@@ -270,7 +294,7 @@ module _ (stay : ShapesStay) (added : NamesAreAdded) (v : Visible) (old : Draft)
   wide_value : adds.framed.most ≤ words.locals
   wide_value = let l = adds.locals in omega (arith, l)
 
-  function_kept : (i : Sections) (s : Subprogram) → Holds i (here old.code) new.code → HasLabels i new.labels → HasSubprogramWords s words → SuitsStatements v i s
+  function_kept : (i : Sections) (s : Subprogram) → Holds i (here old.code) new.code → HasLabels i new.labels → HasSubprogramWords s words → Suits v i s
       → AreKeptBetween i s (here old.code) (here adds.valued) (here old.code) (here new.code) 0
   function_kept i s h labels has suits =
       let wide : adds.framed.most ≤ s.locals = (let l = has.locals in omega (arith, l, wide_value)) in
@@ -280,12 +304,12 @@ module _ (stay : ShapesStay) (added : NamesAreAdded) (v : Visible) (old : Draft)
       (added_there adds.valued new.code 1 op.Return adds.returns i (here old.code) value_up h) (let w = adds.returns.within in omega (arith, w, deep)) one in
       let first = adds.emits.flows.flows i s
       (holds_before i (here old.code) adds.valued new.code (added_extends adds.valued new.code 1 op.Return adds.returns) h)
-      (suits_body stay added v adds.later fs adds.framed adds.placed sound entries adds.places i s wide suits).names
+      (names_body stay added v adds.later fs adds.framed adds.placed sound entries adds.places i s wide suits)
       (let d = adds.returns.deeper in omega (arith, d, deep)) returned.shallow returned.begins in
       kept_then i s (here old.code) (here adds.valued) (here old.code) (here adds.valued) (here new.code) 0 1 first
       (subst (λ n. AreKeptBetween i s (here old.code) (here adds.valued) (here adds.valued) n 1) (sym value_end) returned)
 
-  pub function_keeps : KeepsRules v old words new
+  pub function_keeps : KeepsRules false v old words new
   function_keeps = record {
     extends = extends_trans (fresh old.code) adds.valued new.code adds.emits.extends (added_extends adds.valued new.code 1 op.Return adds.returns);
     labels = labels_stay old.labels new.labels adds.labels;
@@ -305,14 +329,14 @@ module _ (stay : ShapesStay) (added : NamesAreAdded) (v : Visible) (old : Draft)
 -- ---- main
 
 module _ (v : Visible) (i : Sections) (q : Subprogram) (suits : SuitsStatements v i q) where
-  call_bare : (x : MainStatement) → NamesIfCalled v.scope x → CallsBare v i x
+  call_bare : (x : MainStatement) → NamesIfCalled v.scope x → CallsBare v i q x
   call_bare (main.Null place) h = tt
   call_bare (main.Call package_ procedure) h = λ number told.
       let c = suits.procedures procedure.name number h.profile told h.names h.result in
       record {
         code = c.code;
         is = c.is;
-        plain = c.plain;
+        kind = c.kind;
         parameters = c.parameters ∙ ap (total (passed_width v.scope)) h.formals;
         results = c.results ∙ ap (total (returned_width v.scope)) h.formals;
       }
@@ -341,7 +365,7 @@ module _ (v : Visible) (old : Draft) (all : List MainStatement) (words : Subprog
       kept_then i s (here old.code) (here adds.called) (here old.code) (here adds.called) (here new.code) 0 0 first
       (subst (λ n. AreKeptBetween i s (here old.code) (here adds.called) (here adds.called) n 0) (sym calls_end) returned)
 
-  pub main_keeps : KeepsRules v old words new
+  pub main_keeps : KeepsRules true v old words new
   main_keeps = record {
     extends = extends_trans (fresh old.code) adds.called new.code adds.calls.extends (added_extends adds.called new.code 0 op.Return adds.returns);
     labels = labels_stay old.labels new.labels adds.labels;

@@ -28,7 +28,9 @@ pub record AddsObject (v : Framed) (name : List ℕ) (r : Role) (t : Subtype) (t
   pub scope : later.names.scope ≡ with_name v.names.scope name (entity.Object r t)
   pub slots : later.names.slots ≡ v.names.slots ++ Some slot ∷ []
   pub subprograms : later.names.subprograms ≡ v.names.subprograms ++ None ∷ []
+  pub operations : later.names.operations ≡ v.names.operations
   pub room : later.room ≡ v.room
+  pub within : later.within ≡ v.within
   pub region : slot.region ≡ regions.Locals
   pub offset : slot.offset ≡ top
   pub fits : top + words_of v.names.scope t ≤ v.room
@@ -41,7 +43,9 @@ widens_behind v later name r t top slot ends adds = record {
   scope = adds.scope;
   slots = adds.slots;
   subprograms = adds.subprograms;
+  operations = adds.operations;
   room = adds.room;
+  within = adds.within;
   apart = λ other x q u told same named.
       inr (let e = ends other x q u told (same ∙ adds.region) named in let o = adds.offset in omega (arith, e, o));
   fits = (let f = adds.fits in let o = adds.offset in omega (arith, f, o));
@@ -238,6 +242,10 @@ module _ (stay : ShapesStay) (g : Package) (v later : Framed) (name : List ℕ) 
     shared = λ other x h plain. elim (was other x (was_told other x h)) [
       | inl w ↦ laid.shared other x w.told plain
       | inr e ↦ (let k = sym region ∙ ap (λ z. z.region) (same_some slot x e.1) ∙ plain in cc)
+    ];
+    own = λ other x o h object within. elim (was other x (was_told other x h)) [
+      | inl w ↦ laid.own other x o w.told object (sym widens.within ∙ within)
+      | inr e ↦ (let k = sym region ∙ ap (λ z. z.region) (same_some slot x e.1) ∙ object in cc)
     ];
     slots = ap length widens.slots ∙ longer v.names.slots (Some slot) ∙ ap suc laid.slots ∙ sym (longer s named) ∙ sym (ap length scope_is);
     subprograms =

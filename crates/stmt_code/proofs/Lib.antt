@@ -5,6 +5,7 @@ mod RowsCounted
 pub mod Narrowing
 pub mod Laying
 pub mod Entering
+pub mod EnteringObjects
 pub mod Beginning
 pub mod Bodies
 pub mod Functions

@@ -36,7 +36,6 @@ use Rattle.stmt_code.specs.Emitting.{EmitsStatement}
 use Rattle.part_code.specs.Layout.{IsLaidOut, IsVariable, NamesObject}
 use Rattle.part_code.specs.Moves.{EmitsMove}
 use Rattle.part_code.specs.Moving.{IsMoved}
-use Rattle.part_code.specs.Passing.{holds_variables}
 use Rattle.part_code.specs.Resting.{Framed}
 use Rattle.part_code.specs.Statements.{IsAssigned, Numbers, Ways}
 use Rattle.stmt_code.specs.declared.draft.Draft.{Draft}
@@ -46,14 +45,14 @@ use Rattle.stmt_code.proofs.MovingParts.{assigns_moved}
 use Rattle.part_code.proofs.Pointing.{PointsTo}
 use Rattle.stmt_code.proofs.RowsAdded.{goes_kept, rows_kept}
 use Rattle.part_code.proofs.ObjectNames.{names_object}
-use Rattle.part_code.proofs.StoringParts.{HoldsVariables}
-use Rattle.part_code.proofs.TargetsAdded.{where_variables}
+use Rattle.part_code.specs.Suiting.{SuitsStatements}
+use Rattle.part_code.proofs.FormalFlows.{flows_under}
 
 module _ (kept : AgreementIsKept) (sized : ValuesHaveWords) (places : PartsHavePlaces) (typing : ExpressionsAreTyped) (calls : CallsAreTyped)
     (quiet : QuietStays) (v : Visible) (w : Ways) (a c : Draft) (m : Code) (name : NameTree) (e : ExprTree) (r : Role) (t last : Subtype) (slot : Slot)
     (size : ℕ) (sound : SoundScope v.scope) (stands : stands_first v.scope (number_of v.scope name.first.name) ≡ standing.Part r t) (variable : IsVariable r)
     (there : slot_of v name.first.name ≡ Some slot) (fit : IsFit v.scope last e) (composite : is_composite (form_at v.scope last.type_number) ≡ true)
-    (holds : holds_variables slot.region ≡ true) (many : size ≡ words_of v.scope last)
+    (many : size ≡ words_of v.scope last)
     (p : EmitsAddress v a.code 0 slot.offset t name.selectors last m) (q : EmitsMove v (record { region = slot.region; words = size }) m e c.code)
     (same : IsBeside a c) where
   named : NamesObject v.scope name.first.name r t
@@ -69,7 +68,6 @@ module _ (kept : AgreementIsKept) (sized : ValuesHaveWords) (places : PartsHaveP
   -- what is known of the code and the names, where these are visible
   record IsMade (i : Sections) (g : Package) (z : Visible) : Type 0 where
     pub way : PointsTo i g z name.first name.selectors last (here a.code) (here m)
-    pub region : HoldsVariables way.slot.region
     pub typed : IsTypedAs z last e
     pub passes : (u : Value) → has_shape (shape_of z.scope last) u ≡ true → passed last u ≡ Gives u
     pub moves : IsMoved i g z way.slot.region (words_of z.scope last) (here m) (here c.code) e
@@ -97,7 +95,6 @@ module _ (kept : AgreementIsKept) (sized : ValuesHaveWords) (places : PartsHaveP
         ends = refl;
         path = p.goes i in_target g;
       };
-      region = where_variables slot.region holds;
       typed = record { known = form_known (form_at v.scope last.type_number) composite; typed = shaped typing v last e fit };
       passes = composite_passes v.scope sound last composite;
       moves = subst (λ n. IsMoved i g v slot.region n (here m) (here c.code) e) many (q.stands i in_move g);
@@ -106,11 +103,13 @@ module _ (kept : AgreementIsKept) (sized : ValuesHaveWords) (places : PartsHaveP
     moved_there : IsAssigned i program g numbers f (here a.code) (here c.code) name e
     moved_there =
         let k = subst (IsMade i g) (sym names) made in
-        assigns_moved kept sized places calls quiet i program g numbers f name e last laid k.typed (here a.code) (here m) (here c.code) k.way k.region k.passes
+        assigns_moved kept sized places calls quiet i program g numbers f name e last laid k.typed (here a.code) (here m) (here c.code) k.way k.passes
         below k.moves
 
-  whole_flows : Flows (Suits v) a.code 0 c.code 0
-  whole_flows = flows_then (Suits v) a.code m c.code 0 1 0 p.extends q.extends p.flows q.flows
+  whole_flows : Flows (SuitsStatements v) a.code 0 c.code 0
+  whole_flows =
+      flows_then (SuitsStatements v) a.code m c.code 0 1 0 p.extends q.extends
+      (flows_under (Suits v) (SuitsStatements v) (λ i s suits. suits.names) a.code m 0 1 p.flows) q.flows
 
   pub moved_emits : EmitsStatement v w a (statements.Assignment name e) c
   moved_emits = record {
@@ -125,5 +124,5 @@ module _ (kept : AgreementIsKept) (sized : ValuesHaveWords) (places : PartsHaveP
       goes_kept a c same.2 i program handling goes,
     );
     flows = λ i s low high down up h l suits deep wide ends ways.
-        widened i s (here a.code) (here c.code) low high (here a.code) (here c.code) 0 down up (whole_flows.flows i s h suits.names deep (omega arith) ends);
+        widened i s (here a.code) (here c.code) low high (here a.code) (here c.code) 0 down up (whole_flows.flows i s h suits deep (omega arith) ends);
   }

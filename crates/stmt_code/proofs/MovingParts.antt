@@ -9,7 +9,7 @@ use Rattle.kernel.specs.Effects.{Quiet}
 use Rattle.kernel.specs.Laws.{QuietStays}
 use Rattle.kernel.specs.RunLaws.{spends_more, spends_trans}
 use Rattle.image.specs.Sections.{Sections}
-use Rattle.image.specs.Frames.{Words, Frame, region_words, words_at}
+use Rattle.image.specs.Frames.{Words, Frame, region_words, words_at, own_object, words_put}
 use Rattle.image.specs.Steps.{act, behaviour, copied, does, stored}
 use Rattle.image.specs.declared.instruction.Operation.TheVariants as op
 use Rattle.image.specs.declared.instruction.Region.{Region}
@@ -56,13 +56,14 @@ use Rattle.part_code.specs.Resting.{Framed, IsAt, Knows, Rests, StandsFor}
 use Rattle.part_code.specs.Statements.{IsAssigned, Numbers}
 use Rattle.part_code.specs.Storing.{Arrives, Assigned, Puts, assigned_to}
 use Rattle.part_code.specs.declared.moving.Source.{Source}
-use Rattle.stmt_code.proofs.AssigningParts.{form_there}
+use Rattle.part_code.proofs.Assigning.{form_there}
 use Rattle.part_code.proofs.Declaring.{IsTypedAs}
 use Rattle.part_code.proofs.Jumping.{jumps_both}
 use Rattle.part_code.proofs.Names.{variable_meant}
 use Rattle.part_code.proofs.Pointing.{PointsTo, address_here, computes_pointed, part_here, place_in, placed_here, pointed}
 use Rattle.part_code.proofs.ObjectNames.{names_object}
-use Rattle.part_code.proofs.StoringParts.{HoldsVariables, PutsIn, address_is, place_of, put_there}
+use Rattle.part_code.proofs.StoringCode.{stored_there, with_stored}
+use Rattle.part_code.proofs.StoringParts.{PutsIn, address_is, place_of, put_there}
 use Rattle.part_code.proofs.Words.{block_put, with_words}
 
 -- ---- the instruction
@@ -83,24 +84,15 @@ module _ (quiet : QuietStays) (i : Sections) (mid size low high : ℕ) (source :
       ∙ ap (λ n. copied i schedule k t m (placed f mid st) fs target (pos high) (words_at (region_words i source m f) (pos low) n) base) many
       ∙ ap (λ o. copied i schedule k t m (placed f mid st) fs target (pos high) o base) lies
 
-  pub moves_locally : At i mid (op.Copy regions.Locals source size) → high + size ≤ length f.locals
+  pub moves_in : (r : Region) → At i mid (op.Copy r source size) → high + size ≤ length (region_words i r m f)
       → act i schedule k t (in_frame m (placed f mid (pos low ∷ pos high ∷ base)) fs)
-      ≡ does Quiet m (record f { place = suc mid; locals = with_words high (value_words x) f.locals; stack = base }) fs None None
-  moves_locally here room =
-      reads regions.Locals here
-      ∙ ap (λ o. stored i schedule k t m (placed f mid (pos low ∷ pos high ∷ base)) fs regions.Locals o base)
-      (block_put f.locals high (value_words x) (omega (arith, room, many)))
-      ∙ ap (λ n. does Quiet m (record f { place = n; locals = with_words high (value_words x) f.locals; stack = base }) fs None None) next
-
-  pub moves_plainly : At i mid (op.Copy regions.Plain source size) → high + size ≤ length m.plain
-      → act i schedule k t (in_frame m (placed f mid (pos low ∷ pos high ∷ base)) fs)
-      ≡ does Quiet (record m { plain = with_words high (value_words x) m.plain }) (record f { place = suc mid; locals = f.locals; stack = base }) fs None None
-  moves_plainly here room =
-      reads regions.Plain here
-      ∙ ap (λ o. stored i schedule k t m (placed f mid (pos low ∷ pos high ∷ base)) fs regions.Plain o base)
-      (block_put m.plain high (value_words x) (omega (arith, room, many)))
-      ∙ ap (λ n. does Quiet (record m { plain = with_words high (value_words x) m.plain }) (record f { place = n; locals = f.locals; stack = base }) fs None None)
-      next
+      ≡ with_stored i r (with_words high (value_words x) (region_words i r m f)) m f fs (suc mid) base
+  moves_in r here room =
+      reads r here
+      ∙ stored_there quiet i schedule k t m f fs mid 0 r (pos low ∷ pos high ∷ base) base (with_words high (value_words x) (region_words i r m f))
+      (words_put (region_words i r m (placed f mid (pos low ∷ pos high ∷ base))) (pos high) (value_words x))
+      (ap (λ ws. words_put ws (pos high) (value_words x)) (same_words i m r f mid (pos low ∷ pos high ∷ base))
+      ∙ block_put (region_words i r m f) high (value_words x) (omega (arith, room, many)))
 
 -- ---- where the words of what is named stand
 
@@ -152,13 +144,12 @@ chosen_else c p last Meaningless one other = refl
 module _ (kept : AgreementIsKept) (sized : ValuesHaveWords) (places : PartsHavePlaces) (calls : CallsAreTyped) (quiet : QuietStays) (i : Sections)
     (program : Program) (g : Package) (numbers : Numbers) (v : Framed) (name : NameTree) (e : ExprTree) (last : Subtype) (laid : IsLaidOut g v)
     (typed : IsTypedAs v.names last e) (from low to : ℕ) (way : PointsTo i g v.names name.first name.selectors last from low)
-    (holds : HoldsVariables way.slot.region)
     (passes : (x : Value) → has_shape (shape_of v.names.scope last) x ≡ true → passed last x ≡ Gives x)
     (up : low ≤ to) (code : IsMoved i g v.names way.slot.region (words_of v.names.scope last) low to e) where
   module _ (schedule : List ScheduleLine) (k : Kernel) (task : ℕ) (m : Words) (f : Frame) (fs : List Frame) (store : Store) (a : Activation) (p : Place)
       (answers : (left : ℕ) → Answers i (library_of g) (call left) left) (calm : Calm k task) (is_at : IsAt program store p) (locals : p.locals ≡ a.locals)
-      (within : p.within ≡ a.within) (rests_for : StandsFor program g store m) (rests : Rests g v a f.locals)
-      (knows : Knows g v p (view_of i schedule k task m f fs)) (outside : a.within ≡ None) (left : p.frames_left ≡ frames_above fs) where
+      (within : p.within ≡ a.within) (rests_for : StandsFor program g store m) (rests : Rests g v a f.locals) (own_there : own_object i f ≡ a.within)
+      (knows : Knows g v p (view_of i schedule k task m f fs)) (left : p.frames_left ≡ frames_above fs) where
     abbrev c : Calls
     c = call p.frames_left
 
@@ -225,11 +216,11 @@ module _ (kept : AgreementIsKept) (sized : ValuesHaveWords) (places : PartsHaveP
       form : (form : TypeForm) × (form_at v.names.scope last.type_number ≡ Some form)
       form = form_there (form_at v.names.scope last.type_number) typed.known
 
-      here : IsPlacedTarget v.names to_target z
-      here = placed_here sized v way holds form.0 form.1 c p view good knows (within ∙ outside) z named
+      here : IsPlacedTarget v to_target z
+      here = placed_here sized v way form.0 form.1 c p view good knows z named
 
-      at : place_of v.names to_target z here ≡ place_in sized way z
-      at = sym (address_is v.names to_target z here) ∙ address_here sized way c p view good knows.sees z named
+      at : place_of v to_target z here ≡ place_in sized way z
+      at = sym (address_is v to_target z here) ∙ address_here sized way c p view good knows.sees z named
 
       first : from ≤ low
       first = (let h = way.up in omega (arith, h))
@@ -247,18 +238,12 @@ module _ (kept : AgreementIsKept) (sized : ValuesHaveWords) (places : PartsHaveP
       -- the instruction moves the words of a value from where they stand
       puts_in : (x : Value) (suited : has_shape (shape_of v.names.scope last) x ≡ true) (source : Region) (mid address : ℕ)
           → Lies (region_words i source m f) address x
-          → (r : Region) → At i mid (op.Copy r source size) → HoldsVariables r
-          → PutsIn kept sized i program g v laid to_target z here x suited mid [] (λ w. pos address ∷ pos (place_of v.names to_target z here) ∷ []) schedule k
-          task m f fs store a p is_at locals within rests_for rests knows outside r
-      puts_in x suited source mid address lies regions.Locals copies holds =
+          → (r : Region) → At i mid (op.Copy r source size)
+          → PutsIn kept sized i program g v laid to_target z here x suited mid [] (λ w. pos address ∷ pos (place_of v to_target z here) ∷ []) schedule k
+          task m f fs store a p is_at locals within rests_for rests own_there knows r
+      puts_in x suited source mid address lies r copies =
           let many = (sized (shape_of v.names.scope last) x suited).sized in
-          λ room.
-          moves_locally quiet i mid size address (place_of v.names to_target z here) source [] schedule k task m f fs x (sym many) lies copies room
-      puts_in x suited source mid address lies regions.Plain copies holds =
-          let many = (sized (shape_of v.names.scope last) x suited).sized in
-          λ room.
-          moves_plainly quiet i mid size address (place_of v.names to_target z here) source [] schedule k task m f fs x (sym many) lies copies room
-      puts_in x suited source mid address lies regions.Object copies holds = absurd holds
+          λ room. moves_in quiet i mid size address (place_of v to_target z here) source [] schedule k task m f fs x (sym many) lies r copies room
 
       moved : (x : Value) (suited : has_shape (shape_of v.names.scope last) x ≡ true) (source : Region) (mid address : ℕ)
           → Lies (region_words i source m f) address x
@@ -269,7 +254,7 @@ module _ (kept : AgreementIsKept) (sized : ValuesHaveWords) (places : PartsHaveP
           let passed_it : passed z.subtype x ≡ Gives x = ap (λ u. passed u x) subtype_is ∙ passes x suited in
           let value : stored_value (Gives x) ≡ Gives (record { target = z; value = x }) =
           ap (λ u. and_then u (λ w. Gives (record { target = z; value = w }))) passed_it in
-          let high = place_of v.names to_target z here in
+          let high = place_of v to_target z here in
           subst (Arrived (suc mid)) (sym value) (
             mid,
             pos address ∷ base,
@@ -280,7 +265,7 @@ module _ (kept : AgreementIsKept) (sized : ValuesHaveWords) (places : PartsHaveP
             subst
                 (λ n. Puts i program g schedule k task m f fs mid (pos address ∷ pos n ∷ []) [] v (store_with z x store) (activation_with z x a)) at
                 (put_there kept sized i program g v laid to_target z here x suited mid [] (λ w. pos address ∷ pos high ∷ []) schedule k task m f fs store a p
-                is_at locals within rests_for rests knows outside (puts_in x suited source mid address lies way.slot.region copies holds)),
+                is_at locals within rests_for rests own_there knows (puts_in x suited source mid address lies way.slot.region copies)),
           )
 
       -- a value that is named
@@ -447,6 +432,6 @@ module _ (kept : AgreementIsKept) (sized : ValuesHaveWords) (places : PartsHaveP
   pub assigns_moved : IsAssigned i program g numbers v from to name e
   assigns_moved = record {
     same = refl;
-    arrives = λ schedule k task m f fs store a p answers calm is_at locals within rests_for rests knows outside left.
-        arrives_moved schedule k task m f fs store a p answers calm is_at locals within rests_for rests knows outside left;
+    arrives = λ schedule k task m f fs store a p answers calm is_at locals within rests_for rests own knows left.
+        arrives_moved schedule k task m f fs store a p answers calm is_at locals within rests_for rests own knows left;
   }

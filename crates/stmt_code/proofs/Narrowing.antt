@@ -1,5 +1,5 @@
 -- Where the names of a block go out of sight: what is seen with one name more is seen without it.
-use Rattle.std.proofs.Common.{◌≡◌, ℕ, List, [], ◌∷◌, ◌++◌, length, cond, Some, None, ap, ◌∙◌, arith}
+use Rattle.std.proofs.Common.{◌≡◌, ℕ, List, [], ◌∷◌, ◌++◌, length, cond, Some, None, ap, ◌∙◌, arith, sym, subst}
 use Rattle.std.specs.Prelude.{take}
 use Rattle.std.proofs.Math.Seq.{take-append_seam}
 use Rattle.types.specs.declared.entity.Role.{Role}
@@ -9,11 +9,12 @@ use Rattle.types.specs.Scopes.{Named}
 use Rattle.declaring.specs.Laws.{StandsFirst}
 use Rattle.expr_soundness.specs.Laws.{AgreementIsKept}
 use Rattle.expr_soundness.specs.SoundScopes.{SoundScope}
-use Rattle.expr_code.specs.Seeing.{Package, slot_of, subprogram_of, told_of}
+use Rattle.expr_code.specs.Seeing.{external_of, number_behind, object_named, Package, slot_of, subprogram_of, told_of, NamesProfile}
 use Rattle.expr_code.specs.declared.visible.Slot.{Slot}
 use Rattle.part_code.specs.Layout.{Widens}
 use Rattle.part_code.specs.Resting.{Framed, NarrowsFrame, Shows}
-use Rattle.part_code.proofs.Names.{told_more}
+use Rattle.part_code.proofs.Names.{told_more, profile_kept}
+use Rattle.part_code.proofs.OperationNames.{external_more}
 
 module _ (kept : AgreementIsKept) (g : Package) (v later : Framed) (name : List ℕ) (r : Role) (t : Subtype) (slot : Slot)
     (widens : Widens v name r t slot later)
@@ -37,6 +38,11 @@ module _ (kept : AgreementIsKept) (g : Package) (v later : Framed) (name : List 
       ap (λ q. told_of q later.names.subprograms other) scope_is ∙ ap (λ l. told_of (v.names.scope ++ named ∷ []) l other) widens.subprograms
       ∙ told_more v.names.scope named v.names.subprograms None other n h
 
+  external_kept : (other operation : List ℕ) (n : ℕ) → external_of v.names other operation ≡ Some n → external_of later.names other operation ≡ Some n
+  external_kept other operation n h =
+      (λ j. number_behind (widens.operations j) (object_named (scope_is j) other) operation)
+      ∙ external_more v.names.operations other operation n v.names.scope named h
+
   pub shows_wider : Shows g later v
   shows_wider p view knows = record {
     sees = record {
@@ -45,8 +51,13 @@ module _ (kept : AgreementIsKept) (g : Package) (v later : Framed) (name : List 
         agrees = kept.narrowed v.names.scope later.names.scope p stands_first sound knows.sees.names.agrees;
         objects = λ other s u w told means. knows.sees.names.objects other s u w (slot_more other s told) means;
       };
-      functions = λ other n f told means. knows.sees.functions other n f (number_more other n told) means;
+      functions = λ other n f profile result told naming gives means.
+          knows.sees.functions other n f profile result (number_more other n told)
+          (subst (λ z. NamesProfile z other profile) (sym scope_is) (profile_kept v.names.scope (named ∷ []) other profile naming)) gives means;
+      externals = λ other operation n o f told means found.
+          knows.sees.externals other operation n o f (external_kept other operation n told) means found;
     };
+    within = knows.within ∙ widens.within;
     room = (let k = knows.room in let e = widens.room in omega (arith, k, e));
     homes = λ other s told. knows.homes other s (slot_more other s told);
   }

@@ -1,6 +1,7 @@
 -- What a frame knows where a loop over a range is worked: its parameter and its last value have a word each, which statements leave alone.
 use Rattle.std.proofs.Common.{◌≡◌, ◌≢◌, ℕ, zero, suc, ◌<◌, inl, inr, ℤ, List, [], ◌∷◌, length, map, Bool, Some, true, false, refl, sym, ap, ◌∙◌, subst, arith, rules}
 use Rattle.std.specs.Prelude.{nat_eq, slice_get, slice_set, ◌||◌}
+use Rattle.image.specs.Frames.{object_words}
 use Rattle.image.specs.declared.instruction.Region.{Region}
 use Rattle.image.specs.declared.instruction.Region.TheVariants as regions
 use Rattle.types.specs.declared.entity.Role.{Role}
@@ -152,13 +153,13 @@ free_one_more a places offset many first rest n among = by_test (nat_eq a n) ref
 module _ (sized : ValuesHaveWords) (g : Package) (v : Framed) (laid : IsLaidOut g v) (a : Activation) (before after : List ℤ) (rests : Rests g v a before)
     (offset : ℕ) (z : ℤ) (unseen : IsUnseen v offset) (put : IsWritten before after offset (Number z)) where
   module _ (p : Place) (view : View) (sees : SeesPackage g p view) (objects : p.locals ≡ a.locals) (within : p.within ≡ a.within)
-      (words : view.words regions.Locals ≡ after) where
+      (words : view.words regions.Locals ≡ after) (its : view.words regions.Object ≡ object_words a.within view.memory) where
     here : with_objects a.locals p ≡ p
     here = λ j. record p { locals = (sym objects) j }
 
     knew : Knows g v p (framed_view before view)
     knew = subst (λ q. Knows g v q (framed_view before view)) here
-        (rests.sees (with_objects a.locals p) (framed_view before view) (package_alone g laid.unit p view a.locals before rests.small sees) refl within refl)
+        (rests.sees (with_objects a.locals p) (framed_view before view) (package_alone g laid.unit p view a.locals before rests.small sees) refl within refl its)
 
     by_region : (r : Region) (slot : Slot) (u : Value) → ((r ≡ regions.Locals) → AreApart offset 1 slot.offset (length (value_words u)))
         → Lies (with_locals before view.words r) slot.offset u → Lies (view.words r) slot.offset u
@@ -177,8 +178,9 @@ module _ (sized : ValuesHaveWords) (g : Package) (v : Framed) (laid : IsLaidOut 
 
     unseen_knows : Knows g v p view
     unseen_knows = record {
-      sees = record { unit = sees; names = record { agrees = knew.sees.names.agrees; objects = object_lies }; functions = knew.sees.functions };
+      sees = record { unit = sees; names = record { agrees = knew.sees.names.agrees; objects = object_lies }; functions = knew.sees.functions; externals = knew.sees.externals };
       room = (let r = knew.room in let l = put.long in let e = ap length words in omega (arith, r, l, e));
+      within = knew.within;
       homes = knew.homes;
     }
 
@@ -212,7 +214,7 @@ module _ (kept : AgreementIsKept) (sized : ValuesHaveWords) (g : Package) (v inn
   pub rests_behind : (a : Activation) (locals : List ℤ) → Rests g inner a locals → Rests g v a locals
   rests_behind a locals rests = record {
     small = rests.small;
-    sees = λ p view unit objects within words. parameter_shows p view (rests.sees p view unit objects within words);
+    sees = λ p view unit objects within words its. parameter_shows p view (rests.sees p view unit objects within words its);
   }
 
   -- the parameter with a value, whose word is put among those of the frame
@@ -222,9 +224,9 @@ module _ (kept : AgreementIsKept) (sized : ValuesHaveWords) (g : Package) (v inn
       let put = number_written locals counter z less in
       record {
         small = (let l = put.long in let s = rests.small in omega (arith, l, s));
-        sees = λ p view unit objects within words.
+        sees = λ p view unit objects within words its.
             parameter_knows kept sized g v laid a locals (with_word counter z locals) rests (record { name = name; subtype = integer; value = Number z }) counter
-            put p view unit objects within words n z refl refl slot inner holds.widens holds.region refl;
+            put p view unit objects within words its n z refl refl slot inner holds.widens holds.region refl;
       }
 
   -- both words of the loop are put

@@ -427,7 +427,7 @@ pub range_seen : (v : Visible) (old : Draft) (parameter : Identifier) (reversed 
     → BeginsRange v old parameter reversed range t null later new → later ≡ with_object v (loop_scope v.scope parameter range) old.words.taken
 range_seen v old parameter reversed range t null later new p =
     let slots = p.slots ∙ ap (λ n. v.slots ++ Some (record { region = regions.Locals; offset = n }) ∷ []) p.counter in
-    λ j. record { scope = p.scope j; slots = slots j; subprograms = p.subprograms j }
+    λ j. record { scope = p.scope j; slots = slots j; subprograms = p.subprograms j; operations = p.operations j }
 
 pub turn_here : (old : Code) (t : Turns) (last : ℕ) (new : Code) → EndsTurn old t last new → here new ≡ here old + 8
 turn_here old t last new p =

@@ -131,7 +131,7 @@ module _ (v : Visible) (w : Ways) (a c : Draft) (m : Code) (name : NameTree) (la
 
   abbrev forms : SelectorTrees → Sections → Program → Package → Numbers → Framed → (from to : ℕ) → Type 0
   forms x i program g numbers f from to =
-      IsCalleeCode i program g numbers f from to (record { first = name.first; selectors = x }) (callee_by program None name.first x)
+      IsCalleeCode i program g numbers f from to (record { first = name.first; selectors = x }) (callee_by program f.within name.first x)
 
   means : (i : Sections) → Holds i (here a.code) c.code → HasLabels i c.labels → (program : Program) (g : Package) (numbers : Numbers) (f : Framed) → f.names ≡ v
       → Serves program g numbers f a.words.taken → c.words.most ≤ f.room → forms name.selectors i program g numbers f (here a.code) (here c.code)

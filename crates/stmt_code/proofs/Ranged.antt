@@ -292,7 +292,7 @@ module _ (stay : ShapesStay) (v later : Visible) (w : Ways) (a b e c : Draft) (c
         (handling : Handling) (handled : IsHandled i program e c p.rows handling) (bounds_go : GoesBy i handling (here a.code) (here e.code))
         (turns_go : GoesBy i handling (here c.code) (here whole)) where
       abbrev in_loop : Framed
-      in_loop = record { names = later; room = f.room; reserved = t.counter ∷ t.limit ∷ f.reserved }
+      in_loop = record { names = later; room = f.room; reserved = t.counter ∷ t.limit ∷ f.reserved; within = f.within }
 
       room_before : e.words.most ≤ f.room
       room_before = omega (arith, p.most, room)

@@ -1,12 +1,12 @@
 -- Code of assignments that was added: the value of a whole object of one word, and what stores it.
-use Rattle.std.proofs.Common.{◌≡◌, ℕ, suc, ◌≤◌, ◌⊎◌, inl, inr, length, true, not, Some, None, refl, sym, ap, ◌∙◌, subst, arith}
+use Rattle.std.proofs.Common.{◌≡◌, ℕ, suc, ◌≤◌, ◌⊎◌, inl, inr, length, true, ◌&&◌, not, Some, None, refl, sym, ap, ◌∙◌, subst, arith}
 use Rattle.std.specs.Prelude.{is_some}
 use Rattle.ada_tree.specs.declared.expression.Identifier.{Identifier}
 use Rattle.ada_tree.specs.ExpressionTree.{ExprTree, MoreSelectors, Named, NameTree, NoSelectors, SelectorTrees, bare_name}
 use Rattle.ada_tree.specs.StatementTree as statements
 use Rattle.kernel.specs.Laws.{QuietStays}
-use Rattle.image.specs.Sections.{Sections}
-use Rattle.image.specs.Rules.{has_depth}
+use Rattle.image.specs.Sections.{Sections, writes_object}
+use Rattle.image.specs.Rules.{has_depth, names_things}
 use Rattle.image.specs.declared.instruction.Operation.{Operation}
 use Rattle.image.specs.declared.instruction.Operation.TheVariants as op
 use Rattle.image.specs.declared.instruction.Region.{Region}
@@ -47,9 +47,10 @@ use Rattle.part_code.specs.Statements.{IsAssigned, Numbers, Ways}
 use Rattle.stmt_code.specs.declared.draft.Draft.{Draft}
 use Rattle.stmt_code.proofs.RowsAdded.{goes_kept, rows_kept}
 use Rattle.stmt_code.proofs.Adding.{IsBeside, labels_beside, most_beside, taken_beside, value_extends, value_kept}
-use Rattle.part_code.proofs.Assigning.{assigns_local_word, assigns_plain_word}
+use Rattle.part_code.proofs.Assigning.{assigns_word}
 use Rattle.part_code.proofs.Declaring.{IsTypedAs}
 use Rattle.part_code.proofs.ObjectNames.{less_true, names_object, changeable}
+use Rattle.part_code.proofs.StoresAt.{writes}
 
 -- ---- objects
 
@@ -88,28 +89,19 @@ module _ (s : Scope) (name : NameTree) (e : ExprTree) (r : Role) (t : Subtype) (
 
 -- ---- the code
 
-one_or_other : {A B C : Type 0} → (A → C) → (B → C) → A ⊎ B → C
-one_or_other f g (inl a) = f a
-one_or_other f g (inr b) = g b
-
-region_is : (x : Region) (n : ℕ) (o : Operation) → stored_in x n ≡ Some o → ((x ≡ regions.Locals) × (op.StoreLocal n ≡ o)) ⊎ ((x ≡ regions.Plain) × (op.StorePlain n ≡ o))
-region_is regions.Locals n o h = inl (refl, cc)
-region_is regions.Plain n o h = inr (refl, cc)
-region_is regions.Object n o h = cc
-
 module _ (kept : AgreementIsKept) (sized : ValuesHaveWords) (calls : CallsAreTyped) (quiet : QuietStays) (v : Visible) (w : Ways) (a c : Draft) (m : Code)
-    (name : NameTree) (e : ExprTree) (r : Role) (t : Subtype) (slot : Slot) (o : Operation) (whole_name : name.selectors ≡ NoSelectors)
+    (name : NameTree) (e : ExprTree) (r : Role) (t : Subtype) (slot : Slot) (whole_name : name.selectors ≡ NoSelectors)
     (stands : stands_first v.scope (number_of v.scope name.first.name) ≡ standing.Part r t) (variable : IsVariable r)
-    (there : slot_of v name.first.name ≡ Some slot) (operation : store_operation slot ≡ Some o)
-    (p : EmitsChecked v a.code 0 t e m) (q : Adds m 1 o c.code) (same : IsBeside a c) where
+    (there : slot_of v name.first.name ≡ Some slot)
+    (p : EmitsChecked v a.code 0 t e m) (q : Adds m 1 (store_operation slot) c.code) (same : IsBeside a c) where
+  abbrev o : Operation
+  o = store_operation slot
+
   next : here c.code ≡ suc (here m)
   next = added_here m c.code 1 o q
 
   pub typed_as : IsTypedAs v t e
   typed_as = record { known = ap is_some p.known.1; typed = p.typed }
-
-  some_same : (x y : Operation) → Some x ≡ Some y → x ≡ y
-  some_same x y h = cc
 
   module _ (i : Sections) (h : Holds i (here a.code) c.code) (program : Program) (g : Package) (numbers : Numbers) (f : Framed) (names : f.names ≡ v)
       (laid : IsLaidOut g f) where
@@ -132,35 +124,34 @@ module _ (kept : AgreementIsKept) (sized : ValuesHaveWords) (calls : CallsAreTyp
     single_here : words_of f.names.scope t ≡ 1
     single_here = ap (λ x. words_of x.scope t) names ∙ p.single
 
-    local_stored : slot.region ≡ regions.Locals → op.StoreLocal slot.offset ≡ o → IsAssigned i program g numbers f (here a.code) (suc (here m)) name e
-    local_stored is k =
-        assigns_local_word kept sized calls quiet i program g numbers f name e r t slot whole_name laid named_here variable there_here typed_here is (here a.code)
-        (here m) single_here p.extends.longer computes (subst (At i (here m)) (sym k) at_store)
-
-    plain_stored : slot.region ≡ regions.Plain → op.StorePlain slot.offset ≡ o → IsAssigned i program g numbers f (here a.code) (suc (here m)) name e
-    plain_stored is k =
-        assigns_plain_word kept sized calls quiet i program g numbers f name e r t slot whole_name laid named_here variable there_here typed_here is (here a.code)
-        (here m) single_here p.extends.longer computes (subst (At i (here m)) (sym k) at_store)
-
     stored : IsAssigned i program g numbers f (here a.code) (suc (here m)) name e
-    stored = one_or_other (λ x. local_stored x.0 x.1) (λ x. plain_stored x.0 x.1) (region_is slot.region slot.offset o operation)
+    stored =
+        assigns_word kept sized calls quiet i program g numbers f name e r t slot whole_name laid named_here variable there_here typed_here (here a.code)
+        (here m) single_here p.extends.longer computes at_store
 
   no_target : (t : ℕ) → None ≡ Some t → ⊥
   no_target t e = cc
 
   module _ (i : Sections) (s : Subprogram) (low high : ℕ) (down : low ≤ here a.code) (up : here c.code ≤ high) (h : Holds i (here a.code) c.code)
       (suits : SuitsStatements v i s) (deep : c.code.deepest ≤ s.stack) (ends : has_depth i (here c.code) 0 ≡ true) where
-    flows_by : (x : Region) → slot.region ≡ x → stored_in x slot.offset ≡ Some o → AreKeptBetween i s low high (here a.code) (here c.code) 0
-    flows_by regions.Locals is k =
-        value_kept v a.code m c.code (op.StoreLocal slot.offset) p.extends p.flows
-        (subst (λ x. Adds m 1 x c.code) (sym (some_same (op.StoreLocal slot.offset) o k)) q) i s low high down up h suits deep refl
-        (less_true slot.offset s.locals (suits.names.locals name.first.name slot there is)) (omega arith) (omega arith) refl ends (λ t g. absurd (no_target t g))
-    flows_by regions.Plain is k =
-        value_kept v a.code m c.code (op.StorePlain slot.offset) p.extends p.flows
-        (subst (λ x. Adds m 1 x c.code) (sym (some_same (op.StorePlain slot.offset) o k)) q) i s low high down up h suits deep refl
-        (less_true slot.offset (length i.plain_words) (suits.names.plain name.first.name slot there is)) (omega arith) (omega arith) refl ends
-        (λ t g. absurd (no_target t g))
-    flows_by regions.Object is k = cc
+    -- what it names is there, and may be written
+    names_it : (x : Region) → slot.region ≡ x → names_things i s (stored_in x slot.offset) ≡ true
+    names_it regions.Locals is = less_true slot.offset s.locals (suits.names.locals name.first.name slot there is)
+    names_it regions.Plain is = less_true slot.offset (length i.plain_words) (suits.names.plain name.first.name slot there is)
+    names_it regions.Object is =
+        ap (λ b. b && writes_object s.kind) (suits.names.object name.first.name slot there is)
+        ∙ writes v i s regions.Object suits (record { name = name.first.name; slot = slot; there = there; region = is })
+
+    flows_by : (x : Region) → slot.region ≡ x → AreKeptBetween i s low high (here a.code) (here c.code) 0
+    flows_by regions.Locals is =
+        value_kept v a.code m c.code (op.StoreLocal slot.offset) p.extends p.flows (subst (λ x. Adds m 1 (stored_in x slot.offset) c.code) is q) i s low high
+        down up h suits deep refl (names_it regions.Locals is) (omega arith) (omega arith) refl ends (λ t g. absurd (no_target t g))
+    flows_by regions.Plain is =
+        value_kept v a.code m c.code (op.StorePlain slot.offset) p.extends p.flows (subst (λ x. Adds m 1 (stored_in x slot.offset) c.code) is q) i s low high
+        down up h suits deep refl (names_it regions.Plain is) (omega arith) (omega arith) refl ends (λ t g. absurd (no_target t g))
+    flows_by regions.Object is =
+        value_kept v a.code m c.code (op.StoreObject slot.offset) p.extends p.flows (subst (λ x. Adds m 1 (stored_in x slot.offset) c.code) is q) i s low high
+        down up h suits deep refl (names_it regions.Object is) (omega arith) (omega arith) refl ends (λ t g. absurd (no_target t g))
 
   pub assigned_emits : EmitsStatement v w a (statements.Assignment name e) c
   assigned_emits = record {
@@ -174,5 +165,5 @@ module _ (kept : AgreementIsKept) (sized : ValuesHaveWords) (calls : CallsAreTyp
       subst (λ n. IsAssigned i program g numbers f (here a.code) n name e) (sym next) (stored i h program g numbers f names serves.laid),
       goes_kept a c same.2 i program handling goes,
     );
-    flows = λ i s low high down up h l suits deep wide ends ways. flows_by i s low high down up h suits deep ends slot.region refl operation;
+    flows = λ i s low high down up h l suits deep wide ends ways. flows_by i s low high down up h suits deep ends slot.region refl;
   }

@@ -50,7 +50,9 @@ use Rattle.stmt_code.proofs.Adding.{IsBeside, labels_beside, most_beside, taken_
 use Rattle.stmt_code.proofs.AssigningParts.{assigns_component, assigns_components}
 use Rattle.part_code.proofs.Declaring.{IsTypedAs}
 use Rattle.part_code.proofs.ObjectNames.{names_object}
-use Rattle.part_code.proofs.StoresAt.{StoresAt, stores_at, store_changes}
+use Rattle.part_code.proofs.StoresAt.{StoresAt, stores_at, store_changes, writes}
+use Rattle.part_code.specs.Suiting.{SuitsStatements}
+use Rattle.part_code.proofs.FormalFlows.{flows_under}
 
 -- ---- what is legal
 
@@ -77,13 +79,16 @@ either_way f g (inl a) = f a
 either_way f g (inr b) = g b
 
 module _ (kept : AgreementIsKept) (sized : ValuesHaveWords) (calls : CallsAreTyped) (quiet : QuietStays) (v : Visible) (w : Ways) (a c : Draft) (m n : Code)
-    (name : NameTree) (e : ExprTree) (r : Role) (t last : Subtype) (slot : Slot) (size height : ℕ) (o : Operation) (sound : SoundScope v.scope)
+    (name : NameTree) (e : ExprTree) (r : Role) (t last : Subtype) (slot : Slot) (size height : ℕ) (sound : SoundScope v.scope)
     (stands : stands_first v.scope (number_of v.scope name.first.name) ≡ standing.Part r t) (variable : IsVariable r)
     (there : slot_of v name.first.name ≡ Some slot) (many : size ≡ words_of v.scope last) (block : is_block size ≡ true)
-    (store : stored_at slot.region size ≡ Some o) (p : EmitsAddress v a.code 0 slot.offset t name.selectors last m) (q : EmitsFitting v m 1 last e n)
-    (tall : height ≡ 1 + size) (x : Adds n height o c.code) (same : IsBeside a c) where
+    (p : EmitsAddress v a.code 0 slot.offset t name.selectors last m) (q : EmitsFitting v m 1 last e n)
+    (tall : height ≡ 1 + size) (x : Adds n height (stored_at slot.region size) c.code) (same : IsBeside a c) where
+  abbrev o : Operation
+  o = stored_at slot.region size
+
   it : StoresAt slot.region size o
-  it = stores_at slot.region size o store
+  it = stores_at slot.region size
 
   adds : Adds n (1 + size) o c.code
   adds = subst (λ k. Adds n k o c.code) tall x
@@ -144,19 +149,24 @@ module _ (kept : AgreementIsKept) (sized : ValuesHaveWords) (calls : CallsAreTyp
         either_way
         (λ s.
         assigns_component kept sized calls quiet i program g numbers f name e r t last slot laid y.object variable y.place y.known y.typed (here a.code)
-        (here m) (shape_of f.names.scope last) refl y.path (here n) first q.extends.longer (p.pushes i in_address) y.computes it.holds (sym y.words ∙ s.0)
+        (here m) (shape_of f.names.scope last) refl y.path (here n) first q.extends.longer (p.pushes i in_address) y.computes (sym y.words ∙ s.0)
         (subst (At i (here n)) (sym s.1) at_store))
         (λ s.
         assigns_components kept sized calls quiet i program g numbers f name e r t last slot laid y.object variable y.place y.known y.typed (here a.code)
-        (here m) (shape_of f.names.scope last) refl y.path (here n) first q.extends.longer (p.pushes i in_address) y.computes it.holds
+        (here m) (shape_of f.names.scope last) refl y.path (here n) first q.extends.longer (p.pushes i in_address) y.computes
         (subst (λ k. At i (here n) (op.StoreBlock slot.region k)) y.words (subst (At i (here n)) (sym s) at_store)))
         it.is
 
-  whole_flows : Flows (Suits v) a.code 0 c.code 0
+  whole_flows : Flows (SuitsStatements v) a.code 0 c.code 0
   whole_flows =
-      flows_then (Suits v) a.code m c.code 0 1 0 p.extends after p.flows
-      (flows_then (Suits v) m n c.code 1 (1 + size) 0 q.extends grows (subst (λ k. Flows (Suits v) m 1 n (1 + k)) (sym many) q.flows)
-      (instruction_flows (Suits v) n c.code (1 + size) 0 o adds (store_changes v slot.region size o block it)))
+      flows_then (SuitsStatements v) a.code m c.code 0 1 0 p.extends after
+      (flows_under (Suits v) (SuitsStatements v) (λ i s suits. suits.names) a.code m 0 1 p.flows)
+      (flows_then (SuitsStatements v) m n c.code 1 (1 + size) 0 q.extends grows
+      (flows_under (Suits v) (SuitsStatements v) (λ i s suits. suits.names) m n 1 (1 + size)
+      (subst (λ k. Flows (Suits v) m 1 n (1 + k)) (sym many) q.flows))
+      (instruction_flows (SuitsStatements v) n c.code (1 + size) 0 o adds
+      (store_changes (SuitsStatements v) slot.region size o
+      (λ i s suits. writes v i s slot.region suits (record { name = name.first.name; slot = slot; there = there; region = refl })) block it)))
 
   pub assigned_part_emits : EmitsStatement v w a (statements.Assignment name e) c
   assigned_part_emits = record {
@@ -171,5 +181,5 @@ module _ (kept : AgreementIsKept) (sized : ValuesHaveWords) (calls : CallsAreTyp
       goes_kept a c same.2 i program handling goes,
     );
     flows = λ i s low high down up h l suits deep wide ends ways.
-        widened i s (here a.code) (here c.code) low high (here a.code) (here c.code) 0 down up (whole_flows.flows i s h suits.names deep (omega arith) ends);
+        widened i s (here a.code) (here c.code) low high (here a.code) (here c.code) 0 down up (whole_flows.flows i s h suits deep (omega arith) ends);
   }

@@ -1,33 +1,37 @@
 -- Where names of objects more are visible: what one stands for, what may be called, and what the image and the subprogram have to have for them.
-use Rattle.std.proofs.Common.{◌≡◌, ℕ, zero, suc, ◌+◌, ◌<◌, ◌⊎◌, inl, inr, List, [], ◌∷◌, ◌++◌, length, map, cond, Bool, Option, Some, None, true, false, refl, sym, ap, ◌∙◌, subst, arith}
+use Rattle.std.proofs.Common.{◌≡◌, ◌≢◌, ℕ, zero, suc, ◌+◌, ◌<◌, ◌⊎◌, inl, inr, List, [], ◌∷◌, ◌++◌, length, map, cond, Bool, Option, Some, None, true, false, refl, sym, ap, ◌∙◌, subst, arith}
 use Rattle.std.specs.Prelude.{bytes_eq, is_some, option_map, slice_get, take, ⊤}
 use Rattle.std.proofs.Math.Seq.{take-append_seam}
 use Rattle.ada_tree.specs.declared.declaration.Mode.TheVariants as mode
 use Rattle.ada_tree.specs.Size.{total}
 use Rattle.image.specs.Sections.{Sections}
-use Rattle.image.specs.Rules.{has_region}
+use Rattle.image.specs.Rules.{has_region, is_external}
 use Rattle.image.specs.declared.instruction.Region.TheVariants as regions
+use Rattle.image.specs.declared.subprograms.Kind.{Kind}
 use Rattle.image.specs.declared.subprograms.Subprogram.{Subprogram}
 use Rattle.types.specs.declared.entity.FormalParameter.{FormalParameter}
 use Rattle.types.specs.declared.entity.Role.{Role}
 use Rattle.types.specs.declared.entity.Subtype.{Subtype}
 use Rattle.types.specs.Entities as entity
-use Rattle.types.specs.Entities.{Entity, Profile}
+use Rattle.types.specs.Entities.{Entity, Profile, ProtectedObject}
 use Rattle.types.specs.Laws.{ShapesStay}
 use Rattle.types.specs.Layouts.{words_of}
-use Rattle.types.specs.Scopes.{Named, Scope, entity_at, entity_of, is_visible, number_of, with_name}
+use Rattle.types.specs.Scopes.{Named, Scope, entity_at, entity_of, is_visible, number_of, protected_at, protected_of, with_name}
 use Rattle.types.specs.Shapes.{words}
 use Rattle.type_rules.specs.SubtypeNames.{entity_at_or_none}
 use Rattle.expr_soundness.specs.Agreeing.{parameter_subtype}
-use Rattle.expr_soundness.specs.SoundScopes.{AreKnown, IsKnown, IsSoundResult, SoundScope}
-use Rattle.expr_soundness.proofs.Positions.{entity_kept, entity_number, first_place, item_added, number_added, number_kept, number_place, same_some, suc_of}
+use Rattle.expr_soundness.specs.SoundScopes.{AreKnown, IsKnown, IsSoundProfile, IsSoundResult, SoundScope}
+use Rattle.expr_soundness.proofs.Goods.{sound_operation, sound_result}
+use Rattle.expr_soundness.proofs.Positions.{entity_added, entity_kept, entity_number, first_place, item_added, number_added, number_kept, number_place, same_some, suc_of}
 use Rattle.part_code.specs.step_soundness.specs.Fitting.{entity_named}
-use Rattle.expr_code.specs.Seeing.{IsCallable, NamesProfile, Suits, slot_of, subprogram_of, told_of}
+use Rattle.expr_code.specs.Seeing.{IsCallable, NamesProfile, Suits, external_of, external_profile, number_behind, object_named, profile_behind, slot_of, subprogram_of, told_of}
 use Rattle.expr_code.specs.declared.visible.Slot.{Slot}
 use Rattle.expr_code.specs.declared.visible.Visible.{Visible}
+use Rattle.expr_code.proofs.Externals.{is_behind}
 use Rattle.part_code.specs.Emitting.{HasEntries}
 use Rattle.part_code.specs.Suiting.{IsCallableProcedure, SuitsStatements, passed_width, returned_width}
 use Rattle.stmt_code.proofs.Laying.{known_inside}
+use Rattle.part_code.proofs.OperationNames.{external_was, tells_external, told_external}
 use Rattle.part_code.proofs.Names.{IsTold, WasTold, inside, is_told, same_name, told_again, told_of_more}
 
 -- ---- names behind those that are visible
@@ -69,6 +73,36 @@ told_behind {X} s more all others name x long h = elim (item_behind all others t
         let less = inside all t.number (Some x) e in
         let numbered = number_before s more name t.number t.numbered (omega (arith, less, long)) in
         record { number = t.number; numbered = numbered; told = told_again s all name x (record { number = t.number; numbered = numbered; there = e }) }
+
+-- ---- protected objects
+
+entity_inside : (s : Scope) (n : ℕ) (e : Entity) → entity_at s n ≡ Some e → n < length s
+entity_inside s n e h = by_item (slice_get s n) refl h
+  where
+    by_item : (o : Option Named) → slice_get s n ≡ o → entity_of o ≡ Some e → n < length s
+    by_item (Some y) is k = inside s n y is
+    by_item None is k = cc
+
+object_at : (s : Scope) (name : List ℕ) (n : ℕ) (o : ProtectedObject) → number_of s name ≡ Some n → entity_at s n ≡ Some (entity.Protected o)
+    → object_named s name ≡ Some o
+object_at s name n o numbered stands = ap (λ k. elim k [ None ↦ None | Some m ↦ protected_at s m ]) numbered ∙ ap protected_of stands
+
+pub profile_sound : (s : Scope) → SoundScope s → (name operation : List ℕ) (p : Profile) → external_profile s name operation ≡ Some p → IsSoundProfile s p
+profile_sound s sound name operation p named =
+    let at = is_behind s name operation p named in
+    let all = sound.each at.number (entity.Protected at.protected) at.stands in
+    subst (IsSoundProfile s) at.profiled
+    (sound_result s sound at.entry.is_entry at.entry.profile (sound_operation s sound at.protected.operations at.place at.entry all.0 at.found))
+
+-- what becomes visible as something else than a protected object hides none, and is none
+pub object_in_front : (s : Scope) (name : List ℕ) (e : Entity) → ((o : ProtectedObject) → e ≢ entity.Protected o) → (n : ℕ) (o : ProtectedObject)
+    → entity_at (with_name s name e) n ≡ Some (entity.Protected o) → entity_at s n ≡ Some (entity.Protected o)
+object_in_front s name e other n o h = by_test (is_visible s name) h
+  where
+    by_test : (b : Bool) → entity_at (cond b s (s ++ record { name = name; entity = e } ∷ [])) n ≡ Some (entity.Protected o)
+        → entity_at s n ≡ Some (entity.Protected o)
+    by_test true k = k
+    by_test false k = elim (entity_added s (record { name = name; entity = e }) n (entity.Protected o) k) [ inl old ↦ old | inr new ↦ absurd (other o new.1) ]
 
 -- Those behind are objects of the frame: what suits the names in front suits all.
 module _ (stay : ShapesStay) (v later : Visible) (more : Scope) (slots : List (Option Slot)) (subprograms : List (Option ℕ)) (sound : SoundScope v.scope)
@@ -126,15 +160,14 @@ module _ (stay : ShapesStay) (v later : Visible) (more : Scope) (slots : List (O
             ∙ h.stands;
       }
 
-  callable_behind : (i : Sections) (number : ℕ) (p : Profile) (result : Subtype) (other : List ℕ) → NamesProfile front other p → p.result ≡ Some result
-      → IsCallable i front number p result
-      → IsCallable i later.scope number p result
-  callable_behind i number p result other n gives c =
-      let profile = sound.each n.number (entity.Subprogram p) n.stands in
+  callable_known : (i : Sections) (number : ℕ) (p : Profile) (result : Subtype) → IsSoundProfile front p → p.result ≡ Some result → (test : Kind → Bool)
+      → IsCallable i front test number p result
+      → IsCallable i later.scope test number p result
+  callable_known i number p result profile gives test c =
       record {
         code = c.code;
         is = c.is;
-        plain = c.plain;
+        kind = c.kind;
         parameters = c.parameters ∙ sym (formals_kept p.formals profile.known);
         results = c.results ∙ sym (words_behind result (result_known p.result profile.result gives));
       }
@@ -143,21 +176,50 @@ module _ (stay : ShapesStay) (v later : Visible) (more : Scope) (slots : List (O
       result_known (Some u) h is = subst (IsKnown front) (same_some u result is) h.0
       result_known None h is = cc
 
-  procedure_behind : (i : Sections) (number : ℕ) (p : Profile) (other : List ℕ) → NamesProfile front other p → IsCallableProcedure i front number p
-      → IsCallableProcedure i later.scope number p
-  procedure_behind i number p other n c =
-      let profile = sound.each n.number (entity.Subprogram p) n.stands in
+  callable_behind : (i : Sections) (number : ℕ) (p : Profile) (result : Subtype) (other : List ℕ) → NamesProfile front other p → p.result ≡ Some result
+      → (test : Kind → Bool)
+      → IsCallable i front test number p result
+      → IsCallable i later.scope test number p result
+  callable_behind i number p result other n = callable_known i number p result (sound.each n.number (entity.Subprogram p) n.stands)
+
+  procedure_behind : (i : Sections) (number : ℕ) (p : Profile) → IsSoundProfile front p → (test : Kind → Bool) → IsCallableProcedure i front test number p
+      → IsCallableProcedure i later.scope test number p
+  procedure_behind i number p profile test c =
       record {
         code = c.code;
         is = c.is;
-        plain = c.plain;
+        kind = c.kind;
         parameters = c.parameters ∙ sym (passed_kept p.formals profile.known);
         results = c.results ∙ sym (returned_kept p.formals profile.known);
       }
 
-  module _ (i : Sections) (x : Subprogram)
+  -- ... and no protected object is among them
+  module _ (i : Sections) (x : Subprogram) (operations : later.operations ≡ v.operations)
+      (objects : (n : ℕ) (o : ProtectedObject) → entity_at later.scope n ≡ Some (entity.Protected o) → entity_at front n ≡ Some (entity.Protected o))
       (within : (k : ℕ) (y : Slot) → slice_get slots k ≡ Some (Some y) → (y.region ≡ regions.Locals) × (y.offset < x.locals)) where
-    names_behind : Suits v i x → Suits later i x
+    external_before : (other operation : List ℕ) (number : ℕ) → external_of later other operation ≡ Some number
+        → (external_of v other operation ≡ Some number) × (external_profile front other operation ≡ external_profile later.scope other operation)
+    external_before other operation number told =
+        let t = tells_external later.operations other operation number later.scope told in
+        let stands = objects t.number t.object t.stands in
+        let numbered = number_before front more other t.number (sym (ap (λ z. number_of z other) scope) ∙ t.numbered)
+        (entity_inside front t.number (entity.Protected t.object) stands) in (
+          ap (λ all. number_behind all (object_named front other) operation) (sym operations)
+              ∙ told_external later.operations other operation number front
+              (record { number = t.number; object = t.object; numbered = numbered; stands = stands; there = t.there }),
+          ap (λ o. profile_behind o operation)
+              (object_at front other t.number t.object numbered stands ∙ sym (object_at later.scope other t.number t.object t.numbered t.stands)),
+        )
+
+    external_behind : (number : ℕ) (p : Profile) (result : Subtype) (other operation : List ℕ) → external_profile front other operation ≡ Some p
+        → p.result ≡ Some result
+        → IsCallable i front is_external number p result
+        → IsCallable i later.scope is_external number p result
+    external_behind number p result other operation named gives c =
+        let profile = profile_sound front sound other operation p named in
+        callable_known i number p result profile gives is_external c
+
+    pub names_behind : Suits v i x → Suits later i x
     names_behind h = record {
       locals = λ other y told local. elim (slot_before other y told) [ inl old ↦ h.locals other y old local | inr e ↦ (within e.0 y e.1).1 ];
       plain = λ other y told plain. elim (slot_before other y told) [
@@ -175,16 +237,26 @@ module _ (stay : ShapesStay) (v later : Visible) (more : Scope) (slots : List (O
       calls = λ other number p result told named gives.
           let before = number_told other number told in
           let n = profile_before other p before.number before.numbered named in
-          callable_behind i number p result other n gives (h.calls other number p result before.told n gives);
+          callable_behind i number p result other n gives _ (h.calls other number p result before.told n gives);
+      externals = λ other operation number p result told named gives.
+          let before = external_before other operation number told in
+          let named_before = before.1 ∙ named in
+          external_behind number p result other operation named_before gives (h.externals other operation number p result before.0 named_before gives);
     }
 
     pub suits_behind : SuitsStatements v i x → SuitsStatements later i x
     suits_behind h = record {
       names = names_behind h.names;
+      writes = h.writes;
       procedures = λ other number p told named without.
           let before = number_told other number told in
           let n = profile_before other p before.number before.numbered named in
-          procedure_behind i number p other n (h.procedures other number p before.told n without);
+          procedure_behind i number p (sound.each n.number (entity.Subprogram p) n.stands) _ (h.procedures other number p before.told n without);
+      externals = λ other operation number p told named without.
+          let before = external_before other operation number told in
+          let named_before = before.1 ∙ named in
+          procedure_behind i number p (profile_sound front sound other operation p named_before) is_external
+          (h.externals other operation number p before.0 named_before without);
     }
 
 -- ---- one name behind them
@@ -259,12 +331,23 @@ module _ (stay : ShapesStay) (v later : Visible) (name : List ℕ) (r : Role) (t
           let seen : is_visible s name ≡ true = ap (is_visible s) (sym (same_name other name e)) ∙ ap is_some is in
           let both = sym seen ∙ hidden in cc)
 
+  -- what is told of operations behind names of protected objects
+  pub external_wider : later.operations ≡ v.operations → (other operation : List ℕ) (n : ℕ) → external_of later other operation ≡ Some n
+      → external_of v other operation ≡ Some n
+  external_wider operations other operation n told =
+      (external_was v.operations other operation n s new (λ o e. absurd cc)
+      ((λ j. number_behind (sym operations j) (object_named (sym scope_is j) other) operation) ∙ told)).2
+
   -- ---- the image and the subprogram
 
-  pub suits_wider : (i : Sections) (x : Subprogram) → slot.region ≡ regions.Locals → slot.offset < x.locals → SuitsStatements v i x → SuitsStatements later i x
-  suits_wider i x region within h =
-      suits_behind stay v later (new ∷ []) (Some slot ∷ []) no_number sound entries scope_is slots subprograms one_none i x one_slot h
+  pub suits_wider : (i : Sections) (x : Subprogram) → later.operations ≡ v.operations → slot.region ≡ regions.Locals → slot.offset < x.locals
+      → SuitsStatements v i x → SuitsStatements later i x
+  suits_wider i x operations region within h =
+      suits_behind stay v later (new ∷ []) (Some slot ∷ []) no_number sound entries scope_is slots subprograms one_none i x operations no_object one_slot h
     where
+      no_object : (n : ℕ) (o : ProtectedObject) → entity_at later.scope n ≡ Some (entity.Protected o) → entity_at s n ≡ Some (entity.Protected o)
+      no_object n o h = object_in_front s name (entity.Object r t) (λ x e. absurd cc) n o (ap (λ z. entity_at z n) (sym scope) ∙ h)
+
       one_slot : (k : ℕ) (y : Slot) → slice_get (Some slot ∷ []) k ≡ Some (Some y) → (y.region ≡ regions.Locals) × (y.offset < x.locals)
       one_slot zero y e =
           let same = same_some slot y (same_some (Some slot) (Some y) e) in

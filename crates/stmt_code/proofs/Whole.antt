@@ -17,9 +17,8 @@ use Rattle.expr_code.specs.Code.{Holds, here}
 use Rattle.expr_code.specs.Flows.{AreKeptBetween, KeepsInstructionRules}
 use Rattle.expr_code.specs.declared.visible.Visible.{Visible}
 use Rattle.stmt_code.specs.Emitting.{HasLabels}
-use Rattle.stmt_code.specs.Subprograms.{HasSubprogramWords, KeepsRules}
-use Rattle.part_code.specs.Suiting.{SuitsStatements}
-use Rattle.stmt_code.specs.Whole.{AreAllKept, KeepsSubprogramRules, IsOutside, KeptCodePasses, PassesOnCode}
+use Rattle.stmt_code.specs.Subprograms.{HasSubprogramWords, KeepsRules, SuitsBody}
+use Rattle.stmt_code.specs.Whole.{AreAllKept, KeepsSubprogramRules, IsOfImage, KeptCodePasses, PassesOnCode}
 use Rattle.stmt_code.specs.declared.draft.Draft.{Draft}
 use Rattle.stmt_code.specs.declared.subprogram.SubprogramWords.{SubprogramWords}
 use Rattle.part_code.proofs.FormalFlows.{both, equal, least}
@@ -63,15 +62,8 @@ module _ (i : Sections) where
       let at : s.end_ - 1 ≡ h.last = omega (arith, e) in
       ap (λ o. some_and o (λ x. not (goes_on x.operation))) (ap (slice_get i.instructions) at ∙ h.returns.1)
 
-  objectless : (first : ℕ) (s : Subprogram) → KeepsSubprogramRules i first s → has_object i s ≡ true
-  objectless first s h = ap (λ o. none_or o (λ n. nat_lt n (length i.objects))) h.outside.object
-
   ends_behind : (first : ℕ) (s : Subprogram) → KeepsSubprogramRules i first s → nat_lt first s.end_ ≡ true
   ends_behind first s h = let u = h.up in let e = h.end in less_true first s.end_ (omega (arith, u, e))
-
-  no_entry : (n : ℕ) (k : Kind) → object_of k ≡ None → is_entry_of_object i n k ≡ true
-  no_entry n (kinds.EntryBody o) e = absurd (let never = e in cc)
-  no_entry n _ e = refl
 
   of_task : (s : Subprogram) (b : Bool) → (b ≡ true → (s.parameters ≡ 0) × (s.results ≡ 0)) → (not b || (nat_eq s.parameters 0 && nat_eq s.results 0)) ≡ true
   of_task s true h = let k = h refl in both (nat_eq s.parameters 0) (nat_eq s.results 0) (equal s.parameters 0 k.0) (equal s.results 0 k.1)
@@ -82,7 +74,7 @@ module _ (i : Sections) where
       both (nat_le s.parameters s.locals) _ (least s.parameters s.locals h.passed)
       (both (nat_le (s.locals + s.stack) FRAME_WORDS) _ (least (s.locals + s.stack) FRAME_WORDS h.fits)
       (both (not (is_task_body s.kind) || (nat_eq s.parameters 0 && nat_eq s.results 0)) (is_entry_of_object i n s.kind)
-      (of_task s (is_task_body s.kind) h.outside.bare) (no_entry n s.kind h.outside.object)))
+      (of_task s (is_task_body s.kind) h.belongs.bare) (h.belongs.entry n)))
 
   -- ---- the subprogram that holds a place
 
@@ -205,7 +197,7 @@ module _ (i : Sections) where
       jumps = from_start (jumps_within i) (λ k x is. jump_test k x is (jump_target x.operation) refl);
       closed = each_by (is_closed i) closed i.subprograms 0 kept;
       named = from_start (λ k x. in_holder i k (λ s. names_things i s x.operation)) named_test;
-      have_objects = each_by (has_object i) objectless i.subprograms 0 kept;
+      have_objects = each_by (has_object i) (λ first s h. h.belongs.object) i.subprograms 0 kept;
       depths = from_start (λ k x. in_holder i k (keeps_depth i k x)) depth_test;
       empty = begun_by (λ first s. has_depth i first 0) (λ first s h. h.kept.begins) i.subprograms 0 kept;
       ends = both (all_begun (λ first s. nat_lt first s.end_) 0 i.subprograms) (nat_eq (last_end i.subprograms) (length i.instructions))
@@ -215,13 +207,13 @@ module _ (i : Sections) where
 
 -- ---- what methods add
 
-added_kept : (v : Visible) (old new : Draft) (words : SubprogramWords) → KeepsRules v old words new → (i : Sections) (s : Subprogram) → Holds i (here old.code) new.code
-    → HasLabels i new.labels → HasSubprogramWords s words → SuitsStatements v i s → s.end_ ≡ here new.code → IsOutside s
+added_kept : (stores : Bool) (v : Visible) (old new : Draft) (words : SubprogramWords) → KeepsRules stores v old words new → (i : Sections) (s : Subprogram) → Holds i (here old.code) new.code
+    → HasLabels i new.labels → HasSubprogramWords s words → SuitsBody stores v i s → s.end_ ≡ here new.code → IsOfImage i s
     → KeepsSubprogramRules i (here old.code) s
-added_kept v old new words keeps i s holds labels has suits end outside =
+added_kept stores v old new words keeps i s holds labels has suits end belongs =
     let l = has.locals in
     record {
-      outside = outside;
+      belongs = belongs;
       passed = (let p = has.parameters in let k = keeps.passed in omega (arith, p, k, l));
       fits = (let t = has.stack in let k = keeps.fits in omega (arith, t, k, l));
       last = keeps.last;

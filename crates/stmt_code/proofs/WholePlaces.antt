@@ -87,4 +87,5 @@ module _ (v : Visible) (fs : List Formal) (later : Visible) (words : FrameWords)
     scope = p.scope j;
     slots = (p.slots ∙ ap (λ l. v.slots ++ map slot_for l) items_are) j;
     subprograms = (p.subprograms ∙ ap (λ l. v.subprograms ++ map no_subprogram l) items_are) j;
+    operations = p.operations j;
   }

@@ -1,7 +1,7 @@
 -- What methods that add the code of statements promise.
 use Rattle.std.specs.List.{All}
 use Rattle.std.specs.Prelude.{◌≡◌, ℕ, ◌+◌, ◌≤◌, ◌<◌, true, List, [], ◌∷◌, ◌++◌, length, take, Some, None, slice_get}
-use Rattle.ada_tree.specs.ExpressionTree.{ExprTree}
+use Rattle.ada_tree.specs.ExpressionTree.{ExprTree, ArgumentTree}
 use Rattle.ada_tree.specs.StatementTree.{DeclarationTree, ElsifTrees, HandlerTrees, MoreElsifs, StmtTree, StmtTrees, elsifs_of}
 use Rattle.handlers.specs.Nesting.{all_nested}
 use Rattle.handlers.specs.declared.rows.Row.{Row}
@@ -10,7 +10,7 @@ use Rattle.image.specs.Rules.{has_depth}
 use Rattle.image.specs.declared.instruction.Operation.{Operation}
 use Rattle.image.specs.declared.instruction.Operation.TheVariants as op
 use Rattle.image.specs.declared.subprograms.Subprogram.{Subprogram}
-use Rattle.types.specs.Entities.{Entity}
+use Rattle.types.specs.Entities.{Entity, Profile, ProtectedObject, Protected}
 use Rattle.types.specs.Places.{Place, is_among}
 use Rattle.types.specs.Scopes.{Scope}
 use Rattle.declaring.specs.LocalRules.{locals_faults, locals_scope}
@@ -18,13 +18,13 @@ use Rattle.part_code.specs.stmt_rules.specs.declared.around.Around.{Around}
 use Rattle.part_code.specs.stmt_rules.specs.StatementRules.{elsifs_faults, more_handlers_faults, stmt_faults, stmts_faults}
 use Rattle.expr_soundness.specs.Agreeing.{Agrees}
 use Rattle.expr_soundness.specs.SoundScopes.{SoundScope}
-use Rattle.expr_soundness.specs.meaning.specs.Calls.{procedure_here}
+use Rattle.expr_soundness.specs.meaning.specs.Calls.{procedure_here, procedure_among}
 use Rattle.expr_soundness.specs.meaning.specs.Programs.{Procedure, Program}
 use Rattle.part_code.specs.step_soundness.specs.Fitting.{IsFound, entity_named}
 use Rattle.expr_code.specs.Branches.{Joins}
-use Rattle.expr_code.specs.Code.{Extends, Holds, StandsFrom, here}
+use Rattle.expr_code.specs.Code.{Extends, Holds, StandsFrom, here, Adds}
 use Rattle.expr_code.specs.Flows.{AreKeptBetween}
-use Rattle.expr_code.specs.Seeing.{Package, subprogram_of}
+use Rattle.expr_code.specs.Seeing.{Package, subprogram_of, NamesProfile, external_of}
 use Rattle.expr_code.specs.declared.code.Code.{Code}
 use Rattle.expr_code.specs.declared.visible.Visible.{Visible}
 use Rattle.part_code.specs.Bounds.{declarations_bound, elsifs_bound, run_bound, stmt_bound, stmts_bound}
@@ -37,6 +37,9 @@ use Rattle.part_code.specs.Rows.{LiesWithin}
 use Rattle.part_code.specs.Statements.{AreDeclared, AreStatements, IsOtherwise, IsRun, IsStatement, Numbers, Ways}
 use Rattle.stmt_code.specs.declared.draft.Draft.{Draft}
 use Rattle.part_code.specs.Emitting.{IsReachable, HasEntries}
+use Rattle.types.specs.declared.entity.FormalParameter.{FormalParameter}
+use Rattle.part_code.specs.declared.call.Destination.{Destination}
+use Rattle.part_code.specs.Passing.{EmitsCopies, EmitsPassedActuals}
 
 -- ---- what is asked
 
@@ -69,8 +72,17 @@ pub record HasLabels (i : Sections) (texts : List (List ℕ)) : Type 0 where
 -- called has the number that is told; and what is visible is laid out in the words of the frame that are taken, and those that statements leave alone are among
 -- these.
 pub record Serves (program : Program) (g : Package) (numbers : Numbers) (v : Framed) (taken : ℕ) : Type 0 where
-  pub finds : (name : List ℕ) (e : Entity) → entity_named v.names.scope name ≡ Some e → IsFound program None name e
-  pub numbered : (name : List ℕ) (q : Procedure) (n : ℕ) → procedure_here program None name ≡ Some q → subprogram_of v.names name ≡ Some n → numbers q ≡ Some n
+  pub finds : (name : List ℕ) (e : Entity) → entity_named v.names.scope name ≡ Some e → IsFound program v.within name e
+  -- of a name that is visible there as a procedure's
+  pub numbered : (name : List ℕ) (q : Procedure) (n : ℕ) (profile : Profile) → procedure_here program v.within name ≡ Some q
+      → subprogram_of v.names name ≡ Some n
+      → NamesProfile v.names.scope name profile → profile.result ≡ None
+      → numbers q ≡ Some n
+  -- what is told of an operation behind the name of a protected object is the number of its subprogram; of an entry nothing is told
+  pub externals : (name operation : List ℕ) (n : ℕ) (o : ProtectedObject) (q : Procedure) → external_of v.names name operation ≡ Some n
+      → entity_named program.scope name ≡ Some (Protected o)
+      → procedure_among program.procedures (Some o.number) operation ≡ Some q
+      → (numbers q ≡ Some n) × (q.barrier ≡ None)
   pub scope : program.scope ≡ g.scope
   pub place : Place
   pub here : place.scope ≡ program.scope
@@ -161,6 +173,7 @@ pub record EmitsDeclarations (v : Visible) (old : Draft) (ds : List DeclarationT
   pub scope : later.scope ≡ locals_scope v.scope ds
   pub slots : take (length v.slots) later.slots ≡ v.slots
   pub subprograms : take (length v.subprograms) later.subprograms ≡ v.subprograms
+  pub operations : later.operations ≡ v.operations
   pub sound : SoundScope later.scope
   pub entries : HasEntries later
   pub stands : (i : Sections) → Holds i (here old.code) new.code → HasLabels i new.labels
@@ -234,3 +247,15 @@ abbrev pub EmitsRun : Visible → Draft → List DeclarationTree → StmtTrees �
 EmitsRun v old ds body all new =
     Emits (λ i program g numbers f handling from to. handling ≡ unhandled → IsRun i program g numbers f from to ds body all) v no_ways old
     (run_bound v.scope ds body all) new
+
+-- ---- calls
+
+-- the code of the actual parameters of a call was added, the call by this instruction, and what is copied back
+pub record AddsInvocation (v : Visible) (old : Code) (fs : List FormalParameter) (all : List ArgumentTree) (operation : Operation) (new : Code) : Type 0 where
+  pub destinations : List Destination
+  pub height : ℕ
+  pub passed : Code
+  pub called : Code
+  pub actuals : EmitsPassedActuals v old 0 fs all destinations height passed
+  pub adds : Adds passed height operation called
+  pub copies : EmitsCopies v called destinations 0 new

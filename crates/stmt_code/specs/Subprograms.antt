@@ -1,5 +1,5 @@
 -- What methods promise that add the code of whole subprograms: of procedures and functions of a package, and of main (docs/CODEGEN.md).
-use Rattle.std.specs.Prelude.{◌≡◌, ℕ, suc, ◌+◌, ◌≤◌, List, [], map, None, Some, ⊤}
+use Rattle.std.specs.Prelude.{◌≡◌, ℕ, suc, ◌+◌, ◌≤◌, Bool, true, false, List, [], map, None, Some, ⊤}
 use Rattle.std.specs.List.{All}
 use Rattle.base.specs.declared.limits.TheConstants.{FRAME_WORDS, INSTRUCTIONS}
 use Rattle.ada_tree.specs.declared.declaration.Formal.{Formal}
@@ -23,7 +23,7 @@ use Rattle.expr_soundness.specs.SoundScopes.{AreIn, IsKnown}
 use Rattle.expr_code.specs.Code.{Adds, Extends, Holds, StandsFrom, here}
 use Rattle.expr_code.specs.Emitting.{EmitsChecked}
 use Rattle.expr_code.specs.Flows.{AreKeptBetween}
-use Rattle.expr_code.specs.Seeing.{NamesProfile}
+use Rattle.expr_code.specs.Seeing.{NamesProfile, Suits}
 use Rattle.expr_code.specs.Views.{At}
 use Rattle.expr_code.specs.declared.code.Code.{Code}
 use Rattle.expr_code.specs.declared.visible.Visible.{Visible}
@@ -130,10 +130,15 @@ pub record HasSubprogramWords (s : code.Subprogram) (words : SubprogramWords) : 
   pub locals : s.locals ≡ words.locals
   pub stack : s.stack ≡ words.stack
 
+-- what the code of a body may name stands there, in the image and in its subprogram; that of a function stores nothing
+abbrev pub SuitsBody : (stores : Bool) → Visible → Sections → code.Subprogram → Type 0
+SuitsBody true v i s = SuitsStatements v i s
+SuitsBody false v i s = Suits v i s
+
 -- The code that was added keeps the rules of images on one subprogram (docs/FORMATS.md, 43 to 47): its words are within a frame, and what is passed within those
 -- of its names; it ends with a return; the rows that were added are rows of its code; and in every image that holds it, in a subprogram with these words and
 -- whatever has what is visible in front of it, each instruction keeps the rules, jumps within the subprogram, and the first one finds an empty operand stack.
-pub record KeepsRules (v : Visible) (old : Draft) (words : SubprogramWords) (new : Draft) : Type 0 where
+pub record KeepsRules (stores : Bool) (v : Visible) (old : Draft) (words : SubprogramWords) (new : Draft) : Type 0 where
   pub extends : Extends (fresh old.code) new.code
   pub labels : StandsFrom 0 old.labels new.labels
   pub few : here new.code ≤ INSTRUCTIONS
@@ -144,5 +149,6 @@ pub record KeepsRules (v : Visible) (old : Draft) (words : SubprogramWords) (new
   pub up : here old.code ≤ last
   pub end : here new.code ≡ suc last
   pub returns : (i : Sections) → Holds i (here old.code) new.code → At i last op.Return
-  pub flows : (i : Sections) (s : code.Subprogram) → Holds i (here old.code) new.code → HasLabels i new.labels → HasSubprogramWords s words → SuitsStatements v i s
+  pub flows : (i : Sections) (s : code.Subprogram) → Holds i (here old.code) new.code → HasLabels i new.labels → HasSubprogramWords s words
+      → SuitsBody stores v i s
       → AreKeptBetween i s (here old.code) last (here old.code) (here new.code) 0

@@ -32,3 +32,4 @@ pub record BeginsRange (v : Visible) (old : Draft) (parameter : Identifier) (rev
   pub scope : later.scope ≡ loop_scope v.scope parameter range
   pub slots : later.slots ≡ v.slots ++ Some (record { region = regions.Locals; offset = t.counter }) ∷ []
   pub subprograms : later.subprograms ≡ v.subprograms ++ None ∷ []
+  pub operations : later.operations ≡ v.operations

@@ -1,10 +1,10 @@
 -- Subprograms whose code keeps the rules of images, one behind another, make an image that keeps those on code (docs/FORMATS.md, 43 to 47); the contract of a public
 -- function.
-use Rattle.std.specs.Prelude.{◌≡◌, ℕ, suc, ◌+◌, ◌≤◌, List, [], ◌∷◌, length, None, true, ⊤}
+use Rattle.std.specs.Prelude.{◌≡◌, ℕ, suc, Bool, ◌+◌, ◌≤◌, List, [], ◌∷◌, length, None, true, ⊤}
 use Rattle.std.specs.List.{list_all}
 use Rattle.base.specs.declared.limits.TheConstants.{FRAME_WORDS}
-use Rattle.image.specs.Rules.{all_begun, all_placed, has_depth, has_ends, has_object, in_holder, is_closed, is_subprogram, is_task_body, jumps_within, keeps_depth, last_end, names_things, operands_in_range}
-use Rattle.image.specs.Sections.{Sections, object_of}
+use Rattle.image.specs.Rules.{all_begun, all_placed, has_depth, has_ends, has_object, in_holder, is_closed, is_entry_of_object, is_subprogram, is_task_body, jumps_within, keeps_depth, last_end, names_things, operands_in_range}
+use Rattle.image.specs.Sections.{Sections}
 use Rattle.image.specs.declared.instruction.Operation.TheVariants as op
 use Rattle.image.specs.declared.subprograms.Subprogram.{Subprogram}
 use Rattle.expr_code.specs.Code.{Holds, here}
@@ -12,19 +12,20 @@ use Rattle.expr_code.specs.Flows.{AreKeptBetween}
 use Rattle.expr_code.specs.Views.{At}
 use Rattle.expr_code.specs.declared.visible.Visible.{Visible}
 use Rattle.stmt_code.specs.Emitting.{HasLabels}
-use Rattle.stmt_code.specs.Subprograms.{HasSubprogramWords, KeepsRules}
-use Rattle.part_code.specs.Suiting.{SuitsStatements}
+use Rattle.stmt_code.specs.Subprograms.{HasSubprogramWords, KeepsRules, SuitsBody}
 use Rattle.stmt_code.specs.declared.draft.Draft.{Draft}
 use Rattle.stmt_code.specs.declared.subprogram.SubprogramWords.{SubprogramWords}
 
--- it belongs to no protected object, and is passed and gives back nothing if it is the body of a task
-pub record IsOutside (s : Subprogram) : Type 0 where
-  pub object : object_of s.kind ≡ None
+-- the protected object to which it belongs, if any, is one of the image; it is no body of an entry, and it is passed and gives back nothing if it is that of a
+-- task
+pub record IsOfImage (i : Sections) (s : Subprogram) : Type 0 where
+  pub object : has_object i s ≡ true
+  pub entry : (number : ℕ) → is_entry_of_object i number s.kind ≡ true
   pub bare : is_task_body s.kind ≡ true → (s.parameters ≡ 0) × (s.results ≡ 0)
 
 -- the subprogram's code begins there, ends with a return, and keeps the rules
 pub record KeepsSubprogramRules (i : Sections) (first : ℕ) (s : Subprogram) : Type 0 where
-  pub outside : IsOutside s
+  pub belongs : IsOfImage i s
   pub passed : s.parameters ≤ s.locals
   pub fits : s.locals + s.stack ≤ FRAME_WORDS
   pub last : ℕ
@@ -52,8 +53,9 @@ pub record PassesOnCode (i : Sections) : Type 0 where
 
 pub record KeptCodePasses : Type 0 where
   -- what methods add is such code
-  pub added : (v : Visible) (old new : Draft) (words : SubprogramWords) → KeepsRules v old words new → (i : Sections) (s : Subprogram) → Holds i (here old.code) new.code
-      → HasLabels i new.labels → HasSubprogramWords s words → SuitsStatements v i s → s.end_ ≡ here new.code → IsOutside s
+  pub added : (stores : Bool) (v : Visible) (old new : Draft) (words : SubprogramWords) → KeepsRules stores v old words new → (i : Sections) (s : Subprogram)
+      → Holds i (here old.code) new.code
+      → HasLabels i new.labels → HasSubprogramWords s words → SuitsBody stores v i s → s.end_ ≡ here new.code → IsOfImage i s
       → KeepsSubprogramRules i (here old.code) s
   -- an image of nothing else passes
   pub whole : (i : Sections) → AreAllKept i 0 i.subprograms → last_end i.subprograms ≡ length i.instructions → PassesOnCode i

@@ -67,6 +67,7 @@ formals_visible v fs =
       scope = formals_scope v.scope fs;
       slots = v.slots ++ map slot_for (formals_placed v.scope fs);
       subprograms = v.subprograms ++ map no_subprogram (formals_placed v.scope fs);
+      operations = v.operations;
     }
 
 -- ---- what code needs

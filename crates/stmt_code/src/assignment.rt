@@ -22,7 +22,7 @@ use ada_tree::{Expr, NameExpr};
 use expr_code::{Refusal, Slot, Visible, raised};
 use expr_soundness::laws::{agreement_is_kept, calls_are_typed};
 use kernel::laws::quiet_stays;
-use part_code::{holds_variables, is_composite, names_composite, store_operation, stored_at};
+use part_code::{is_composite, names_composite, store_operation, stored_at};
 use types::laws::values_have_words;
 use types::{Standing, Subtype};
 
@@ -46,10 +46,7 @@ impl Draft {
         let Some(slot) = visible.slot(&name.first.name) else {
             return Err(Refusal::Outside);
         };
-        if is_composite(visible, subtype)
-            && names_composite(visible, name)
-            && holds_variables(slot.region)
-        {
+        if is_composite(visible, subtype) && names_composite(visible, name) {
             return self.assign_composite(visible, slot, subtype, name, value);
         }
         if visible.scope.words(subtype) != 1 {
@@ -84,11 +81,8 @@ impl Draft {
         calls_are_typed();
         quiet_stays();
         values_have_words();
-        let Some(store) = store_operation(slot) else {
-            return Err(Refusal::Outside);
-        };
         self.code.of_subtype(visible, 0, subtype, value)?;
-        self.code.emit(1, store)
+        self.code.emit(1, store_operation(slot))
     }
 
     /// Adds that to an object or a part of one: its address, the value, which is checked, and what stores its words there.
@@ -116,9 +110,7 @@ impl Draft {
             .code
             .address(visible, 0, slot, subtype, &name.selectors)?;
         let words = self.code.of_subtype(visible, 1, last, value)?;
-        let Some(store) = stored_at(slot.region, words) else {
-            return Err(Refusal::Outside);
-        };
+        let store = stored_at(slot.region, words);
         self.code.emit(raised(1, words)?, store)
     }
 }

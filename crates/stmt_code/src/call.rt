@@ -1,28 +1,54 @@
 //! The code of calls of procedures (RM 6.4): the actual parameters in order, each checked against the subtype of its formal, the call, and what is copied back.
-ghost use Rattle.std.specs.Prelude.{◌<◌, length, IfErr, OnOk};
-ghost use Rattle.ada_tree.specs.ExpressionTree.{name_tree};
+ghost use Rattle.std.specs.Prelude.{◌≡◌, ◌+◌, ◌*◌, ◌<◌, length, map, IfErr, OnOk, Some};
+ghost use Rattle.ada_tree.specs.ExpressionTree.{argument_tree, argument_trees, name_tree};
+ghost use Rattle.ada_tree.specs.Size.{argument_size, total};
 ghost use Rattle.ada_tree.specs.StatementTree.{Call};
-ghost use Rattle.expr_code.specs.Seeing.{NamesProfile};
+ghost use Rattle.expr_code.specs.Actuals.{ArePassedLegally};
+ghost use Rattle.expr_code.specs.Code.{here, IsShallow};
+ghost use Rattle.expr_code.specs.Seeing.{external_profile, NamesProfile};
 ghost use Rattle.part_code.specs.Labels.{stmt_labels};
 ghost use Rattle.stmt_code.specs.Staying.{Stays};
-ghost use Rattle.stmt_code.specs.Emitting.{EmitsStatement, IsLegalStatement};
+ghost use Rattle.stmt_code.specs.Emitting.{AddsInvocation, EmitsStatement, IsLegalStatement};
 ghost use Rattle.part_code.specs.Bounds.{stmt_bound};
-ghost use Rattle.part_code.specs.Needs.{call_needs, invoked_needs};
+ghost use Rattle.part_code.specs.Needs.{call_needs, external_needs, invoked_needs, IsNeeding, passed_needs};
+ghost use Rattle.part_code.specs.Passing.{operation_behind};
 ghost use Rattle.stmt_code.specs.Refusing.{Refuses};
 ghost use Rattle.part_code.specs.Statements.{Ways};
 ghost use Rattle.types.specs.Entities.{profile_value};
-ghost use Rattle.expr_soundness.specs.SoundScopes.{SoundScope};
+ghost use Rattle.expr_soundness.specs.SoundScopes.{AreKnown, SoundScope};
 
 use crate::draft::Draft;
-use ada_tree::NameExpr;
-use expr_code::{Refusal, Visible};
+use ada_tree::{Argument, Identifier, NameExpr};
+use expr_code::{Code, Refusal, Visible};
 use image::Operation;
 use kernel::laws::quiet_stays;
-use part_code::{actuals_of, add_actuals, add_copies};
-use types::Profile;
+use part_code::{actuals_of, add_actuals, add_copies, operation_of};
+use types::{FormalParameter, Profile};
+
+// Adds the actual parameters of a call, the call by an instruction, and what is copied back.
+fn add_invocation(
+    code: &mut Code,
+    visible: &Visible,
+    formals: &[FormalParameter],
+    arguments: &[Argument],
+    call: Operation,
+) -> Result<(), Refusal>
+    requires sound { SoundScope visible.now.scope }
+    requires known { AreKnown visible.now.scope formals.now }
+    requires as_many { length arguments.now ≡ length formals.now }
+    requires legal { ArePassedLegally visible.now.scope formals.now (map argument_tree arguments.now) }
+    ensures adds { OnOk result (AddsInvocation visible.now code.old formals.now (map argument_tree arguments.now) call code.new) }
+    ensures refused { IfErr result (λ why. IsNeeding (here code.old + (20 * total argument_size (map argument_tree arguments.now) + 1)) (passed_needs visible.now formals.now (Some (argument_trees arguments.now))) why) }
+    ensures shallow { OnOk result (IsShallow code.old code.new (passed_needs visible.now formals.now (Some (argument_trees arguments.now))).stack) }
+{
+    let mut destinations = Vec::new(code.alloc);
+    let height = add_actuals(code, visible, formals, arguments, &mut destinations)?;
+    code.emit(height, call)?;
+    add_copies(code, visible, &destinations)
+}
 
 impl Draft {
-    /// Adds the code of a call of a procedure of the package, or of a line.
+    /// Adds the code of a call of a procedure, which may be named behind its protected object, or of a line.
     pub(crate) fn call(&mut self, visible: &Visible, name: &NameExpr) -> Result<(), Refusal>
         requires sound { SoundScope visible.now.scope }
         requires legal { IsLegalStatement visible.now.scope (Call (name_tree name.now)) }
@@ -32,11 +58,16 @@ impl Draft {
     {
         match visible.profile(&name.first.name) {
             Some(profile) => self.invoke(visible, name, profile),
-            None => self.put(visible, name),
+            None => match operation_of(name) {
+                Some((operation, arguments)) => {
+                    self.invoke_external(visible, name, operation, arguments)
+                }
+                None => self.put(visible, name),
+            },
         }
     }
 
-    // Adds that of a procedure of the package with this profile.
+    // Adds that of a procedure with this profile, of the package or of the body's own protected object.
     fn invoke(
         &mut self,
         visible: &Visible,
@@ -57,15 +88,33 @@ impl Draft {
         let Some(arguments) = actuals_of(name) else {
             return Err(Refusal::Outside);
         };
-        let mut destinations = Vec::new(self.code.alloc);
-        let height = add_actuals(
-            &mut self.code,
-            visible,
-            &profile.formals,
-            arguments,
-            &mut destinations,
-        )?;
-        self.code.emit(height, Operation::Call(number))?;
-        add_copies(&mut self.code, visible, &destinations)
+        let call = Operation::Call(number);
+        add_invocation(&mut self.code, visible, &profile.formals, arguments, call)
+    }
+
+    // Adds that of an operation that is named behind its protected object, which opens an action of it (RM 9.5.1).
+    fn invoke_external(
+        &mut self,
+        visible: &Visible,
+        name: &NameExpr,
+        operation: &Identifier,
+        arguments: &[Argument],
+    ) -> Result<(), Refusal>
+        requires sound { SoundScope visible.now.scope }
+        requires behind { operation_behind (name_tree name.now).selectors ≡ Some (record { operation = operation.now; arguments = argument_trees arguments.now }) }
+        requires legal { IsLegalStatement visible.now.scope (Call (name_tree name.now)) }
+        ensures emits { (w : Ways) → OnOk result (EmitsStatement visible.now w self.old (Call (name_tree name.now)) self.new) }
+        ensures refused { IfErr result (λ why. Refuses self.old (stmt_labels self.old.labels (Call (name_tree name.now))) (stmt_bound visible.now.scope (Call (name_tree name.now))) (external_needs visible.now name.now.first.name (record { operation = operation.now; arguments = argument_trees arguments.now }) (external_profile visible.now.scope name.now.first.name operation.now.name)) why) }
+        ensures stays { OnOk result (Stays self.old (external_needs visible.now name.now.first.name (record { operation = operation.now; arguments = argument_trees arguments.now }) (external_profile visible.now.scope name.now.first.name operation.now.name)) (stmt_labels self.old.labels (Call (name_tree name.now))) (length self.old.rows.items) self.new) }
+    {
+        quiet_stays();
+        let Some(profile) = visible.external_profile(&name.first.name, &operation.name) else {
+            return Err(Refusal::Outside);
+        };
+        let Some(number) = visible.external(&name.first.name, &operation.name) else {
+            return Err(Refusal::Outside);
+        };
+        let call = Operation::ProtectedCall(number);
+        add_invocation(&mut self.code, visible, &profile.formals, arguments, call)
     }
 }

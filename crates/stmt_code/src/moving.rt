@@ -11,7 +11,6 @@ ghost use Rattle.expr_code.specs.Seeing.{slot_of};
 ghost use Rattle.stmt_code.specs.Emitting.{EmitsStatement, IsLegalStatement};
 ghost use Rattle.part_code.specs.Moving.{is_moved, names_composite};
 ghost use Rattle.part_code.specs.Bounds.{stmt_bound};
-ghost use Rattle.part_code.specs.Passing.{holds_variables};
 ghost use Rattle.part_code.specs.Needs.{assignment_needs, moved_needs};
 ghost use Rattle.stmt_code.specs.Refusing.{Refuses};
 ghost use Rattle.stmt_code.specs.Staying.{Stays};
@@ -23,9 +22,7 @@ use ada_tree::{Expr, NameExpr};
 use expr_code::{Refusal, Slot, Visible};
 use expr_soundness::laws::{agreement_is_kept, calls_are_typed, expressions_are_typed};
 use kernel::laws::quiet_stays;
-use part_code::{
-    Moved, add_move, holds_variables, is_composite, is_moved, names_composite, words_of,
-};
+use part_code::{Moved, add_move, is_composite, is_moved, names_composite, words_of};
 use types::laws::{parts_have_places, values_have_words};
 use types::{Role, Subtype};
 
@@ -44,7 +41,6 @@ impl Draft {
         requires stands { (r : Role) × (stands_first visible.now.scope (number_of visible.now.scope (name_tree name.now).first.name) ≡ standing.Part r subtype) }
         requires there { slot_of visible.now (name_tree name.now).first.name ≡ Some slot }
         requires composite { let n = name_tree name.now in names_composite visible.now.scope (standing_of visible.now.scope n.first n.selectors) ≡ true }
-        requires holds { holds_variables slot.region ≡ true }
         requires whole { is_composite (form_at visible.now.scope subtype.type_number) ≡ true }
         ensures emits { (w : Ways) → OnOk result (EmitsStatement visible.now w self.old (Assignment (name_tree name.now) (expr_tree value.now)) self.new) }
         ensures refused { IfErr result (λ why. Refuses self.old self.old.labels (stmt_bound visible.now.scope (Assignment (name_tree name.now) (expr_tree value.now))) (assignment_needs visible.now (name_tree name.now) (expr_tree value.now)) why) }
@@ -70,7 +66,6 @@ impl Draft {
         requires stands { (r : Role) × (stands_first visible.now.scope (number_of visible.now.scope (name_tree name.now).first.name) ≡ standing.Part r subtype) }
         requires there { slot_of visible.now (name_tree name.now).first.name ≡ Some slot }
         requires composite { let n = name_tree name.now in names_composite visible.now.scope (standing_of visible.now.scope n.first n.selectors) ≡ true }
-        requires holds { holds_variables slot.region ≡ true }
         requires moved { is_moved visible.now (expr_tree value.now) ≡ true }
         ensures emits { (w : Ways) → OnOk result (EmitsStatement visible.now w self.old (Assignment (name_tree name.now) (expr_tree value.now)) self.new) }
         ensures refused { IfErr result (λ why. Refuses self.old self.old.labels (stmt_bound visible.now.scope (Assignment (name_tree name.now) (expr_tree value.now))) (moved_needs visible.now (name_tree name.now) (expr_tree value.now)) why) }

@@ -1,5 +1,5 @@
 //! The code of whole subprograms: procedures and functions of a package (RM 6.3), and main (RM 10.2).
-ghost use Rattle.std.specs.Prelude.{◌≡◌, ◌≤◌, ◌+◌, false, length, IfErr, IfOk, OnOk};
+ghost use Rattle.std.specs.Prelude.{◌≡◌, ◌≤◌, ◌+◌, false, length, true, IfErr, IfOk, OnOk};
 ghost use Rattle.base.specs.declared.limits.TheConstants.{FRAME_WORDS};
 ghost use Rattle.ada_tree.specs.ExpressionTree.{expr_tree};
 ghost use Rattle.ada_tree.specs.ProgramTree.{body_tree};
@@ -63,7 +63,7 @@ impl Draft {
         ensures refused { IfErr result (λ why. RefusesProcedure visible.old self.old formals.now (body_tree body.now) why) }
         ensures labels { OnOk result (self.new.labels ≡ body_labels self.old.labels (body_tree body.now)) }
         ensures rows { OnOk result (length self.new.rows.items ≡ body_rows (length self.old.rows.items) (body_tree body.now)) }
-        ensures keeps { IfOk result (λ words. KeepsRules visible.old self.old words self.new) }
+        ensures keeps { IfOk result (λ words. KeepsRules true visible.old self.old words self.new) }
         ensures same { OnOk result (visible.new ≡ visible.old) }
     {
         names_are_added();
@@ -107,7 +107,7 @@ impl Draft {
         ensures refused { IfErr result (λ why. RefusesFunction visible.old self.old formals.now subtype (expr_tree value.now) why) }
         ensures labels { OnOk result (self.new.labels ≡ self.old.labels) }
         ensures rows { OnOk result (self.new.rows ≡ self.old.rows) }
-        ensures keeps { IfOk result (λ words. KeepsRules visible.old self.old words self.new) }
+        ensures keeps { IfOk result (λ words. KeepsRules false visible.old self.old words self.new) }
         ensures same { OnOk result (visible.new ≡ visible.old) }
     {
         names_are_added();
@@ -139,7 +139,7 @@ impl Draft {
         ensures refused { IfErr result (λ why. RefusesMain visible.now self.old.code statements.now (main_bound statements.now) why) }
         ensures labels { OnOk result (self.new.labels ≡ self.old.labels) }
         ensures rows { OnOk result (self.new.rows ≡ self.old.rows) }
-        ensures keeps { IfOk result (λ words. KeepsRules visible.now self.old words self.new) }
+        ensures keeps { IfOk result (λ words. KeepsRules true visible.now self.old words self.new) }
     {
         self.code.deepest = 0;
         add_calls(&mut self.code, visible, statements)?;

@@ -422,7 +422,8 @@ counted-returns-clause-same t c =
     let subprograms = (λ j. take (c.of-extent.ensures.subprograms j) (there j).subprograms)
     ∙ subprograms_stay c.shapes_stay.ensures v c.begin_range.new.visible begun c.begin_range.new.self c.args.parameter.now c.args.reversed range _ _
     c.requires.sound c.requires.entries legal type_is r in
-    c.restore.ensures.visible ∙ (λ j. record { scope = scope j; slots = slots j; subprograms = subprograms j })
+    let operations = ap (λ x. x.operations) there ∙ r.operations in
+    c.restore.ensures.visible ∙ (λ j. record { scope = scope j; slots = slots j; subprograms = subprograms j; operations = operations j })
 
 -- ---- blocks
 
@@ -464,7 +465,8 @@ block-returns-clause-same t c =
     ∙ c.names_are_added.ensures.locals c.args.visible.now.scope ds in
     let slots = (λ j. take (c.of-extent.ensures.slots j) (there j).slots) ∙ declared.slots in
     let subprograms = (λ j. take (c.of-extent.ensures.subprograms j) (there j).subprograms) ∙ declared.subprograms in
-    c.restore.ensures.visible ∙ (λ j. record { scope = scope j; slots = slots j; subprograms = subprograms j })
+    let operations = ap (λ x. x.operations) there ∙ declared.operations in
+    c.restore.ensures.visible ∙ (λ j. record { scope = scope j; slots = slots j; subprograms = subprograms j; operations = operations j })
 
 -- ---- a statement
 

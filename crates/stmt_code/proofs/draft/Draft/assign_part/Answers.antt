@@ -1,11 +1,11 @@
-use Rattle.std.proofs.Common.{◌+◌, ◌∙◌, arith, inl, refl, rules, sym, subst}
+use Rattle.std.proofs.Common.{◌+◌, arith, refl, rules, sym, subst}
 use Rattle.std.proofs.lemmas.Result.{IfErr-weaker, on_ok_weaker}
 use Rattle.ada_tree.specs.ExpressionTree.{expr_tree, name_tree, selector_trees}
 use Rattle.expr_code.specs.Going.{EmitsAddress, EndsAt, IsLegalPath}
-use Rattle.expr_code.specs.Code.{IsShallow}
+use Rattle.expr_code.specs.Code.{Adds, IsShallow}
 use Rattle.expr_code.specs.Refusing.{RefusesAddress, selectors_peak}
 use Rattle.stmt_code.proofs.LeavesStay.{part_stays}
-use Rattle.part_code.proofs.AssignmentsRefused.{address_refuses, no_variable, none_stored_at, store_refuses, target_outside, value_refuses}
+use Rattle.part_code.proofs.AssignmentsRefused.{address_refuses, store_refuses, value_refuses}
 use Rattle.stmt_code.proofs.Stored.{assigned_fit, assigned_variable}
 use Rattle.stmt_code.proofs.StoredParts.{assigned_part_emits, assigned_path, part_stands}
 use Rattle.stmt_code.proofs.draft.Draft.assign_part.Goals as goal
@@ -40,12 +40,12 @@ returns-clause-emits c =
     (λ q.
     assigned_part_emits c.agreement_is_kept.ensures c.values_have_words.ensures c.calls_are_typed.ensures c.quiet_stays.ensures v w c.args.self.now
     (record c.args.self.now { code = c.emit.new.self }) c.address.new.self c.of_subtype.new.self name e r
-    c.args.subtype last c.args.slot c.in_ok-words.words _ c.in-Some.store c.requires.sound c.requires.stands.1
+    c.args.subtype last c.args.slot c.in_ok-words.words _ c.requires.sound c.requires.stands.1
     (assigned_variable v.scope name e r last part c.requires.legal) c.requires.there c.in_ok-words.ensures.words c.in_ok-words.ensures.block
-    (sym c.in-Some.ensures)
     (subst (λ l. EmitsAddress v c.args.self.now.code 0 c.args.slot.offset c.args.subtype (selector_trees l) last c.address.new.self) c.deref.ensures.value
     c.in_ok-last.ensures.emits)
-    c.in_ok-words.ensures.emits c.in_ok-raised.ensures.more q (refl, refl, (refl, refl)))
+    c.in_ok-words.ensures.emits c.in_ok-raised.ensures.more
+    (subst (λ o. Adds c.of_subtype.new.self c.in_ok-raised.field-0 o c.emit.new.self) c.stored_at-store.ensures q) (refl, refl, (refl, refl)))
     c.emit.ensures.adds
 
 pub returns-in_err-last-clause-refused : goal.returns-in_err-last-clause-refused
@@ -74,15 +74,6 @@ returns-in_err-words-clause-refused c =
     let whole = value_refuses v name e c.args.self.now.code c.args.self.now.labels c.args.slot r c.args.subtype c.requires.stands.1 c.requires.there
     c.address.new.self 1 last c.in_err-words.field-0.0 (omega (arith, low)) (omega arith) part c.in_ok-last.ensures.fit c.in_err-words.ensures.refused in
     search (rules, whole)
-
-pub returns-in_default-clause-refused : goal.returns-in_default-clause-refused
-returns-in_default-clause-refused c =
-    let v = c.args.visible.now in
-    let name = name_tree c.args.name.now in
-    let e = expr_tree c.args.value.now in
-    let r = c.requires.stands.0 in
-    inl (target_outside v name e (no_variable v 0 name.first name.selectors c.args.slot c.requires.there
-    (none_stored_at c.args.slot.region c.in_ok-words.words (sym c.stored_at.ensures ∙ c.in_default.is))))
 
 pub returns-in_err-raised-clause-refused : goal.returns-in_err-raised-clause-refused
 returns-in_err-raised-clause-refused c =

@@ -1,9 +1,10 @@
-use Rattle.std.proofs.Common.{◌∙◌, arith, inl, refl, rules, sym}
+use Rattle.std.proofs.Common.{arith, refl, rules, subst}
 use Rattle.std.proofs.lemmas.Result.{IfErr-weaker, on_ok_weaker}
 use Rattle.ada_tree.specs.ExpressionTree.{expr_tree, name_tree}
+use Rattle.expr_code.specs.Code.{Adds}
 use Rattle.expr_code.proofs.Fitting.{fitting_checked}
 use Rattle.stmt_code.proofs.LeavesStay.{word_stays}
-use Rattle.part_code.proofs.AssignmentsRefused.{no_variable, none_stored, store_refuses, target_outside, value_refuses}
+use Rattle.part_code.proofs.AssignmentsRefused.{store_refuses, value_refuses}
 use Rattle.stmt_code.proofs.Stored.{assigned_emits, assigned_fit, assigned_variable, whole_stands}
 use Rattle.stmt_code.proofs.draft.Draft.assign_word.Goals as goal
 
@@ -26,18 +27,12 @@ returns-clause-emits c =
     (λ q.
     assigned_emits c.agreement_is_kept.ensures c.values_have_words.ensures c.calls_are_typed.ensures c.quiet_stays.ensures v w c.args.self.now
     (record c.args.self.now { code = c.emit.new.self }) c.of_subtype.new.self name e r c.args.subtype
-    c.args.slot c.in-Some.store c.requires.whole c.requires.stands.1 (assigned_variable v.scope name e r c.args.subtype whole c.requires.legal)
-    c.requires.there (sym c.in-Some.ensures)
-    (fitting_checked v c.args.self.now.code c.of_subtype.new.self 0 c.args.subtype e c.requires.single c.in_ok-of_subtype.ensures.emits) q
+    c.args.slot c.requires.whole c.requires.stands.1 (assigned_variable v.scope name e r c.args.subtype whole c.requires.legal)
+    c.requires.there
+    (fitting_checked v c.args.self.now.code c.of_subtype.new.self 0 c.args.subtype e c.requires.single c.in_ok-of_subtype.ensures.emits)
+    (subst (λ o. Adds c.of_subtype.new.self 1 o c.emit.new.self) c.store_operation.ensures q)
     (refl, refl, (refl, refl)))
     c.emit.ensures.adds
-
-pub returns-in_default-clause-refused : goal.returns-in_default-clause-refused
-returns-in_default-clause-refused c =
-    let v = c.args.visible.now in
-    let name = name_tree c.args.name.now in
-    inl (target_outside v name (expr_tree c.args.value.now) (no_variable v 0 name.first name.selectors c.args.slot c.requires.there
-    (none_stored c.args.slot.region c.args.slot.offset (sym c.store_operation.ensures ∙ c.in_default.is))))
 
 pub returns-in_err-of_subtype-clause-refused : goal.returns-in_err-of_subtype-clause-refused
 returns-in_err-of_subtype-clause-refused c =

@@ -46,6 +46,7 @@ returns-clause-begins c = record {
   scope = c.in_ok-declare_loop_parameter.ensures.ok;
   slots = c.in_ok-push.ensures.pushed;
   subprograms = c.in_ok-push-2.ensures.pushed;
+  operations = refl;
 }
 
 pub returns-in_err-of_width-clause-refused : goal.returns-in_err-of_width-clause-refused

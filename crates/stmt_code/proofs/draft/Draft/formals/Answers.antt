@@ -22,6 +22,7 @@ returns-clause-places c =
       scope = c.in_ok-show.ensures.scope ∙ c.in_ok-declare_formals.ensures;
       slots = c.in_ok-show.ensures.slots ∙ ap (λ l. v.slots ++ map slot_for l) c.deref.ensures.value;
       subprograms = c.in_ok-show.ensures.subprograms ∙ ap (λ l. v.subprograms ++ map no_subprogram l) c.deref.ensures.value;
+      operations = c.in_ok-show.ensures.operations;
     }
 
 pub returns-clause-most : goal.returns-clause-most

@@ -29,6 +29,10 @@ add_move-requires-clause-legal c =
     let ends = subst (λ l. EndsAt s c.args.subtype (selector_trees l) last) c.deref.ensures.value c.in_ok-last.ensures.ends in
     fit_legal s last e (assigned_fit s name e r last (part_stands s name e r c.args.subtype c.requires.stands.1 last ends) c.requires.legal)
 
+pub add_move-requires-clause-holds : goal.add_move-requires-clause-holds
+add_move-requires-clause-holds c =
+    record { name = (name_tree c.args.name.now).first.name; slot = c.args.slot; there = c.requires.there; region = refl }
+
 pub returns-clause-emits : goal.returns-clause-emits
 returns-clause-emits c =
     let v = c.args.visible.now in
@@ -45,7 +49,7 @@ returns-clause-emits c =
     c.calls_are_typed.ensures c.quiet_stays.ensures v w c.args.self.now (record c.args.self.now { code = c.add_move.new.code }) c.address.new.self name e r
     c.args.subtype last c.args.slot c.in_ok-words.words c.requires.sound c.requires.stands.1
     (assigned_variable v.scope name e r last part c.requires.legal) c.requires.there (assigned_fit v.scope name e r last part c.requires.legal)
-    (ap (names_composite v.scope) (sym part) ∙ c.requires.composite) c.requires.holds c.in_ok-words.ensures.words
+    (ap (names_composite v.scope) (sym part) ∙ c.requires.composite) c.in_ok-words.ensures.words
     (subst (λ l. EmitsAddress v c.args.self.now.code 0 c.args.slot.offset c.args.subtype (selector_trees l) last c.address.new.self) c.deref.ensures.value
     c.in_ok-last.ensures.emits) q (refl, refl, (refl, refl)))
     c.add_move.ensures.emits

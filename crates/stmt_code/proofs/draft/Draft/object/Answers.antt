@@ -11,12 +11,12 @@ add_object-requires-clause-fit c =
 pub returns-clause-emits : goal.returns-clause-emits
 returns-clause-emits c = object_emits c.agreement_is_kept.ensures c.values_have_words.ensures c.calls_are_typed.ensures c.quiet_stays.ensures
     c.initial_values_have_shape.ensures c.shapes_stay.ensures c.scopes_are_sound.ensures c.args.visible.now
-    (record { scope = c.declare_local_object.new.scope; slots = c.push.new.self; subprograms = c.push-2.new.self }) c.args.self.now
+    (record { scope = c.declare_local_object.new.scope; slots = c.push.new.self; subprograms = c.push-2.new.self; operations = c.args.visible.now.operations }) c.args.self.now
     (record c.args.self.now { code = c.add_object.new.code; words = c.take.new.self }) (object_tree c.args.object.now)
     c.in-Some.subtype c.in_ok-first.first c.requires.sound c.requires.entries c.requires.legal (sym c.in-Some.ensures) c.in_ok-add_object.ensures.emits
     (takes_words c.args.self.now.words c.take.new.self _ _ c.words.ensures c.in_ok-first.ensures.takes c.in_ok-first.ensures.within)
     c.in_ok-first.ensures.first refl (refl, refl) c.in_ok-declare_local_object.ensures.ok c.in_ok-push.ensures.pushed
-    c.in_ok-push-2.ensures.pushed
+    c.in_ok-push-2.ensures.pushed refl
 
 pub returns-clause-stays : goal.returns-clause-stays
 returns-clause-stays c =

@@ -29,7 +29,8 @@ returns-clause-same c =
     ∙ c.names_are_added.ensures.locals c.args.visible.now.scope ds in
     let slots = (λ j. take (c.of-extent.ensures.slots j) (there j).slots) ∙ declared.slots in
     let subprograms = (λ j. take (c.of-extent.ensures.subprograms j) (there j).subprograms) ∙ declared.subprograms in
-    c.restore.ensures.visible ∙ (λ j. record { scope = scope j; slots = slots j; subprograms = subprograms j })
+    let operations = ap (λ x. x.operations) there ∙ declared.operations in
+    c.restore.ensures.visible ∙ (λ j. record { scope = scope j; slots = slots j; subprograms = subprograms j; operations = operations j })
 
 pub returns-in_err-declarations-clause-refused : goal.returns-in_err-declarations-clause-refused
 returns-in_err-declarations-clause-refused c =
