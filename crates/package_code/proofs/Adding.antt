@@ -1,5 +1,5 @@
--- The names of an accepted program are sound, and what methods ask that add the code of a body is so of each body of its package (RM 6.1, 6.3).
-use Rattle.std.proofs.Common.{◌≡◌, ℕ, suc, ◌+◌, List, [], ◌∷◌, ◌++◌, length, map, cond, true, Some, None, refl, sym, ap, ◌∙◌, subst, arith}
+-- The names of an accepted program are sound, and what methods ask that add the code of a body is so of each of its subprograms and tasks (RM 6.1, 6.3).
+use Rattle.std.proofs.Common.{◌≡◌, ℕ, suc, ◌+◌, List, [], ◌∷◌, ◌++◌, length, length-append, map, cond, true, Some, None, refl, sym, ap, ◌∙◌, subst, arith}
 use Rattle.std.specs.Prelude.{is_some, slice_get}
 use Rattle.std.proofs.lemmas.Bool.{and_parts}
 use Rattle.std.proofs.lemmas.List.{length-map}
@@ -41,22 +41,21 @@ use Rattle.program_soundness.proofs.Whole.{IsPackage, kept, known_subtype}
 use Rattle.expr_code.specs.Emitting.{IsFit}
 use Rattle.stmt_code.specs.Emitting.{IsLegalRun}
 use Rattle.package_code.proofs.NewParameters.{body_unbroken, formals_text, parameters_new}
-use Rattle.package_code.proofs.Reordered.{longer}
-use Rattle.package_code.specs.Laws.{BodiesMayBeAdded, MayBeAdded, NamesAreSound}
+use Rattle.package_code.specs.Laws.{MayBeAdded, NamesAreSound}
 use Rattle.package_code.specs.Bodies.{of_task}
-use Rattle.package_code.proofs.Coded.{outside_by}
 
 pub names_sound : PremisesHold → NamesAreSound
 names_sound premises t legal = (premises t legal).sound
 
 -- ---- each new name is one more
 
-all_longer : (s : Scope) (fs : List Parameter) → AreNew s fs → length (with_all s (all_named fs)) ≡ length s + length fs
+pub all_longer : (s : Scope) (fs : List Parameter) → AreNew s fs → length (with_all s (all_named fs)) ≡ length s + length fs
 all_longer s [] new = omega arith
 all_longer s (f ∷ fs) new =
     let x : Named = named_formal f in
     let next : Scope = with_name s f.name x.entity in
-    let one : length next ≡ suc (length s) = ap (λ b. length (cond b s (s ++ x ∷ []))) (none_unseen s f.name new.0) ∙ longer s x in
+    let added = length-append s (x ∷ []) in
+    let one : length next ≡ suc (length s) = ap (λ b. length (cond b s (s ++ x ∷ []))) (none_unseen s f.name new.0) ∙ (omega (arith, added)) in
     let rest : length (with_all next (all_named fs)) ≡ length next + length fs = all_longer next fs (new_behind s f fs new.1 new.3) in
     omega (arith, one, rest)
 
@@ -74,6 +73,74 @@ value_unbroken s a (MoreStmts (Return place (Some e)) (MoreStmts y rest)) value 
 value_unbroken s a (MoreStmts (Return place None) NoStmts) value h k = cc
 value_unbroken s a (MoreStmts (Return place None) (MoreStmts y rest)) value h k = cc
 value_unbroken s a body value h k = cc
+
+-- ---- what its rules say of a body, where these names are visible in front of it, and these in front of its parameters
+
+module _ (whole before behind : Scope) (d : SubprogramTree) (b : BodyTree) (head : head_faults before d b ≡ [])
+    (unbroken_ : body_faults (formals_scope behind d.formals) (kind_of before d.result) b ≡ [])
+    (told : (r : Identifier) → d.result ≡ Some r → (u : Subtype) × (subtype_of before r ≡ Some u) × (subtype_of whole r ≡ Some u)) where
+  abbrev inner : Scope
+  inner = formals_scope behind d.formals
+
+  abbrev later : Scope
+  later = locals_scope inner b.declarations
+
+  abbrev around : Around
+  around = in_body (kind_of before d.result)
+
+  declared : locals_faults inner b.declarations ≡ []
+  declared = front_empty (locals_faults inner b.declarations) _ unbroken_
+
+  statements : stmts_faults later around b.statements ≡ []
+  statements =
+      front_empty (stmts_faults later around b.statements) (handlers_faults later around b.handlers)
+      (back_empty (locals_faults inner b.declarations) _ unbroken_)
+
+  handled : handlers_faults later around b.handlers ≡ []
+  handled =
+      back_empty (stmts_faults later around b.statements) (handlers_faults later around b.handlers)
+      (back_empty (locals_faults inner b.declarations) _ unbroken_)
+
+  pub legal_run : IsLegalRun inner b.declarations b.statements b.handlers
+  legal_run = record {
+    declared = declared;
+    statements = record { around = around; unbroken = statements };
+    handled = record { around = around; before = []; unbroken = handled };
+  }
+
+  -- ---- nor does the value of a function
+
+  -- the subtype of its result is known
+  pub known_result : (r : Identifier) → d.result ≡ Some r → is_some (subtype_of whole r) ≡ true
+  known_result r some = ap is_some (told r some).2
+
+  module _ (r : Identifier) (value : ExprTree) (some : d.result ≡ Some r) (is : returned b.statements ≡ Some value) where
+    abbrev result : Subtype
+    result = subtype_named whole r
+
+    single : is_function_body b ≡ true
+    single = judged (is_some d.result) (is_function_body b) (unbroken _ d.name.place _ (back_empty _ (function_body_faults d b) head)) (ap is_some some)
+
+    no_more : later ≡ inner
+    no_more = no_locals inner b.declarations (and_parts (has_no_declarations b.declarations) _ single).0
+
+    named : result ≡ (told r some).0
+    named = named_is whole r (told r some).0 (told r some).2
+
+    wanted : result_wanted (kind_of before d.result) ≡ OfType result.type_number
+    wanted =
+        ap (λ o. result_wanted (kind_of before o)) some
+        ∙ ap (λ o. result_wanted (kind.Function (type_number o))) (told r some).1
+        ∙ ap (λ u. OfType u.type_number) (sym named)
+
+    pub result_legal : faults_of inner (OfType result.type_number) value ≡ []
+    result_legal =
+        subst (λ x. faults_of inner x value ≡ []) wanted
+        (subst (λ s. faults_of s (result_wanted (kind_of before d.result)) value ≡ []) no_more
+        (value_unbroken later around b.statements value is statements))
+
+    pub fit : IsFit inner result value
+    fit = record { wanted = OfType result.type_number; fits = refl; unbroken = result_legal }
 
 -- ---- the body at a place of the package
 
@@ -121,36 +188,8 @@ module _ (scopes : ScopesAreSound) (known : NamesAreKnown) (premises : PremisesH
 
   -- ---- it breaks no rule
 
-  abbrev later : Scope
-  later = locals_scope inside b.declarations
-
-  abbrev around : Around
-  around = in_body (kind_of before d.result)
-
   pub body_legal : body_faults inside (kind_of before d.result) b ≡ []
   body_legal = body_unbroken scopes program start all w fronts k d b at
-
-  declared : locals_faults inside b.declarations ≡ []
-  declared = front_empty (locals_faults inside b.declarations) _ body_legal
-
-  statements : stmts_faults later around b.statements ≡ []
-  statements =
-      front_empty (stmts_faults later around b.statements) (handlers_faults later around b.handlers)
-      (back_empty (locals_faults inside b.declarations) _ body_legal)
-
-  handled : handlers_faults later around b.handlers ≡ []
-  handled =
-      back_empty (stmts_faults later around b.statements) (handlers_faults later around b.handlers)
-      (back_empty (locals_faults inside b.declarations) _ body_legal)
-
-  legal_run : IsLegalRun inside b.declarations b.statements b.handlers
-  legal_run = record {
-    declared = declared;
-    statements = record { around = around; unbroken = statements };
-    handled = record { around = around; before = []; unbroken = handled };
-  }
-
-  -- ---- nor does the value of a function
 
   head : head_faults before d b ≡ []
   head = head_legal program start all w k d b at
@@ -158,57 +197,26 @@ module _ (scopes : ScopesAreSound) (known : NamesAreKnown) (premises : PremisesH
   profile_legal : profile_faults before d ≡ []
   profile_legal = front_empty (profile_faults before d) _ (front_empty _ _ (front_empty _ _ head))
 
-  -- the subtype of its result is known
-  known_result : (r : Identifier) → d.result ≡ Some r → is_some (subtype_of program.scope r) ≡ true
-  known_result r some =
-      let told =
+  told : (r : Identifier) → d.result ≡ Some r → (u : Subtype) × (subtype_of before r ≡ Some u) × (subtype_of program.scope r ≡ Some u)
+  told r some =
+      let known_here =
       known_subtype program start all w k r
       (subst (λ o. result_faults before o ≡ []) some
       (back_empty (formals_faults before [] d.formals) (result_faults before d.result) (front_empty _ _ profile_legal))) in
-      ap is_some (subtype_kept before program.scope (kept program start all w k) r told.0 told.1)
+      (known_here.0, known_here.1, subtype_kept before program.scope (kept program start all w k) r known_here.0 known_here.1)
 
-  module _ (r : Identifier) (value : ExprTree) (some : d.result ≡ Some r) (is : returned b.statements ≡ Some value) where
-    abbrev result : Subtype
-    result = subtype_named program.scope r
-
-    single : is_function_body b ≡ true
-    single = judged (is_some d.result) (is_function_body b) (unbroken _ d.name.place _ (back_empty _ (function_body_faults d b) head)) (ap is_some some)
-
-    no_more : later ≡ inside
-    no_more = no_locals inside b.declarations (and_parts (has_no_declarations b.declarations) _ single).0
-
-    told : (u : Subtype) × (subtype_of before r ≡ Some u)
-    told =
-        known_subtype program start all w k r
-        (subst (λ o. result_faults before o ≡ []) some
-        (back_empty (formals_faults before [] d.formals) (result_faults before d.result) (front_empty _ _ profile_legal)))
-
-    named : result ≡ told.0
-    named = named_is program.scope r told.0 (subtype_kept before program.scope (kept program start all w k) r told.0 told.1)
-
-    wanted : result_wanted (kind_of before d.result) ≡ OfType result.type_number
-    wanted =
-        ap (λ o. result_wanted (kind_of before o)) some
-        ∙ ap (λ o. result_wanted (kind.Function (type_number o))) told.1
-        ∙ ap (λ u. OfType u.type_number) (sym named)
-
-    pub value_legal : faults_of inside (OfType result.type_number) value ≡ []
-    value_legal =
-        subst (λ x. faults_of inside x value ≡ []) wanted
-        (subst (λ s. faults_of s (result_wanted (kind_of before d.result)) value ≡ []) no_more
-        (value_unbroken later around b.statements value is statements))
-
-    fit : IsFit inside result value
-    fit = record { wanted = OfType result.type_number; fits = refl; unbroken = value_legal }
+  pub value_legal : (r : Identifier) (value : ExprTree) → d.result ≡ Some r → returned b.statements ≡ Some value
+      → faults_of inside (OfType (subtype_named program.scope r).type_number) value ≡ []
+  value_legal r value some is = result_legal program.scope before behind d b head body_legal told r value some is
 
   pub body_added : MayBeAdded t (front t (suc k)) d b
   body_added = record {
     front = fronts (suc k);
     sound = sound_inside;
     new_names = new_names;
-    legal = legal_run;
-    fit = fit;
-    result = known_result;
+    legal = legal_run program.scope before behind d b head body_legal told;
+    fit = fit program.scope before behind d b head body_legal told;
+    result = known_result program.scope before behind d b head body_legal told;
   }
 
 -- ---- the body of a task, which has no parameters
@@ -257,9 +265,3 @@ module _ (scopes : ScopesAreSound) (known : NamesAreKnown) (premises : PremisesH
     fit = λ r value some is. (let none : None ≡ Some r = some in cc);
     result = λ r some. (let none : None ≡ Some r = some in cc);
   }
-
-pub bodies_added : ScopesAreSound → NamesAreKnown → PremisesHold → BodiesMayBeAdded
-bodies_added scopes known premises t legal restricted place x k c at is outside =
-    outside_by t place (λ y n e. slice_get (declared_in t.package_) place ≡ Some y → MayBeAdded t e.front e.head e.body)
-    (λ d b there. body_added scopes known premises t legal restricted place d b there)
-    (λ name b there. task_added scopes known premises t legal restricted place name b there) x k c is outside at

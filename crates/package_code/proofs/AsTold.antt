@@ -1,6 +1,6 @@
 -- The walk over a package goes as its text tells: what is visible, labels, the number of rows, the bound on instructions; why it stops is a reason to refuse the program.
-use Rattle.std.proofs.Common.{◌≡◌, ℕ, suc, ◌+◌, ◌≤◌, List, [], ◌∷◌, length, take, inl, inr, Option, None, Some, true, refl, sym, ap, ◌∙◌, subst, arith, length-append}
-use Rattle.std.specs.Prelude.{is_some, not, nat_eq, slice_get}
+use Rattle.std.proofs.Common.{◌≡◌, ℕ, suc, ◌+◌, ◌≤◌, List, [], ◌∷◌, length, map, take, inl, inr, Option, None, Some, true, false, refl, sym, ap, ◌∙◌, subst, arith, length-append}
+use Rattle.std.specs.Prelude.{if◌then◌else◌, is_some, slice_get}
 use Rattle.ada_tree.specs.declared.expression.Identifier.{Identifier}
 use Rattle.ada_tree.specs.StatementTree.{SubprogramTree}
 use Rattle.ada_tree.specs.ProgramTree.{BodyItemTree, BodyTree, ItemTree, OfItem, ProgramTree, SubprogramBody, TaskBody}
@@ -8,7 +8,6 @@ use Rattle.types.specs.Layouts.{total}
 use Rattle.types.specs.Scopes.{Scope, number_of}
 use Rattle.type_rules.specs.ProfileRules.{subprogram_scope}
 use Rattle.declaring.specs.ItemRules.{item_scope}
-use Rattle.declaring.specs.ProtectedRules.{protected_count}
 use Rattle.legality.specs.MainRules.{item_name}
 use Rattle.expr_soundness.specs.meaning.specs.Programs.{program_of}
 use Rattle.program_soundness.specs.Fronts.{declared_in, front, start_in}
@@ -21,20 +20,20 @@ use Rattle.expr_code.specs.declared.refusal.Refusal.TheVariants as refusal
 use Rattle.expr_code.specs.declared.visible.Visible.{Visible}
 use Rattle.step_simulation.specs.part_code.specs.Bounds.{main_bound, procedure_bound}
 use Rattle.step_simulation.specs.part_code.specs.Emitting.{HasEntries}
-use Rattle.step_simulation.specs.part_code.specs.Needs.{HasManyLabels, IsNeeding, Needs, beyond_if}
+use Rattle.step_simulation.specs.part_code.specs.Needs.{HasManyLabels, IsNeeding, Needs, beyond}
 use Rattle.stmt_code.specs.declared.draft.Draft.{Draft}
-use Rattle.step_simulation.specs.part_code.proofs.Within.{Within, needing_refused, of_right}
-use Rattle.package_code.specs.Bodies.{Coded, coded_at, number_in, of_subprogram}
+use Rattle.step_simulation.specs.part_code.proofs.Within.{Within, needing_refused, within_then}
+use Rattle.package_code.specs.Bodies.{Coded, coded_at, is_entry_body, number_in, of_subprogram}
 use Rattle.package_code.specs.Counts.{bound_of, bounds_from}
-use Rattle.package_code.specs.Directory.{IsDirectory, HasEntriesSoFar, TellsNext}
-use Rattle.package_code.specs.Refusing.{RefusesCode, body_needs, item_needs, items_labels, items_needs, items_rows, program_bound, program_labels, program_needs, seen_at, seen_by, seen_with, subprogram_labels, subprogram_needs, subprogram_rows}
+use Rattle.package_code.specs.Directory.{IsDirectory, HasEntriesSoFar, TellsNext, operations_told}
+use Rattle.package_code.specs.Refusing.{RefusesCode, body_needs, coded_labels, coded_rows, item_needs, items_labels, items_needs, items_rows, program_bound, program_labels, program_needs, seen_at, seen_by, seen_with, subprogram_labels, subprogram_needs, subprogram_rows}
 use Rattle.package_code.specs.Walking.{AddsAsTold, AddsBody, BeginsWalk, IsAsTold, IsWalked, RefusesBody}
 use Rattle.package_code.specs.declared.directory.Directory.{Directory}
 use Rattle.package_code.specs.declared.walk.Walk.{Walk}
-use Rattle.package_code.proofs.Coded.{bodies_labels, bodies_rows, labelled_by, needs_by, rows_by}
+use Rattle.package_code.proofs.Coded.{labelled_by, needs_by, rows_by}
 use Rattle.package_code.proofs.Counted.{adds_few}
-use Rattle.package_code.proofs.ItemsTold.{first_labels, bound_next, bound_within, bounds_next, labels_next, labels_within, needs_within, none_taken, rows_next}
-use Rattle.package_code.proofs.Seen.{known_name, seen_first, seen_next}
+use Rattle.package_code.proofs.ItemsTold.{bound_behind, bound_next, bounds_next, bounds_upto, labels_inside, labels_next, labels_within, needs_within, none_taken, rows_next}
+use Rattle.package_code.proofs.Seen.{known_name, operations_are, seen_first, seen_next}
 use Rattle.package_code.proofs.Told.{Grows, item_grows, subprogram_grows}
 
 -- ---- entries for all names, or for all but one
@@ -63,9 +62,10 @@ module _ (t : ProgramTree) where
   whole = (program_of t).scope
 
   -- in front of all
-  pub begins_told : (s : Scope) (names : List (List ℕ)) (w : Walk) → BeginsWalk s names w → s ≡ start → IsAsTold t w
-  begins_told s names w begins is = record {
-    seen = seen_first t s w.visible begins.visible is ∙ ap (seen_at t) (sym begins.place);
+  pub begins_told : (directory : Directory) → IsDirectory t directory → (s : Scope) (operations : List (List (Option ℕ))) (names : List (List ℕ)) (w : Walk)
+      → BeginsWalk s operations names w → s ≡ start → operations ≡ operations_told whole directory → IsAsTold t w
+  begins_told directory told s operations names w begins is numbers = record {
+    seen = seen_first t s operations w.visible begins.visible (numbers ∙ operations_are t directory told) is ∙ ap (seen_at t) (sym begins.place);
     few = (let none : here w.draft.code ≡ 0 = ap length begins.instructions in omega (arith, none));
     labels = begins.labels ∙ ap (items_labels []) (sym (ap (λ n. take n all) begins.place ∙ none_taken all));
     rows = ap length begins.rows ∙ ap (items_rows 0) (sym (ap (λ n. take n all) begins.place ∙ none_taken all));
@@ -160,12 +160,12 @@ module _ (t : ProgramTree) where
         (ap (λ n. total (bounds_from t 0 (take n all))) next);
     labels = ap (λ z. z.labels) new_draft ∙ told_there.labels ∙ ap (λ z. subprogram_labels z.labels c.head c.body) draft
         ∙ ap (λ l. subprogram_labels l c.head c.body) told.labels
-        ∙ sym (labelled_by (items_labels [] (take old.place all)) t old.place item ∙ ap (bodies_labels (items_labels [] (take old.place all))) alone)
+        ∙ sym (labelled_by (items_labels [] (take old.place all)) t old.place item ∙ ap (coded_labels (items_labels [] (take old.place all))) alone)
         ∙ sym (labels_next [] all old.place item at)
         ∙ ap (λ n. items_labels [] (take n all)) (sym next);
     rows = ap (λ z. length z.rows.items) new_draft ∙ told_there.rows ∙ ap (λ z. subprogram_rows (length z.rows.items) c.head c.body) draft
         ∙ ap (λ n. subprogram_rows n c.head c.body) told.rows
-        ∙ sym (rows_by (items_rows 0 (take old.place all)) t old.place item ∙ ap (bodies_rows (items_rows 0 (take old.place all))) alone)
+        ∙ sym (rows_by (items_rows 0 (take old.place all)) t old.place item ∙ ap (coded_rows (items_rows 0 (take old.place all))) alone)
         ∙ sym (rows_next 0 all old.place item at)
         ∙ ap (λ n. items_rows 0 (take n all)) (sym next);
   }
@@ -198,61 +198,79 @@ module _ (t : ProgramTree) where
 
   pub needs_refused : (m n : ℕ) (a : Needs) (why : Refusal) → m ≤ n → Within a (items_needs t 0 all) → n ≤ program_bound t
       → IsNeeding m a why → RefusesCode t why
-  needs_refused m n a why up within low r =
-      inl (needing_refused m (program_bound t) a (program_needs t) (omega (arith, up, low))
-      (of_right a (beyond_if (not (nat_eq (protected_count whole) 0))) (items_needs t 0 all) within) why r)
+  needs_refused m n a why up within low r = inl (needing_refused m (program_bound t) a (program_needs t) (omega (arith, up, low)) within why r)
 
   pub item_within : (place : ℕ) (x : BodyItemTree) → slice_get all place ≡ Some x → Within (item_needs t place x) (items_needs t 0 all)
   item_within place x at =
       let none : 0 + place ≡ place = omega arith in
       subst (λ n. Within (item_needs t n x) (items_needs t 0 all)) none (needs_within t all 0 place x at)
 
-  -- code isn't made of this item
-  pub item_refused : (place : ℕ) (x : BodyItemTree) → slice_get all place ≡ Some x → (item_needs t place x).outside ≡ true → RefusesCode t refusal.Outside
-  item_refused place x at outside =
-      inl
-      ((of_right (item_needs t place x) (beyond_if (not (nat_eq (protected_count whole) 0))) (items_needs t 0 all) (item_within place x at)).outside outside)
-
   many_more : (a b : List (List ℕ)) (why : Refusal) → length a ≤ length b → HasManyLabels a why → HasManyLabels b why
   many_more a b refusal.Limit up h = omega (arith, up, h)
   many_more a b refusal.Memory up h = absurd h
   many_more a b refusal.Outside up h = absurd h
 
-  -- the code of a body isn't made
-  pub body_refused : (old : Walk) (item : BodyItemTree) (k : ℕ) (c : Coded) (v : Visible) (draft : Draft) (why : Refusal) → IsAsTold t old
-      → old.draft.exceptions.items ≡ (program_of t).exceptions
-      → slice_get all old.place ≡ Some item → slice_get (coded_at t old.place item) k ≡ Some c → k ≡ 0 → c.owner ≡ None
-      → v ≡ seen_by t c → draft ≡ old.draft
-      → RefusesBody t v draft c.head c.body why → RefusesCode t why
-  body_refused old item k c v draft why told exceptions at is first outside seen same r =
-      by_reason (subst (λ z. RefusesBody t (seen_by t c) z c.head c.body why) same (subst (λ u. RefusesBody t u draft c.head c.body why) seen r))
-    where
-      bounded : here old.draft.code + bound_of c ≤ program_bound t
-      bounded =
-          up (here old.draft.code) (bound_of c) (total (bounds_from t 0 (take old.place all))) (total (bounds_from t 0 all)) (main_bound t.main.statements)
-          told.few
-          (bound_within t all 0 old.place item k c at
-          (let none : old.place ≡ 0 + old.place = omega arith in subst (λ n. slice_get (coded_at t n item) k ≡ Some c) none is))
-        where
-          up : (a p s x m : ℕ) → a ≤ s → s + p ≤ x → a + p ≤ x + m
-          up a p s x m h k = omega (arith, h, k)
+  -- of a body, in front of which the others of its item have their code
+  module _ (place : ℕ) (item : BodyItemTree) (k : ℕ) (c : Coded) (at : slice_get all place ≡ Some item) (is : slice_get (coded_at t place item) k ≡ Some c) where
+    needs_there : Within (body_needs t c) (items_needs t 0 all)
+    needs_there = within_then (body_needs t c) (item_needs t place item) (items_needs t 0 all) (needs_by t place item k c is) (item_within place item at)
 
-      -- its labels are among the first of those of its item
-      labels_less : length (subprogram_labels (items_labels [] (take old.place all)) c.head c.body) ≤ length (program_labels t)
+    -- code isn't made of an entry's
+    pub entry_refused : is_entry_body c.kind ≡ true → RefusesCode t refusal.Outside
+    entry_refused entry =
+        inl (needs_there.outside (ap (λ b. (if b then beyond else subprogram_needs t (seen_by t c) (program_of t).exceptions c.head c.body).outside) entry))
+
+    module _ (v : Visible) (draft : Draft) (why : Refusal) (no_entry : is_entry_body c.kind ≡ false)
+        (few : here draft.code ≤ total (bounds_from t 0 (take place all)) + total (map bound_of (take k (coded_at t place item))))
+        (labels : draft.labels ≡ coded_labels (items_labels [] (take place all)) (take k (coded_at t place item)))
+        (exceptions : draft.exceptions.items ≡ (program_of t).exceptions) (seen : v ≡ seen_by t c) where
+      bounded : here draft.code + bound_of c ≤ program_bound t
+      bounded =
+          up (here draft.code) (bound_of c) (total (bounds_from t 0 (take place all))) (total (map bound_of (take k (coded_at t place item))))
+          (total (bounds_from t 0 all)) (main_bound t.main.statements) few
+          (subst (λ p. total (bounds_from t 0 (take place all)) + bounds_upto (coded_at t p item) k c ≤ total (bounds_from t 0 all)) none
+          (bound_behind t all 0 place item k c at (subst (λ n. slice_get (coded_at t n item) k ≡ Some c) (sym none) is)))
+        where
+          none : 0 + place ≡ place
+          none = omega arith
+
+          up : (a p s f x m : ℕ) → a ≤ s + f → s + (f + p) ≤ x → a + p ≤ x + m
+          up a p s f x m h k = omega (arith, h, k)
+
+      labels_less : length (subprogram_labels (coded_labels (items_labels [] (take place all)) (take k (coded_at t place item))) c.head c.body)
+          ≤ length (program_labels t)
       labels_less =
-          let own =
-          first_labels (items_labels [] (take old.place all)) (coded_at t old.place item) c
-          (ap (slice_get (coded_at t old.place item)) (sym first) ∙ is) in
-          let item_is = ap length (labelled_by (items_labels [] (take old.place all)) t old.place item) in
-          let within = labels_within [] all old.place item at in
+          let own = labels_inside (items_labels [] (take place all)) (coded_at t place item) k c is in
+          let item_is = ap length (labelled_by (items_labels [] (take place all)) t place item) in
+          let within = labels_within [] all place item at in
           omega (arith, own, item_is, within)
 
-      by_reason : RefusesBody t (seen_by t c) old.draft c.head c.body why → RefusesCode t why
+      by_reason : RefusesBody t (seen_by t c) draft c.head c.body why → RefusesCode t why
       by_reason (inl n) =
-          needs_refused (here old.draft.code + bound_of c) (here old.draft.code + bound_of c) (body_needs t c) why (omega arith)
-          (subst (λ n. Within n (items_needs t 0 all)) (needs_by t old.place item k c is outside) (item_within old.place item at))
-          bounded
-          (subst (λ l. IsNeeding (here old.draft.code + bound_of c) (subprogram_needs t (seen_by t c) l c.head c.body) why) exceptions n)
+          needs_refused (here draft.code + bound_of c) (here draft.code + bound_of c) (body_needs t c) why (omega arith) needs_there bounded
+          (subst (λ x. IsNeeding (here draft.code + bound_of c) x why)
+          (ap (λ b. if b then beyond else subprogram_needs t (seen_by t c) (program_of t).exceptions c.head c.body) (sym no_entry))
+          (subst (λ l. IsNeeding (here draft.code + bound_of c) (subprogram_needs t (seen_by t c) l c.head c.body) why) exceptions n))
       by_reason (inr h) =
-          inr (many_more (subprogram_labels old.draft.labels c.head c.body) (program_labels t) why
-          (subst (λ l. length (subprogram_labels l c.head c.body) ≤ length (program_labels t)) (sym told.labels) labels_less) h)
+          inr (many_more (subprogram_labels draft.labels c.head c.body) (program_labels t) why
+          (subst (λ l. length (subprogram_labels l c.head c.body) ≤ length (program_labels t)) (sym labels) labels_less) h)
+
+      -- its code isn't made
+      pub coded_refused : RefusesBody t v draft c.head c.body why → RefusesCode t why
+      coded_refused r = by_reason (subst (λ u. RefusesBody t u draft c.head c.body why) seen r)
+
+  -- the first body of an item
+  pub body_refused : (old : Walk) (item : BodyItemTree) (c : Coded) (v : Visible) (draft : Draft) (why : Refusal) → IsAsTold t old
+      → old.draft.exceptions.items ≡ (program_of t).exceptions
+      → slice_get all old.place ≡ Some item → slice_get (coded_at t old.place item) 0 ≡ Some c → is_entry_body c.kind ≡ false
+      → v ≡ seen_by t c → draft ≡ old.draft
+      → RefusesBody t v draft c.head c.body why → RefusesCode t why
+  body_refused old item c v draft why told exceptions at is no_entry seen same =
+      let none = none_taken (coded_at t old.place item) in
+      coded_refused old.place item 0 c at is v draft why no_entry
+      (let few = told.few in
+      let code = ap (λ (z : Draft). here z.code) same in
+      let more = ap (λ l. total (map bound_of l)) none in
+      omega (arith, few, code, more))
+      (ap (λ (z : Draft). z.labels) same ∙ told.labels ∙ ap (coded_labels (items_labels [] (take old.place all))) (sym none))
+      (ap (λ (z : Draft). z.exceptions.items) same ∙ exceptions) seen

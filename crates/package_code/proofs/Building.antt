@@ -144,9 +144,23 @@ add_one v x =
         scope = with_name v.names.scope x.0.name (named_formal x.0).entity;
         slots = v.names.slots ++ Some (slot_at x) ∷ [];
         subprograms = v.names.subprograms ++ None ∷ [];
+        operations = v.names.operations;
       };
-    } in
-    (next, record { slot = slot_at x; region = refl; at = refl; scope = refl; slots = refl; subprograms = refl; room = refl; reserved = refl })
+    } in (
+      next,
+      record {
+        slot = slot_at x;
+        region = refl;
+        at = refl;
+        scope = refl;
+        slots = refl;
+        subprograms = refl;
+        operations = refl;
+        room = refl;
+        within = refl;
+        reserved = refl;
+      },
+    )
 
 pub add_each : (xs : List Placed) (v : Framed) → (w : Framed) × AddsEach v xs w
 add_each [] v = (v, refl)

@@ -12,9 +12,10 @@ use Rattle.legality.specs.ProtectedBodyRules.{components_at, protected_item_scop
 use Rattle.expr_soundness.specs.meaning.specs.Programs.{program_of}
 use Rattle.program_soundness.proofs.Listing.{front_at, same_some}
 use Rattle.program_soundness.specs.Fronts.{declared_in, front}
+use Rattle.step_simulation.specs.part_code.proofs.Within.{Within, in_left, of_right, within_self}
 use Rattle.package_code.specs.Bodies.{BodyName, Coded, bodies_among, bodies_before, bodies_of, coded_at, coded_from, components_or_none, names_among, names_in, object_bodies, object_number, of_operation, of_subprogram, of_task, operation_name, operation_names, operations_of}
 use Rattle.package_code.specs.Counts.{bound_of, bounds_at, bounds_from}
-use Rattle.package_code.specs.Refusing.{body_needs, item_labels, item_needs, item_rows, operation_labels, operation_rows, operations_labels, operations_rows, subprogram_labels, subprogram_rows}
+use Rattle.package_code.specs.Refusing.{bodies_needs, body_needs, coded_labels, coded_rows, item_labels, item_needs, item_rows, operation_labels, operation_rows, operations_labels, operations_rows, subprogram_labels, subprogram_rows}
 
 -- ---- of one item
 
@@ -234,21 +235,13 @@ module _ (t : ProgramTree) where
 
 -- ---- what is told of an item is told of its bodies
 
-abbrev pub bodies_labels : (before : List (List ℕ)) → List Coded → List (List ℕ)
-bodies_labels before [] = before
-bodies_labels before (c ∷ cs) = bodies_labels (subprogram_labels before c.head c.body) cs
-
-abbrev pub bodies_rows : (before : ℕ) → List Coded → ℕ
-bodies_rows before [] = before
-bodies_rows before (c ∷ cs) = bodies_rows (subprogram_rows before c.head c.body) cs
-
 operation_labelled : (before : List (List ℕ)) (o : ℕ) (s : Scope) (components : List RecordComponent) (i : ProtectedItemTree)
     → operation_labels before i ≡ subprogram_labels before (of_operation o s components i).head (of_operation o s components i).body
 operation_labelled before o s components (OperationBody d b) = refl
 operation_labelled before o s components (EntryBody d barrier b) = refl
 
 operations_labelled : (before : List (List ℕ)) (o : ℕ) (s : Scope) (components : List RecordComponent) (items : List ProtectedItemTree)
-    → operations_labels before items ≡ bodies_labels before (operations_of o s components items)
+    → operations_labels before items ≡ coded_labels before (operations_of o s components items)
 operations_labelled before o s components [] = refl
 operations_labelled before o s components (i ∷ items) =
     ap (λ l. operations_labels l items) (operation_labelled before o s components i)
@@ -256,11 +249,11 @@ operations_labelled before o s components (i ∷ items) =
     components items
 
 object_labelled : (before : List (List ℕ)) (o : ℕ) (s : Scope) (visible : Option ℕ) (items : List ProtectedItemTree)
-    → operations_labels before items ≡ bodies_labels before (object_bodies o s visible items)
+    → operations_labels before items ≡ coded_labels before (object_bodies o s visible items)
 object_labelled before o s (Some n) items = operations_labelled before o (object_body_scope s n) (components_or_none (components_at s n)) items
 object_labelled before o s None items = operations_labelled before o s [] items
 
-pub labelled_by : (before : List (List ℕ)) (t : ProgramTree) (place : ℕ) (x : BodyItemTree) → item_labels before x ≡ bodies_labels before (coded_at t place x)
+pub labelled_by : (before : List (List ℕ)) (t : ProgramTree) (place : ℕ) (x : BodyItemTree) → item_labels before x ≡ coded_labels before (coded_at t place x)
 labelled_by before t place (OfItem d) = refl
 labelled_by before t place (SubprogramBody d b) = refl
 labelled_by before t place (TaskBody name b) = refl
@@ -273,7 +266,7 @@ operation_rowed before o s components (OperationBody d b) = refl
 operation_rowed before o s components (EntryBody d barrier b) = refl
 
 operations_rowed : (before o : ℕ) (s : Scope) (components : List RecordComponent) (items : List ProtectedItemTree)
-    → operations_rows before items ≡ bodies_rows before (operations_of o s components items)
+    → operations_rows before items ≡ coded_rows before (operations_of o s components items)
 operations_rowed before o s components [] = refl
 operations_rowed before o s components (i ∷ items) =
     ap (λ n. operations_rows n items) (operation_rowed before o s components i)
@@ -281,22 +274,31 @@ operations_rowed before o s components (i ∷ items) =
     components items
 
 object_rowed : (before o : ℕ) (s : Scope) (visible : Option ℕ) (items : List ProtectedItemTree)
-    → operations_rows before items ≡ bodies_rows before (object_bodies o s visible items)
+    → operations_rows before items ≡ coded_rows before (object_bodies o s visible items)
 object_rowed before o s (Some n) items = operations_rowed before o (object_body_scope s n) (components_or_none (components_at s n)) items
 object_rowed before o s None items = operations_rowed before o s [] items
 
-pub rows_by : (before : ℕ) (t : ProgramTree) (place : ℕ) (x : BodyItemTree) → item_rows before x ≡ bodies_rows before (coded_at t place x)
+pub rows_by : (before : ℕ) (t : ProgramTree) (place : ℕ) (x : BodyItemTree) → item_rows before x ≡ coded_rows before (coded_at t place x)
 rows_by before t place (OfItem d) = refl
 rows_by before t place (SubprogramBody d b) = refl
 rows_by before t place (TaskBody name b) = refl
 rows_by before t place (ProtectedBody name items end_name) =
     object_rowed before (object_number (program_of t).scope name) (front t place) (number_of (front t place) name.name) items
 
--- ---- what a body of no object needs, its item needs
+-- ---- what a body needs, its item needs
 
-pub needs_by : (t : ProgramTree) (place : ℕ) (x : BodyItemTree) (k : ℕ) (c : Coded) → slice_get (coded_at t place x) k ≡ Some c → c.owner ≡ None
-    → item_needs t place x ≡ body_needs t c
-needs_by t place = outside_by t place (λ x k c. item_needs t place x ≡ body_needs t c) (λ d b. refl) (λ name b. refl)
+needs_among : (t : ProgramTree) (cs : List Coded) (k : ℕ) (c : Coded) → slice_get cs k ≡ Some c → Within (body_needs t c) (bodies_needs t cs)
+needs_among t [] k c is = cc
+needs_among t (x ∷ cs) zero c is =
+    subst (λ z. Within (body_needs t z) (bodies_needs t (x ∷ cs))) (same_some x c is) (in_left (body_needs t x) (bodies_needs t cs))
+needs_among t (x ∷ cs) (suc k) c is = of_right (body_needs t c) (body_needs t x) (bodies_needs t cs) (needs_among t cs k c is)
+
+pub needs_by : (t : ProgramTree) (place : ℕ) (x : BodyItemTree) (k : ℕ) (c : Coded) → slice_get (coded_at t place x) k ≡ Some c
+    → Within (body_needs t c) (item_needs t place x)
+needs_by t place =
+    coded_by t place (λ x k c. Within (body_needs t c) (item_needs t place x)) (λ d b. within_self (body_needs t (of_subprogram (front t (suc place)) d b)))
+    (λ name b. within_self (body_needs t (of_task (front t (suc place)) name b)))
+    (λ name items end_name k c is. needs_among t (coded_at t place (ProtectedBody name items end_name)) k c is)
 
 -- ---- bounds
 

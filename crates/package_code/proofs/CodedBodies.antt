@@ -1,16 +1,14 @@
 -- Bodies of the package whose code is there: what is left to show of procedures and functions, once their frames are known, is what their instructions do.
-use Rattle.std.proofs.Common.{◌≡◌, ℕ, suc, ◌≤◌, List, map, length, Some, None, refl, sym, ap, ◌∙◌, subst}
-use Rattle.std.specs.Prelude.{slice_get}
+use Rattle.std.proofs.Common.{◌≡◌, ℕ, suc, ◌≤◌, List, map, length, Option, Some, None, refl, sym, ap, ◌∙◌, subst}
 use Rattle.ada_tree.specs.declared.expression.Identifier.{Identifier}
 use Rattle.ada_tree.specs.ExpressionTree.{ExprTree}
 use Rattle.ada_tree.specs.StatementTree.{SubprogramTree}
-use Rattle.ada_tree.specs.ProgramTree.{BodyTree, ProgramTree, SubprogramBody}
+use Rattle.ada_tree.specs.ProgramTree.{BodyTree, ProgramTree}
 use Rattle.image_laws.specs.handlers.specs.Innermost.{handler_of}
 use Rattle.image.specs.Operations.{called}
 use Rattle.image.specs.Rules.{IsWellFormed}
 use Rattle.image.specs.Sections.{Sections, first_place}
 use Rattle.image.specs.Sections.{object_of as kind_object}
-use Rattle.image.specs.declared.subprograms.Kind.TheVariants as kinds
 use Rattle.image.specs.declared.instruction.Operation.TheVariants as op
 use Rattle.image.specs.declared.subprograms.Subprogram.{Subprogram}
 use Rattle.types.specs.Evaluations.{Gives, and_then}
@@ -22,29 +20,33 @@ use Rattle.program_soundness.specs.checking.specs.ProgramRules.{IsLegal}
 use Rattle.ravenscar.specs.ProgramRules.{IsRestricted}
 use Rattle.expr_soundness.specs.meaning.specs.Calls.{results}
 use Rattle.expr_soundness.specs.meaning.specs.Programs.{Parameter, Procedure, Program, parameter, program_of}
-use Rattle.program_soundness.specs.Fronts.{declared_in}
 use Rattle.program_soundness.proofs.Callables.{function_by, procedure_by, subprogram_body}
-use Rattle.expr_code.specs.Computing.{ComputesChecked, IsFunctionCode}
+use Rattle.expr_code.specs.Computing.{ComputesChecked, IsFunctionCode, function_kind}
 use Rattle.expr_code.specs.Seeing.{Package, Sees, library_of}
 use Rattle.expr_code.specs.Views.{At, View}
 use Rattle.step_simulation.specs.part_code.specs.Copying.{GivesBack, left_out}
 use Rattle.step_simulation.specs.part_code.specs.Resting.{Framed}
-use Rattle.step_simulation.specs.part_code.specs.Statements.{AreParametersDeclared, IsProcedureCode, IsRun, Numbers}
+use Rattle.step_simulation.specs.part_code.specs.Statements.{AreParametersDeclared, IsProcedureCode, IsRun, Numbers, procedure_kind}
 use Rattle.step_simulation.specs.part_code.specs.Formals.{Placed, passed_end}
-use Rattle.package_code.specs.Package.{HoldsAll, IsInFront, IsPackageOf}
+use Rattle.package_code.specs.Package.{HoldsAll, IsPackageOf}
+use Rattle.package_code.proofs.BodyFronts.{IsEntrance}
 use Rattle.package_code.proofs.Entered.{function_code, function_takes, procedure_code, procedure_takes}
 use Rattle.package_code.proofs.InFront.{LawsOfNames, few_locals}
 use Rattle.package_code.proofs.MadeFrames.{HasFrames}
 
 module _ (laws : LawsOfNames) (t : ProgramTree) (legal : IsLegal t) (restricted : IsRestricted t) (i : Sections) (well_formed : IsWellFormed i) (g : Package)
-    (of_program : IsPackageOf t i g) (numbers : Numbers) (place : ℕ) (d : SubprogramTree) (b : BodyTree)
-    (at : slice_get (declared_in t.package_) place ≡ Some (SubprogramBody d b)) (v : Framed) (before : IsInFront t g v (suc place)) (number : ℕ)
+    (of_program : IsPackageOf t i g) (numbers : Numbers) (owner : Option ℕ) (d : SubprogramTree) (b : BodyTree)
+    (v : Framed) (before : IsEntrance t g owner v d b) (number : ℕ)
     (s : Subprogram) (there : called i number ≡ Some s) (room : s.locals ≡ v.room) where
   abbrev program : Program
   program = program_of t
 
   abbrev ps : List Parameter
   ps = map (parameter program.scope) d.formals
+
+  own_object : (o : Option ℕ) → kind_object (function_kind o) ≡ o
+  own_object (Some o) = refl
+  own_object None = refl
 
   small : v.room ≤ 65536
   small = subst (λ n. n ≤ 65536) room (few_locals i well_formed number s there).1
@@ -57,7 +59,7 @@ module _ (laws : LawsOfNames) (t : ProgramTree) (legal : IsLegal t) (restricted 
   module _ (middle : Framed) (xs : List Placed) (out : ℕ) (frames : HasFrames g v middle ps xs out)
       (takes : s.parameters ≡ passed_end v.names.scope 0 xs) where
     abbrev procedure : Procedure
-    procedure = procedure_by program.scope (subprogram_body None d b)
+    procedure = procedure_by program.scope (subprogram_body owner d b)
 
     abbrev top : ℕ
     top = passed_end v.names.scope 0 xs
@@ -72,13 +74,13 @@ module _ (laws : LawsOfNames) (t : ProgramTree) (legal : IsLegal t) (restricted 
       pub gives : GivesBack i program g middle (results ps) number stop
       pub within : suc gives.back ≤ s.end_
 
-    pub procedure_coded : DoesBody → IsProcedureCode i program g numbers procedure number
-    procedure_coded does = record {
+    pub procedure_coded : s.kind ≡ procedure_kind owner None → DoesBody → IsProcedureCode i program g numbers procedure number
+    procedure_coded kind does = record {
       s = s;
       there = there;
-      outside = refl;
+      kind = kind;
       parameters = λ args addresses passed many.
-          procedure_takes laws t legal restricted i g of_program place d b at v frames.begins before top frames.holds (fits top takes) small args addresses passed
+          procedure_takes laws t legal restricted i g of_program owner d b v frames.begins before top frames.holds (fits top takes) small args addresses passed
           many
           ∙ sym takes;
       begins = frames.begins;
@@ -93,16 +95,16 @@ module _ (laws : LawsOfNames) (t : ProgramTree) (legal : IsLegal t) (restricted 
       gives = does.gives;
       within = does.within;
       enters = λ args addresses locals passed of many rest.
-          procedure_code laws t legal restricted i g of_program place d b at v frames.begins before top frames.holds (fits top takes) small s takes room args
+          procedure_code laws t legal restricted i g of_program owner d b v frames.begins before top frames.holds (fits top takes) small s takes room args
           addresses locals passed of many rest;
     }
 
   -- ---- functions
 
   module _ (r : Identifier) (some : d.result ≡ Some r) (value : ExprTree) (last : Framed) (top : ℕ) (holds : HoldsAll v 0 v.reserved ps last top)
-      (takes : s.parameters ≡ top) (kind : s.kind ≡ kinds.Plain) where
+      (takes : s.parameters ≡ top) (kind : s.kind ≡ function_kind owner) where
     abbrev function : Function
-    function = function_by program.scope (subprogram_body None d b) r value
+    function = function_by program.scope (subprogram_body owner d b) r value
 
     -- the value, checked, and a return
     pub record DoesFunction : Type 0 where
@@ -122,7 +124,7 @@ module _ (laws : LawsOfNames) (t : ProgramTree) (legal : IsLegal t) (restricted 
       there = there;
       kind = kind;
       parameters = λ args passed.
-          function_takes laws t legal restricted i g of_program place d b at v last before top holds (fits top takes) small r some value args passed ∙ sym takes;
+          function_takes laws t legal restricted i g of_program owner d b v last before top holds (fits top takes) small r some value args passed ∙ sym takes;
       sight = Sees g last.names;
       mid = does.mid;
       behind = does.behind;
@@ -132,7 +134,7 @@ module _ (laws : LawsOfNames) (t : ProgramTree) (legal : IsLegal t) (restricted 
       bare = does.bare;
       sized = does.sized;
       enters = λ p view inner args left locals sees passed schedule now task memory words rest plain object frames.
-          function_code laws t legal restricted i g of_program place d b at v last before top holds (fits top takes) small r some value s takes room
-          (ap kind_object kind) p view
+          function_code laws t legal restricted i g of_program owner d b v last before top holds (fits top takes) small r some value s takes room
+          (ap kind_object kind ∙ own_object owner) p view
           inner args left locals sees passed schedule now task memory words rest plain object frames;
     }

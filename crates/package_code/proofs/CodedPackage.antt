@@ -1,23 +1,26 @@
 -- All subprograms of a package have their code where each body among its declarations has it.
-use Rattle.std.proofs.Common.{◌≡◌, ◌≤◌, ℕ, List, ◌∷◌, ◌++◌, length, ◌⊎◌, inl, inr, Option, Some, None, true, refl, sym, ap, ◌∙◌, subst, arith}
+use Rattle.std.proofs.Common.{◌≡◌, ◌≤◌, ℕ, List, ◌∷◌, ◌++◌, length, ◌⊎◌, inl, inr, Option, Some, None, refl, sym, ap, ◌∙◌, subst, arith}
 use Rattle.std.specs.Prelude.{slice_get}
 use Rattle.std.proofs.lemmas.List.{length-append}
 use Rattle.base.specs.Names.{predefined}
 use Rattle.image_laws.specs.kernel.specs.Laws.{QuietStays, ViewsBack, ViewsOn}
 use Rattle.ada_tree.specs.declared.expression.Identifier.{Identifier}
 use Rattle.ada_tree.specs.ExpressionTree.{ExprTree}
-use Rattle.ada_tree.specs.StatementTree.{SubprogramTree}
-use Rattle.ada_tree.specs.ProgramTree.{BodyItemTree, BodyTree, EntryBody, OperationBody, ProgramTree, ProtectedItemTree, SubprogramBody}
+use Rattle.ada_tree.specs.StatementTree.{EntryTree, SubprogramTree}
+use Rattle.ada_tree.specs.ProgramTree.{BodyItemTree, BodyTree, EntryBody, OperationBody, ProgramTree, ProtectedBody, ProtectedItemTree, SubprogramBody}
 use Rattle.image.specs.Sections.{Sections}
+use Rattle.image.specs.Frames.{Words}
+use Rattle.image.specs.Steps as steps
 use Rattle.types.specs.Evaluating.{entered}
-use Rattle.types.specs.Places.{Function, Place, function_of, is_of, or_else}
+use Rattle.types.specs.Places.{Function, Place, function_of, is_of}
 use Rattle.program_soundness.specs.checking.specs.ProgramRules.{IsLegal}
 use Rattle.ravenscar.specs.ProgramRules.{IsRestricted}
 use Rattle.expr_soundness.specs.Laws.{AgreementIsKept}
-use Rattle.expr_soundness.specs.meaning.specs.Calls.{procedure_among}
-use Rattle.expr_soundness.specs.meaning.specs.Programs.{Procedure, Program, exceptions_among, object_numbered, package_items, program_of, returned}
+use Rattle.expr_soundness.specs.meaning.specs.Calls.{is_open, procedure_among}
+use Rattle.expr_soundness.specs.meaning.specs.Works.{Store}
+use Rattle.expr_soundness.specs.meaning.specs.Programs.{Procedure, Program, exceptions_among, package_items, program_of, returned}
 use Rattle.program_soundness.specs.Fronts.{declared_in, start_in}
-use Rattle.program_soundness.proofs.Callables.{Bodied, InObject, InPackage, bodies_among, body_place, found_function, found_procedure, function_by, functions_are, operation_body, procedure_by, procedures_are, subprogram_body}
+use Rattle.program_soundness.proofs.Callables.{Bodied, FoundFunction, FoundProcedure, InObject, InPackage, bodies_among, body_place, found_function, found_procedure, function_by, functions_are, operation_body, procedure_by, procedures_are, subprogram_body}
 use Rattle.program_soundness.proofs.Listing.{Has}
 use Rattle.program_soundness.proofs.ObjectBodies as bodies
 use Rattle.program_soundness.proofs.Whole.{IsPackage}
@@ -29,18 +32,8 @@ use Rattle.step_simulation.specs.Laws.{HasCode}
 use Rattle.step_simulation.specs.part_code.specs.Statements.{HasProcedures, IsProcedureCode, Numbers}
 use Rattle.package_code.specs.Package.{IsPackageOf}
 use Rattle.package_code.proofs.InFront.{LawsOfNames, known, whole}
-
-outside_all : (o : Option ℕ) → is_of o None ≡ true → o ≡ None
-outside_all (Some n) h = cc
-outside_all None h = refl
-
-once : (o : Option Procedure) {q : Procedure} → or_else o o ≡ Some q → o ≡ Some q
-once (Some q) h = h
-once None h = h
-
-owner_of : (o : Option ℕ) (item : ProtectedItemTree) → (operation_body o item).owner ≡ o
-owner_of o (OperationBody d b) = refl
-owner_of o (EntryBody d barrier b) = refl
+use Rattle.package_code.proofs.OperationBodies.{object}
+use Rattle.package_code.proofs.Unbarred.{IsProcedureOf, procedure_unit}
 
 -- the predefined exceptions are the first ones
 four_first : (xs : List (List ℕ)) → 4 ≤ length (predefined ++ xs)
@@ -67,11 +60,13 @@ shows_opened kept g p view o sees = record {
     agrees = kept.circumstances g.scope (outside p) p.schedule p.now (o ∷ p.actions) p.priority p.frames_left sees.names.agrees;
     objects = sees.names.objects;
   };
+  objects = record { same = sees.objects.same; suited = sees.objects.suited };
   components = sees.components;
   now = sees.now;
   schedule = sees.schedule;
   task = (ap (λ l. o ∷ l) sees.task.0, sees.task.1, sees.task.2);
   small = sees.small;
+  few = sees.few;
 }
 
 module _ (laws : LawsOfNames) (t : ProgramTree) (legal : IsLegal t) (restricted : IsRestricted t) where
@@ -84,18 +79,91 @@ module _ (laws : LawsOfNames) (t : ProgramTree) (legal : IsLegal t) (restricted 
   abbrev w : IsPackage program (start_in t.package_) (declared_in t.package_)
   w = whole laws t legal restricted
 
-  -- what belongs to no protected object stands among the declarations of the package
-  in_package : (u : Bodied) → Has (bodies_among program.scope all) u → is_of u.owner None ≡ true → InPackage all u
-  in_package u has owned = by_case (body_place program.scope all u has)
+  -- where the body of a subprogram stands: among the declarations of the package, or in the body of its protected object
+  pub record IsOperation (owner : Option ℕ) (i : ProtectedItemTree) : Type 0 where
+    pub place : ℕ
+    pub name : Identifier
+    pub items : List ProtectedItemTree
+    pub end_name : Identifier
+    pub at : slice_get all place ≡ Some (ProtectedBody name items end_name)
+    pub k : ℕ
+    pub there : slice_get items k ≡ Some i
+    pub owned : owner ≡ Some (object laws.scopes laws.names laws.premises t legal restricted place name items end_name at).number
+
+  abbrev pub IsOfPackageAt : Option ℕ → SubprogramTree → BodyTree → Type 0
+  IsOfPackageAt owner d b = (owner ≡ None) × (place : ℕ) × (slice_get all place ≡ Some (SubprogramBody d b))
+
+  abbrev pub StandsAt : Option ℕ → SubprogramTree → BodyTree → Type 0
+  StandsAt owner d b = IsOfPackageAt owner d b ⊎ IsOperation owner (OperationBody d b)
+
+  -- the body that is one of these
+  record IsUnit (u : Bodied) (d : SubprogramTree) (b : BodyTree) : Type 0 where
+    owner : Option ℕ
+    is : u ≡ subprogram_body owner d b
+    stands : StandsAt owner d b
+
+  record IsEntryUnit (u : Bodied) : Type 0 where
+    owner : Option ℕ
+    d : EntryTree
+    barrier : ExprTree
+    b : BodyTree
+    is : u ≡ operation_body owner (EntryBody d barrier b)
+    stands : IsOperation owner (EntryBody d barrier b)
+
+  abbrev IsOne : Bodied → Type 0
+  IsOne u = ((d : SubprogramTree) × (b : BodyTree) × IsUnit u d b) ⊎ IsEntryUnit u
+
+  unit_stands : (u : Bodied) → Has (bodies_among program.scope all) u → IsOne u
+  unit_stands u has = by_case (body_place program.scope all u has)
     where
-      by_case : InPackage all u ⊎ InObject program.scope all u → InPackage all u
-      by_case (inl p) = p
+      by_item : (q : InObject program.scope all u) (i : ProtectedItemTree) → slice_get q.items q.index ≡ Some i
+          → u ≡ operation_body (Some (object laws.scopes laws.names laws.premises t legal restricted q.place q.name q.items q.end_name q.at).number) i → IsOne u
+      by_item q (OperationBody d b) there is =
+          let o = Some (object laws.scopes laws.names laws.premises t legal restricted q.place q.name q.items q.end_name q.at).number in
+          inl (
+            d,
+            b,
+            record {
+              owner = o;
+              is = is;
+              stands = inr (record {
+                place = q.place;
+                name = q.name;
+                items = q.items;
+                end_name = q.end_name;
+                at = q.at;
+                k = q.index;
+                there = there;
+                owned = refl;
+              });
+            },
+          )
+      by_item q (EntryBody d barrier b) there is =
+          inr (record {
+            owner = Some (object laws.scopes laws.names laws.premises t legal restricted q.place q.name q.items q.end_name q.at).number;
+            d = d;
+            barrier = barrier;
+            b = b;
+            is = is;
+            stands = record {
+              place = q.place;
+              name = q.name;
+              items = q.items;
+              end_name = q.end_name;
+              at = q.at;
+              k = q.index;
+              there = there;
+              owned = refl;
+            };
+          })
+
+      by_case : InPackage all u ⊎ InObject program.scope all u → IsOne u
+      by_case (inl p) = inl (p.subprogram, p.body, record { owner = None; is = p.is; stands = inl (refl, p.place, p.at) })
       by_case (inr q) =
           let number = (bodies.there program (start_in t.package_) all w q.place q.name q.items q.end_name q.at).numbered in
-          let none = sym (outside_all u.owner owned) ∙ ap (λ x. x.owner) q.is ∙ owner_of (object_numbered program.scope q.name) q.item in
-          let bad = none ∙ number in
-          cc
+          by_item q q.item q.there (q.is ∙ ap (λ o. operation_body o q.item) number)
 
+  -- where the body of a procedure of the package stands
   pub record StandsAsProcedure (q : Procedure) : Type 0 where
     pub place : ℕ
     pub d : SubprogramTree
@@ -105,85 +173,112 @@ module _ (laws : LawsOfNames) (t : ProgramTree) (legal : IsLegal t) (restricted 
     pub is : q ≡ procedure_by program.scope (subprogram_body None d b)
 
   pub procedure_stands : (name : List ℕ) (q : Procedure) → procedure_among program.procedures None name ≡ Some q → StandsAsProcedure q
-  procedure_stands name q h =
-      let x =
-      found_procedure program.scope (bodies_among program.scope all) None name q
-      (ap (λ l. procedure_among l None name) (sym (w.procedures ∙ procedures_are program.scope all)) ∙ h) in
-      let p = in_package x.unit_ x.has x.owned in
-      record {
-        place = p.place;
-        d = p.subprogram;
-        b = p.body;
-        at = p.at;
-        none = ap (λ u. u.result) (sym p.is) ∙ x.none;
-        is = x.is ∙ ap (procedure_by program.scope) p.is;
-      }
+  procedure_stands name q h = by_unit (unit_stands x.unit_ x.has)
+    where
+      x : FoundProcedure program.scope (bodies_among program.scope all) None name q
+      x =
+          found_procedure program.scope (bodies_among program.scope all) None name q
+          (ap (λ l. procedure_among l None name) (sym (w.procedures ∙ procedures_are program.scope all)) ∙ h)
 
-  pub record StandsAsFunction (f : Function) : Type 0 where
-    pub place : ℕ
-    pub d : SubprogramTree
-    pub b : BodyTree
-    pub at : slice_get all place ≡ Some (SubprogramBody d b)
-    pub result : Identifier
-    pub some : d.result ≡ Some result
-    pub value : ExprTree
-    pub returns : returned b.statements ≡ Some value
-    pub is : f ≡ function_by program.scope (subprogram_body None d b) result value
+      by_unit : IsOne x.unit_ → StandsAsProcedure q
+      by_unit (inl (d, b, y)) = by_stands y.stands
+        where
+          by_stands : StandsAt y.owner d b → StandsAsProcedure q
+          by_stands (inl (owner, place, at)) =
+              let is : x.unit_ ≡ subprogram_body None d b = y.is ∙ ap (λ o. subprogram_body o d b) owner in
+              record {
+                place = place;
+                d = d;
+                b = b;
+                at = at;
+                none = ap (λ u. u.result) (sym is) ∙ x.none;
+                is = x.is ∙ ap (procedure_by program.scope) is;
+              }
+          by_stands (inr o) = absurd (let bad = ap (λ z. is_of z None) (sym o.owned ∙ ap (λ u. u.owner) (sym y.is)) ∙ x.owned in cc)
+      by_unit (inr e) = absurd (let bad = ap (λ z. is_of z None) (sym e.stands.owned ∙ ap (λ u. u.owner) (sym e.is)) ∙ x.owned in cc)
 
-  pub function_stands : (name : List ℕ) (f : Function) → function_of program.functions None name ≡ Some f → StandsAsFunction f
-  function_stands name f h =
-      let x =
-      found_function program.scope (bodies_among program.scope all) None name f
-      (ap (λ l. function_of l None name) (sym (w.functions ∙ functions_are program.scope all)) ∙ h) in
-      let p = in_package x.unit_ x.has x.owned in
-      record {
-        place = p.place;
-        d = p.subprogram;
-        b = p.body;
-        at = p.at;
-        result = x.result;
-        some = ap (λ u. u.result) (sym p.is) ∙ x.some;
-        value = x.value;
-        returns = ap (λ u. returned u.body.statements) (sym p.is) ∙ x.returns;
-        is = x.is ∙ ap (λ u. function_by program.scope u x.result x.value) p.is;
-      }
+  -- no procedure has a barrier, where no entry has a body
+  module _ (none : (owner : Option ℕ) (d : EntryTree) (barrier : ExprTree) (b : BodyTree) → IsOperation owner (EntryBody d barrier b) → ⊥) where
+    bare_one : (q : Procedure) (u : Bodied) → q ≡ procedure_by program.scope u → IsOne u → q.barrier ≡ None
+    bare_one q u is (inl y) = ap (λ z. z.barrier) (is ∙ ap (procedure_by program.scope) y.2.is)
+    bare_one q u is (inr e) = absurd (none e.owner e.d e.barrier e.b e.stands)
+
+    pub bare_procedures : (q : Procedure) → Has program.procedures q → q.barrier ≡ None
+    bare_procedures q among =
+        let x =
+        procedure_unit program.scope (bodies_among program.scope all) q
+        (subst (λ l. Has l q) (w.procedures ∙ procedures_are program.scope all) among) in
+        bare_one q x.unit_ x.is (unit_stands x.unit_ x.has)
+
+    pub bare_found : (owner : Option ℕ) (name : List ℕ) (q : Procedure) → procedure_among program.procedures owner name ≡ Some q → q.barrier ≡ None
+    bare_found owner name q found =
+        let x =
+        found_procedure program.scope (bodies_among program.scope all) owner name q
+        (ap (λ l. procedure_among l owner name) (sym (w.procedures ∙ procedures_are program.scope all)) ∙ found) in
+        bare_one q x.unit_ x.is (unit_stands x.unit_ x.has)
 
   module _ (i : Sections) (g : Package) (of_program : IsPackageOf t i g) (numbers : Numbers) where
-    -- what methods show of the bodies of the package, each at its place
+    -- what methods show of the bodies that have a number, each where it stands; no entry has one
     pub record HasBodies : Type 1 where
-      pub procedures : (place : ℕ) (d : SubprogramTree) (b : BodyTree) → slice_get all place ≡ Some (SubprogramBody d b) → d.result ≡ None → (number : ℕ)
-          → numbers (procedure_by program.scope (subprogram_body None d b)) ≡ Some number
-          → IsProcedureCode i program g numbers (procedure_by program.scope (subprogram_body None d b)) number
-      pub functions : (place : ℕ) (d : SubprogramTree) (b : BodyTree) → slice_get all place ≡ Some (SubprogramBody d b) → (r : Identifier) → d.result ≡ Some r
-          → (value : ExprTree) → returned b.statements ≡ Some value → (number : ℕ) → g.subprograms None d.name.name ≡ Some number
-          → IsFunctionCode i (library_of g) (function_by program.scope (subprogram_body None d b) r value) number
-      pub outside : (o : ℕ) (name : List ℕ) → g.subprograms (Some o) name ≡ None
+      pub procedures : (owner : Option ℕ) (d : SubprogramTree) (b : BodyTree) → StandsAt owner d b → d.result ≡ None → (number : ℕ)
+          → numbers (procedure_by program.scope (subprogram_body owner d b)) ≡ Some number
+          → IsProcedureCode i program g numbers (procedure_by program.scope (subprogram_body owner d b)) number
+      pub functions : (owner : Option ℕ) (d : SubprogramTree) (b : BodyTree) → StandsAt owner d b → (r : Identifier) → d.result ≡ Some r
+          → (value : ExprTree) → returned b.statements ≡ Some value → (number : ℕ) → g.subprograms owner d.name.name ≡ Some number
+          → IsFunctionCode i (library_of g) (function_by program.scope (subprogram_body owner d b) r value) number
+      pub entries : (owner : Option ℕ) (d : EntryTree) (barrier : ExprTree) (b : BodyTree) → IsOperation owner (EntryBody d barrier b) → (number : ℕ)
+          → numbers (procedure_by program.scope (operation_body owner (EntryBody d barrier b))) ≡ Some number → ⊥
 
     module _ (has : HasBodies) where
+      procedure_coded : (q : Procedure) (u : Bodied) → Has (bodies_among program.scope all) u → u.result ≡ None → q ≡ procedure_by program.scope u
+          → (number : ℕ) → numbers q ≡ Some number
+          → IsProcedureCode i program g numbers q number
+      procedure_coded q u among none is number n = by_unit (unit_stands u among)
+        where
+          by_unit : IsOne u → IsProcedureCode i program g numbers q number
+          by_unit (inl x) =
+              let y = x.2 in
+              let same : q ≡ procedure_by program.scope (subprogram_body y.owner x.0 x.1) = is ∙ ap (procedure_by program.scope) y.is in
+              subst (λ z. IsProcedureCode i program g numbers z number) (sym same)
+              (has.procedures y.owner x.0 x.1 y.stands (ap (λ z. z.result) (sym y.is) ∙ none) number (ap numbers (sym same) ∙ n))
+          by_unit (inr e) =
+              let same = is ∙ ap (procedure_by program.scope) e.is in
+              absurd (has.entries e.owner e.d e.barrier e.b e.stands number (ap numbers (sym same) ∙ n))
+
       procedures_coded : HasProcedures i program g numbers
-      procedures_coded name q number found n =
-          let x = procedure_stands name q (once (procedure_among program.procedures None name) found) in
-          subst (λ y. IsProcedureCode i program g numbers y number) (sym x.is)
-          (has.procedures x.place x.d x.b x.at x.none number (ap numbers (sym x.is) ∙ n))
+      procedures_coded owner name q number found n =
+          let x =
+          found_procedure program.scope (bodies_among program.scope all) owner name q
+          (ap (λ l. procedure_among l owner name) (sym (w.procedures ∙ procedures_are program.scope all)) ∙ found) in
+          procedure_coded q x.unit_ x.has x.none x.is number n
 
       functions_coded : (f : Function) (number : ℕ) → IsCoded g f number → IsFunctionCode i (library_of g) f number
-      functions_coded f number coded = by_owner f.object refl
+      functions_coded f number coded = by_unit (unit_stands x.unit_ x.has)
         where
-          by_owner : (o : Option ℕ) → f.object ≡ o → IsFunctionCode i (library_of g) f number
-          by_owner (Some o) e = let bad = sym (has.outside o f.name) ∙ ap (λ z. g.subprograms z f.name) (sym e) ∙ coded.numbered in cc
-          by_owner None e =
-              let found = (λ j. function_of ((sym of_program.functions) j) ((sym e) j) f.name) ∙ coded.found in
-              let x = function_stands f.name f found in
-              let called = (λ j. g.subprograms ((sym e) j) ((ap (λ y. y.name) (sym x.is)) j)) ∙ coded.numbered in
-              subst (λ y. IsFunctionCode i (library_of g) y number) (sym x.is)
-              (has.functions x.place x.d x.b x.at x.result x.some x.value x.returns number called)
+          x : FoundFunction program.scope (bodies_among program.scope all) f.object f.name f
+          x =
+              found_function program.scope (bodies_among program.scope all) f.object f.name f
+              (ap (λ l. function_of l f.object f.name) (sym (w.functions ∙ functions_are program.scope all) ∙ sym of_program.functions) ∙ coded.found)
 
-      pub ada_linkd : QuietStays → ViewsOn → ViewsBack → i.exceptions ≡ program.exceptions → HasCode i program g numbers
-      ada_linkd quiet views back exceptions = record {
+          by_unit : IsOne x.unit_ → IsFunctionCode i (library_of g) f number
+          by_unit (inl y) =
+              let z = y.2 in
+              let same : f ≡ function_by program.scope (subprogram_body z.owner y.0 y.1) x.result x.value =
+              x.is ∙ ap (λ u. function_by program.scope u x.result x.value) z.is in
+              subst (λ h. IsFunctionCode i (library_of g) h number) (sym same)
+              (has.functions z.owner y.0 y.1 z.stands x.result (ap (λ u. u.result) (sym z.is) ∙ x.some) x.value
+              (ap (λ u. returned u.body.statements) (sym z.is) ∙ x.returns) number
+              ((λ j. g.subprograms (((ap (λ h. h.object) (sym same)) j)) ((ap (λ h. h.name) (sym same)) j)) ∙ coded.numbered))
+          by_unit (inr e) = absurd (let bad = sym x.some ∙ ap (λ u. u.result) e.is in cc)
+
+      pub ada_linkd : QuietStays → ViewsOn → ViewsBack → i.exceptions ≡ program.exceptions
+          → ((m : Store) (words : Words) (o : ℕ) → is_open program m o ≡ steps.is_open i words o) → HasCode i program g numbers
+      ada_linkd quiet views back exceptions barriers = record {
         exceptions = exceptions;
         predefined = four_first (exceptions_among (package_items t.package_));
         functions = functions_answer quiet views back i (library_of g) functions_coded
             (λ left p sound. (known laws t legal restricted).typed.answered p sound left) (λ p view sees. sees.task)
             (shows_opened (known laws t legal restricted).kept g);
         procedures = procedures_coded;
+        barriers = barriers;
       }

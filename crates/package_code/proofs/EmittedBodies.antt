@@ -1,9 +1,8 @@
 -- Bodies whose code methods have added are those of a program's procedures and functions, in each image that holds the code.
-use Rattle.std.proofs.Common.{◌≡◌, ℕ, ℤ, suc, ◌≤◌, List, [], ◌∷◌, map, Some, None, refl, sym, ap, ◌∙◌, subst, arith}
-use Rattle.std.specs.Prelude.{slice_get}
+use Rattle.std.proofs.Common.{◌≡◌, ℕ, ℤ, suc, ◌≤◌, List, [], ◌∷◌, map, Option, Some, None, refl, sym, ap, ◌∙◌, subst, arith}
 use Rattle.image_laws.specs.kernel.specs.Laws.{QuietStays}
 use Rattle.ada_tree.specs.StatementTree.{SubprogramTree}
-use Rattle.ada_tree.specs.ProgramTree.{BodyTree, ProgramTree, SubprogramBody}
+use Rattle.ada_tree.specs.ProgramTree.{BodyTree, ProgramTree}
 use Rattle.image.specs.Operations.{called, results_of}
 use Rattle.image.specs.Rules.{IsWellFormed}
 use Rattle.image.specs.Sections.{Sections, first_place}
@@ -16,9 +15,9 @@ use Rattle.types.specs.Shapes.{initial, initial_of, shape_of, value_words}
 use Rattle.program_soundness.specs.checking.specs.ProgramRules.{IsLegal}
 use Rattle.ravenscar.specs.ProgramRules.{IsRestricted}
 use Rattle.expr_soundness.specs.SoundScopes.{IsKnown}
-use Rattle.expr_soundness.specs.meaning.specs.Calls.{procedure_here, results}
+use Rattle.expr_soundness.specs.meaning.specs.Calls.{procedure_here, results, procedure_among}
 use Rattle.expr_soundness.specs.meaning.specs.Programs.{Procedure, Program, parameter, program_of}
-use Rattle.program_soundness.specs.Fronts.{declared_in}
+use Rattle.program_soundness.specs.step_soundness.specs.Fitting.{IsFound}
 use Rattle.program_soundness.proofs.Callables.{procedure_by, subprogram_body}
 use Rattle.program_soundness.proofs.Formals.{AreNew}
 use Rattle.expr_code.specs.Code.{Extends, Holds, here}
@@ -32,14 +31,15 @@ use Rattle.step_simulation.specs.part_code.specs.Layout.{EndsBelow}
 use Rattle.step_simulation.specs.part_code.specs.Formals.{AddsEach, AreReturned, Placed, outs_end, passed_end, words_returned}
 use Rattle.step_simulation.specs.part_code.specs.Resting.{Framed}
 use Rattle.step_simulation.specs.part_code.specs.Handling.{unhandled}
-use Rattle.step_simulation.specs.part_code.specs.Statements.{AreParametersDeclared, IsProcedureCode, Numbers}
+use Rattle.step_simulation.specs.part_code.specs.Statements.{AreParametersDeclared, IsProcedureCode, Numbers, procedure_kind}
 use Rattle.stmt_code.specs.Subprograms.{AddsProcedure, fresh}
 use Rattle.stmt_code.specs.declared.draft.Draft.{Draft}
 use Rattle.step_simulation.specs.part_code.specs.declared.formals.PlacedFormal.{PlacedFormal}
 use Rattle.stmt_code.specs.declared.subprogram.SubprogramWords.{SubprogramWords}
 use Rattle.stmt_code.proofs.GivingBack.{AreGiven, gives_back}
 use Rattle.step_simulation.specs.part_code.proofs.Initials.{shape_there}
-use Rattle.package_code.specs.Package.{IsInFront, IsPackageOf}
+use Rattle.package_code.specs.Package.{IsPackageOf}
+use Rattle.package_code.proofs.BodyFronts.{IsEntrance}
 use Rattle.package_code.proofs.BodyFrames.{HasWidths}
 use Rattle.package_code.proofs.CodedBodies.{DoesBody, procedure_coded}
 use Rattle.package_code.proofs.EmittedFormals.{AreTold}
@@ -47,25 +47,25 @@ use Rattle.package_code.proofs.EmittedParts.{AreShown, back_words, given_placed,
 use Rattle.package_code.proofs.InFront.{LawsOfNames, known}
 use Rattle.package_code.proofs.EmittedFrames.{IsPlaced, agreed, behind, ends_at, entries, finds_behind, fresh_names, in_front_of, middle, names_are, outs_at, parameters, reserved, reserved_below, shown, texts, told, turn, word_is}
 use Rattle.package_code.proofs.MadeFrames.{HasFrames, procedure_frames, widths_behind}
-use Rattle.package_code.proofs.Reordered.{numbers_back, room_stays, reserved_stays}
+use Rattle.package_code.proofs.Reordered.{externals_back, numbers_back, profile_back, room_stays, reserved_stays, within_stays}
 
 -- ---- procedures
 
 module _ (laws : LawsOfNames) (quiet : QuietStays) (shaped : InitialValuesHaveShape) (t : ProgramTree) (legal : IsLegal t) (restricted : IsRestricted t) (i : Sections)
-    (well_formed : IsWellFormed i) (g : Package) (of_program : IsPackageOf t i g) (numbers : Numbers) (place : ℕ) (d : SubprogramTree) (b : BodyTree)
-    (at : slice_get (declared_in t.package_) place ≡ Some (SubprogramBody d b)) (seen : Visible) (old new : Draft) (sizes : SubprogramWords)
+    (well_formed : IsWellFormed i) (g : Package) (of_program : IsPackageOf t i g) (numbers : Numbers) (owner : Option ℕ) (d : SubprogramTree) (b : BodyTree)
+    (seen : Visible) (old new : Draft) (sizes : SubprogramWords)
     (adds : AddsProcedure seen old d.formals b sizes new)
     (number : ℕ) (s : Subprogram) (there : called i number ≡ Some s) (first_is : first_place i number ≡ here old.code) (end_is : s.end_ ≡ here new.code)
     (parameters_are : s.parameters ≡ sizes.passed) (results_are : results_of (called i number) ≡ sizes.results) (locals_are : s.locals ≡ sizes.locals)
-    (holds : Holds i (here old.code) new.code) (labels : HasLabels i new.labels)
+    (kind_is : s.kind ≡ procedure_kind owner None) (holds : Holds i (here old.code) new.code) (labels : HasLabels i new.labels)
     (handled : IsHandled i (program_of t) (record old { code = adds.initial; words = adds.framed }) adds.run adds.runs.rows unhandled)
-    (numbered : (name : List ℕ) (q : Procedure) (n : ℕ) → procedure_here (program_of t) None name ≡ Some q → g.subprograms None name ≡ Some n
-    → numbers q ≡ Some n) where
+    (numbered : (q : Procedure) (n : ℕ) → g.subprograms q.object q.name ≡ Some n → numbers q ≡ Some n)
+    (unbarred : (object : Option ℕ) (name : List ℕ) (q : Procedure) → procedure_among (program_of t).procedures object name ≡ Some q → q.barrier ≡ None) where
   abbrev program : Program
   program = program_of t
 
-  abbrev x : IsPlaced t place d b
-  x = record { at = at; seen = seen; later = adds.later; framed = adds.framed; placed = adds.placed; places = adds.places; room = s.locals }
+  abbrev x : IsPlaced owner d
+  x = record { seen = seen; later = adds.later; framed = adds.framed; placed = adds.placed; places = adds.places; room = s.locals }
 
   abbrev v : Framed
   v = in_front_of x
@@ -73,7 +73,7 @@ module _ (laws : LawsOfNames) (quiet : QuietStays) (shaped : InitialValuesHaveSh
   abbrev items : List PlacedFormal
   items = adds.placed.formals.items
 
-  module _ (before : IsInFront t g v (suc place)) where
+  module _ (before : IsEntrance t g owner v d b) where
     abbrev base : Scope
     base = seen.scope
 
@@ -84,26 +84,26 @@ module _ (laws : LawsOfNames) (quiet : QuietStays) (shaped : InitialValuesHaveSh
     passed = adds.placed.passed
 
     abbrev xs : List Placed
-    xs = parameters laws shaped t legal restricted g place d b x before
+    xs = parameters laws shaped t legal restricted g owner d b x before
 
     abbrev last : Framed
-    last = middle laws shaped t legal restricted g place d b x before
+    last = middle laws shaped t legal restricted g owner d b x before
 
     added : AddsEach v xs last
-    added = (behind laws shaped t legal restricted g place d b x before).1
+    added = (behind laws shaped t legal restricted g owner d b x before).1
 
     ending : passed_end base 0 xs ≡ passed
-    ending = ends_at laws shaped t legal restricted g place d b x before
+    ending = ends_at laws shaped t legal restricted g owner d b x before
 
     names_same : last.names ≡ adds.later
-    names_same = names_are laws shaped t legal restricted g place d b x before
+    names_same = names_are laws shaped t legal restricted g owner d b x before
 
     telling : AreTold base program.scope d.formals
-    telling = told laws shaped t legal restricted g place d b x before
+    telling = told laws shaped t legal restricted g owner d b x before
 
     fits : outs_end base passed xs ≤ v.room
     fits =
-        let a = outs_at laws shaped t legal restricted g place d b x before in
+        let a = outs_at laws shaped t legal restricted g owner d b x before in
         let m = adds.places.most in
         let n = adds.runs.most in
         let l = adds.locals in
@@ -111,26 +111,40 @@ module _ (laws : LawsOfNames) (quiet : QuietStays) (shaped : InitialValuesHaveSh
 
     frames : HasFrames g v last (map (parameter program.scope) d.formals) xs passed
     frames =
-        procedure_frames laws t legal restricted i g of_program place d b at v last before xs (texts laws shaped t legal restricted g place d b x before) added passed
-        (turn laws shaped t legal restricted g place d b x before) (reserved laws shaped t legal restricted g place d b x before)
+        procedure_frames laws t legal restricted g owner d b v last before xs (texts laws shaped t legal restricted g owner d b x before) added passed
+        (turn laws shaped t legal restricted g owner d b x before) (reserved laws shaped t legal restricted g owner d b x before)
         (let e = ending in omega (arith, e)) fits
 
     serves : Serves program g numbers last top
     serves =
-        let a = agreed laws shaped t legal restricted g place d b x before in
+        let a = agreed laws shaped t legal restricted g owner d b x before in
         record {
-          finds = (finds_behind laws shaped t legal restricted g place d b x before).finds;
-          numbered = λ name q n found told_number.
-              numbered name q n found
-              (before.calls name n (numbers_back xs v last added (entries laws shaped t legal restricted g place d b x before)
-              (fresh_names laws shaped t legal restricted g place d b x before) name n told_number));
+          finds = λ name e stands.
+              subst (λ o. IsFound program o name e) (sym (within_stays xs v last added))
+              ((finds_behind laws shaped t legal restricted g owner d b x before).finds name e stands);
+          numbered = λ name q n profile found told_number named none.
+              numbered q n
+              (before.procedures name q n profile (subst (λ o. procedure_here program o name ≡ Some q) (within_stays xs v last added) found)
+              (numbers_back xs v last added (entries laws shaped t legal restricted g owner d b x before)
+              (fresh_names laws shaped t legal restricted g owner d b x before) name n told_number)
+              (profile_back xs v last added (entries laws shaped t legal restricted g owner d b x before)
+              (fresh_names laws shaped t legal restricted g owner d b x before) name profile named)
+              none);
+          externals = λ name operation n o q told is found. (
+            numbered q n
+                (before.externals name operation q o n
+                (externals_back xs v last added (entries laws shaped t legal restricted g owner d b x before)
+                (fresh_names laws shaped t legal restricted g owner d b x before) name operation n told)
+                is found),
+            unbarred (Some o.number) operation q found,
+          );
           scope = sym of_program.scope;
           place = a.place;
           here = a.here;
           agrees = a.agrees;
           laid = frames.laid;
-          ends = subst (EndsBelow last) (outs_at laws shaped t legal restricted g place d b x before) frames.ends;
-          below = reserved_below laws shaped t legal restricted g place d b x before;
+          ends = subst (EndsBelow last) (outs_at laws shaped t legal restricted g owner d b x before) frames.ends;
+          below = reserved_below laws shaped t legal restricted g owner d b x before;
         }
 
     -- ---- what the instructions do
@@ -156,7 +170,7 @@ module _ (laws : LawsOfNames) (quiet : QuietStays) (shaped : InitialValuesHaveSh
     -- widths in front of the parameters are those behind them
     words_are : (u : Subtype) (word : ℤ) → first_word (form_at adds.later.scope u.type_number) u ≡ Some word
         → (value_words (initial program.scope u) ≡ word ∷ []) × (words_of adds.later.scope u ≡ 1)
-    words_are = word_is laws shaped t legal restricted g place d b x before
+    words_are = word_is laws shaped t legal restricted g owner d b x before
 
     behind_widths : HasWidths laws.stay base last
     behind_widths = widths_behind laws.stay base xs v last added (record { known = λ y c. c; same = λ y c. refl })
@@ -164,20 +178,20 @@ module _ (laws : LawsOfNames) (quiet : QuietStays) (shaped : InitialValuesHaveSh
     -- first values are those of the program
     starts : (u : Subtype) → IsKnown base u → value_words (initial program.scope u) ≡ value_words (initial adds.later.scope u)
     starts u k =
-        let a = agreed laws shaped t legal restricted g place d b x before in
+        let a = agreed laws shaped t legal restricted g owner d b x before in
         ap (λ y. value_words (initial_of y))
         (ap (λ z. shape_of z u) (sym a.here) ∙ shape_there last.names.scope a.place a.agrees u (behind_widths.known u k) ∙ ap (λ z. shape_of z u) scope_is)
 
     new_names : AreNew base (map (parameter program.scope) d.formals)
     new_names =
-        subst (AreNew base) (texts laws shaped t legal restricted g place d b x before) (fresh_names laws shaped t legal restricted g place d b x before)
+        subst (AreNew base) (texts laws shaped t legal restricted g owner d b x before) (fresh_names laws shaped t legal restricted g owner d b x before)
 
     widths : (u : Subtype) → IsKnown base u → words_of adds.later.scope u ≡ words_of base u
     widths u k =
         ap (λ z. words_of z u) (sym scope_is) ∙ behind_widths.same u k
 
     showing : AreShown base program.scope last d.formals items
-    showing = shown laws shaped t legal restricted g place d b x before
+    showing = shown laws shaped t legal restricted g owner d b x before
 
     at_back : Holds i (here adds.run.code) new.code
     at_back =
@@ -197,7 +211,7 @@ module _ (laws : LawsOfNames) (quiet : QuietStays) (shaped : InitialValuesHaveSh
         (adds.returns.returns i at_back)
         (results_are ∙ adds.returns.high ∙ ap (λ z. words_returned z items) (sym scope_is) ∙ back_words base program.scope last.names.scope items)
 
-    does : DoesBody laws t legal restricted i well_formed g of_program numbers place d b at v before number s there refl last xs passed frames
+    does : DoesBody laws t legal restricted i well_formed g of_program numbers owner d b v before number s there refl last xs passed frames
         (parameters_are ∙ adds.passed ∙ sym ending)
     does = record {
       first = here adds.initial;
@@ -222,7 +236,7 @@ module _ (laws : LawsOfNames) (quiet : QuietStays) (shaped : InitialValuesHaveSh
             let l = adds.locals in
             omega (arith, r, l, locals_are)
 
-    pub procedure_emitted : IsProcedureCode i program g numbers (procedure_by program.scope (subprogram_body None d b)) number
+    pub procedure_emitted : IsProcedureCode i program g numbers (procedure_by program.scope (subprogram_body owner d b)) number
     procedure_emitted =
-        procedure_coded laws t legal restricted i well_formed g of_program numbers place d b at v before number s there refl last xs passed frames
-        (parameters_are ∙ adds.passed ∙ sym ending) does
+        procedure_coded laws t legal restricted i well_formed g of_program numbers owner d b v before number s there refl last xs passed frames
+        (parameters_are ∙ adds.passed ∙ sym ending) kind_is does

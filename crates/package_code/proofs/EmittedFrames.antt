@@ -1,11 +1,10 @@
 -- What is visible behind formal parameters that a method has placed, and where their words stand.
-use Rattle.std.proofs.Common.{◌≡◌, ℕ, ℤ, suc, ◌<◌, List, [], ◌∷◌, ◌++◌, map, true, Some, None, inl, inr, refl, sym, ap, ◌∙◌, subst, arith}
-use Rattle.std.specs.Prelude.{slice_get}
+use Rattle.std.proofs.Common.{◌≡◌, ℕ, ℤ, ◌<◌, List, [], ◌∷◌, ◌++◌, map, true, Option, Some, inl, inr, refl, sym, ap, ◌∙◌, subst, arith}
 use Rattle.ada_tree.specs.declared.declaration.Formal.{Formal}
 use Rattle.ada_tree.specs.declared.declaration.Mode.{Mode}
 use Rattle.ada_tree.specs.declared.declaration.Mode.TheVariants as mode
 use Rattle.ada_tree.specs.StatementTree.{SubprogramTree}
-use Rattle.ada_tree.specs.ProgramTree.{BodyTree, ProgramTree, SubprogramBody}
+use Rattle.ada_tree.specs.ProgramTree.{BodyTree, ProgramTree}
 use Rattle.types.specs.declared.entity.Subtype.{Subtype}
 use Rattle.types.specs.Entities as entity
 use Rattle.types.specs.Entities.{TypeForm}
@@ -14,18 +13,13 @@ use Rattle.types.specs.Layouts.{words_of}
 use Rattle.types.specs.Places.{Object, Place, is_among}
 use Rattle.types.specs.Scopes.{Scope, form_at}
 use Rattle.types.specs.Shapes.{initial, shape_of, value_words}
-use Rattle.types.specs.Statics.{static_place}
-use Rattle.type_rules.specs.SubtypeNames.{subtype_of}
-use Rattle.declaring.specs.BodyNames.{formal_role, formals_scope}
+use Rattle.declaring.specs.BodyNames.{formal_role}
 use Rattle.program_soundness.specs.checking.specs.ProgramRules.{IsLegal}
 use Rattle.ravenscar.specs.ProgramRules.{IsRestricted}
 use Rattle.expr_soundness.specs.Agreeing.{Agrees}
 use Rattle.expr_soundness.specs.Laws.{AgreementIsKept}
 use Rattle.expr_soundness.specs.SoundScopes.{IsKnown, IsSoundObject}
-use Rattle.expr_soundness.specs.meaning.specs.Programs.{Program, parameter, program_of, subtype_named}
-use Rattle.program_soundness.specs.step_soundness.specs.Objects.{first_store}
-use Rattle.program_soundness.specs.Fronts.{declared_in, front, start_in}
-use Rattle.program_soundness.proofs.Beginning.{keeps_same}
+use Rattle.expr_soundness.specs.meaning.specs.Programs.{Program, parameter, program_of}
 use Rattle.program_soundness.proofs.WiderScopes.{none_unseen, number_stands, stands}
 use Rattle.program_soundness.proofs.Formals.{AreNew}
 use Rattle.program_soundness.proofs.Listing.{Has}
@@ -37,15 +31,14 @@ use Rattle.step_simulation.specs.part_code.specs.Resting.{Framed}
 use Rattle.step_simulation.specs.part_code.specs.declared.formals.PlacedFormal.{PlacedFormal}
 use Rattle.step_simulation.specs.part_code.specs.declared.formals.PlacedFormals.{PlacedFormals}
 use Rattle.step_simulation.specs.part_code.specs.declared.frame_words.FrameWords.{FrameWords}
-use Rattle.program_soundness.specs.step_soundness.specs.Holding.{inside}
 use Rattle.step_simulation.specs.part_code.proofs.Initials.{form_there, initial_word}
-use Rattle.package_code.specs.Package.{FindsNames, IsInFront}
+use Rattle.package_code.specs.Package.{FindsNames}
+use Rattle.package_code.proofs.BodyFronts.{IsEntrance, formal_told, front_agrees, front_place, parameters_new}
 use Rattle.package_code.proofs.Building.{add_each}
 use Rattle.package_code.proofs.EmittedFormals.{AreTold, addresses_of, addresses_placed, end_placed, outs_placed, placed_in, same_subtype, texts_placed, turn_placed}
-use Rattle.package_code.proofs.EmittedParts.{AreShown, addresses_below, each_slots, each_subprograms, numbers_placed, outs_up, slots_placed}
-use Rattle.package_code.proofs.InFront.{LawsOfNames, known, memory, names, whole}
+use Rattle.package_code.proofs.EmittedParts.{AreShown, addresses_below, each_operations, each_slots, each_subprograms, numbers_placed, outs_up, slots_placed}
+use Rattle.package_code.proofs.InFront.{LawsOfNames, known, memory}
 use Rattle.package_code.proofs.MadeFrames.{text_scope, text_serves}
-use Rattle.package_code.proofs.NewParameters.{formal_told, parameters_new}
 use Rattle.package_code.proofs.Reordered.{HasEntries, all_there, formal_entity, names_added, new_next, reserved_stays, slot_at, slots_added}
 
 -- ---- at some place of the program these names mean the same
@@ -100,9 +93,8 @@ shown_all base program v w (f ∷ fs) (x ∷ xs) told there from out last top h 
 
 -- ---- the names and places behind the parameters of a body
 
--- formal parameters of a body of the package, placed by a method, where these names were visible; the frame has so many words
-pub record IsPlaced (t : ProgramTree) (place : ℕ) (d : SubprogramTree) (b : BodyTree) : Type 0 where
-  pub at : slice_get (declared_in t.package_) place ≡ Some (SubprogramBody d b)
+-- formal parameters of a body of this protected object, or of none, placed by a method, where these names were visible; the frame has so many words
+pub record IsPlaced (owner : Option ℕ) (d : SubprogramTree) : Type 0 where
   pub seen : Visible
   pub later : Visible
   pub framed : FrameWords
@@ -111,11 +103,11 @@ pub record IsPlaced (t : ProgramTree) (place : ℕ) (d : SubprogramTree) (b : Bo
   pub room : ℕ
 
 -- the frame in front of the parameters
-abbrev pub in_front_of : {t : ProgramTree} {place : ℕ} {d : SubprogramTree} {b : BodyTree} → IsPlaced t place d b → Framed
-in_front_of x = record { names = x.seen; room = x.room; reserved = addresses_of x.placed.formals.items }
+abbrev pub in_front_of : {owner : Option ℕ} {d : SubprogramTree} → IsPlaced owner d → Framed
+in_front_of {owner} x = record { names = x.seen; room = x.room; reserved = addresses_of x.placed.formals.items; within = owner }
 
-module _ (laws : LawsOfNames) (shaped : InitialValuesHaveShape) (t : ProgramTree) (legal : IsLegal t) (restricted : IsRestricted t) (g : Package) (place : ℕ)
-    (d : SubprogramTree) (b : BodyTree) (x : IsPlaced t place d b) (before : IsInFront t g (in_front_of x) (suc place)) where
+module _ (laws : LawsOfNames) (shaped : InitialValuesHaveShape) (t : ProgramTree) (legal : IsLegal t) (restricted : IsRestricted t) (g : Package)
+    (owner : Option ℕ) (d : SubprogramTree) (b : BodyTree) (x : IsPlaced owner d) (before : IsEntrance t g owner (in_front_of x) d b) where
   abbrev program : Program
   program = program_of t
 
@@ -135,10 +127,7 @@ module _ (laws : LawsOfNames) (shaped : InitialValuesHaveShape) (t : ProgramTree
   top = x.framed.taken
 
   pub told : AreTold base program.scope d.formals
-  told f has =
-      subst (λ u. subtype_of u f.subtype ≡ Some (subtype_named program.scope f.subtype)) (sym before.scope)
-      (formal_told laws.scopes program (start_in t.package_) (declared_in t.package_) (whole laws t legal restricted)
-      (names laws t legal restricted).fronts place d b x.at f has (front t (suc place)) (keeps_same (front t (suc place))))
+  told f has = formal_told laws.scopes t owner base d b before.front f has
 
   abbrev pub parameters : List Placed
   parameters = placed_in program.scope d.formals items
@@ -165,21 +154,15 @@ module _ (laws : LawsOfNames) (shaped : InitialValuesHaveShape) (t : ProgramTree
   outs_at = outs_placed base program.scope d.formals items 0 passed passed top told x.places.stand
 
   pub fresh_names : AreNew base (map parameter_at parameters)
-  fresh_names =
-      subst (AreNew base) (sym texts)
-      (subst (λ u. AreNew u (map (parameter program.scope) d.formals)) (sym before.scope)
-      (parameters_new laws.scopes program (start_in t.package_) (declared_in t.package_) (whole laws t legal restricted)
-      (names laws t legal restricted).fronts place d b x.at))
+  fresh_names = subst (AreNew base) (sym texts) (parameters_new laws.scopes t owner base d b before.front)
 
   pub entries : HasEntries v
-  entries = record { slots = before.many_slots; subprograms = before.many_subprograms }
+  entries = record { slots = before.laid.slots; subprograms = before.laid.subprograms }
 
   -- what the method sees is what is visible behind the parameters
   pub names_are : middle.names ≡ x.later
   names_are =
-      let scope =
-      text_scope laws t legal restricted g place d b x.at v middle before parameters texts behind.1
-      ∙ ap (λ u. formals_scope u d.formals) (sym before.scope) ∙ sym x.places.scope in
+      let scope = text_scope laws t legal restricted g owner d b v middle before parameters texts behind.1 ∙ sym x.places.scope in
       let slots =
       each_slots parameters v middle behind.1
       ∙ ap (λ l. x.seen.slots ++ l) (slots_placed base program.scope d.formals items 0 passed passed top x.places.stand) ∙ sym x.places.slots in
@@ -187,20 +170,20 @@ module _ (laws : LawsOfNames) (shaped : InitialValuesHaveShape) (t : ProgramTree
       each_subprograms parameters v middle behind.1
       ∙ ap (λ l. x.seen.subprograms ++ l) (numbers_placed base program.scope d.formals items 0 passed passed top x.places.stand)
       ∙ sym x.places.subprograms in
-      λ j. record { scope = scope j; slots = slots j; subprograms = subprograms j }
+      let operations = each_operations parameters v middle behind.1 ∙ sym x.places.operations in
+      λ j. record { scope = scope j; slots = slots j; subprograms = subprograms j; operations = operations j }
 
   -- the program sees them so
   pub agreed : Agreed program middle
   agreed =
       agreed_behind (known laws t legal restricted).kept shaped program parameters v middle behind.1 fresh_names (record {
-        place = inside program (first_store program) (record { within = None; locals = [] }) (static_place program.scope);
+        place = front_place laws.scopes t owner base d b before.front;
         here = refl;
-        agrees = subst (λ u. Agrees u (inside program (first_store program) (record { within = None; locals = [] }) (static_place program.scope))) (sym before.scope)
-            (laws.fronts t (first_store program) legal restricted (memory laws t legal restricted) (suc place) (static_place program.scope)).agrees;
+        agrees = front_agrees laws.scopes t owner base d b before.front (memory laws t legal restricted);
       })
 
-  pub finds_behind : FindsNames program middle
-  finds_behind = text_serves laws t legal restricted g place d b x.at v middle before parameters texts behind.1
+  pub finds_behind : FindsNames program owner middle
+  finds_behind = text_serves laws t legal restricted g owner d b v middle before parameters texts behind.1
 
   -- the words of addresses are among those that are passed
   pub reserved_below : (n : ℕ) → is_among middle.reserved n ≡ true → n < top

@@ -1,14 +1,12 @@
 -- Functions whose code methods have added are those of a program, in each image that holds the code.
-use Rattle.std.proofs.Common.{◌≡◌, ℕ, suc, List, [], map, length, None, Some, refl, sym, ◌∙◌, subst, arith}
-use Rattle.std.specs.Prelude.{slice_get}
+use Rattle.std.proofs.Common.{◌≡◌, ℕ, suc, List, [], map, length, Option, Some, refl, sym, ◌∙◌, subst, arith}
 use Rattle.ada_tree.specs.declared.expression.Identifier.{Identifier}
 use Rattle.ada_tree.specs.ExpressionTree.{ExprTree}
 use Rattle.ada_tree.specs.StatementTree.{SubprogramTree}
-use Rattle.ada_tree.specs.ProgramTree.{BodyTree, ProgramTree, SubprogramBody}
+use Rattle.ada_tree.specs.ProgramTree.{BodyTree, ProgramTree}
 use Rattle.image.specs.Operations.{called}
 use Rattle.image.specs.Rules.{IsWellFormed}
 use Rattle.image.specs.Sections.{Sections, first_place}
-use Rattle.image.specs.declared.subprograms.Kind.TheVariants as kinds
 use Rattle.image.specs.declared.instruction.Operation.TheVariants as op
 use Rattle.image.specs.declared.subprograms.Subprogram.{Subprogram}
 use Rattle.types.specs.declared.entity.Subtype.{Subtype}
@@ -22,10 +20,9 @@ use Rattle.program_soundness.specs.checking.specs.ProgramRules.{IsLegal}
 use Rattle.ravenscar.specs.ProgramRules.{IsRestricted}
 use Rattle.expr_soundness.specs.Agreeing.{Agrees}
 use Rattle.expr_soundness.specs.meaning.specs.Programs.{Program, parameter, program_of, subtype_named}
-use Rattle.program_soundness.specs.Fronts.{declared_in, start_in}
 use Rattle.program_soundness.proofs.Callables.{function_by, subprogram_body}
 use Rattle.expr_code.specs.Code.{Extends, Holds, here}
-use Rattle.expr_code.specs.Computing.{ComputesChecked, IsFunctionCode}
+use Rattle.expr_code.specs.Computing.{ComputesChecked, IsFunctionCode, function_kind}
 use Rattle.expr_code.specs.Seeing.{Package, Sees, library_of}
 use Rattle.expr_code.specs.Views.{View}
 use Rattle.expr_code.specs.declared.visible.Visible.{Visible}
@@ -38,64 +35,63 @@ use Rattle.stmt_code.specs.Subprograms.{AddsFunction}
 use Rattle.stmt_code.specs.declared.draft.Draft.{Draft}
 use Rattle.stmt_code.specs.declared.subprogram.SubprogramWords.{SubprogramWords}
 use Rattle.step_simulation.specs.part_code.proofs.StoringCode.{passed_same}
-use Rattle.package_code.specs.Package.{HoldsAll, IsInFront, IsPackageOf}
+use Rattle.package_code.specs.Package.{HoldsAll, IsPackageOf}
+use Rattle.package_code.proofs.BodyFronts.{IsEntrance, formals_in}
 use Rattle.package_code.proofs.CodedBodies.{DoesFunction, function_coded}
 use Rattle.package_code.proofs.EmittedFrames.{IsPlaced, behind, ends_at, in_front_of, middle, names_are, parameters, reserved, texts, turn}
-use Rattle.package_code.proofs.InFront.{LawsOfNames, names, whole}
+use Rattle.package_code.proofs.InFront.{LawsOfNames}
 use Rattle.package_code.proofs.MadeFrames.{function_holds, no_addresses}
-use Rattle.package_code.proofs.NewParameters.{formals_in}
 
 module _ (laws : LawsOfNames) (shaped : InitialValuesHaveShape) (t : ProgramTree) (legal : IsLegal t) (restricted : IsRestricted t) (i : Sections)
-    (well_formed : IsWellFormed i) (g : Package) (of_program : IsPackageOf t i g) (numbers : Numbers) (place : ℕ) (d : SubprogramTree) (b : BodyTree)
-    (at : slice_get (declared_in t.package_) place ≡ Some (SubprogramBody d b)) (r : Identifier) (some : d.result ≡ Some r) (value : ExprTree) (result : Subtype)
+    (well_formed : IsWellFormed i) (g : Package) (of_program : IsPackageOf t i g) (numbers : Numbers) (owner : Option ℕ) (d : SubprogramTree) (b : BodyTree)
+    (r : Identifier) (some : d.result ≡ Some r) (value : ExprTree) (result : Subtype)
     (result_is : result ≡ subtype_named (program_of t).scope r)
     (seen : Visible) (old new : Draft) (sizes : SubprogramWords) (adds : AddsFunction seen old d.formals result value sizes new)
     (number : ℕ) (s : Subprogram) (there : called i number ≡ Some s) (first_is : first_place i number ≡ here old.code) (end_is : s.end_ ≡ here new.code)
-    (parameters_are : s.parameters ≡ sizes.passed) (results_are : s.results ≡ sizes.results) (kind : s.kind ≡ kinds.Plain)
+    (parameters_are : s.parameters ≡ sizes.passed) (results_are : s.results ≡ sizes.results) (kind : s.kind ≡ function_kind owner)
     (holds : Holds i (here old.code) new.code) (uncovered : GoesBy i unhandled (here old.code) (here new.code)) where
   abbrev program : Program
   program = program_of t
 
-  abbrev x : IsPlaced t place d b
-  x = record { at = at; seen = seen; later = adds.later; framed = adds.framed; placed = adds.placed; places = adds.places; room = s.locals }
+  abbrev x : IsPlaced owner d
+  x = record { seen = seen; later = adds.later; framed = adds.framed; placed = adds.placed; places = adds.places; room = s.locals }
 
   abbrev v : Framed
   v = in_front_of x
 
-  module _ (before : IsInFront t g v (suc place)) where
+  module _ (before : IsEntrance t g owner v d b) where
     abbrev xs : List Placed
-    xs = parameters laws shaped t legal restricted g place d b x before
+    xs = parameters laws shaped t legal restricted g owner d b x before
 
     abbrev last : Framed
-    last = middle laws shaped t legal restricted g place d b x before
+    last = middle laws shaped t legal restricted g owner d b x before
 
     added : AddsEach v xs last
-    added = (behind laws shaped t legal restricted g place d b x before).1
+    added = (behind laws shaped t legal restricted g owner d b x before).1
 
     ending : passed_end seen.scope 0 xs ≡ adds.placed.passed
-    ending = ends_at laws shaped t legal restricted g place d b x before
+    ending = ends_at laws shaped t legal restricted g owner d b x before
 
     -- none of them is copied back
     none : v.reserved ≡ []
     none =
-        reserved laws shaped t legal restricted g place d b x before
-        ∙ no_addresses seen.scope program.scope 0 xs d.formals (texts laws shaped t legal restricted g place d b x before)
-        (formals_in laws.scopes program (start_in t.package_) (declared_in t.package_) (whole laws t legal restricted) (names laws t legal restricted).fronts
-        place d b at r some)
+        reserved laws shaped t legal restricted g owner d b x before
+        ∙ no_addresses seen.scope program.scope 0 xs d.formals (texts laws shaped t legal restricted g owner d b x before)
+        (formals_in laws.scopes t owner seen.scope d b before.front r some)
 
     held : HoldsAll v 0 v.reserved (map (parameter program.scope) d.formals) last (passed_end seen.scope 0 xs)
     held =
-        function_holds laws t legal restricted g place d b at r some v last before xs (texts laws shaped t legal restricted g place d b x before) added
-        adds.placed.passed (turn laws shaped t legal restricted g place d b x before) none
+        function_holds laws t legal restricted g owner d b r some v last before xs (texts laws shaped t legal restricted g owner d b x before) added
+        adds.placed.passed (turn laws shaped t legal restricted g owner d b x before) none
 
     takes : s.parameters ≡ passed_end seen.scope 0 xs
     takes = parameters_are ∙ adds.passed ∙ sym ending
 
     abbrev function : Function
-    function = function_by program.scope (subprogram_body None d b) r value
+    function = function_by program.scope (subprogram_body owner d b) r value
 
     same : last.names ≡ adds.later
-    same = names_are laws shaped t legal restricted g place d b x before
+    same = names_are laws shaped t legal restricted g owner d b x before
 
     grows : Extends adds.valued new.code
     grows = added_extends adds.valued new.code 1 op.Return adds.returns
@@ -112,7 +108,7 @@ module _ (laws : LawsOfNames) (shaped : InitialValuesHaveShape) (t : ProgramTree
         let suited = adds.emits.typed calls p agrees (sound p sees.unit.sound) u valued in
         (laws.sized (shape_of adds.later.scope result) u suited).sized ∙ adds.emits.single ∙ sym (results_are ∙ adds.results)
 
-    does : DoesFunction laws t legal restricted i well_formed g of_program numbers place d b at v before number s there refl r some value last
+    does : DoesFunction laws t legal restricted i well_formed g of_program numbers owner d b v before number s there refl r some value last
         (passed_end seen.scope 0 xs) held takes kind
     does = record {
       mid = here adds.valued;
@@ -130,5 +126,5 @@ module _ (laws : LawsOfNames) (shaped : InitialValuesHaveShape) (t : ProgramTree
 
     pub function_emitted : IsFunctionCode i (library_of g) function number
     function_emitted =
-        function_coded laws t legal restricted i well_formed g of_program numbers place d b at v before number s there refl r some value last
+        function_coded laws t legal restricted i well_formed g of_program numbers owner d b v before number s there refl r some value last
         (passed_end seen.scope 0 xs) held takes kind does

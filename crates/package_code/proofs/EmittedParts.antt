@@ -53,6 +53,10 @@ each_slots (x ∷ xs) v w h =
 abbrev pub no_number : Placed → Option ℕ
 no_number x = None
 
+pub each_operations : (xs : List Placed) (v w : Framed) → AddsEach v xs w → w.names.operations ≡ v.names.operations
+each_operations [] v w h = ap (λ z. z.names.operations) h
+each_operations (x ∷ xs) v w h = each_operations xs h.0 w h.2 ∙ h.1.operations
+
 pub each_subprograms : (xs : List Placed) (v w : Framed) → AddsEach v xs w → w.names.subprograms ≡ v.names.subprograms ++ map no_number xs
 each_subprograms [] v w h = ap (λ z. z.names.subprograms) h ∙ sym (append_none v.names.subprograms)
 each_subprograms (x ∷ xs) v w h =

@@ -1,9 +1,10 @@
 -- The body of a task whose code a method has added begins with the work of the task, in each image that holds the code.
-use Rattle.std.proofs.Common.{◌≡◌, ℕ, suc, ◌+◌, ◌≤◌, List, [], ◌∷◌, ◌++◌, map, None, Some, true, refl, sym, ap, ◌∙◌, subst, arith, append-nil}
+use Rattle.std.proofs.Common.{◌≡◌, ℕ, suc, ◌+◌, ◌≤◌, List, [], ◌∷◌, ◌++◌, map, Option, None, Some, true, refl, sym, ap, ◌∙◌, subst, arith, append-nil}
 use Rattle.std.specs.Prelude.{pos, replicate}
 use Rattle.ada_tree.specs.ProgramTree.{BodyTree, ProgramTree}
 use Rattle.image.specs.Operations.{called, results_of}
 use Rattle.image.specs.Rules.{IsWellFormed}
+use Rattle.image.specs.Frames.{Inner}
 use Rattle.image.specs.Sections.{Sections, end_of, first_place}
 use Rattle.image.specs.declared.instruction.Operation.TheVariants as op
 use Rattle.image.specs.declared.subprograms.Subprogram.{Subprogram}
@@ -13,10 +14,11 @@ use Rattle.types.specs.Statics.{static_place}
 use Rattle.expr_soundness.specs.Agreeing.{Agrees}
 use Rattle.program_soundness.specs.checking.specs.ProgramRules.{IsLegal}
 use Rattle.ravenscar.specs.ProgramRules.{IsRestricted}
-use Rattle.expr_soundness.specs.meaning.specs.Calls.{procedure_here}
+use Rattle.expr_soundness.specs.meaning.specs.Calls.{procedure_here, procedure_among}
 use Rattle.expr_soundness.specs.meaning.specs.Programs.{OfBody, Procedure, Program, program_of}
 use Rattle.expr_soundness.specs.meaning.specs.Source.{duty_items}
 use Rattle.expr_soundness.specs.meaning.specs.Works.{Sequence}
+use Rattle.program_soundness.specs.Fronts.{front}
 use Rattle.program_soundness.proofs.Listing.{same_some}
 use Rattle.program_soundness.specs.step_soundness.specs.Holding.{inside}
 use Rattle.program_soundness.specs.step_soundness.specs.Objects.{first_store}
@@ -40,6 +42,7 @@ use Rattle.stmt_code.specs.declared.draft.Draft.{Draft}
 use Rattle.stmt_code.specs.declared.subprogram.SubprogramWords.{SubprogramWords}
 use Rattle.package_code.specs.Package.{IsInFront, IsPackageOf}
 use Rattle.package_code.proofs.InFront.{LawsOfNames, bare_rests, few_locals, front_ends, front_laid, front_serves, memory}
+use Rattle.package_code.proofs.PackageFronts.{front_externals, here_named}
 
 -- ---- code that runs a body and returns begins with its work
 
@@ -81,7 +84,7 @@ module _ (i : Sections) (program : Program) (g : Package) (numbers : Numbers) (v
     to_inside = all_in stop (let up = runs.up in let over = runs.over in omega (arith, up, over)) (omega arith);
   }
 
-  pub task_follows : Follows i program g numbers around_task number (first_place i number) (duty_items (OfBody b)) [] []
+  pub task_follows : Follows i program g numbers around_task number (first_place i number) (duty_items (OfBody b)) Inner [] []
   task_follows =
       let up = runs.up in
       let over = runs.over in
@@ -91,7 +94,7 @@ module _ (i : Sections) (program : Program) (g : Package) (numbers : Numbers) (v
       let stop_in = all_in stop (omega (arith, up, over)) (omega arith) in
       let shown = (narrows_same g v).shows in
       declares_follow i program g numbers b.declarations around_task v runs.later number (first_place i number) runs.mid
-      (Sequence b.statements b.handlers ∷ []) [] [] runs.declared runs.uncovered up first_in mid_in (shown, shown, shown)
+      (Sequence b.statements b.handlers ∷ []) Inner [] [] runs.declared runs.uncovered up first_in mid_in (shown, shown, shown)
       (λ nar. (
         runs.mid + 2,
         stop,
@@ -137,7 +140,7 @@ module _ (v : Visible) (old : Draft) (b : BodyTree) (sizes : SubprogramWords) (n
       let scope = sym adds.places.scope in
       let slots = sym (adds.places.slots ∙ ap (λ xs. v.slots ++ map slot_for xs) bare.0 ∙ append-nil v.slots) in
       let subprograms = sym (adds.places.subprograms ∙ ap (λ xs. v.subprograms ++ map no_subprogram xs) bare.0 ∙ append-nil v.subprograms) in
-      λ j. record { scope = scope j; slots = slots j; subprograms = subprograms j }
+      λ j. record { scope = scope j; slots = slots j; subprograms = subprograms j; operations = sym adds.places.operations j }
 
 module _ (laws : LawsOfNames) (t : ProgramTree) (legal : IsLegal t) (restricted : IsRestricted t) (i : Sections) (well_formed : IsWellFormed i) (g : Package)
     (of_program : IsPackageOf t i g) (numbers : Numbers) (place : ℕ) (b : BodyTree) (seen : Visible) (old new : Draft) (sizes : SubprogramWords)
@@ -145,15 +148,15 @@ module _ (laws : LawsOfNames) (t : ProgramTree) (legal : IsLegal t) (restricted 
     (first_is : first_place i number ≡ here old.code) (end_is : s.end_ ≡ here new.code) (results_are : s.results ≡ sizes.results)
     (locals_are : s.locals ≡ sizes.locals) (holds : Holds i (here old.code) new.code) (labels : HasLabels i new.labels)
     (handled : IsHandled i (program_of t) (record old { code = adds.initial; words = adds.framed }) adds.run adds.runs.rows unhandled)
-    (numbered : (name : List ℕ) (q : Procedure) (n : ℕ) → procedure_here (program_of t) None name ≡ Some q → g.subprograms None name ≡ Some n
-    → numbers q ≡ Some n) where
+    (numbered : (q : Procedure) (n : ℕ) → g.subprograms q.object q.name ≡ Some n → numbers q ≡ Some n)
+    (unbarred : (object : Option ℕ) (name : List ℕ) (q : Procedure) → procedure_among (program_of t).procedures object name ≡ Some q → q.barrier ≡ None) where
   abbrev program : Program
   program = program_of t
 
   abbrev v : Framed
-  v = record { names = seen; room = s.locals; reserved = [] }
+  v = record { names = seen; room = s.locals; reserved = []; within = None }
 
-  module _ (before : IsInFront t g v (suc place)) where
+  module _ (before : IsInFront (front t (suc place)) g None v) where
     -- some place of the program, where no body runs
     abbrev outside : Place
     outside = inside program (first_store program) (record { within = None; locals = [] }) (static_place program.scope)
@@ -161,7 +164,12 @@ module _ (laws : LawsOfNames) (t : ProgramTree) (legal : IsLegal t) (restricted 
     serves : Serves program g numbers v adds.framed.taken
     serves = record {
       finds = (front_serves laws t legal restricted v (suc place) before.scope).finds;
-      numbered = λ name q n found told. numbered name q n found (before.calls name n told);
+      numbered = λ name q n profile found told named none.
+          let x = here_named program name q found in numbered q n ((λ j. g.subprograms (x.0 j) (x.1 j)) ∙ before.calls name n told);
+      externals = λ name operation n o q told is found. (
+        numbered q n (front_externals laws t legal restricted i g of_program v (suc place) before name operation q o n told is found),
+        unbarred (Some o.number) operation q found,
+      );
       scope = sym of_program.scope;
       place = outside;
       here = refl;
@@ -207,10 +215,11 @@ module _ (laws : LawsOfNames) (t : ProgramTree) (legal : IsLegal t) (restricted 
     runs =
         subst (λ n. IsRun i program g numbers v n (here adds.run.code) b.declarations b.statements b.handlers) (sym (first_is ∙ begins))
         (adds.runs.stands i (holds_later i (here old.code) (here adds.initial) adds.run.code grows_initial.longer at_run)
-        (subst (HasLabels i) adds.labels labels) program g numbers v (same_names seen old b sizes new adds) serves (let l = adds.locals in omega (arith, l, locals_are)) unhandled handled refl)
+        (subst (HasLabels i) adds.labels labels) program g numbers v (same_names seen old b sizes new adds) serves
+        (let l = adds.locals in omega (arith, l, locals_are)) unhandled handled refl)
 
     pub task_begins : (around : Around i program g numbers)
-        × Follows i program g numbers around number (first_place i number) (duty_items (OfBody b)) [] []
+        × Follows i program g numbers around number (first_place i number) (duty_items (OfBody b)) Inner [] []
         × RestsWith g around.visible around.held (record { within = None; locals = [] }) (replicate s.locals (pos 0))
     task_begins = (
       around_task i program g numbers v b number s there none (here adds.run.code) runs return within,

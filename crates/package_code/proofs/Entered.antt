@@ -1,6 +1,6 @@
 -- What frames know where bodies of the package are entered: procedures, and functions.
-use Rattle.std.proofs.Common.{◌≡◌, ℕ, suc, ◌+◌, ◌-◌, ◌≤◌, ℤ, List, [], ◌∷◌, ◌++◌, length, map, Some, None, true, refl, sym, ap, ◌∙◌, subst, arith}
-use Rattle.std.specs.Prelude.{if◌then◌else◌, slice_get, Bool, false}
+use Rattle.std.proofs.Common.{◌≡◌, ℕ, ◌+◌, ◌-◌, ◌≤◌, ℤ, List, [], ◌∷◌, ◌++◌, length, map, Option, Some, true, refl, sym, ap, ◌∙◌, subst, arith}
+use Rattle.std.specs.Prelude.{if◌then◌else◌, Bool, false}
 use Rattle.std.proofs.lemmas.List.{length-append}
 use Rattle.ada_tree.specs.declared.expression.Identifier.{Identifier}
 use Rattle.ada_tree.specs.declared.declaration.Formal.{Formal}
@@ -8,7 +8,7 @@ use Rattle.ada_tree.specs.declared.declaration.Mode.{Mode}
 use Rattle.ada_tree.specs.declared.declaration.Mode.TheVariants as mode
 use Rattle.ada_tree.specs.ExpressionTree.{ExprTree}
 use Rattle.ada_tree.specs.StatementTree.{SubprogramTree}
-use Rattle.ada_tree.specs.ProgramTree.{BodyTree, ProgramTree, SubprogramBody}
+use Rattle.ada_tree.specs.ProgramTree.{BodyTree, ProgramTree}
 use Rattle.image.specs.Frames.{object_words}
 use Rattle.image.specs.Sections.{Sections}
 use Rattle.image.specs.Sections.{object_of as kind_object}
@@ -24,12 +24,12 @@ use Rattle.types.specs.Values.{Value}
 use Rattle.expr_soundness.specs.expr_rules.specs.Laws.{type_shape}
 use Rattle.program_soundness.specs.checking.specs.ProgramRules.{IsLegal}
 use Rattle.ravenscar.specs.ProgramRules.{IsRestricted}
+use Rattle.expr_soundness.specs.SoundScopes.{IsKnown}
 use Rattle.expr_soundness.proofs.Parts.{subtype_values}
 use Rattle.expr_soundness.specs.meaning.specs.Calls.{activation_of, is_in, is_out, results}
 use Rattle.expr_soundness.specs.meaning.specs.Programs.{Parameter, Procedure, Program, formal, parameter, program_of}
 use Rattle.program_soundness.specs.step_soundness.specs.Fitting.{taken_types}
 use Rattle.program_soundness.specs.step_soundness.specs.Objects.{AreOf, IsOf}
-use Rattle.program_soundness.specs.Fronts.{declared_in, start_in}
 use Rattle.program_soundness.proofs.Callables.{function_by, procedure_by, subprogram_body}
 use Rattle.program_soundness.proofs.Formals.{AreNew}
 use Rattle.program_soundness.proofs.Same.{types_with_all}
@@ -43,10 +43,11 @@ use Rattle.step_simulation.specs.part_code.specs.Statements.{parameter_subtype}
 use Rattle.stmt_code.proofs.Beginning.{Enters, EntersOne}
 use Rattle.stmt_code.proofs.Bodies.{body_rests}
 use Rattle.stmt_code.proofs.Functions.{EntersFormals, function_sees}
-use Rattle.package_code.specs.Package.{FindsNames, HoldsAll, IsInFront, IsPackageOf}
+use Rattle.package_code.specs.Package.{FindsNames, HoldsAll, IsPackageOf}
+use Rattle.package_code.proofs.BodyFronts.{IsEntrance, body_suits, formals_in, front_finds, parameters_new}
 use Rattle.package_code.proofs.HeldParameters.{Reached, all_enter, all_long, end_reached, holds_serves, reserved_same}
-use Rattle.package_code.proofs.InFront.{LawsOfNames, front_ends, front_laid, front_of_package, front_serves, front_sound, front_suits, known, names, whole}
-use Rattle.package_code.proofs.NewParameters.{AreCopiedIn, distinct_names, formals_in, parameters_new}
+use Rattle.package_code.proofs.InFront.{LawsOfNames, known, memory}
+use Rattle.package_code.proofs.NewParameters.{AreCopiedIn, distinct_names}
 
 -- ---- values of shapes are values of types
 
@@ -136,8 +137,7 @@ module _ (whole_scope : Scope) where
 -- ---- the body at a place
 
 module _ (laws : LawsOfNames) (t : ProgramTree) (legal : IsLegal t) (restricted : IsRestricted t) (i : Sections) (g : Package) (of_program : IsPackageOf t i g)
-    (place : ℕ) (d : SubprogramTree) (b : BodyTree) (at : slice_get (declared_in t.package_) place ≡ Some (SubprogramBody d b))
-    (v last : Framed) (before : IsInFront t g v (suc place)) (top : ℕ) where
+    (owner : Option ℕ) (d : SubprogramTree) (b : BodyTree) (v last : Framed) (before : IsEntrance t g owner v d b) (top : ℕ) where
   abbrev program : Program
   program = program_of t
 
@@ -146,22 +146,21 @@ module _ (laws : LawsOfNames) (t : ProgramTree) (legal : IsLegal t) (restricted 
 
   module _ (holds : HoldsAll v 0 v.reserved ps last top) (room : top ≤ v.room) (small : v.room ≤ 65536) where
     new : AreNew v.names.scope ps
-    new =
-        subst (λ s. AreNew s ps) (sym before.scope)
-        (parameters_new laws.scopes program (start_in t.package_) (declared_in t.package_) (whole laws t legal restricted)
-        (names laws t legal restricted).fronts place d b at)
+    new = parameters_new laws.scopes t owner v.names.scope d b before.front
+
+    pub suited : (u : Subtype) → IsKnown v.names.scope u → (x : Value) → IsOf program.scope u.type_number x → has_shape (shape_of v.names.scope u) x ≡ true
+    suited = body_suits laws.scopes t owner v.names.scope d b before.front (memory laws t legal restricted)
 
     abbrev AreReached : Framed → ℕ → List ℕ → List Parameter → Type 0
-    AreReached =
-        Reached laws.stay laws.sized laws.scopes program g v.names.scope (front_suits laws t legal restricted i g of_program v (suc place) before)
+    AreReached = Reached laws.stay laws.sized laws.scopes program g v.names.scope suited
 
     reached : AreReached v 0 v.reserved ps
     reached = record {
-      laid = front_laid laws t legal restricted i g of_program v (suc place) before;
-      sound = front_sound laws t legal restricted i g of_program v (suc place) before;
+      laid = before.laid;
+      sound = before.front.sound;
       types = types_with_all v.names.scope [] tt;
       new = new;
-      ends = front_ends laws t legal restricted i g of_program v (suc place) before;
+      ends = before.ends;
       earlier = [];
       reserved = refl;
       below = λ n among. let k = among in cc;
@@ -169,31 +168,30 @@ module _ (laws : LawsOfNames) (t : ProgramTree) (legal : IsLegal t) (restricted 
 
     all_entered : Enters program g v 0 v.reserved ps last
     all_entered =
-        all_enter laws.stay laws.sized laws.scopes program g v.names.scope (front_suits laws t legal restricted i g of_program v (suc place) before) ps v last 0
-        top v.reserved room holds reached
+        all_enter laws.stay laws.sized laws.scopes program g v.names.scope suited ps v last 0 top v.reserved room holds reached
 
     -- behind the parameters the places are laid out, and end at the top
     pub body_reached : AreReached last top [] []
     body_reached =
-        end_reached laws.stay laws.sized laws.scopes program g v.names.scope (front_suits laws t legal restricted i g of_program v (suc place) before) ps v last
-        0 top v.reserved room holds reached
+        end_reached laws.stay laws.sized laws.scopes program g v.names.scope suited ps v last 0 top v.reserved room holds reached
 
     words_long : (args : List Value) (addresses : List ℕ) → AreOf program.scope (taken_types ps) args → length addresses ≡ length (results ps)
         → length (passed_words ps args addresses) ≡ top
     words_long args addresses of many =
         let k =
-        all_long laws.stay laws.sized laws.scopes program g v.names.scope (front_suits laws t legal restricted i g of_program v (suc place) before) ps v last 0
-        top v.reserved room holds reached args addresses of many in
+        all_long laws.stay laws.sized laws.scopes program g v.names.scope suited ps v last 0 top v.reserved room holds reached args addresses of many in
         omega (arith, k)
 
     -- what is visible in the body names what the program has
-    pub body_serves : FindsNames program last
-    body_serves = holds_serves program ps v last 0 top v.reserved holds (front_serves laws t legal restricted v (suc place) before.scope)
+    pub body_serves : FindsNames program owner last
+    body_serves =
+        holds_serves program owner ps v last 0 top v.reserved holds
+        (record { finds = front_finds laws.scopes t owner v.names.scope d b before.front (memory laws t legal restricted) })
 
     -- ---- a procedure
 
     abbrev procedure : Procedure
-    procedure = procedure_by program.scope (subprogram_body None d b)
+    procedure = procedure_by program.scope (subprogram_body owner d b)
 
     -- as many words are passed as stand in front of the others
     pub procedure_takes : (args : List Value) (addresses : List ℕ) → ArePassed (map (shape_of g.scope) (map parameter_subtype (taken ps))) args
@@ -209,8 +207,7 @@ module _ (laws : LawsOfNames) (t : ProgramTree) (legal : IsLegal t) (restricted 
     procedure_enters args addresses locals of many rest =
         let long = words_long args addresses of many in
         let both = length-append (passed_words ps args addresses) locals in
-        body_rests (known laws t legal restricted).kept laws.sized program g of_program.laid procedure refl v last
-        (front_of_package laws t legal restricted i g of_program v (suc place) before)
+        body_rests (known laws t legal restricted).kept laws.sized program g of_program.laid procedure v last before.begins
         (distinct_names v.names.scope ps new) args addresses locals v.reserved all_entered (reserved_same ps v last 0 top v.reserved holds) of many
         (omega (arith, long, both, rest, room, small)) (omega (arith, long, both, rest, room))
 
@@ -229,12 +226,10 @@ module _ (laws : LawsOfNames) (t : ProgramTree) (legal : IsLegal t) (restricted 
 
     module _ (r : Identifier) (some : d.result ≡ Some r) (value : ExprTree) where
       abbrev function : Function
-      function = function_by program.scope (subprogram_body None d b) r value
+      function = function_by program.scope (subprogram_body owner d b) r value
 
       modes : AreCopiedIn d.formals
-      modes =
-          formals_in laws.scopes program (start_in t.package_) (declared_in t.package_) (whole laws t legal restricted)
-          (names laws t legal restricted).fronts place d b at r some
+      modes = formals_in laws.scopes t owner v.names.scope d b before.front r some
 
       -- as many words are passed as stand in front of the others
       pub function_takes : (args : List Value) → ArePassed (map (shape_of g.scope) (map formal_subtype function.formals)) args
@@ -254,19 +249,18 @@ module _ (laws : LawsOfNames) (t : ProgramTree) (legal : IsLegal t) (restricted 
           → inner.words regions.Locals ≡ all_words args ++ locals
           → length locals ≡ v.room - top
           → inner.words regions.Plain ≡ view.words regions.Plain
-          → inner.words regions.Object ≡ []
+          → inner.words regions.Object ≡ object_words owner view.memory
           → Sees g last.names (entered p function args left) inner
       function_enters p view inner args left locals sees passed schedule now task memory words rest plain object =
           let long = function_takes args passed in
           let both = length-append (all_words args) locals in
-          function_sees (known laws t legal restricted).kept laws.sized program g of_program.scope of_program.laid function refl v last
-          (front_of_package laws t legal restricted i g of_program v (suc place) before)
+          function_sees (known laws t legal restricted).kept laws.sized program g of_program.scope of_program.laid function v last before.begins
           (formals_enter program.scope program g d.formals v last 0 v.reserved modes all_entered)
           p view inner args left locals sees passed schedule now task memory words plain object
           (omega (arith, long, both, rest, room, small)) (omega (arith, long, both, rest, room))
 
       -- as the code of a function is asked for it
-      pub function_code : (s : Subprogram) → s.parameters ≡ top → s.locals ≡ v.room → kind_object s.kind ≡ None
+      pub function_code : (s : Subprogram) → s.parameters ≡ top → s.locals ≡ v.room → kind_object s.kind ≡ owner
           → (p : Place) (view inner : View) (args : List Value) (left : ℕ) (locals : List ℤ)
           → (library_of g).shared p view
           → ArePassed ((library_of g).shapes function) args
@@ -280,6 +274,6 @@ module _ (laws : LawsOfNames) (t : ProgramTree) (legal : IsLegal t) (restricted 
           → inner.words regions.Object ≡ object_words (kind_object s.kind) view.memory
           → inner.left ≡ left
           → Sees g last.names (entered p function args left) inner
-      function_code s takes has outside p view inner args left locals sees passed schedule now task memory words rest plain object frames =
+      function_code s takes has owned p view inner args left locals sees passed schedule now task memory words rest plain object frames =
           function_enters p view inner args left locals sees passed schedule now task memory words (rest ∙ (λ j. has j - takes j)) plain
-          (object ∙ ap (λ o. object_words o view.memory) outside)
+          (object ∙ ap (λ o. object_words o view.memory) owned)

@@ -23,16 +23,16 @@ use Rattle.expr_soundness.proofs.Positions.{same_some}
 use Rattle.expr_soundness.specs.meaning.specs.Programs.{Program, program_of}
 use Rattle.expr_soundness.specs.meaning.specs.Works.{Store}
 use Rattle.program_soundness.specs.step_soundness.specs.Holding.{inside}
-use Rattle.program_soundness.specs.step_soundness.specs.Objects.{first_store}
+use Rattle.program_soundness.specs.step_soundness.specs.Objects.{AreSoundObjects, IsOf, first_store}
 use Rattle.program_soundness.specs.Fronts.{declared_in, front, start_in}
 use Rattle.program_soundness.proofs.WiderScopes.{stands, stands_number}
 use Rattle.program_soundness.proofs.Whole.{entity_variable}
 use Rattle.expr_code.specs.Naming.{Lies}
-use Rattle.expr_code.specs.Seeing.{Package, SeesPackage, outside}
+use Rattle.expr_code.specs.Seeing.{AreSuited, Package, SeesPackage, objects_by, outside, subtype_among}
 use Rattle.expr_code.specs.Views.{IsSameTask, View}
 use Rattle.expr_code.specs.declared.visible.Slot.{Slot}
 use Rattle.step_simulation.specs.part_code.specs.Resting.{IsAt, IsAddressable, StandsFor}
-use Rattle.package_code.specs.Package.{IsPackageOf}
+use Rattle.package_code.specs.Package.{IsPackageOf, first_objects}
 use Rattle.package_code.proofs.InFront.{LawsOfNames, last_is, memory, whole}
 
 -- ---- few words
@@ -60,7 +60,8 @@ module _ (laws : LawsOfNames) (t : ProgramTree) (legal : IsLegal t) (restricted 
   abbrev first : Store
   first = first_store program
 
-  module _ (p : Place) (view : View) (at : IsAt program first p) (plain : view.words regions.Plain ≡ i.plain_words) where
+  module _ (p : Place) (view : View) (at : IsAt program first p) (plain : view.words regions.Plain ≡ i.plain_words)
+      (words_are : view.memory ≡ initial_words i) where
     bare : inside program first (record { within = None; locals = [] }) p ≡ outside p
     bare = λ j. record p {
       scope = (sym at.scope) j;
@@ -94,24 +95,53 @@ module _ (laws : LawsOfNames) (t : ProgramTree) (legal : IsLegal t) (restricted 
         (subst (λ l. Lies l slot.offset value) (sym plain)
         (subst (λ x. Lies i.plain_words slot.offset x) is (subst (λ z. Lies i.plain_words z.offset v.object.value) same b.lies)))
 
-    seen : FunctionsAreSound p → p.now ≡ view.now → p.schedule ≡ view.schedule → IsSameTask p view → IsAddressable view → SeesPackage g p view
-    seen sound now schedule task small = record {
+    objects_are : (owner : Option ℕ) → objects_by p owner ≡ first_objects program owner
+    objects_are None = at.variables
+    objects_are (Some o) = ap (λ f. f o) at.components
+
+    suited : (xs : List Object) → AreSoundObjects program.scope xs → AreSuited g.scope xs
+    suited [] h = tt
+    suited (x ∷ xs) h = (subst (λ s. IsOf s x.subtype.type_number x.value) (sym of_program.scope) h.0, suited xs h.1)
+
+    first_suited : (owner : Option ℕ) → AreSuited g.scope (first_objects program owner)
+    first_suited None = suited program.variables (memory laws t legal restricted).variables
+    first_suited (Some o) = suited (program.components o) ((memory laws t legal restricted).components o)
+
+    parts_lie : (o : ℕ) (name : List ℕ) (slot : Slot) (x : Object) → g.slots (Some o) name ≡ Some slot → object_of (p.components o) name ≡ Some x
+        → Lies (view.memory.objects o) slot.offset x.value
+    parts_lie o name slot x told found =
+        let b = of_program.components o name x (ap (λ f. object_of (f o) name) (sym at.components) ∙ found) in
+        let same : b.slot ≡ slot = same_some b.slot slot (sym b.there ∙ told) in
+        subst (λ l. Lies l slot.offset x.value) (sym (ap (λ m. m.objects o) words_are)) (subst (λ z. Lies ((initial_words i).objects o) z.offset x.value) same b.lies)
+
+    seen : FunctionsAreSound p → p.now ≡ view.now → p.schedule ≡ view.schedule → IsSameTask p view → IsAddressable view
+        → ((o : ℕ) → length (view.memory.objects o) ≤ 65536)
+        → SeesPackage g p view
+    seen sound now schedule task small few = record {
       scope = at.scope ∙ sym of_program.scope;
       functions = at.functions ∙ sym of_program.functions;
       sound = sound;
       names = record { agrees = agrees; objects = lies };
-      components = λ o name slot x told found. (let none = sym (of_program.components o name) ∙ told in cc);
+      objects = record {
+        same = λ owner name. ap (λ l. subtype_among l name) (objects_are owner ∙ sym (of_program.first owner));
+        suited = λ owner. subst (λ l. AreSuited g.scope l) (sym (objects_are owner)) (first_suited owner);
+      };
+      components = parts_lie;
       now = now;
       schedule = schedule;
       task = task;
       small = small;
+      few = few;
     }
 
   pub first_words : ImagesHaveSize → IsWellFormed i → StandsFor program g first (initial_words i)
   first_words sizes well_formed =
       let few = (sizes i well_formed).words in
+      let objects : (o : ℕ) → length ((initial_words i).objects o) ≤ 65536 = λ o. let k = row_within i.objects o in omega (arith, few, k) in
       record {
-        shared = λ p view at now schedule task shared plain small sound. seen p view at plain sound now schedule task small;
+        shared = λ p view at now schedule task shared plain small sound.
+            seen p view at plain shared sound now schedule task small
+            (λ o. subst (λ m. length (m.objects o) ≤ 65536) (sym shared) (objects o));
         plain = omega (arith, few);
-        objects = λ o. let k = row_within i.objects o in omega (arith, few, k);
+        objects = objects;
       }

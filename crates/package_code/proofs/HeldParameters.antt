@@ -1,5 +1,5 @@
 -- Parameters whose words stand one behind the other: what is visible behind each, and how many words are passed.
-use Rattle.std.proofs.Common.{◌≡◌, ℕ, ◌+◌, ◌<◌, ◌≤◌, ◌⊎◌, inl, inr, ℤ, List, [], ◌∷◌, ◌++◌, append_assoc, length, Bool, true, false, refl, sym, ap, ◌∙◌, subst, arith, rules}
+use Rattle.std.proofs.Common.{◌≡◌, ℕ, ◌+◌, ◌<◌, ◌≤◌, ◌⊎◌, inl, inr, ℤ, List, [], ◌∷◌, ◌++◌, append_assoc, length, Bool, true, false, Option, refl, sym, ap, ◌∙◌, subst, arith, rules}
 use Rattle.std.specs.Prelude.{drop, nat_eq, if◌then◌else◌, ◌||◌}
 use Rattle.std.proofs.lemmas.List.{length-append}
 use Rattle.ada_tree.specs.declared.declaration.Mode.{Mode}
@@ -104,20 +104,21 @@ reserved_same (f ∷ fs) v last from top places h = by_mode f.mode h (λ w start
     by_mode mode.InOut h later = later h.0 ((from + 1) + words_of v.names.scope f.subtype) h.1 h.4 ∙ h.3.reserved
 
 -- what is visible behind parameters names what the program has, where it does in front of them
-pub holds_serves : (program : Program) (fs : List Parameter) (v last : Framed) (from top : ℕ) (places : List ℕ) → HoldsAll v from places fs last top
-    → FindsNames program v → FindsNames program last
-holds_serves program [] v last from top places h serves = subst (FindsNames program) (sym h.0) serves
-holds_serves program (f ∷ fs) v last from top places h serves = by_mode f.mode h (λ w start others. holds_serves program fs w last start top others)
+pub holds_serves : (program : Program) (owner : Option ℕ) (fs : List Parameter) (v last : Framed) (from top : ℕ) (places : List ℕ) → HoldsAll v from places fs last top
+    → FindsNames program owner v → FindsNames program owner last
+holds_serves program owner [] v last from top places h serves = subst (FindsNames program owner) (sym h.0) serves
+holds_serves program owner (f ∷ fs) v last from top places h serves =
+    by_mode f.mode h (λ w start others. holds_serves program owner fs w last start top others)
   where
     by_mode : (m : Mode) → HoldsOne m f v from places (λ next after others. HoldsAll next after others fs last top)
-        → ((w : Framed) (start : ℕ) (others : List ℕ) → HoldsAll w start others fs last top → FindsNames program w → FindsNames program last)
-        → FindsNames program last
+        → ((w : Framed) (start : ℕ) (others : List ℕ) → HoldsAll w start others fs last top → FindsNames program owner w → FindsNames program owner last)
+        → FindsNames program owner last
     by_mode mode.In h later =
-        later h.0 (from + words_of v.names.scope f.subtype) places h.2 (serves_more program v h.0 f.name (formal_role f.mode) f.subtype serves h.1.scope)
+        later h.0 (from + words_of v.names.scope f.subtype) places h.2 (serves_more program owner v h.0 f.name (formal_role f.mode) f.subtype serves h.1.scope)
     by_mode mode.Out h later = later v (from + 1) h.0 h.2 serves
     by_mode mode.InOut h later =
         later h.0 ((from + 1) + words_of v.names.scope f.subtype) h.1 h.4
-        (serves_more program v h.0 f.name (formal_role f.mode) f.subtype serves h.3.scope)
+        (serves_more program owner v h.0 f.name (formal_role f.mode) f.subtype serves h.3.scope)
 
 plain_role : (m : Mode) → IsPlainRole (formal_role m)
 plain_role mode.In = tt
@@ -192,7 +193,9 @@ module _ (stay : ShapesStay) (sized : ValuesHaveWords) (scopes : ScopesAreSound)
       scope = adds.scope;
       slots = adds.slots;
       subprograms = adds.subprograms;
+      operations = adds.operations;
       room = adds.room;
+      within = adds.within;
       region = adds.region;
       offset = adds.at;
       fits = fits;

@@ -1,5 +1,5 @@
 -- What a frame sees of the package in front of its bodies.
-use Rattle.std.proofs.Common.{◌≡◌, ◌≢◌, ℕ, ◌+◌, ◌<◌, ◌≤◌, inl, inr, List, [], ◌++◌, length, cond, Option, Some, None, Bool, true, false, refl, sym, ap, ◌∙◌, subst, arith}
+use Rattle.std.proofs.Common.{◌≡◌, ◌≢◌, ◌⊎◌, ℕ, ◌+◌, ◌<◌, ◌≤◌, inl, inr, List, [], ◌++◌, length, cond, Option, Some, None, Bool, true, false, refl, sym, ap, ◌∙◌, subst, arith}
 use Rattle.std.specs.Prelude.{bytes_eq, drop, is_some, pos, replicate, slice_get, nat_le}
 use Rattle.std.proofs.Math.Seq.{take-length}
 use Rattle.std.proofs.lemmas.Bool.{and_parts, leb-true}
@@ -16,7 +16,7 @@ use Rattle.image.specs.declared.subprograms.Subprogram.{Subprogram}
 use Rattle.image.specs.declared.instruction.Region.TheVariants as regions
 use Rattle.types.specs.declared.entity.Role.{Role}
 use Rattle.types.specs.declared.entity.Subtype.{Subtype}
-use Rattle.types.specs.Entities.{Entity}
+use Rattle.types.specs.Entities.{Entity, ProtectedObject}
 use Rattle.types.specs.Entities as entity
 use Rattle.types.specs.Laws.{ShapesStay, ValuesHaveWords}
 use Rattle.types.specs.Layouts.{words_of}
@@ -48,13 +48,14 @@ use Rattle.program_soundness.proofs.PackageBodies.{front_first}
 use Rattle.program_soundness.proofs.Trees.{tree_package}
 use Rattle.program_soundness.proofs.Whole.{IsPackage, kept}
 use Rattle.program_soundness.specs.ProgramLaws.{StartsAreSound}
-use Rattle.expr_code.specs.Seeing.{Package, slot_of}
+use Rattle.expr_code.specs.Seeing.{Package, object_named, slot_of}
 use Rattle.expr_code.specs.declared.visible.Slot.{Slot}
 use Rattle.step_simulation.specs.part_code.specs.Layout.{AreApart, AreFree, EndsBelow, IsLaid, IsLaidOut, NamesObject}
 use Rattle.step_simulation.specs.part_code.specs.Resting.{Framed, RestsWith}
 use Rattle.stmt_code.proofs.Entering.{IsOfPackage, rests_package}
 use Rattle.step_simulation.specs.part_code.proofs.Names.{is_told}
 use Rattle.package_code.specs.Package.{FindsNames, IsInFront, IsPackageOf}
+use Rattle.package_code.proofs.Offered.{object_entity, offered}
 
 pub record LawsOfNames : Type 0 where
   pub sized : ValuesHaveWords
@@ -67,22 +68,22 @@ pub record LawsOfNames : Type 0 where
 
 -- ---- an object more serves as well: whatever its name was, no statement calls it
 
-abbrev object_named : List ℕ → Role → Subtype → Named
-object_named name r u = record { name = name; entity = entity.Object r u }
+abbrev named_object : List ℕ → Role → Subtype → Named
+named_object name r u = record { name = name; entity = entity.Object r u }
 
-pub serves_more : (program : Program) (v next : Framed) (name : List ℕ) (r : Role) (u : Subtype) → FindsNames program v
+pub serves_more : (program : Program) (owner : Option ℕ) (v next : Framed) (name : List ℕ) (r : Role) (u : Subtype) → FindsNames program owner v
     → next.names.scope ≡ with_name v.names.scope name (entity.Object r u)
-    → FindsNames program next
-serves_more program v next name r u serves scope = record { finds = finds }
+    → FindsNames program owner next
+serves_more program owner v next name r u serves scope = record { finds = finds }
   where
-    by_name : (other : List ℕ) (e : Entity) (b : Bool) → cond b (Some (entity.Object r u)) None ≡ Some e → IsFound program None other e
-    by_name other e true h = subst (IsFound program None other) (same_some (entity.Object r u) e h) tt
+    by_name : (other : List ℕ) (e : Entity) (b : Bool) → cond b (Some (entity.Object r u)) None ≡ Some e → IsFound program owner other e
+    by_name other e true h = subst (IsFound program owner other) (same_some (entity.Object r u) e h) tt
     by_name other e false h = cc
 
-    names : (other : List ℕ) → stands next.names.scope other ≡ or_else (stands v.names.scope other) (one_named (object_named name r u) other)
+    names : (other : List ℕ) → stands next.names.scope other ≡ or_else (stands v.names.scope other) (one_named (named_object name r u) other)
     names other = ap (λ s. stands s other) scope ∙ stands_with v.names.scope name (entity.Object r u) other
 
-    finds : (other : List ℕ) (e : Entity) → stands next.names.scope other ≡ Some e → IsFound program None other e
+    finds : (other : List ℕ) (e : Entity) → stands next.names.scope other ≡ Some e → IsFound program owner other e
     finds other e h = elim (or_else_some (stands v.names.scope other) _ e (sym (names other) ∙ h)) [
       | inl k ↦ serves.finds other e k
       | inr k ↦ by_name other e (bytes_eq other name) k.1
@@ -115,16 +116,16 @@ module _ (laws : LawsOfNames) (t : ProgramTree) (legal : IsLegal t) (restricted 
   abbrev start : Scope
   start = start_in t.package_
 
-  pub known : Premises program
+  abbrev pub known : Premises program
   known = laws.premises t legal
 
-  pub names : BodyNamesAreSound t
+  abbrev pub names : BodyNamesAreSound t
   names = laws.names t legal restricted
 
   pub memory : IsSoundMemory program (first_store program)
   memory = let s = (laws.starts t legal restricted).store in record { variables = s.variables; components = s.components; same = s.same }
 
-  pub whole : IsPackage program start all
+  abbrev pub whole : IsPackage program start all
   whole = tree_package t legal restricted known.sound
 
   -- behind the last declaration and body all of the package is visible
@@ -140,7 +141,7 @@ module _ (laws : LawsOfNames) (t : ProgramTree) (legal : IsLegal t) (restricted 
   kept_behind place name e h = kept program start all whole place name e h
 
   -- what is visible in front names what the program has
-  pub front_serves : (v : Framed) (place : ℕ) → v.names.scope ≡ front t place → FindsNames program v
+  pub front_serves : (v : Framed) (place : ℕ) → v.names.scope ≡ front t place → FindsNames program None v
   front_serves v place scope =
       record {
         finds = λ name e h.
@@ -148,7 +149,8 @@ module _ (laws : LawsOfNames) (t : ProgramTree) (legal : IsLegal t) (restricted 
             (sym (ap (λ s. stands s name) scope) ∙ h);
       }
 
-  module _ (i : Sections) (g : Package) (of_program : IsPackageOf t i g) (v : Framed) (place : ℕ) (f : IsInFront t g v place) where
+  module _ (i : Sections) (g : Package) (of_program : IsPackageOf t i g) (v : Framed) (place : ℕ)
+      (f : IsInFront (front t place) g None v) where
     abbrev s : Scope
     s = v.names.scope
 
@@ -167,8 +169,27 @@ module _ (laws : LawsOfNames) (t : ProgramTree) (legal : IsLegal t) (restricted 
     no_local : (name : List ℕ) (x : Slot) → slot_of v.names name ≡ Some x → x.region ≡ regions.Locals → ⊥
     no_local name x told local = let p = sym (plain name x told) ∙ local in cc
 
+    -- a protected object that is visible is that of the package
+    pub alike : (name : List ℕ) (o : ProtectedObject) → stands program.scope name ≡ Some (entity.Protected o) → (q : ProtectedObject) → object_named s name ≡ Some q
+        → (q ≡ o) ⊎ (q.operations ≡ [])
+    alike name o is q there =
+        let here = kept_behind place name (entity.Protected q) (ap (λ u. stands u name) (sym f.scope) ∙ object_entity s name q there) in
+        let same = sym here ∙ is in
+        let object_in : Option Entity → ProtectedObject = λ x. elim x [ Some y ↦ elim y [ entity.Protected z ↦ z | other ↦ q ] | None ↦ q ] in
+        inl (ap object_in same)
+
     pub front_of_package : IsOfPackage g v
-    front_of_package = record { sound = front_sound; first = first_here; plain = plain; slots = f.slots; calls = f.calls }
+    front_of_package = record {
+      sound = front_sound;
+      first = first_here;
+      plain = plain;
+      slots = f.slots;
+      calls = f.calls;
+      externals = λ name operation number o q told named found.
+          let there = ap (λ u. stands u name) (sym of_program.scope) ∙ object_entity g.scope name o named in
+          offered program start all whole g of_program.scope v.names f.operations name operation number o q told (alike name o there) there found;
+      within = f.within;
+    }
 
     -- ---- its objects are those of the package, and have as many words there
 
@@ -233,6 +254,7 @@ module _ (laws : LawsOfNames) (t : ProgramTree) (legal : IsLegal t) (restricted 
       laid = front_places;
       shared = λ name x told region. f.slots name x told;
       free = front_free;
+      own = λ name x o told region within. absurd (let bad = sym (plain name x told) ∙ region in cc);
       slots = f.many_slots;
       subprograms = f.many_subprograms;
     }

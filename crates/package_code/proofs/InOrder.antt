@@ -1,8 +1,10 @@
--- The package of a program whose variables stand one behind the other in the order of the text, and whose words are those of their initial values.
+-- The package of a program whose variables stand one behind the other in the order of the text, as the components of each protected object do, and whose words
+-- are those of their initial values.
 use Rattle.std.proofs.Common.{◌≡◌, ◌≢◌, ℕ, ◌+◌, ◌≤◌, inl, inr, ℤ, List, [], ◌∷◌, ◌++◌, append_assoc, length, Option, Some, None, Bool, true, false, refl, sym, ap, ◌∙◌, subst, arith}
-use Rattle.std.specs.Prelude.{bytes_eq, if◌then◌else◌}
+use Rattle.std.specs.Prelude.{bytes_eq, if◌then◌else◌, option_map}
 use Rattle.std.proofs.lemmas.List.{length-append}
 use Rattle.ada_tree.specs.ProgramTree.{ProgramTree}
+use Rattle.image.specs.Code.{initial_words}
 use Rattle.image.specs.Sections.{Sections}
 use Rattle.image.specs.declared.instruction.Region.TheVariants as regions
 use Rattle.types.specs.declared.entity.Role.{Role}
@@ -23,25 +25,26 @@ use Rattle.program_soundness.proofs.Agreed.{sound_object}
 use Rattle.program_soundness.proofs.WiderScopes.{number_stands, same_bytes, stands, stands_number}
 use Rattle.program_soundness.proofs.Whole.{variable_entity}
 use Rattle.expr_code.specs.Naming.{Lies}
-use Rattle.expr_code.specs.Seeing.{Package}
+use Rattle.expr_code.specs.Seeing.{Package, subtype_among}
 use Rattle.expr_code.specs.declared.visible.Slot.{Slot}
 use Rattle.step_simulation.specs.part_code.specs.Layout.{AreApart, NamesObject}
 use Rattle.stmt_code.proofs.Beginning.{lies_at}
+use Rattle.package_code.specs.Owners.{in_object}
 use Rattle.package_code.specs.Package.{BeginsAs, IsInOrder, IsPackageOf, first_words_of, place_among}
 use Rattle.package_code.proofs.InFront.{LawsOfNames, memory, whole}
 
 -- ---- where objects stand that stand one behind the other
 
-record StandsThere (xs : List Object) (from : ℕ) (name : List ℕ) (x : Slot) : Type 0 where
-  object : Object
-  found : object_of xs name ≡ Some object
-  front : List ℤ
-  more : List ℤ
-  words : first_words_of xs ≡ front ++ (value_words object.value ++ more)
-  offset : x.offset ≡ from + length front
-  region : x.region ≡ regions.Plain
+pub record StandsThere (xs : List Object) (from : ℕ) (name : List ℕ) (x : Slot) : Type 0 where
+  pub object : Object
+  pub found : object_of xs name ≡ Some object
+  pub front : List ℤ
+  pub more : List ℤ
+  pub words : first_words_of xs ≡ front ++ (value_words object.value ++ more)
+  pub offset : x.offset ≡ from + length front
+  pub region : x.region ≡ regions.Plain
 
-stands_there : (xs : List Object) (from : ℕ) (name : List ℕ) (x : Slot) → place_among from xs name ≡ Some x → StandsThere xs from name x
+pub stands_there : (xs : List Object) (from : ℕ) (name : List ℕ) (x : Slot) → place_among from xs name ≡ Some x → StandsThere xs from name x
 stands_there [] from name x h = cc
 stands_there (z ∷ xs) from name x h =
     by_test (bytes_eq z.name name) refl h (λ k. stands_there xs (from + length (value_words z.value)) name x k)
@@ -75,7 +78,7 @@ stands_there (z ∷ xs) from name x h =
           region = r.region;
         }
 
-has_place : (xs : List Object) (from : ℕ) (name : List ℕ) (o : Object) → object_of xs name ≡ Some o → (x : Slot) × (place_among from xs name ≡ Some x)
+pub has_place : (xs : List Object) (from : ℕ) (name : List ℕ) (o : Object) → object_of xs name ≡ Some o → (x : Slot) × (place_among from xs name ≡ Some x)
 has_place [] from name o h = cc
 has_place (z ∷ xs) from name o h = by_test (bytes_eq z.name name) h (λ k. has_place xs (from + length (value_words z.value)) name o k)
   where
@@ -169,29 +172,89 @@ module _ (laws : LawsOfNames) (t : ProgramTree) (legal : IsLegal t) (restricted 
       (subst (λ k. AreApart x.offset (length (value_words a.object.value)) y.offset k) (variable_wide other b.object r v b.found n)
       (apart_among all 0 one other x y a.object b.object differ (sym (ordered.slots one) ∙ first) (sym (ordered.slots other) ∙ second) a.found b.found))
 
-  begins_as : (name : List ℕ) (o : Object) → object_of all name ≡ Some o → BeginsAs i g name o.value
+  -- the words at a place are those of the value that stands there
+  lies_there : (xs : List Object) (words : List ℤ) (name : List ℕ) (o : Object) (x : Slot) → words ≡ first_words_of xs → object_of xs name ≡ Some o
+      → place_among 0 xs name ≡ Some x
+      → Lies words x.offset o.value
+  lies_there xs words name o x are found placed =
+      let r = stands_there xs 0 name x placed in
+      let same : r.object ≡ o = same_some r.object o (sym r.found ∙ found) in
+      let at : length r.front ≡ x.offset = let k = r.offset in omega (arith, k) in
+      subst (λ z. Lies words x.offset z.value) same
+      (subst (λ n. Lies words n r.object.value) at
+      (subst (λ l. Lies l (length r.front) r.object.value) (sym (are ∙ r.words)) (lies_at r.front r.object.value r.more)))
+
+  begins_as : (name : List ℕ) (o : Object) → object_of all name ≡ Some o → BeginsAs i.plain_words g None name o.value
   begins_as name o found =
       let x = has_place all 0 name o found in
-      let told : g.slots None name ≡ Some x.0 = ordered.slots name ∙ x.1 in
-      let r = there name x.0 told in
-      let same : r.object ≡ o = same_some r.object o (sym r.found ∙ found) in
-      let at : length r.front ≡ x.0.offset = let k = r.offset in omega (arith, k) in
+      record { slot = x.0; there = ordered.slots name ∙ x.1; lies = lies_there all i.plain_words name o x.0 ordered.words found x.1 }
+
+  -- ---- components
+
+  abbrev parts : ℕ → List Object
+  parts object = program.components object
+
+  part_begins : (object : ℕ) (name : List ℕ) (o : Object) → object_of (parts object) name ≡ Some o
+      → BeginsAs ((initial_words i).objects object) g (Some object) name o.value
+  part_begins object name o found =
+      let x = has_place (parts object) 0 name o found in
       record {
-        slot = x.0;
-        there = told;
-        lies = subst (λ z. Lies i.plain_words x.0.offset z.value) same
-            (subst (λ n. Lies i.plain_words n r.object.value) at
-            (subst (λ l. Lies l (length r.front) r.object.value) (sym (ordered.words ∙ r.words)) (lies_at r.front r.object.value r.more)));
+        slot = in_object x.0;
+        there = ordered.components object name ∙ ap (option_map in_object) x.1;
+        lies = lies_there (parts object) ((initial_words i).objects object) name o x.0 (ordered.object_words object) found x.1;
       }
+
+  record IsPartThere (object : ℕ) (name : List ℕ) (x : Slot) : Type 0 where
+    place : Slot
+    placed : place_among 0 (parts object) name ≡ Some place
+    is : in_object place ≡ x
+
+  part_there : (object : ℕ) (name : List ℕ) (x : Slot) → g.slots (Some object) name ≡ Some x → IsPartThere object name x
+  part_there object name x told = by_place (place_among 0 (parts object) name) refl (sym (ordered.components object name) ∙ told)
+    where
+      by_place : (p : Option Slot) → place_among 0 (parts object) name ≡ p → option_map in_object p ≡ Some x → IsPartThere object name x
+      by_place (Some y) placed h = record { place = y; placed = placed; is = same_some (in_object y) x h }
+      by_place None placed h = cc
+
+  -- the first value of a component has the words of its subtype
+  part_wide : (object : ℕ) (name : List ℕ) (o : Object) (u : Subtype) → object_of (parts object) name ≡ Some o
+      → subtype_among (g.first (Some object)) name ≡ Some u
+      → length (value_words o.value) ≡ words_of g.scope u
+  part_wide object name o u found first =
+      let same : o.subtype ≡ u =
+      same_some o.subtype u
+      (sym (ap (λ l. subtype_among l name) (ordered.first (Some object)) ∙ ap (option_map (λ (y : Object). y.subtype)) found) ∙ first) in
+      let sound = sound_object program.scope (parts object) name o ((memory laws t legal restricted).components object) found in
+      let shaped = subtype_values program.scope o.subtype o.value ∙ sound in
+      (laws.sized (shape_of program.scope o.subtype) o.value shaped).sized ∙ (λ j. words_of ((sym ordered.scope) j) (same j))
+
+  parts_apart : (object : ℕ) (one other : List ℕ) (x y : Slot) (u v : Subtype) → one ≢ other → g.slots (Some object) one ≡ Some x
+      → g.slots (Some object) other ≡ Some y
+      → subtype_among (g.first (Some object)) one ≡ Some u
+      → subtype_among (g.first (Some object)) other ≡ Some v
+      → AreApart x.offset (words_of g.scope u) y.offset (words_of g.scope v)
+  parts_apart object one other x y u v differ first second m n =
+      let p = part_there object one x first in
+      let q = part_there object other y second in
+      let a = stands_there (parts object) 0 one p.place p.placed in
+      let b = stands_there (parts object) 0 other q.place q.placed in
+      subst (λ z. AreApart z.offset (words_of g.scope u) y.offset (words_of g.scope v)) p.is
+      (subst (λ z. AreApart p.place.offset (words_of g.scope u) z.offset (words_of g.scope v)) q.is
+      (subst (λ k. AreApart p.place.offset k q.place.offset (words_of g.scope v)) (part_wide object one a.object u a.found m)
+      (subst (λ k. AreApart p.place.offset (length (value_words a.object.value)) q.place.offset k) (part_wide object other b.object v b.found n)
+      (apart_among (parts object) 0 one other p.place q.place a.object b.object differ p.placed q.placed a.found b.found))))
 
   pub package_in_order : IsPackageOf t i g
   package_in_order = record {
     scope = ordered.scope;
     functions = ordered.functions;
-    components = ordered.components;
+    first = ordered.first;
     laid = record {
       laid = record { objects = objects_named; apart = apart };
       plain = λ name x told. (there name x told).region;
+      region = λ object name x told. sym (ap (λ z. z.region) (part_there object name x told).is);
+      parts = parts_apart;
     };
     variables = begins_as;
+    components = part_begins;
   }

@@ -13,8 +13,11 @@ use Rattle.stmt_code.specs.WholeRefusals.{body_labels}
 use Rattle.step_simulation.specs.part_code.proofs.Within.{Within, in_left, of_right}
 use Rattle.package_code.specs.Bodies.{Coded, coded_at}
 use Rattle.package_code.specs.Counts.{bound_of, bounds_at, bounds_from}
-use Rattle.package_code.proofs.Coded.{bodies_labels}
-use Rattle.package_code.specs.Refusing.{item_labels, item_needs, item_rows, items_labels, items_needs, items_rows, operation_labels, operations_labels, subprogram_labels}
+use Rattle.package_code.specs.Refusing.{coded_labels, coded_rows, item_labels, item_needs, item_rows, items_labels, items_needs, items_rows, operation_labels, operations_labels, subprogram_labels, subprogram_rows}
+
+pub none_taken : {X : Type 0} (xs : List X) → take 0 xs ≡ []
+none_taken [] = refl
+none_taken (x ∷ xs) = refl
 
 -- ---- bounds
 
@@ -28,27 +31,44 @@ plus_none k = omega arith
 plus_next : (k n : ℕ) → suc k + n ≡ k + suc n
 plus_next k n = omega arith
 
-one_of_them : (cs : List Coded) (j : ℕ) (c : Coded) → slice_get cs j ≡ Some c → bound_of c ≤ total (map bound_of cs)
-one_of_them [] j c is = cc
-one_of_them (x ∷ cs) zero c is = (let e = ap bound_of (same_some x c is) in omega (arith, e))
-one_of_them (x ∷ cs) (suc j) c is = (let up = one_of_them cs j c is in omega (arith, up))
+-- a body and those in front of it
+first_of_them : (cs : List Coded) (j : ℕ) (c : Coded) → slice_get cs j ≡ Some c
+    → total (map bound_of (take j cs)) + bound_of c ≤ total (map bound_of cs)
+first_of_them [] j c is = cc
+first_of_them (x ∷ cs) zero c is = (let e = ap bound_of (same_some x c is) in omega (arith, e))
+first_of_them (x ∷ cs) (suc j) c is = (let up = first_of_them cs j c is in omega (arith, up))
+
+-- those in front of a body, and it
+abbrev pub bounds_upto : List Coded → (j : ℕ) → Coded → ℕ
+bounds_upto cs j c = total (map bound_of (take j cs)) + bound_of c
 
 module _ (t : ProgramTree) where
-  -- the bound of a body, behind those of the items in front of its own
-  pub bound_within : (items : List BodyItemTree) (k n : ℕ) (x : BodyItemTree) (j : ℕ) (c : Coded) → slice_get items n ≡ Some x
-      → slice_get (coded_at t (k + n) x) j ≡ Some c → total (bounds_from t k (take n items)) + bound_of c ≤ total (bounds_from t k items)
-  bound_within [] k n x j c h is = cc
-  bound_within (y ∷ items) k zero x j c h is =
-      let own =
-      one_of_them (coded_at t k y) j c
+  -- the bound of a body, behind those of the items in front of its own, and of the bodies in front of it there
+  pub bound_behind : (items : List BodyItemTree) (k n : ℕ) (x : BodyItemTree) (j : ℕ) (c : Coded) → slice_get items n ≡ Some x
+      → slice_get (coded_at t (k + n) x) j ≡ Some c
+      → total (bounds_from t k (take n items)) + bounds_upto (coded_at t (k + n) x) j c ≤ total (bounds_from t k items)
+  bound_behind [] k n x j c h is = cc
+  bound_behind (y ∷ items) k zero x j c h is =
+      let up =
+      subst (λ p. bounds_upto (coded_at t p x) j c ≤ total (bounds_from t k (y ∷ items))) (sym (plus_none k))
+      (subst (λ z. bounds_upto (coded_at t k z) j c ≤ total (bounds_from t k (y ∷ items))) (same_some y x h)
+      (let own =
+      first_of_them (coded_at t k y) j c
       (subst (λ z. slice_get (coded_at t k z) j ≡ Some c) (sym (same_some y x h)) (subst (λ p. slice_get (coded_at t p x) j ≡ Some c) (plus_none k) is)) in
       let both = total_both (bounds_at t k y) (bounds_from t (suc k) items) in
-      omega (arith, own, both)
-  bound_within (y ∷ items) k (suc n) x j c h is =
-      let later = bound_within items (suc k) n x j c h (subst (λ p. slice_get (coded_at t p x) j ≡ Some c) (sym (plus_next k n)) is) in
+      omega (arith, own, both))) in
+      omega (arith, up)
+  bound_behind (y ∷ items) k (suc n) x j c h is =
+      subst
+      (λ p. total (bounds_from t k (y ∷ take n items)) + bounds_upto (coded_at t p x) j c ≤ total (bounds_from t k (y ∷ items))) (plus_next k n)
+      (let later = bound_behind items (suc k) n x j c h (subst (λ p. slice_get (coded_at t p x) j ≡ Some c) (sym (plus_next k n)) is) in
       let both = total_both (bounds_at t k y) (bounds_from t (suc k) items) in
       let front = total_both (bounds_at t k y) (bounds_from t (suc k) (take n items)) in
-      omega (arith, later, both, front)
+      omega (arith, later, both, front))
+
+  pub bound_within : (items : List BodyItemTree) (k n : ℕ) (x : BodyItemTree) (j : ℕ) (c : Coded) → slice_get items n ≡ Some x
+      → slice_get (coded_at t (k + n) x) j ≡ Some c → total (bounds_from t k (take n items)) + bound_of c ≤ total (bounds_from t k items)
+  bound_within items k n x j c h is = (let up = bound_behind items k n x j c h is in omega (arith, up))
 
   bounds_more : (xs ys : List BodyItemTree) (k : ℕ) → total (bounds_from t k xs) ≤ total (bounds_from t k (xs ++ ys))
   bounds_more [] ys k = omega arith
@@ -73,6 +93,33 @@ module _ (t : ProgramTree) where
       subst (λ l. total (bounds_from t 0 l) + bound_of c ≤ total (bounds_from t 0 (take (suc n) items))) front
       (bound_within (take (suc n) items) 0 n x j c (taken_at items (suc n) n x (omega arith) h)
       (subst (λ p. slice_get (coded_at t p x) j ≡ Some c) none is))
+
+  -- those of all bodies of an item
+  bounds_whole : (items : List BodyItemTree) (k n : ℕ) (x : BodyItemTree) → slice_get items n ≡ Some x
+      → total (bounds_from t k (take n items)) + total (bounds_at t (k + n) x) ≤ total (bounds_from t k items)
+  bounds_whole [] k n x h = cc
+  bounds_whole (y ∷ items) k zero x h =
+      let up =
+      subst (λ p. total (bounds_at t p x) ≤ total (bounds_from t k (y ∷ items))) (sym (plus_none k))
+      (subst (λ z. total (bounds_at t k z) ≤ total (bounds_from t k (y ∷ items))) (same_some y x h)
+      (let both = total_both (bounds_at t k y) (bounds_from t (suc k) items) in omega (arith, both))) in
+      omega (arith, up)
+  bounds_whole (y ∷ items) k (suc n) x h =
+      subst (λ p. total (bounds_from t k (y ∷ take n items)) + total (bounds_at t p x) ≤ total (bounds_from t k (y ∷ items))) (plus_next k n)
+      (let later = bounds_whole items (suc k) n x h in
+      let both = total_both (bounds_at t k y) (bounds_from t (suc k) items) in
+      let front = total_both (bounds_at t k y) (bounds_from t (suc k) (take n items)) in
+      omega (arith, later, both, front))
+
+  pub item_bounds_next : (items : List BodyItemTree) (n : ℕ) (x : BodyItemTree) → slice_get items n ≡ Some x
+      → total (bounds_from t 0 (take n items)) + total (map bound_of (coded_at t n x)) ≤ total (bounds_from t 0 (take (suc n) items))
+  item_bounds_next items n x h =
+      let less : n ≤ suc n = omega arith in
+      let front : take n (take (suc n) items) ≡ take n items = take-take n (suc n) items less in
+      let none : 0 + n ≡ n = omega arith in
+      subst (λ l. total (bounds_from t 0 l) + total (map bound_of (coded_at t n x)) ≤ total (bounds_from t 0 (take (suc n) items))) front
+      (subst (λ p. total (bounds_from t 0 (take n (take (suc n) items))) + total (bounds_at t p x) ≤ total (bounds_from t 0 (take (suc n) items))) none
+      (bounds_whole (take (suc n) items) 0 n x (taken_at items (suc n) n x (omega arith) h)))
 
   -- ---- needs
 
@@ -180,22 +227,47 @@ items_grow before (x ∷ items) =
     more_labels before (item_labels before x) (items_labels (item_labels before x) items) (item_grows before x) (items_grow (item_labels before x) items)
 
 -- those of the first body of an item are among those of the item
-bodies_grow : (before : List (List ℕ)) (cs : List Coded) → length before ≤ length (bodies_labels before cs)
+bodies_grow : (before : List (List ℕ)) (cs : List Coded) → length before ≤ length (coded_labels before cs)
 bodies_grow before [] = omega arith
 bodies_grow before (c ∷ cs) =
-    more_labels before (subprogram_labels before c.head c.body) (bodies_labels (subprogram_labels before c.head c.body) cs)
+    more_labels before (subprogram_labels before c.head c.body) (coded_labels (subprogram_labels before c.head c.body) cs)
     (subprogram_grows before c.head c.body) (bodies_grow (subprogram_labels before c.head c.body) cs)
 
 pub first_labels : (before : List (List ℕ)) (cs : List Coded) (c : Coded) → slice_get cs 0 ≡ Some c
-    → length (subprogram_labels before c.head c.body) ≤ length (bodies_labels before cs)
+    → length (subprogram_labels before c.head c.body) ≤ length (coded_labels before cs)
 first_labels before [] c is = cc
 first_labels before (x ∷ cs) c is =
-    subst (λ z. length (subprogram_labels before z.head z.body) ≤ length (bodies_labels before (x ∷ cs))) (same_some x c is)
+    subst (λ z. length (subprogram_labels before z.head z.body) ≤ length (coded_labels before (x ∷ cs))) (same_some x c is)
     (bodies_grow (subprogram_labels before x.head x.body) cs)
 
-pub none_taken : {X : Type 0} (xs : List X) → take 0 xs ≡ []
-none_taken [] = refl
-none_taken (x ∷ xs) = refl
+-- ... and so are those of each other one
+pub labels_inside : (before : List (List ℕ)) (cs : List Coded) (k : ℕ) (c : Coded) → slice_get cs k ≡ Some c
+    → length (subprogram_labels (coded_labels before (take k cs)) c.head c.body) ≤ length (coded_labels before cs)
+labels_inside before [] k c is = cc
+labels_inside before (x ∷ cs) zero c is = first_labels before (x ∷ cs) c is
+labels_inside before (x ∷ cs) (suc k) c is = labels_inside (subprogram_labels before x.head x.body) cs k c is
+
+-- with one body more
+pub labels_more : (before : List (List ℕ)) (cs : List Coded) (k : ℕ) (c : Coded) → slice_get cs k ≡ Some c
+    → coded_labels before (take (suc k) cs) ≡ subprogram_labels (coded_labels before (take k cs)) c.head c.body
+labels_more before [] k c is = cc
+labels_more before (x ∷ cs) zero c is =
+    ap (coded_labels (subprogram_labels before x.head x.body)) (none_taken cs) ∙ ap (λ (z : Coded). subprogram_labels before z.head z.body) (same_some x c is)
+labels_more before (x ∷ cs) (suc k) c is = labels_more (subprogram_labels before x.head x.body) cs k c is
+
+pub rows_more : (before : ℕ) (cs : List Coded) (k : ℕ) (c : Coded) → slice_get cs k ≡ Some c
+    → coded_rows before (take (suc k) cs) ≡ subprogram_rows (coded_rows before (take k cs)) c.head c.body
+rows_more before [] k c is = cc
+rows_more before (x ∷ cs) zero c is =
+    ap (coded_rows (subprogram_rows before x.head x.body)) (none_taken cs) ∙ ap (λ (z : Coded). subprogram_rows before z.head z.body) (same_some x c is)
+rows_more before (x ∷ cs) (suc k) c is = rows_more (subprogram_rows before x.head x.body) cs k c is
+
+pub bounds_more_there : (cs : List Coded) (k : ℕ) (c : Coded) → slice_get cs k ≡ Some c
+    → total (map bound_of (take (suc k) cs)) ≡ total (map bound_of (take k cs)) + bound_of c
+bounds_more_there [] k c is = cc
+bounds_more_there (x ∷ cs) zero c is =
+    (let none = ap (λ l. total (map bound_of l)) (none_taken cs) in let e = ap bound_of (same_some x c is) in omega (arith, none, e))
+bounds_more_there (x ∷ cs) (suc k) c is = (let e = bounds_more_there cs k c is in omega (arith, e))
 
 -- those behind one item more
 pub labels_next : (before : List (List ℕ)) (items : List BodyItemTree) (n : ℕ) (x : BodyItemTree) → slice_get items n ≡ Some x

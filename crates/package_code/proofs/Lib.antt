@@ -2,6 +2,12 @@ pub mod InFront
 mod FirstWords
 pub mod InOrder
 pub mod NewParameters
+pub mod BodyFronts
+mod PackageFronts
+pub mod ObjectNumbers
+pub mod Offered
+pub mod OperationBodies
+pub mod ObjectFronts
 mod HeldParameters
 mod Entered
 mod Ordered
@@ -10,6 +16,7 @@ mod Building
 mod BodyFrames
 mod MadeFrames
 mod CodedBodies
+mod Unbarred
 pub mod CodedPackage
 mod LinkedMain
 pub mod Coded
@@ -32,11 +39,17 @@ mod Told
 pub mod Walked
 mod BodyRows
 pub mod Adding
+pub mod OperationsAdded
 pub mod Linking
 pub mod Counted
 pub mod Seen
 pub mod ItemsTold
 mod AsTold
+mod ToldInside
+pub mod ObjectNames
+mod SeenInside
+mod WalkedInside
+pub mod ComponentSlots
 pub mod Numbered
 pub mod Placed
 mod NamedExceptions

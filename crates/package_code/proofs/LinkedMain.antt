@@ -4,7 +4,8 @@ use Rattle.std.specs.Prelude.{pos, replicate}
 use Rattle.ada_tree.specs.declared.program.MainStatement.{MainStatement}
 use Rattle.ada_tree.specs.ProgramTree.{ProgramTree}
 use Rattle.image.specs.Operations.{called, results_of}
-use Rattle.image.specs.Sections.{Sections, end_of, first_place}
+use Rattle.image.specs.Frames.{Inner}
+use Rattle.image.specs.Sections.{Sections, end_of, first_place, object_of}
 use Rattle.image.specs.declared.instruction.Operation.TheVariants as op
 use Rattle.image.specs.declared.subprograms.Subprogram.{Subprogram}
 use Rattle.image.specs.declared.tasks.Task as rows
@@ -32,6 +33,7 @@ pub record DoesMain (t : ProgramTree) (i : Sections) (g : Package) (numbers : Nu
   pub number : ℕ
   pub s : Subprogram
   pub there : called i number ≡ Some s
+  pub object : object_of s.kind ≡ None
   pub results : s.results ≡ 0
   pub stop : ℕ
   pub up : first_place i number ≤ stop
@@ -71,7 +73,7 @@ module _ (t : ProgramTree) (i : Sections) (g : Package) (numbers : Numbers) (v :
       let up = does.up in
       (low, omega (arith, low, high, within, up, ended))
 
-  ends_here : Follows i program g numbers around does.number does.stop [] [] []
+  ends_here : Follows i program g numbers around does.number does.stop [] Inner [] []
   ends_here = (
     record {
       at = does.stop;
@@ -87,8 +89,8 @@ module _ (t : ProgramTree) (i : Sections) (g : Package) (numbers : Numbers) (v :
   )
 
   main_follows : (all : List MainStatement) (from : ℕ) → AreMain i program g numbers from does.stop all → In from
-      → Follows i program g numbers around does.number from (map DoesStatement all) [] []
-  main_follows [] from code x = subst (λ q. Follows i program g numbers around does.number q [] [] []) (sym code) ends_here
+      → Follows i program g numbers around does.number from (map DoesStatement all) Inner [] []
+  main_follows [] from code x = subst (λ q. Follows i program g numbers around does.number q [] Inner [] []) (sym code) ends_here
   main_follows (s ∷ rest) from code x =
       let le = code.1 in
       let up = code.2 in
@@ -117,9 +119,10 @@ module _ (t : ProgramTree) (i : Sections) (g : Package) (numbers : Numbers) (v :
     priority = priority;
     s = does.s;
     there = ap (called i) number ∙ does.there;
+    object = does.object;
     around = around;
-    begins = subst (λ n. Follows i program g numbers around n (first_place i n) (duty_items x.duty) [] []) (sym number)
-        (subst (λ d. Follows i program g numbers around does.number (first_place i does.number) (duty_items d) [] []) (sym duty)
+    begins = subst (λ n. Follows i program g numbers around n (first_place i n) (duty_items x.duty) Inner [] []) (sym number)
+        (subst (λ d. Follows i program g numbers around does.number (first_place i does.number) (duty_items d) Inner [] []) (sym duty)
         (main_follows t.main.statements (first_place i does.number) does.statements
         (all_in (first_place i does.number) (omega arith) (let up = does.up in omega (arith, up)))));
     rests = rests;

@@ -1,6 +1,6 @@
 -- A well-formed image that was put together from an accepted program has the program's code, and so its meaning.
-use Rattle.std.proofs.Common.{◌≡◌, ℕ, zero, suc, ◌+◌, ◌≤◌, List, [], ◌∷◌, ◌++◌, length, map, Bool, true, false, cond, ◌&&◌, inl, inr, Option, None, Some, refl, sym, ap, ◌∙◌, subst, arith, append-nil, append_assoc, take_all, ◌⊎◌}
-use Rattle.std.specs.Prelude.{bytes_eq, pos, replicate, slice_get}
+use Rattle.std.proofs.Common.{◌≡◌, ℕ, zero, suc, ◌+◌, ◌≤◌, List, [], ◌∷◌, ◌++◌, length, map, inl, inr, Option, None, Some, refl, sym, ap, ◌∙◌, subst, arith, append-nil, append_assoc, take_all, ◌⊎◌}
+use Rattle.std.specs.Prelude.{pos, replicate, slice_get}
 use Rattle.std.proofs.lemmas.List.Elements.{All-nil, All-weaker}
 use Rattle.std.proofs.lemmas.Option.{slice_get_within}
 use Rattle.image_laws.specs.kernel.specs.Laws.{QuietStays, ViewsBack, ViewsOn}
@@ -8,21 +8,21 @@ use Rattle.ada_tree.specs.declared.expression.Identifier.{Identifier}
 use Rattle.ada_tree.specs.declared.program.MainStatement.{MainStatement}
 use Rattle.ada_tree.specs.declared.program.MainStatement.TheVariants as main
 use Rattle.ada_tree.specs.ExpressionTree.{ExprTree}
-use Rattle.ada_tree.specs.StatementTree.{SubprogramTree}
-use Rattle.ada_tree.specs.ProgramTree.{BodyItemTree, BodyTree, ProgramTree, SubprogramBody, TaskBody}
+use Rattle.ada_tree.specs.StatementTree.{EntryTree, SubprogramTree}
+use Rattle.ada_tree.specs.ProgramTree.{BodyItemTree, BodyTree, EntryBody, OperationBody, ProgramTree, ProtectedBody, ProtectedItemTree, SubprogramBody, TaskBody}
 use Rattle.image_laws.specs.handlers.specs.declared.rows.Row.{Row}
-use Rattle.image.specs.Operations.{called, results_of}
+use Rattle.image.specs.Code.{ceiling_of as ceiling_row_of, initial_words_of}
+use Rattle.image.specs.ObjectTable.{ObjectRow}
+use Rattle.image.specs.Operations.{called, entry_of, results_of}
 use Rattle.image.specs.Rules.{IsWellFormed}
+use Rattle.image.specs.Frames.{Inner}
 use Rattle.image.specs.Sections.{Sections, first_place}
 use Rattle.image.specs.declared.subprograms.Kind.TheVariants as kinds
 use Rattle.image.specs.declared.subprograms.Subprogram.{Subprogram}
 use Rattle.image.specs.declared.tasks.Task as rows
 use Rattle.image_laws.specs.Laws.{ImagesHaveSize}
-use Rattle.types.specs.Entities.{Entity, Protected}
 use Rattle.types.specs.Laws.{InitialValuesHaveShape}
-use Rattle.types.specs.Places.{ceiling_of, ceiling_or, is_of}
 use Rattle.types.specs.Scopes.{Scope}
-use Rattle.declaring.specs.ProtectedRules.{one_if_protected, protected_count}
 use Rattle.program_soundness.specs.checking.specs.ProgramRules.{IsLegal}
 use Rattle.ravenscar.specs.ProgramRules.{IsRestricted}
 use Rattle.expr_soundness.specs.meaning.specs.Calls.{procedure_among, procedure_here}
@@ -32,13 +32,13 @@ use Rattle.expr_soundness.specs.meaning.specs.Works.{DoesMain as DoesStatement, 
 use Rattle.program_soundness.specs.step_soundness.specs.Holding.{IsSoundTask}
 use Rattle.program_soundness.specs.step_soundness.specs.Judged.{IsReady, Judged}
 use Rattle.program_soundness.specs.step_soundness.specs.Objects.{first_store}
-use Rattle.program_soundness.specs.Fronts.{declared_in, front}
+use Rattle.program_soundness.specs.Fronts.{declared_in, front, start_in}
 use Rattle.program_soundness.proofs.Callables.{function_by, procedure_by, subprogram_body}
-use Rattle.program_soundness.proofs.WiderScopes.{same_bytes}
 use Rattle.program_soundness.proofs.Listing.{Has, front_at, has_either, or_else_some, same_some}
 use Rattle.program_soundness.proofs.Trees.{tasks_are}
+use Rattle.program_soundness.proofs.Whole.{IsPackage}
 use Rattle.expr_code.specs.Code.{Extends, Holds, here}
-use Rattle.expr_code.specs.Computing.{IsFunctionCode}
+use Rattle.expr_code.specs.Computing.{IsFunctionCode, function_kind}
 use Rattle.expr_code.specs.Seeing.{Package, library_of, told_of}
 use Rattle.expr_code.specs.declared.visible.Visible.{Visible}
 use Rattle.expr_code.proofs.Growing.{added_extends, extends_trans, get_last}
@@ -49,30 +49,38 @@ use Rattle.step_simulation.specs.part_code.specs.Raising.{AreNamed}
 use Rattle.step_simulation.specs.Laws.{HasCode}
 use Rattle.step_simulation.specs.part_code.specs.Resting.{Framed, RestsWith}
 use Rattle.step_simulation.specs.Standing.{Follows}
-use Rattle.step_simulation.specs.part_code.specs.Statements.{IsProcedureCode, Numbers}
+use Rattle.step_simulation.specs.part_code.specs.Statements.{IsProcedureCode, Numbers, procedure_kind}
 use Rattle.stmt_code.specs.Subprograms.{AddsProcedure, fresh}
 use Rattle.stmt_code.specs.declared.draft.Draft.{Draft}
 use Rattle.stmt_code.specs.declared.subprogram.SubprogramWords.{SubprogramWords}
 use Rattle.package_code.specs.LinkLaws.{LinkedKeepsCount, LinkedMeansTheSame}
 use Rattle.package_code.specs.Linked.{AreLinkedTasks, IsLinkedProgram, IsLinkedTask}
-use Rattle.package_code.specs.Package.{IsInFront, IsInOrder, IsPackageOf}
+use Rattle.package_code.specs.Objects.{object_rows}
+use Rattle.package_code.specs.Package.{IsInFront, IsInOrder, IsPackageOf, first_objects}
+use Rattle.package_code.proofs.BodyFronts.{IsEntrance}
 use Rattle.package_code.proofs.NamedExceptions.{exceptions_are_named}
-use Rattle.package_code.proofs.CodedPackage.{HasBodies, ada_linkd}
+use Rattle.package_code.proofs.CodedPackage.{HasBodies, IsOperation, StandsAt, ada_linkd, bare_procedures, bare_found}
+use Rattle.package_code.proofs.Unbarred.{no_barriers}
 use Rattle.package_code.proofs.EmittedBodies.{procedure_emitted}
 use Rattle.package_code.proofs.EmittedFunctions.{function_emitted}
 use Rattle.package_code.proofs.EmittedMain.{AreMainCalls, main_emitted, main_returns, main_within}
 use Rattle.package_code.proofs.EmittedTasks.{task_begins}
 use Rattle.package_code.proofs.FirstWords.{first_words}
-use Rattle.package_code.proofs.InFront.{LawsOfNames, bare_rests, few_locals}
+use Rattle.package_code.proofs.InFront.{LawsOfNames, bare_rests, few_locals, whole}
 use Rattle.package_code.proofs.InOrder.{package_in_order}
 use Rattle.package_code.proofs.LinkedMain.{DoesMain, linked_main}
 use Rattle.package_code.proofs.Coded.{body_at, from_many}
-use Rattle.package_code.proofs.Numbered.{bodies_numbered, number_of_body}
-use Rattle.package_code.proofs.ObjectRows.{no_objects}
+use Rattle.package_code.proofs.Numbered.{bodies_numbered}
+use Rattle.package_code.proofs.ObjectFronts.{object_entrance}
+use Rattle.package_code.proofs.ObjectNumbers.{ceiling_row, many_rows, row_entries, row_words}
+use Rattle.package_code.proofs.Offered.{procedure_named}
+use Rattle.package_code.proofs.OperationBodies.{code_of, coded, has_number, object}
+use Rattle.package_code.proofs.PackageFronts.{package_entrance}
+use Rattle.package_code.proofs.Placed.{items_are}
 use Rattle.package_code.proofs.TaskRows.{HasTaskBody, task_found}
-use Rattle.package_code.specs.Directory.{AreTold, number_told}
+use Rattle.package_code.specs.Directory.{AreTold, number_told, slot_told}
 use Rattle.package_code.specs.Laws.{SectionsMeanTheSame}
-use Rattle.package_code.specs.Bodies.{Coded, bodies_among, bodies_before, bodies_of, coded_at, number_in, of_subprogram, of_task}
+use Rattle.package_code.specs.Bodies.{Coded, bodies_among, bodies_before, bodies_of, coded_at, number_in, of_subprogram, of_task, operation_kind, own_name}
 use Rattle.package_code.specs.Program.{HasProgram}
 use Rattle.package_code.specs.Tasks.{HasDuty, HasTask, HaveTasks}
 use Rattle.package_code.specs.Walking.{AddsSubprogram, AddsValueFunction, HasBody, LieInFront, begins_at, row_of}
@@ -82,40 +90,17 @@ use Rattle.package_code.proofs.Walked.{begins_kept, rows_in_front}
 
 -- ---- the package of code
 
--- what is told, of what belongs to no protected object
-abbrev pub outside_only : {X : Type 0} → (owner : Option ℕ) → (told : Option X) → Option X
-outside_only None told = told
-outside_only (Some o) told = None
-
 abbrev pub package_of : Program → Directory → Package
 package_of program d = record {
   scope = program.scope;
-  slots = λ owner name. outside_only owner (told_of program.scope d.slots.items name);
+  first = first_objects program;
+  slots = slot_told program.scope d;
   functions = program.functions;
   subprograms = number_told program.scope d;
 }
 
 abbrev pub numbers_of : Program → Directory → Numbers
 numbers_of program d = λ q. number_told program.scope d q.object q.name
-
--- ---- procedures by their names
-
-of_package : (o : Option ℕ) → is_of o None ≡ true → o ≡ None
-of_package (Some n) h = cc
-of_package None h = refl
-
-found_named : (all : List Procedure) (name : List ℕ) (q : Procedure) → procedure_among all None name ≡ Some q → (q.object ≡ None) × (q.name ≡ name)
-found_named [] name q h = cc
-found_named (p ∷ rest) name q h = by_tests (is_of p.object None) (bytes_eq p.name name) refl refl h (λ k. found_named rest name q k)
-  where
-    by_tests : (a b : Bool) → is_of p.object None ≡ a → bytes_eq p.name name ≡ b → cond (a && b) (Some p) (procedure_among rest None name) ≡ Some q
-        → (procedure_among rest None name ≡ Some q → (q.object ≡ None) × (q.name ≡ name))
-        → (q.object ≡ None) × (q.name ≡ name)
-    by_tests true true owned named k later =
-        let same = same_some p q k in
-        (ap (λ y. y.object) (sym same) ∙ of_package p.object owned, ap (λ y. y.name) (sym same) ∙ same_bytes p.name name named)
-    by_tests true false owned named k later = later k
-    by_tests false b owned named k later = later k
 
 -- the number of a procedure of the package is the one that is told of its name
 procedure_numbered : (program : Program) (d : Directory) (name : List ℕ) (q : Procedure) (n : ℕ) → procedure_here program None name ≡ Some q
@@ -124,7 +109,7 @@ procedure_numbered : (program : Program) (d : Directory) (name : List ℕ) (q : 
 procedure_numbered program d name q n found told =
     let at : procedure_among program.procedures None name ≡ Some q =
     elim (or_else_some (procedure_among program.procedures None name) (procedure_among program.procedures None name) q found) [ inl k ↦ k | inr k ↦ k.1 ] in
-    let x = found_named program.procedures name q at in
+    let x = procedure_named program.procedures None name q at in
     (λ j. number_told program.scope d (x.0 j) (x.1 j)) ∙ told
 
 -- ---- what holds of a body by its result
@@ -148,17 +133,6 @@ module _ (t : ProgramTree) (d : SubprogramTree) (b : BodyTree) (v : Visible) (ol
   as_function : (r : Identifier) → d.result ≡ Some r → AddsValueFunction t d b r v old words new
   as_function r e = with_one (AddsProcedure v old d.formals b words new) (λ z. AddsValueFunction t d b z v old words new) d.result a r e
 
--- ---- no protected object has a ceiling where there is none
-
-no_ceilings : (s : Scope) (o : ℕ) → protected_count s ≡ 0 → ceiling_of s o ≡ 0
-no_ceilings [] o h = refl
-no_ceilings (n ∷ rest) o h = by_entity n.entity h (λ k. no_ceilings rest o k)
-  where
-    by_entity : (e : Entity) → one_if_protected e + protected_count rest ≡ 0 → (protected_count rest ≡ 0 → ceiling_of rest o ≡ 0)
-        → ceiling_or o e (ceiling_of rest o) ≡ 0
-    by_entity (Protected p) k later = absurd (omega (arith, k))
-    by_entity e k later = later (omega (arith, k))
-
 -- ---- where subprograms begin
 
 pub first_begins : (i : Sections) (n : ℕ) → first_place i n ≡ begins_at i.subprograms n
@@ -167,7 +141,7 @@ first_begins i (suc n) = refl
 
 -- ---- main's calls
 
-module _ (program : Program) (d : Directory) (v : Visible) (told : AreTold program.scope d v) (m : Store) (w : TaskWork) (task : IsSoundTask program m None w) where
+module _ (program : Program) (d : Directory) (v : Visible) (told : AreTold program.scope d None v) (m : Store) (w : TaskWork) (task : IsSoundTask program m None w) where
   calls_judged : (all : List MainStatement) → Judged program task.scope task.outer task.around (map DoesStatement all)
       → AreMainCalls program (numbers_of program d) v all
   calls_judged [] j = tt
@@ -210,16 +184,22 @@ module _ (t : ProgramTree) (i : Sections) (h : HasProgram t i) where
   ordered = record {
     scope = refl;
     functions = refl;
+    first = λ owner. refl;
     slots = λ name. ap (λ v. told_of program.scope v.items name) h.slots ∙ h.are.slots name;
-    components = λ object name. refl;
+    components = h.told.components;
     words = h.plain_words ∙ h.are.words;
+    object_words = λ object.
+        ap (λ l. initial_words_of (slice_get l object)) h.objects ∙ row_words program.scope (package_items t.package_) object;
   }
 
-  pub in_front : (v : Framed) (place : ℕ) → v.names.scope ≡ front t place → AreTold program.scope h.directory v.names → IsInFront t g v place
-  in_front v place scope told = record {
+  pub in_front : (s : Scope) (owner : Option ℕ) (v : Framed) → v.names.scope ≡ s → v.within ≡ owner → AreTold program.scope h.directory owner v.names
+      → IsInFront s g owner v
+  in_front s owner v scope within told = record {
     scope = scope;
     slots = told.slots;
     calls = told.calls;
+    within = within;
+    operations = told.operations;
     many_slots = told.entries.slots;
     many_subprograms = told.entries.subprograms;
   }
@@ -310,82 +290,164 @@ module _ (t : ProgramTree) (i : Sections) (h : HasProgram t i) where
     of_program : IsPackageOf t i g
     of_program = package_in_order laws t legal restricted i g ordered
 
-    module _ (place : ℕ) (d : SubprogramTree) (b : BodyTree) (at : slice_get (declared_in t.package_) place ≡ Some (SubprogramBody d b)) where
-      abbrev code_of : Coded
-      code_of = of_subprogram (front t (suc place)) d b
+    -- ---- the body of an operation or an entry
 
-      abbrev own_number : ℕ
-      own_number = bodies_before t place
+    module _ (owner : Option ℕ) (u : ProtectedItemTree) (x : IsOperation laws t legal restricted owner u) where
+      abbrev operation_code : Coded
+      operation_code = code_of laws.scopes laws.names laws.premises t legal restricted x.place x.name x.items x.end_name x.at x.k u
 
-      abbrev body : HasBody t h.directory own_number code_of h.walk
-      body = body_there_at place (SubprogramBody d b) code_of at refl
+      abbrev operation_number : ℕ
+      operation_number = bodies_before t x.place + x.k
+
+      operation_is : slice_get (bodies_of t) operation_number ≡ Some operation_code
+      operation_is =
+          body_at t x.place x.k (ProtectedBody x.name x.items x.end_name) operation_code x.at
+          (coded laws.scopes laws.names laws.premises t legal restricted x.place x.name x.items x.end_name x.at x.k u x.there)
+
+      -- its name has its number
+      operation_numbered : number_told program.scope h.directory owner (own_name u) ≡ Some operation_number
+      operation_numbered =
+          ap (λ o. number_told program.scope h.directory o (own_name u)) x.owned
+          ∙ h.told.operations (object laws.scopes laws.names laws.premises t legal restricted x.place x.name x.items x.end_name x.at).number (own_name u)
+          ∙ has_number laws.scopes laws.names laws.premises t legal restricted x.place x.name x.items x.end_name x.at x.k u x.there
+
+    -- no code is made of an entry's body
+    no_entry_code : (owner : Option ℕ) (d : EntryTree) (barrier : ExprTree) (b : BodyTree) → IsOperation laws t legal restricted owner (EntryBody d barrier b) → ⊥
+    no_entry_code owner d barrier b x =
+        (let body = body_there (operation_number owner (EntryBody d barrier b) x) (operation_code owner (EntryBody d barrier b) x)
+        (operation_is owner (EntryBody d barrier b) x) in
+        let bad = body.no_entry in
+        cc)
+
+    -- ---- a body of a subprogram, whosever it is, with what is visible in front of its parameters
+
+    module _ (number : ℕ) (c : Coded) (is : slice_get (bodies_of t) number ≡ Some c)
+        (entrance : (v : Framed) → IsInFront c.front g c.owner v → IsEntrance t g c.owner v c.head c.body) where
+      abbrev body : HasBody t h.directory number c h.walk
+      body = body_there number c is
 
       abbrev row : Subprogram
-      row = row_of kinds.Plain body.words (here body.new.code)
+      row = row_of c.kind body.words (here body.new.code)
 
-      there : called i own_number ≡ Some row
-      there = called_front own_number row body.there
+      there : called i number ≡ Some row
+      there = called_front number row body.there
 
-      first : first_place i own_number ≡ here body.old.code
-      first = begins_there own_number code_of body
+      first : first_place i number ≡ here body.old.code
+      first = begins_there number c body
 
       holds : Holds i (here body.old.code) body.new.code
-      holds = holds_there own_number code_of body
+      holds = holds_there number c body
 
       labels : HasLabels i body.new.labels
-      labels = labels_there own_number code_of body
+      labels = labels_there number c body
 
-      procedure_there : d.result ≡ None → IsProcedureCode i program g numbers (procedure_by program.scope (subprogram_body None d b)) own_number
-      procedure_there none =
-          let adds = as_procedure t d b body.seen body.old body.words body.new body.adds none in
-          procedure_emitted laws quiet shaped t legal restricted i well_formed g of_program numbers place d b at body.seen body.old body.new body.words
-          adds own_number row there first refl refl (ap results_of there) refl holds labels
-          (handled_there own_number code_of body (exceptions_are_named laws.premises t legal restricted) adds)
-          (λ name q n found told. procedure_numbered program h.directory name q n found told)
-          (in_front _ (suc place) body.scope body.told)
+      procedure_there : c.head.result ≡ None → c.kind ≡ procedure_kind c.owner None
+          → IsProcedureCode i program g numbers (procedure_by program.scope (subprogram_body c.owner c.head c.body)) number
+      procedure_there none kind =
+          let adds = as_procedure t c.head c.body body.seen body.old body.words body.new body.adds none in
+          procedure_emitted laws quiet shaped t legal restricted i well_formed g of_program numbers c.owner c.head c.body body.seen body.old body.new body.words
+          adds number row there first refl refl (ap results_of there) refl kind holds labels
+          (handled_there number c body (exceptions_are_named laws.premises t legal restricted) adds) (λ q n told. told)
+          (bare_found laws t legal restricted no_entry_code)
+          (entrance _ (in_front c.front c.owner _ body.scope refl body.told))
 
-      function_there : (r : Identifier) → d.result ≡ Some r → (value : ExprTree) → returned b.statements ≡ Some value
-          → IsFunctionCode i (library_of g) (function_by program.scope (subprogram_body None d b) r value) own_number
-      function_there r some value returns =
-          let y = as_function t d b body.seen body.old body.words body.new body.adds r some in
-          subst (λ e. IsFunctionCode i (library_of g) (function_by program.scope (subprogram_body None d b) r e) own_number)
+      function_there : (r : Identifier) → c.head.result ≡ Some r → (value : ExprTree) → returned c.body.statements ≡ Some value
+          → c.kind ≡ function_kind c.owner
+          → IsFunctionCode i (library_of g) (function_by program.scope (subprogram_body c.owner c.head c.body) r value) number
+      function_there r some value returns kind =
+          let y = as_function t c.head c.body body.seen body.old body.words body.new body.adds r some in
+          subst (λ e. IsFunctionCode i (library_of g) (function_by program.scope (subprogram_body c.owner c.head c.body) r e) number)
           (same_some y.value value (sym y.returns ∙ returns))
-          (function_emitted laws shaped t legal restricted i well_formed g of_program numbers place d b at r some y.value y.result y.named body.seen body.old
-          body.new body.words y.adds own_number row there first refl refl refl refl holds (uncovered_there own_number code_of body y.adds.rows)
-          (in_front _ (suc place) body.scope body.told))
+          (function_emitted laws shaped t legal restricted i well_formed g of_program numbers c.owner c.head c.body r some y.value y.result y.named body.seen
+          body.old body.new body.words y.adds number row there first refl refl refl kind holds (uncovered_there number c body y.adds.rows)
+          (entrance _ (in_front c.front c.owner _ body.scope refl body.told)))
 
       -- the number is the one that is told of the name
-      numbered : (number : ℕ) → told_of program.scope h.directory.numbers.items d.name.name ≡ Some number → own_number ≡ number
-      numbered number e = same_some own_number number (sym body.numbered ∙ e)
+      numbered : (n : ℕ) → number_told program.scope h.directory c.owner c.head.name.name ≡ Some n → number ≡ n
+      numbered n e = same_some number n (sym body.numbered ∙ e)
 
-    -- no operation of an object has a number: those that have one have code, and no body with code belongs to an object
-    outside_all : (o : ℕ) (name : List ℕ) → number_told program.scope h.directory (Some o) name ≡ None
-    outside_all o name = by_number (number_in t (Some o) name) refl
-      where
-        by_number : (n : Option ℕ) → number_in t (Some o) name ≡ n → number_told program.scope h.directory (Some o) name ≡ None
-        by_number None e = h.told.operations o name ∙ e
-        by_number (Some n) e =
-            absurd (
-            let f = number_of_body t (Some o) name n e in
-            let body = body_there n f.code f.is in
-            let bad = sym f.owned ∙ body.outside in
-            cc
-            )
+    -- ---- those of the package, and those of protected objects
+
+    module _ (place : ℕ) (d : SubprogramTree) (b : BodyTree) (at : slice_get (declared_in t.package_) place ≡ Some (SubprogramBody d b)) where
+      abbrev own_code : Coded
+      own_code = of_subprogram (front t (suc place)) d b
+
+      abbrev package_number : ℕ
+      package_number = bodies_before t place + 0
+
+      package_is : slice_get (bodies_of t) package_number ≡ Some own_code
+      package_is = body_at t place 0 (SubprogramBody d b) own_code at refl
+
+      package_enters : (v : Framed) → IsInFront (front t (suc place)) g None v → IsEntrance t g None v d b
+      package_enters v before = package_entrance laws t legal restricted i g of_program place d b at v before
+
+    module _ (owner : Option ℕ) (d : SubprogramTree) (b : BodyTree) (x : IsOperation laws t legal restricted owner (OperationBody d b)) where
+      operation_enters : (v : Framed) → IsInFront (operation_code owner (OperationBody d b) x).front g (operation_code owner (OperationBody d b) x).owner v
+          → IsEntrance t g (operation_code owner (OperationBody d b) x).owner v d b
+      operation_enters v before =
+          object_entrance laws t legal restricted x.place x.name x.items x.end_name x.at x.k d b x.there i g ordered of_program h.told.operations v before
+
+    procedure_code : (owner : Option ℕ) (d : SubprogramTree) (b : BodyTree) → StandsAt laws t legal restricted owner d b → d.result ≡ None → (n : ℕ)
+        → numbers (procedure_by program.scope (subprogram_body owner d b)) ≡ Some n
+        → IsProcedureCode i program g numbers (procedure_by program.scope (subprogram_body owner d b)) n
+    procedure_code owner d b (inl p) none n told =
+        let place = p.1 in
+        let number = package_number place d b p.2 in
+        let is = package_is place d b p.2 in
+        let enters = package_enters place d b p.2 in
+        let same = numbered number (own_code place d b p.2) is enters n
+        (ap (λ o. number_told program.scope h.directory o d.name.name) (sym p.0) ∙ told) in
+        subst (λ o. IsProcedureCode i program g numbers (procedure_by program.scope (subprogram_body o d b)) n) (sym p.0)
+        (subst (IsProcedureCode i program g numbers (procedure_by program.scope (subprogram_body None d b))) same
+        (procedure_there number (own_code place d b p.2) is enters none refl))
+    procedure_code owner d b (inr x) none n told =
+        let number = operation_number owner (OperationBody d b) x in
+        let is = operation_is owner (OperationBody d b) x in
+        let enters = operation_enters owner d b x in
+        let same = same_some number n (sym (operation_numbered owner (OperationBody d b) x) ∙ told) in
+        subst (λ o. IsProcedureCode i program g numbers (procedure_by program.scope (subprogram_body o d b)) n) (sym x.owned)
+        (subst
+        (IsProcedureCode i program g numbers
+        (procedure_by program.scope (subprogram_body (operation_code owner (OperationBody d b) x).owner d b))) same
+        (procedure_there number (operation_code owner (OperationBody d b) x) is enters none
+        (ap (operation_kind (object laws.scopes laws.names laws.premises t legal restricted x.place x.name x.items x.end_name x.at).number) none)))
+
+    function_code : (owner : Option ℕ) (d : SubprogramTree) (b : BodyTree) → StandsAt laws t legal restricted owner d b → (r : Identifier) → d.result ≡ Some r
+        → (value : ExprTree) → returned b.statements ≡ Some value → (n : ℕ) → g.subprograms owner d.name.name ≡ Some n
+        → IsFunctionCode i (library_of g) (function_by program.scope (subprogram_body owner d b) r value) n
+    function_code owner d b (inl p) r some value returns n told =
+        let place = p.1 in
+        let number = package_number place d b p.2 in
+        let is = package_is place d b p.2 in
+        let enters = package_enters place d b p.2 in
+        let same = numbered number (own_code place d b p.2) is enters n
+        (ap (λ o. number_told program.scope h.directory o d.name.name) (sym p.0) ∙ told) in
+        subst (λ o. IsFunctionCode i (library_of g) (function_by program.scope (subprogram_body o d b) r value) n) (sym p.0)
+        (subst (IsFunctionCode i (library_of g) (function_by program.scope (subprogram_body None d b) r value)) same
+        (function_there number (own_code place d b p.2) is enters r some value returns refl))
+    function_code owner d b (inr x) r some value returns n told =
+        let number = operation_number owner (OperationBody d b) x in
+        let is = operation_is owner (OperationBody d b) x in
+        let enters = operation_enters owner d b x in
+        let same = same_some number n (sym (operation_numbered owner (OperationBody d b) x) ∙ told) in
+        subst (λ o. IsFunctionCode i (library_of g) (function_by program.scope (subprogram_body o d b) r value) n) (sym x.owned)
+        (subst
+        (IsFunctionCode i (library_of g)
+        (function_by program.scope (subprogram_body (operation_code owner (OperationBody d b) x).owner d b) r value)) same
+        (function_there number (operation_code owner (OperationBody d b) x) is enters r some value returns
+        (ap (operation_kind (object laws.scopes laws.names laws.premises t legal restricted x.place x.name x.items x.end_name x.at).number) some)))
 
     bodies : HasBodies laws t legal restricted i g of_program numbers
     bodies = record {
-      procedures =
-          λ place d b at none number e. subst
-          (IsProcedureCode i program g numbers (procedure_by program.scope (subprogram_body None d b))) (numbered place d b at number e)
-          (procedure_there place d b at none);
-      functions = λ place d b at r some value returns number e. subst
-          (IsFunctionCode i (library_of g) (function_by program.scope (subprogram_body None d b) r value)) (numbered place d b at number e)
-          (function_there place d b at r some value returns);
-      outside = outside_all;
+      procedures = procedure_code;
+      functions = function_code;
+      entries = λ owner d barrier b x n told. no_entry_code owner d barrier b x;
     }
 
     code : HasCode i program g numbers
     code = ada_linkd laws t legal restricted i g of_program numbers bodies quiet views back (h.exceptions ∙ h.are.exceptions)
+        (no_barriers program i program.scope (package_items t.package_)
+        (bare_procedures laws t legal restricted no_entry_code) h.objects)
 
     -- ---- main
 
@@ -403,6 +465,7 @@ module _ (t : ProgramTree) (i : Sections) (h : HasProgram t i) where
       number = length all;
       s = main_row h.words (here h.draft.code);
       there = called_main;
+      object = refl;
       results = h.main.results;
       stop = here h.main.called;
       up = (let e = h.main.calls.extends.longer in omega (arith, first_main, e));
@@ -420,7 +483,7 @@ module _ (t : ProgramTree) (i : Sections) (h : HasProgram t i) where
     }
 
     abbrev seen : Framed
-    seen = record { names = h.walk.visible; room = 0; reserved = [] }
+    seen = record { names = h.walk.visible; room = 0; reserved = []; within = None }
 
     -- ---- tasks
 
@@ -428,7 +491,7 @@ module _ (t : ProgramTree) (i : Sections) (h : HasProgram t i) where
     unfolding does
     main_rests =
         bare_rests laws t legal restricted i g of_program seen (length (declared_in t.package_))
-        (in_front seen (length (declared_in t.package_)) (h.walked.scope ∙ ap (front t) h.whole) h.walked.told) refl does.s.locals (omega arith)
+        (in_front (front t (length (declared_in t.package_))) None seen (h.walked.scope ∙ ap (front t) h.whole) refl h.walked.told) refl does.s.locals (omega arith)
         (few_locals i well_formed (length all) does.s called_main).1
 
     -- a task with a body: the row names the subprogram of the body with its name
@@ -440,21 +503,22 @@ module _ (t : ProgramTree) (i : Sections) (h : HasProgram t i) where
         let s : Subprogram = row_of kinds.TaskBody body.words (here body.new.code) in
         let called_so : called i n ≡ Some s = called_front n s body.there in
         let none : n + 0 ≡ n = omega arith in
-        let counted = (bodies_numbered laws.premises t legal restricted f.place (TaskBody f.own f.body) 0 c f.at refl refl).0 ∙ ap Some none in
+        let counted = (bodies_numbered laws.scopes laws.names laws.premises t legal restricted f.place (TaskBody f.own f.body) 0 c f.at refl).0 ∙ ap Some none in
         let told : HasDuty t x line.subprogram (OfBody f.body) = subst (HasDuty t x line.subprogram) f.duty has.duty in
         let same : line.subprogram ≡ n = same_some line.subprogram n (sym told ∙ ap (number_in t None) (sym f.named) ∙ counted) in
         let r = task_begins laws t legal restricted i well_formed g of_program numbers f.place f.body body.seen body.old body.new body.words body.adds
         n s called_so (begins_there n c body) refl refl refl (holds_there n c body) (labels_there n c body)
         (handled_there n c body (exceptions_are_named laws.premises t legal restricted) body.adds)
-        (λ name q n found told. procedure_numbered program h.directory name q n found told) (in_front _ (suc f.place) body.scope body.told) in
+        (λ q n told. told) (bare_found laws t legal restricted no_entry_code) (in_front (front t (suc f.place)) None _ body.scope refl body.told) in
         record {
           name = has.name;
           priority = has.priority;
           s = s;
           there = ap (called i) same ∙ called_so;
+          object = refl;
           around = r.0;
-          begins = subst (λ m. Follows i program g numbers r.0 m (first_place i m) (duty_items x.duty) [] []) (sym same)
-              (subst (λ d. Follows i program g numbers r.0 n (first_place i n) (duty_items d) [] []) (sym f.duty) r.1);
+          begins = subst (λ m. Follows i program g numbers r.0 m (first_place i m) (duty_items x.duty) Inner [] []) (sym same)
+              (subst (λ d. Follows i program g numbers r.0 n (first_place i n) (duty_items d) Inner [] []) (sym f.duty) r.1);
           rests = r.2;
         }
 
@@ -485,12 +549,29 @@ module _ (t : ProgramTree) (i : Sections) (h : HasProgram t i) where
     linked_tasks [] (line ∷ table) among has = absurd has
     linked_tasks (x ∷ xs) [] among has = absurd has
 
+    abbrev all_items : List BodyItemTree
+    all_items = declared_in t.package_
+
+    abbrev start : Scope
+    start = start_in t.package_
+
+    w : IsPackage program start all_items
+    w = whole laws t legal restricted
+
+    items : package_items t.package_ ≡ items_among all_items
+    items = items_are t.package_
+
+    no_entry : (o : ℕ) (r : Option ObjectRow) → slice_get i.objects o ≡ r → entry_of r ≡ None
+    no_entry o (Some row) is = row_entries program.scope (package_items t.package_) o row (ap (λ l. slice_get l o) (sym h.objects) ∙ is)
+    no_entry o None is = refl
+
     pub sections_linked : ImagesHaveSize → IsLinkedProgram t i g numbers
     sections_linked sizes = record {
       exceptions = h.exceptions ∙ h.are.exceptions;
-      unprotected = h.unprotected;
-      ceilings = λ o. no_ceilings program.scope o h.unprotected;
-      objects = no_objects laws.premises t i legal restricted h;
+      objects = ap length h.objects ∙ ap (λ l. length (object_rows program.scope l)) items ∙ many_rows program start all_items w;
+      ceilings = λ o. ceiling_row program start all_items w o
+          ∙ sym (ap (λ l. ceiling_row_of (slice_get l o)) h.objects ∙ ap (λ l. ceiling_row_of (slice_get (object_rows program.scope l) o)) items);
+      entries = λ o. no_entry o (slice_get i.objects o) refl;
       tasks = linked_tasks program.tasks i.tasks (λ x among. among) h.tasks;
       code = code;
       words = first_words laws t legal restricted i g of_program sizes well_formed;

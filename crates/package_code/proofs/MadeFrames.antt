@@ -1,25 +1,26 @@
 -- The frames of a procedure: where its body is entered, behind its parameters, and in front of its declarations.
-use Rattle.std.proofs.Common.{◌≡◌, ◌≢◌, ℕ, suc, ◌+◌, ◌≤◌, List, [], ◌∷◌, ◌++◌, map, Some, true, refl, sym, ap, ◌∙◌, subst, arith}
-use Rattle.std.specs.Prelude.{Bool, false, if◌then◌else◌, slice_get}
+use Rattle.std.proofs.Common.{◌≡◌, ◌≢◌, ℕ, suc, ◌+◌, ◌≤◌, List, [], ◌∷◌, ◌++◌, map, Option, Some, true, refl, sym, ap, ◌∙◌, subst, arith}
+use Rattle.std.specs.Prelude.{Bool, false, if◌then◌else◌}
 use Rattle.ada_tree.specs.declared.declaration.Formal.{Formal}
 use Rattle.ada_tree.specs.declared.declaration.Mode.TheVariants as mode
 use Rattle.ada_tree.specs.declared.expression.Identifier.{Identifier}
 use Rattle.ada_tree.specs.StatementTree.{SubprogramTree}
-use Rattle.ada_tree.specs.ProgramTree.{BodyTree, ProgramTree, SubprogramBody}
-use Rattle.image.specs.Sections.{Sections}
+use Rattle.ada_tree.specs.ProgramTree.{BodyTree, ProgramTree}
 use Rattle.types.specs.declared.entity.Role.{Role}
 use Rattle.types.specs.declared.entity.Subtype.{Subtype}
 use Rattle.types.specs.Entities as entity
 use Rattle.types.specs.Laws.{ShapesStay}
 use Rattle.types.specs.Layouts.{words_of}
 use Rattle.types.specs.Scopes.{Scope}
+use Rattle.types.specs.Shapes.{has_shape, shape_of}
+use Rattle.types.specs.Values.{Value}
 use Rattle.program_soundness.specs.checking.specs.ProgramRules.{IsLegal}
 use Rattle.ravenscar.specs.ProgramRules.{IsRestricted}
 use Rattle.expr_soundness.specs.SoundScopes.{IsKnown, SoundScope}
 use Rattle.expr_soundness.proofs.Goods.{object_known}
 use Rattle.expr_soundness.specs.meaning.specs.Calls.{is_out}
 use Rattle.expr_soundness.specs.meaning.specs.Programs.{Parameter, Program, parameter, program_of}
-use Rattle.program_soundness.specs.Fronts.{declared_in, front, start_in}
+use Rattle.program_soundness.specs.step_soundness.specs.Objects.{IsOf}
 use Rattle.program_soundness.proofs.WiderScopes.{number_stands, stands, stands_number, with_all}
 use Rattle.program_soundness.proofs.Formals.{AreNew, all_named, all_types}
 use Rattle.program_soundness.proofs.Listing.{Has}
@@ -31,20 +32,21 @@ use Rattle.declaring.specs.BodyNames.{formals_scope}
 use Rattle.step_simulation.specs.part_code.specs.Layout.{AreApart, AreFree, EndsBelow, IsFree, IsLaidOut, NamesObject}
 use Rattle.step_simulation.specs.part_code.specs.Resting.{Framed, NarrowsFrame}
 use Rattle.step_simulation.specs.part_code.specs.Formals.{AddsEach, AreInTurn, Placed, addresses_from, outs_end, parameter_at, passed_end}
-use Rattle.package_code.specs.Package.{FindsNames, HoldsAll, IsInFront, IsPackageOf}
+use Rattle.package_code.specs.Package.{FindsNames, HoldsAll}
+use Rattle.package_code.proofs.BodyFronts.{IsEntrance, body_suits, formals_in, formals_text, front_finds, parameters_new}
 use Rattle.package_code.proofs.BodyFrames.{HasWidths, OutsBegin, behind_up, holds_in_turn, next_widths, outs_begin, outs_behind, outs_end_is, words_behind}
 use Rattle.package_code.proofs.Building.{add_each, each_joined, has_turn, in_turn, outs_of, taken_of, turn_has, turn_new}
 use Rattle.package_code.proofs.HeldParameters.{Reached, end_reached}
-use Rattle.package_code.proofs.InFront.{LawsOfNames, front_ends, front_laid, front_serves, front_sound, front_suits, known, names, whole}
-use Rattle.package_code.proofs.NewParameters.{AreCopiedIn, formals_in, formals_text, parameters_new}
-use Rattle.package_code.proofs.Reordered.{HasEntries, each_serves, entries_behind, names_reordered, narrows_reordered, new_rest, reserved_reordered, room_stays, scope_behind, slots_reordered, sound_reordered}
+use Rattle.package_code.proofs.InFront.{LawsOfNames, known, memory}
+use Rattle.package_code.proofs.NewParameters.{AreCopiedIn}
+use Rattle.package_code.proofs.Reordered.{HasEntries, each_serves, entries_behind, names_reordered, narrows_reordered, new_rest, reserved_reordered, room_stays, scope_behind, slots_reordered, sound_reordered, within_stays}
 
 -- ---- places that are laid out are so where the same names have them in another order
 
 module _ (g : Package) (w u : Framed) (laid : IsLaidOut g w) (names_same : (name : List ℕ) → stands u.names.scope name ≡ stands w.names.scope name)
     (slots_same : (name : List ℕ) → slot_of u.names name ≡ slot_of w.names name)
     (widths : (t : Subtype) → IsKnown u.names.scope t → words_of u.names.scope t ≡ words_of w.names.scope t) (sound : SoundScope u.names.scope)
-    (entries : HasEntries u) (reserved : w.reserved ≡ u.reserved) where
+    (entries : HasEntries u) (reserved : w.reserved ≡ u.reserved) (within : u.within ≡ w.within) where
   named_back : (name : List ℕ) (r : Role) (t : Subtype) → NamesObject u.names.scope name r t → NamesObject w.names.scope name r t
   named_back name r t n =
       let there = sym (names_same name) ∙ stands_number u.names.scope name n.number (entity.Object r t) n.numbered n.stands in
@@ -86,6 +88,7 @@ module _ (g : Package) (w u : Framed) (laid : IsLaidOut g w) (names_same : (name
     unit = laid.unit;
     laid = record { objects = objects_there; apart = apart_there };
     shared = λ name x told region. laid.shared name x (told_before name x told) region;
+    own = λ name x object told region inside. laid.own name x object (told_before name x told) region (sym within ∙ inside);
     free = free_there;
     slots = entries.slots;
     subprograms = entries.subprograms;
@@ -153,21 +156,19 @@ widths_behind stay base (x ∷ xs) v w h widths = widths_behind stay base xs h.0
 -- ---- what is visible behind the parameters in the order of the text
 
 module _ (laws : LawsOfNames) (t : ProgramTree) (legal : IsLegal t) (restricted : IsRestricted t) (g : Package)
-    (place : ℕ) (d : SubprogramTree) (b : BodyTree) (at : slice_get (declared_in t.package_) place ≡ Some (SubprogramBody d b))
-    (v last : Framed) (before : IsInFront t g v (suc place)) (xs : List Placed)
+    (owner : Option ℕ) (d : SubprogramTree) (b : BodyTree) (v last : Framed) (before : IsEntrance t g owner v d b) (xs : List Placed)
     (texts : map parameter_at xs ≡ map (parameter (program_of t).scope) d.formals) (added : AddsEach v xs last) where
   -- it is the scope in which the body is judged
-  pub text_scope : last.names.scope ≡ formals_scope (front t (suc place)) d.formals
+  pub text_scope : last.names.scope ≡ formals_scope v.names.scope d.formals
   text_scope =
-      scope_behind xs v last added
-      ∙ ap (λ fs. with_all v.names.scope (all_named fs)) texts
-      ∙ ap (λ s. with_all s (all_named (map (parameter (program_of t).scope) d.formals))) before.scope
-      ∙ sym (formals_text laws.scopes (program_of t) (start_in t.package_) (declared_in t.package_) (whole laws t legal restricted)
-      (names laws t legal restricted).fronts place d b at)
+      scope_behind xs v last added ∙ ap (λ fs. with_all v.names.scope (all_named fs)) texts
+      ∙ sym (formals_text laws.scopes t owner v.names.scope d b before.front)
 
   -- and names what the program has
-  pub text_serves : FindsNames (program_of t) last
-  text_serves = each_serves (program_of t) xs v last added (front_serves laws t legal restricted v (suc place) before.scope)
+  pub text_serves : FindsNames (program_of t) owner last
+  text_serves =
+      each_serves (program_of t) owner xs v last added
+      (record { finds = front_finds laws.scopes t owner v.names.scope d b before.front (memory laws t legal restricted) })
 
 -- The frames of a procedure, by what is visible in front of its body and in front of its declarations: where it is entered, and behind its `out` parameters.
 pub record HasFrames (g : Package) (v middle : Framed) (ps : List Parameter) (xs : List Placed) (out : ℕ) : Type 0 where
@@ -182,9 +183,8 @@ pub record HasFrames (g : Package) (v middle : Framed) (ps : List Parameter) (xs
   pub sound : SoundScope middle.names.scope
   pub ends : EndsBelow middle (outs_end v.names.scope out xs)
 
-module _ (laws : LawsOfNames) (t : ProgramTree) (legal : IsLegal t) (restricted : IsRestricted t) (i : Sections) (g : Package) (of_program : IsPackageOf t i g)
-    (place : ℕ) (d : SubprogramTree) (b : BodyTree) (at : slice_get (declared_in t.package_) place ≡ Some (SubprogramBody d b))
-    (v middle : Framed) (before : IsInFront t g v (suc place)) (xs : List Placed)
+module _ (laws : LawsOfNames) (t : ProgramTree) (legal : IsLegal t) (restricted : IsRestricted t) (g : Package)
+    (owner : Option ℕ) (d : SubprogramTree) (b : BodyTree) (v middle : Framed) (before : IsEntrance t g owner v d b) (xs : List Placed)
     (texts : map parameter_at xs ≡ map (parameter (program_of t).scope) d.formals) (added : AddsEach v xs middle) (out : ℕ)
     (turn : AreInTurn v.names.scope 0 out xs) (reserved : v.reserved ≡ addresses_from v.names.scope 0 xs) (passed : passed_end v.names.scope 0 xs ≤ out)
     (room : outs_end v.names.scope out xs ≤ v.room) where
@@ -197,24 +197,23 @@ module _ (laws : LawsOfNames) (t : ProgramTree) (legal : IsLegal t) (restricted 
   abbrev top : ℕ
   top = passed_end base 0 xs
 
+  pub suited : (u : Subtype) → IsKnown base u → (x : Value) → IsOf program.scope u.type_number x → has_shape (shape_of base u) x ≡ true
+  suited = body_suits laws.scopes t owner base d b before.front (memory laws t legal restricted)
+
   abbrev AreReached : Framed → ℕ → List ℕ → List Parameter → Type 0
-  AreReached = Reached laws.stay laws.sized laws.scopes program g base (front_suits laws t legal restricted i g of_program v (suc place) before)
+  AreReached = Reached laws.stay laws.sized laws.scopes program g base suited
 
   sound_base : SoundScope base
-  sound_base = front_sound laws t legal restricted i g of_program v (suc place) before
+  sound_base = before.front.sound
 
   new : AreNew base (map parameter_at xs)
-  new =
-      subst (AreNew base) (sym texts)
-      (subst (λ s. AreNew s (map (parameter program.scope) d.formals)) (sym before.scope)
-      (parameters_new laws.scopes program (start_in t.package_) (declared_in t.package_) (whole laws t legal restricted)
-      (names laws t legal restricted).fronts place d b at))
+  new = subst (AreNew base) (sym texts) (parameters_new laws.scopes t owner base d b before.front)
 
   new_turn : AreNew base (map parameter_at (in_turn xs))
   new_turn = turn_new base xs new
 
   entries : HasEntries v
-  entries = record { slots = before.many_slots; subprograms = before.many_subprograms }
+  entries = record { slots = before.laid.slots; subprograms = before.laid.subprograms }
 
   widths : HasWidths laws.stay base v
   widths = record { known = λ u k. k; same = λ u k. refl }
@@ -249,11 +248,11 @@ module _ (laws : LawsOfNames) (t : ProgramTree) (legal : IsLegal t) (restricted 
 
   reached : AreReached v 0 (addresses_from base 0 xs) (map parameter_at xs)
   reached = record {
-    laid = front_laid laws t legal restricted i g of_program v (suc place) before;
+    laid = before.laid;
     sound = sound_base;
     types = types_with_all base [] tt;
     new = new;
-    ends = front_ends laws t legal restricted i g of_program v (suc place) before;
+    ends = before.ends;
     earlier = [];
     reserved = reserved;
     below = λ n among. let k = among in cc;
@@ -261,8 +260,7 @@ module _ (laws : LawsOfNames) (t : ProgramTree) (legal : IsLegal t) (restricted 
 
   behind : AreReached begins top [] []
   behind =
-      end_reached laws.stay laws.sized laws.scopes program g base (front_suits laws t legal restricted i g of_program v (suc place) before)
-      (map parameter_at xs) v begins 0 top (addresses_from base 0 xs) top_room holds reached
+      end_reached laws.stay laws.sized laws.scopes program g base suited (map parameter_at xs) v begins 0 top (addresses_from base 0 xs) top_room holds reached
 
   at_outs : AreReached begins out [] (map parameter_at (outs_of xs))
   at_outs = record {
@@ -284,8 +282,7 @@ module _ (laws : LawsOfNames) (t : ProgramTree) (legal : IsLegal t) (restricted 
 
   outs : OutsBegin g base begins (outs_of xs) begun × AreReached begun (words_behind laws.stay base out (outs_of xs)) [] []
   outs =
-      outs_begin laws.stay base (known laws t legal restricted).kept laws.sized laws.scopes program g
-      (front_suits laws t legal restricted i g of_program v (suc place) before) (outs_of xs) begins begun out at_outs
+      outs_begin laws.stay base (known laws t legal restricted).kept laws.sized laws.scopes program g suited (outs_of xs) begins begun out at_outs
       (new_behind_all base (taken_of xs) (outs_of xs) new_turn) (widths_behind laws.stay base (taken_of xs) v begins first.1 widths) second.1
       (outs_behind laws.stay base xs 0 out turn) outs_room
 
@@ -322,6 +319,9 @@ module _ (laws : LawsOfNames) (t : ProgramTree) (legal : IsLegal t) (restricted 
   reserved_middle : begun.reserved ≡ middle.reserved
   reserved_middle = reserved_reordered laws.scopes g v begun middle (in_turn xs) xs joined added entries sound_base new_turn new on back
 
+  within_middle : middle.within ≡ begun.within
+  within_middle = within_stays xs v middle added ∙ sym (within_stays (in_turn xs) v begun joined)
+
   abbrev ps : List Parameter
   ps = map (parameter program.scope) d.formals
 
@@ -336,10 +336,10 @@ module _ (laws : LawsOfNames) (t : ProgramTree) (legal : IsLegal t) (restricted 
     left = ap left_out (sym texts) ∙ outs_left xs;
     outs = outs.0;
     orders = narrows_reordered laws.scopes g v begun middle (in_turn xs) xs joined added entries sound_base new_turn new on back;
-    laid = laid_reordered g begun middle outs.1.laid names_middle slots_middle same_words sound_middle entries_middle reserved_middle;
+    laid = laid_reordered g begun middle outs.1.laid names_middle slots_middle same_words sound_middle entries_middle reserved_middle within_middle;
     sound = sound_middle;
     ends =
-        ends_reordered g begun middle outs.1.laid names_middle slots_middle same_words sound_middle entries_middle reserved_middle
+        ends_reordered g begun middle outs.1.laid names_middle slots_middle same_words sound_middle entries_middle reserved_middle within_middle
         (outs_end base out xs)
         (subst (EndsBelow begun) (sym (outs_end_is laws.stay base xs out)) outs.1.ends);
   }
@@ -347,21 +347,16 @@ module _ (laws : LawsOfNames) (t : ProgramTree) (legal : IsLegal t) (restricted 
 -- ---- a function's parameters are those of the text
 
 module _ (laws : LawsOfNames) (t : ProgramTree) (legal : IsLegal t) (restricted : IsRestricted t) (g : Package)
-    (place : ℕ) (d : SubprogramTree) (b : BodyTree) (at : slice_get (declared_in t.package_) place ≡ Some (SubprogramBody d b))
-    (r : Identifier) (some : d.result ≡ Some r) (v last : Framed) (before : IsInFront t g v (suc place)) (xs : List Placed)
+    (owner : Option ℕ) (d : SubprogramTree) (b : BodyTree) (r : Identifier) (some : d.result ≡ Some r) (v last : Framed)
+    (before : IsEntrance t g owner v d b) (xs : List Placed)
     (texts : map parameter_at xs ≡ map (parameter (program_of t).scope) d.formals) (added : AddsEach v xs last) (out : ℕ)
     (turn : AreInTurn v.names.scope 0 out xs) (reserved : v.reserved ≡ []) where
   pub function_holds : HoldsAll v 0 v.reserved (map (parameter (program_of t).scope) d.formals) last (passed_end v.names.scope 0 xs)
   function_holds =
       let program : Program = program_of t in
       let base : Scope = v.names.scope in
-      let all = whole laws t legal restricted in
-      let fronts = (names laws t legal restricted).fronts in
-      let modes = formals_in laws.scopes program (start_in t.package_) (declared_in t.package_) all fronts place d b at r some in
-      let new : AreNew base (map parameter_at xs) =
-      subst (AreNew base) (sym texts)
-      (subst (λ s. AreNew s (map (parameter program.scope) d.formals)) (sym before.scope)
-      (parameters_new laws.scopes program (start_in t.package_) (declared_in t.package_) all fronts place d b at)) in
+      let modes = formals_in laws.scopes t owner base d b before.front r some in
+      let new : AreNew base (map parameter_at xs) = subst (AreNew base) (sym texts) (parameters_new laws.scopes t owner base d b before.front) in
       let holds =
       holds_in_turn laws.stay base xs v last 0 out new (record { known = λ u k. k; same = λ u k. refl }) turn
       (subst (λ l. AddsEach v l last) (sym (all_taken program.scope xs d.formals texts modes)) added) in

@@ -58,7 +58,7 @@ abbrev pub AreCopiedIn : List Formal → Type 0
 AreCopiedIn [] = ⊤
 AreCopiedIn (f ∷ fs) = (f.mode ≡ mode.In) × AreCopiedIn fs
 
-either_false : (a b : Bool) → (a || b) ≡ false → (a ≡ false) × (b ≡ false)
+pub either_false : (a b : Bool) → (a || b) ≡ false → (a ≡ false) × (b ≡ false)
 either_false true b h = cc
 either_false false b h = (refl, h)
 
@@ -67,7 +67,7 @@ copied_in mode.In h = refl
 copied_in mode.Out h = cc
 copied_in mode.InOut h = cc
 
-all_copied_in : (s : Scope) (fs : List Formal) → list_any (is_wrong_formal s) fs ≡ false → AreCopiedIn fs
+pub all_copied_in : (s : Scope) (fs : List Formal) → list_any (is_wrong_formal s) fs ≡ false → AreCopiedIn fs
 all_copied_in s [] h = tt
 all_copied_in s (f ∷ fs) h =
     let two = either_false (is_wrong_formal s f) (list_any (is_wrong_formal s) fs) h in

@@ -9,7 +9,8 @@ use Rattle.types.specs.Places.{is_of, or_else}
 use Rattle.types.specs.Scopes.{Scope, number_of}
 use Rattle.expr_soundness.specs.meaning.specs.Programs.{program_of}
 use Rattle.program_soundness.specs.Fronts.{declared_in, start_in}
-use Rattle.program_soundness.specs.BodyLaws.{PremisesHold}
+use Rattle.expr_soundness.specs.Laws.{ScopesAreSound}
+use Rattle.program_soundness.specs.BodyLaws.{NamesAreKnown, PremisesHold}
 use Rattle.program_soundness.proofs.Callables.{at_map, map_at}
 use Rattle.program_soundness.proofs.Listing.{or_else_none, same_some}
 use Rattle.program_soundness.proofs.Trees.{tree_package}
@@ -25,8 +26,9 @@ use Rattle.package_code.specs.Bodies.{BodyName, Coded, bodies_among, bodies_befo
 use Rattle.package_code.specs.Directory.{HaveBodyNumbers, HasManyBodies, entries_among, entries_of, numbered_item, numbered_once, numbered_with, operation_told}
 use Rattle.package_code.specs.Laws.{BodiesAreNumbered}
 use Rattle.package_code.specs.declared.operations.OperationNumber.{OperationNumber}
-use Rattle.package_code.proofs.Coded.{among_joined, body_at, body_of, name_of, names_are, names_many}
+use Rattle.package_code.proofs.Coded.{IsBodyOf, among_joined, body_at, body_of, name_of, names_are, names_many}
 use Rattle.package_code.proofs.GlobalsRefused.{split_at}
+use Rattle.package_code.proofs.OperationsAdded.{in_object, one_operation}
 use Rattle.package_code.proofs.TaskNames.{name_numbered, one_place}
 use Rattle.package_code.proofs.Variables.{long_set, none_told, set_other, set_told, was_none}
 
@@ -257,13 +259,23 @@ first_numbered before (z ∷ xs) (suc n) x owner name at is first =
     ∙ first_numbered (suc before) xs n x owner name at is (λ m y less there. first (suc m) y (omega (arith, less)) there)
     ∙ ap Some e
 
-pub bodies_numbered : PremisesHold → BodiesAreNumbered
-bodies_numbered premises t legal restricted place x k c at is outside = (
-  ap (λ l. number_from 0 l None c.head.name.name) (names_are t 0 all)
-      ∙ first_numbered 0 (map name_of (bodies_of t)) number (name_of c) None c.head.name.name
+own_owner : (o : Option ℕ) → is_of o o ≡ true
+own_owner None = refl
+own_owner (Some n) = grind arith
+
+pub same_owner : (a b : Option ℕ) → is_of a b ≡ true → a ≡ b
+same_owner None None h = refl
+same_owner (Some m) (Some n) h = ap Some (grind (arith, h))
+same_owner None (Some n) h = cc
+same_owner (Some m) None h = cc
+
+pub bodies_numbered : ScopesAreSound → NamesAreKnown → PremisesHold → BodiesAreNumbered
+bodies_numbered scopes known premises t legal restricted place x k c at is = (
+  ap (λ l. number_from 0 l c.owner c.head.name.name) (names_are t 0 all)
+      ∙ first_numbered 0 (map name_of (bodies_of t)) number (name_of c) c.owner c.head.name.name
       (at_map name_of (bodies_of t) number c (body_at t place k x c at is)) own unlike
       ∙ (let e : 0 + number ≡ number = omega arith in ap Some e),
-  name_numbered (program_of t) (start_in t.package_) all w place x t place k c at is outside,
+  λ outside. name_numbered (program_of t) (start_in t.package_) all w place x t place k c at is outside,
 )
   where
     all : List BodyItemTree
@@ -275,71 +287,79 @@ bodies_numbered premises t legal restricted place x k c at is outside = (
     number : ℕ
     number = bodies_before t place + k
 
-    own : (is_of c.owner None && bytes_eq c.head.name.name c.head.name.name) ≡ true
-    own = (λ j. is_of (outside j) None && bytes_same c.head.name.name j)
+    own : (is_of c.owner c.owner && bytes_eq c.head.name.name c.head.name.name) ≡ true
+    own = (λ j. own_owner c.owner j && bytes_same c.head.name.name j)
 
-    -- a body of the package in front has another name
-    differs : (m : ℕ) (e : Coded) → m < number → slice_get (bodies_of t) m ≡ Some e → e.owner ≡ None → bytes_eq e.head.name.name c.head.name.name ≡ false
-    differs m e less there none = by_test (bytes_eq e.head.name.name c.head.name.name) refl
+    -- the body with this owner and name is this one
+    alike : (m : ℕ) (e : Coded) (f : IsBodyOf t m e) → e.owner ≡ c.owner → e.head.name.name ≡ c.head.name.name → (o : Option ℕ) → c.owner ≡ o
+        → (f.place ≡ place) × (f.k ≡ k)
+    alike m e f owners same None outside =
+        one_place (program_of t) (start_in t.package_) all w t f.place f.k f.item e place k x c f.at f.is (owners ∙ outside) at is outside same
+    alike m e f owners same (Some o) owned =
+        one_operation scopes known premises t legal restricted f.place f.k e place k c
+        (in_object scopes known premises t legal restricted f.place f.item f.k e o f.is f.at (owners ∙ owned))
+        (in_object scopes known premises t legal restricted place x k c o is at owned) owners same
+
+    -- a body in front with the same owner has another name
+    differs : (m : ℕ) (e : Coded) → m < number → slice_get (bodies_of t) m ≡ Some e → e.owner ≡ c.owner
+        → bytes_eq e.head.name.name c.head.name.name ≡ false
+    differs m e less there owners = by_test (bytes_eq e.head.name.name c.head.name.name) refl
       where
         by_test : (b : Bool) → bytes_eq e.head.name.name c.head.name.name ≡ b → b ≡ false
         by_test false same = refl
         by_test true same =
             absurd (
             let f = body_of t m e there in
-            let alike = one_place (program_of t) (start_in t.package_) all w t f.place f.k f.item e place k x c f.at f.is none at is outside
-            (same_bytes e.head.name.name c.head.name.name same) in
+            let places = alike m e f owners (same_bytes e.head.name.name c.head.name.name same) c.owner refl in
             let counted = f.before in
-            let front = ap (λ n. bodies_among (take n all)) alike.0 in
-            let inside = alike.1 in
+            let front = ap (λ n. bodies_among (take n all)) places.0 in
+            let inside = places.1 in
             omega (arith, less, counted, front, inside)
             )
 
     unlike : (m : ℕ) (y : BodyName) → m < number → slice_get (map name_of (bodies_of t)) m ≡ Some y
-        → (is_of y.owner None && bytes_eq y.name c.head.name.name) ≡ false
+        → (is_of y.owner c.owner && bytes_eq y.name c.head.name.name) ≡ false
     unlike m y less there =
         let e = map_at name_of (bodies_of t) m y there in
-        ap (λ z. is_of z.owner None && bytes_eq z.name c.head.name.name) (sym e.2) ∙ by_owner e.0 e.1 e.0.owner refl
+        ap (λ z. is_of z.owner c.owner && bytes_eq z.name c.head.name.name) (sym e.2) ∙ by_owner e.0 e.1 (is_of e.0.owner c.owner) refl
       where
-        by_owner : (e : Coded) → slice_get (bodies_of t) m ≡ Some e → (o : Option ℕ) → e.owner ≡ o
-            → (is_of e.owner None && bytes_eq e.head.name.name c.head.name.name) ≡ false
-        by_owner e at_m (Some o) owned = ap (λ z. is_of z None && bytes_eq e.head.name.name c.head.name.name) owned
-        by_owner e at_m None owned =
-            ap (λ z. is_of z None && bytes_eq e.head.name.name c.head.name.name) owned ∙ differs m e less at_m owned
+        by_owner : (e : Coded) → slice_get (bodies_of t) m ≡ Some e → (b : Bool) → is_of e.owner c.owner ≡ b
+            → (is_of e.owner c.owner && bytes_eq e.head.name.name c.head.name.name) ≡ false
+        by_owner e at_m false other = ap (λ z. z && bytes_eq e.head.name.name c.head.name.name) other
+        by_owner e at_m true same =
+            ap (λ z. z && bytes_eq e.head.name.name c.head.name.name) same ∙ differs m e less at_m (same_owner e.owner c.owner same)
 
--- what has a number is a body of that owner
-pub record IsNumberedBody (t : ProgramTree) (owner : Option ℕ) (number : ℕ) : Type 0 where
+-- what has a number is a body of that owner and name
+pub record IsNumberedBody (t : ProgramTree) (owner : Option ℕ) (name : List ℕ) (number : ℕ) : Type 0 where
   pub code : Coded
   pub is : slice_get (bodies_of t) number ≡ Some code
   pub owned : code.owner ≡ owner
-
-same_owner : (a b : Option ℕ) → is_of a b ≡ true → a ≡ b
-same_owner None None h = refl
-same_owner (Some m) (Some n) h = ap Some (grind (arith, h))
-same_owner None (Some n) h = cc
-same_owner (Some m) None h = cc
+  pub named : code.head.name.name ≡ name
 
 found_named : (before : ℕ) (xs : List BodyName) (owner : Option ℕ) (name : List ℕ) (number : ℕ) → number_from before xs owner name ≡ Some number
-    → (k : ℕ) × (x : BodyName) × (slice_get xs k ≡ Some x) × (x.owner ≡ owner) × (number ≡ before + k)
+    → (k : ℕ) × (x : BodyName) × (slice_get xs k ≡ Some x) × (x.owner ≡ owner) × (x.name ≡ name) × (number ≡ before + k)
 found_named before [] owner name number h = cc
 found_named before (x ∷ xs) owner name number h =
-    by_tests (is_of x.owner owner) (bytes_eq x.name name) refl h (λ e. found_named (suc before) xs owner name number e)
+    by_tests (is_of x.owner owner) (bytes_eq x.name name) refl refl h (λ e. found_named (suc before) xs owner name number e)
   where
-    by_tests : (a b : Bool) → is_of x.owner owner ≡ a → (if a && b then Some before else number_from (suc before) xs owner name) ≡ Some number
+    by_tests : (a b : Bool) → is_of x.owner owner ≡ a → bytes_eq x.name name ≡ b
+        → (if a && b then Some before else number_from (suc before) xs owner name) ≡ Some number
         → (number_from (suc before) xs owner name ≡ Some number
-        → (k : ℕ) × (y : BodyName) × (slice_get xs k ≡ Some y) × (y.owner ≡ owner) × (number ≡ suc before + k))
-        → (k : ℕ) × (y : BodyName) × (slice_get (x ∷ xs) k ≡ Some y) × (y.owner ≡ owner) × (number ≡ before + k)
-    by_tests true true owned e later = (0, x, refl, same_owner x.owner owner owned, (let s = same_some before number e in omega (arith, s)))
-    by_tests true false owned e later =
-        (let r = later e in (suc r.0, r.1, r.2, r.3, (let n = r.4 in omega (arith, n))))
-    by_tests false b owned e later =
-        (let r = later e in (suc r.0, r.1, r.2, r.3, (let n = r.4 in omega (arith, n))))
+        → (k : ℕ) × (y : BodyName) × (slice_get xs k ≡ Some y) × (y.owner ≡ owner) × (y.name ≡ name) × (number ≡ suc before + k))
+        → (k : ℕ) × (y : BodyName) × (slice_get (x ∷ xs) k ≡ Some y) × (y.owner ≡ owner) × (y.name ≡ name) × (number ≡ before + k)
+    by_tests true true owned named e later =
+        (0, x, refl, same_owner x.owner owner owned, same_bytes x.name name named, (let s = same_some before number e in omega (arith, s)))
+    by_tests true false owned named e later =
+        (let r = later e in (suc r.0, r.1, r.2, r.3, r.4, (let n = r.5 in omega (arith, n))))
+    by_tests false b owned named e later =
+        (let r = later e in (suc r.0, r.1, r.2, r.3, r.4, (let n = r.5 in omega (arith, n))))
 
-pub number_of_body : (t : ProgramTree) (owner : Option ℕ) (name : List ℕ) (number : ℕ) → number_in t owner name ≡ Some number → IsNumberedBody t owner number
+pub number_of_body : (t : ProgramTree) (owner : Option ℕ) (name : List ℕ) (number : ℕ) → number_in t owner name ≡ Some number
+    → IsNumberedBody t owner name number
 number_of_body t owner name number h =
     let r =
     found_named 0 (map name_of (bodies_of t)) owner name number (ap (λ l. number_from 0 l owner name) (sym (names_are t 0 (declared_in t.package_))) ∙ h) in
     let e = map_at name_of (bodies_of t) r.0 r.1 r.2 in
-    let n = r.4 in
+    let n = r.5 in
     let same : number ≡ r.0 = omega (arith, n) in
-    record { code = e.0; is = ap (slice_get (bodies_of t)) same ∙ e.1; owned = ap (λ x. x.owner) e.2 ∙ r.3 }
+    record { code = e.0; is = ap (slice_get (bodies_of t)) same ∙ e.1; owned = ap (λ x. x.owner) e.2 ∙ r.3; named = ap (λ x. x.name) e.2 ∙ r.4 }

@@ -1,6 +1,6 @@
 -- Names that stand for the same in another order: what a frame knows of the ones it knows of the others.
 use Rattle.std.proofs.Common.{◌≡◌, ℕ, List, Some, sym, ◌∙◌, arith}
-use Rattle.types.specs.Entities.{Entity}
+use Rattle.types.specs.Entities.{Entity, Profile, Subprogram}
 use Rattle.types.specs.Entities as entity
 use Rattle.types.specs.Places.{Place}
 use Rattle.types.specs.Scopes.{Scope, entity_at}
@@ -9,7 +9,7 @@ use Rattle.expr_soundness.specs.SoundScopes.{SoundScope}
 use Rattle.expr_soundness.proofs.Goods.{object_known}
 use Rattle.program_soundness.proofs.WiderScopes.{number_stands, stands, stands_number}
 use Rattle.program_soundness.proofs.Same.{SameTypes, one_same}
-use Rattle.expr_code.specs.Seeing.{Package, slot_of, subprogram_of}
+use Rattle.expr_code.specs.Seeing.{Package, external_of, slot_of, subprogram_of}
 use Rattle.step_simulation.specs.part_code.specs.Resting.{Framed, NarrowsFrame, Shows}
 
 module _ (s u : Scope) (sound : SoundScope u) (types : SameTypes s u) (names : (name : List ℕ) → stands u name ≡ stands s name) where
@@ -41,15 +41,17 @@ module _ (s u : Scope) (sound : SoundScope u) (types : SameTypes s u) (names : (
             means_same p agrees name there.0 e there.2 (agrees.names name there.0 e there.1 there.2);
       }
 
--- the same names with the same places and subprograms
+-- the same names with the same places and subprograms, also behind protected objects
 pub narrows_same : (g : Package) (now later : Framed) → SoundScope later.names.scope → SameTypes now.names.scope later.names.scope
     → ((name : List ℕ) → stands later.names.scope name ≡ stands now.names.scope name)
     → ((name : List ℕ) → slot_of later.names name ≡ slot_of now.names name)
     → ((name : List ℕ) → subprogram_of later.names name ≡ subprogram_of now.names name)
+    → ((name operation : List ℕ) → external_of later.names name operation ≡ external_of now.names name operation)
     → later.room ≡ now.room
+    → now.within ≡ later.within
     → now.reserved ≡ later.reserved
     → NarrowsFrame g now later
-narrows_same g now later sound types names slots subprograms room reserved = record { shows = shows; reserved = reserved }
+narrows_same g now later sound types names slots subprograms externals room within reserved = record { shows = shows; reserved = reserved }
   where
     shows : Shows g now later
     shows p view h = record {
@@ -59,8 +61,13 @@ narrows_same g now later sound types names slots subprograms room reserved = rec
           agrees = agrees_same now.names.scope later.names.scope sound types names p h.sees.names.agrees;
           objects = λ name slot t value told means. h.sees.names.objects name slot t value (sym (slots name) ∙ told) means;
         };
-        functions = λ name number f told means. h.sees.functions name number f (sym (subprograms name) ∙ told) means;
+        functions = λ name number f profile result told naming gives means.
+            let n = number_stands now.names.scope name (entity.Subprogram profile)
+            (sym (names name) ∙ stands_number later.names.scope name naming.number (entity.Subprogram profile) naming.numbered naming.stands) in
+            h.sees.functions name number f profile result (sym (subprograms name) ∙ told) (record { number = n.0; numbered = n.1; stands = n.2 }) gives means;
+        externals = λ name operation number o f told means found. h.sees.externals name operation number o f (sym (externals name operation) ∙ told) means found;
       };
+      within = h.within ∙ within;
       room = (let r = h.room in omega (arith, r, room));
       homes = λ name slot told. h.homes name slot (sym (slots name) ∙ told);
     }

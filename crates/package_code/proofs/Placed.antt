@@ -158,9 +158,7 @@ module _ (premises : PremisesHold) (t : ProgramTree) (legal : IsLegal t) (restri
       (subst (λ l. refuses_items s l (items_among rest) ≡ true) (sym (among_both before (x ∷ []) ∙ append-nil (items_among before))) h))
 
   pub variables_placed : refuses_items s [] (package_items t.package_) ≡ true → (program_needs t).outside ≡ true
-  variables_placed h =
-      or_right (not (nat_eq (protected_count s) 0)) (items_needs t 0 all).outside
-      (all_outside [] all 0 refl (subst (λ l. refuses_items s [] l ≡ true) (items_are t.package_) h))
+  variables_placed h = all_outside [] all 0 refl (subst (λ l. refuses_items s [] l ≡ true) (items_are t.package_) h)
 
 pub variables_are_placed : PremisesHold → VariablesArePlaced
 variables_are_placed premises t legal restricted h = variables_placed premises t legal restricted h

@@ -2,25 +2,29 @@
 use Rattle.std.proofs.Common.{◌≡◌, ℕ, suc, ◌⊎◌, inl, inr, List, [], ◌∷◌, ◌++◌, length, map, cond, Bool, true, false, Option, Some, None, refl, sym, ap, ◌∙◌, subst}
 use Rattle.std.specs.Prelude.{bytes_eq, is_some, slice_get}
 use Rattle.image.specs.declared.instruction.Region.TheVariants as regions
-use Rattle.types.specs.Entities.{Entity}
+use Rattle.type_rules.specs.SubtypeNames.{entity_at_or_none}
+use Rattle.types.specs.Entities.{Entity, Profile, ProtectedObject}
+use Rattle.types.specs.Entities as entity
 use Rattle.types.specs.Places.{or_else}
-use Rattle.types.specs.Scopes.{Named, Scope, is_visible, number_of}
+use Rattle.types.specs.Scopes.{Named, Scope, is_visible, number_of, protected_at, protected_of}
 use Rattle.expr_soundness.specs.Laws.{ScopesAreSound}
 use Rattle.expr_soundness.specs.SoundScopes.{SoundScope}
 use Rattle.expr_soundness.proofs.Positions.{item_added, number_added, same_some}
 use Rattle.declaring.specs.BodyNames.{formal_role}
 use Rattle.expr_soundness.specs.meaning.specs.Programs.{Parameter, Program}
-use Rattle.program_soundness.proofs.WiderScopes.{bytes_same, none_unseen, number_stands, one_named, same_bytes, stands, stands_with, with_all}
+use Rattle.program_soundness.proofs.WiderScopes.{bytes_same, none_unseen, number_stands, one_named, same_bytes, stands, stands_number, stands_with, with_all}
 use Rattle.program_soundness.proofs.Formals.{AreNew, all_named, all_types, named_formal, new_behind, sound_all}
 use Rattle.program_soundness.proofs.Listing.{Has, first_some, or_else_some}
 use Rattle.program_soundness.proofs.Same.{SameTypes, types_then, types_turned, types_with_all}
-use Rattle.expr_code.specs.Seeing.{Package, slot_of, subprogram_of, told_of}
+use Rattle.expr_code.specs.Seeing.{NamesProfile, Package, external_of, number_behind, object_named, slot_of, subprogram_of, told_of}
 use Rattle.expr_code.specs.declared.visible.Slot.{Slot}
+use Rattle.expr_code.specs.declared.visible.Visible.{Visible}
 use Rattle.step_simulation.specs.part_code.specs.Resting.{Framed, NarrowsFrame}
 use Rattle.step_simulation.specs.part_code.proofs.Names.{same_name, told_again, told_more, told_of_more}
 use Rattle.step_simulation.specs.part_code.specs.Formals.{AddsEach, AddsParameter, Placed, parameter_at}
 use Rattle.package_code.specs.Package.{FindsNames}
 use Rattle.package_code.proofs.InFront.{serves_more}
+use Rattle.package_code.proofs.Offered.{object_entity}
 use Rattle.package_code.proofs.Ordered.{narrows_same}
 
 abbrev pub slot_at : Placed → Slot
@@ -235,6 +239,52 @@ numbers_on [] v w h entries new name n k = subst (λ z. subprogram_of z.names na
 numbers_on (x ∷ xs) v w h entries new name n k =
     numbers_on xs h.0 w h.2 (next_entries v h.0 x h.1 entries new.0) (new_next v h.0 x xs h.1 new) name n (number_stays v h.0 x h.1 entries new.0 name n k)
 
+-- what is told behind protected objects goes by what their names stand for
+object_stands : (s : Scope) (name : List ℕ) → object_named s name ≡ protected_of (stands s name)
+object_stands s name = by_number (number_of s name)
+  where
+    by_number : (o : Option ℕ) → elim o [ None ↦ None | Some n ↦ protected_at s n ] ≡ protected_of (entity_at_or_none s o)
+    by_number (Some n) = refl
+    by_number None = refl
+
+pub externals_same : (v w : Visible) → w.operations ≡ v.operations → ((name : List ℕ) → stands w.scope name ≡ stands v.scope name)
+    → (name operation : List ℕ) → external_of w name operation ≡ external_of v name operation
+externals_same v w operations names name operation =
+    ap (λ all. number_behind all (object_named w.scope name) operation) operations
+    ∙ ap (λ o. number_behind v.operations o operation)
+    (object_stands w.scope name ∙ ap protected_of (names name) ∙ sym (object_stands v.scope name))
+
+pub operations_stay : (xs : List Placed) (v w : Framed) → AddsEach v xs w → w.names.operations ≡ v.names.operations
+operations_stay [] v w h = ap (λ z. z.names.operations) h
+operations_stay (x ∷ xs) v w h = operations_stay xs h.0 w h.2 ∙ h.1.operations
+
+-- a subprogram that is named behind them is named so in front of them
+pub profile_back : (xs : List Placed) (v w : Framed) → AddsEach v xs w → HasEntries v → AreNew v.names.scope (parameters_at xs) → (name : List ℕ) (p : Profile)
+    → NamesProfile w.names.scope name p → NamesProfile v.names.scope name p
+profile_back xs v w h entries new name p n =
+    elim (all_came (λ u other e. stands u.names.scope other ≡ Some e) formal_entity names_added xs v w h entries new name (entity.Subprogram p)
+    (stands_number w.names.scope name n.number (entity.Subprogram p) n.numbered n.stands)) [
+      | inl k ↦ (let m = number_stands v.names.scope name (entity.Subprogram p) k in record { number = m.0; numbered = m.1; stands = m.2 })
+      | inr k ↦ absurd (let bad = k.is in cc)
+    ]
+
+-- what is told behind the name of a protected object behind them was told in front of them: they are no protected objects
+pub externals_back : (xs : List Placed) (v w : Framed) → AddsEach v xs w → HasEntries v → AreNew v.names.scope (parameters_at xs) → (name operation : List ℕ)
+    (n : ℕ) → external_of w.names name operation ≡ Some n → external_of v.names name operation ≡ Some n
+externals_back xs v w h entries new name operation n = by_object (object_named w.names.scope name) refl
+  where
+    by_object : (o : Option ProtectedObject) → object_named w.names.scope name ≡ o → number_behind w.names.operations o operation ≡ Some n
+        → external_of v.names name operation ≡ Some n
+    by_object None e told = cc
+    by_object (Some q) e told =
+        elim (all_came (λ u other y. stands u.names.scope other ≡ Some y) formal_entity names_added xs v w h entries new name (entity.Protected q)
+        (object_entity w.names.scope name q e)) [
+          | inl there ↦ ap (λ z. number_behind v.names.operations z operation) (object_stands v.names.scope name ∙ ap protected_of there)
+              ∙ ap (λ all. number_behind all (Some q) operation) (sym (operations_stay xs v w h))
+              ∙ told
+          | inr k ↦ absurd (let bad = k.is in cc)
+        ]
+
 -- the scope behind them, and what stays of the frame
 pub scope_behind : (xs : List Placed) (v w : Framed) → AddsEach v xs w → w.names.scope ≡ with_all v.names.scope (all_named (parameters_at xs))
 scope_behind [] v w h = ap (λ z. z.names.scope) h
@@ -244,15 +294,20 @@ pub room_stays : (xs : List Placed) (v w : Framed) → AddsEach v xs w → w.roo
 room_stays [] v w h = ap (λ z. z.room) h
 room_stays (x ∷ xs) v w h = room_stays xs h.0 w h.2 ∙ h.1.room
 
+pub within_stays : (xs : List Placed) (v w : Framed) → AddsEach v xs w → w.within ≡ v.within
+within_stays [] v w h = ap (λ z. z.within) h
+within_stays (x ∷ xs) v w h = within_stays xs h.0 w h.2 ∙ h.1.within
+
 pub reserved_stays : (xs : List Placed) (v w : Framed) → AddsEach v xs w → w.reserved ≡ v.reserved
 reserved_stays [] v w h = ap (λ z. z.reserved) h
 reserved_stays (x ∷ xs) v w h = reserved_stays xs h.0 w h.2 ∙ h.1.reserved
 
 -- and what is visible behind them names what the program has, where it does in front of them
-pub each_serves : (program : Program) (xs : List Placed) (v w : Framed) → AddsEach v xs w → FindsNames program v → FindsNames program w
-each_serves program [] v w h serves = subst (FindsNames program) (sym h) serves
-each_serves program (x ∷ xs) v w h serves =
-    each_serves program xs h.0 w h.2 (serves_more program v h.0 x.0.name (formal_role x.0.mode) x.0.subtype serves h.1.scope)
+pub each_serves : (program : Program) (owner : Option ℕ) (xs : List Placed) (v w : Framed) → AddsEach v xs w → FindsNames program owner v
+    → FindsNames program owner w
+each_serves program owner [] v w h serves = subst (FindsNames program owner) (sym h) serves
+each_serves program owner (x ∷ xs) v w h serves =
+    each_serves program owner xs h.0 w h.2 (serves_more program owner v h.0 x.0.name (formal_role x.0.mode) x.0.subtype serves h.1.scope)
 
 same_options : {X : Type 0} (a b : Option X) → ((x : X) → a ≡ Some x → b ≡ Some x) → ((x : X) → b ≡ Some x → a ≡ Some x) → a ≡ b
 same_options (Some x) b on back = sym (on x refl)
@@ -295,6 +350,10 @@ module _ (scopes : ScopesAreSound) (g : Package) (v w u : Framed) (xs ys : List 
       (λ n h. numbers_on xs v w first entries new name n (numbers_back ys v u second entries fresh name n h))
       (λ n h. numbers_on ys v u second entries fresh name n (numbers_back xs v w first entries new name n h))
 
+  externals_reordered : (name operation : List ℕ) → external_of u.names name operation ≡ external_of w.names name operation
+  externals_reordered =
+      externals_same w.names u.names (operations_stay ys v u second ∙ sym (operations_stay xs v w first)) names_reordered
+
   pub sound_reordered : SoundScope u.names.scope
   sound_reordered = subst SoundScope (sym (scope_behind ys v u second)) (sound_all scopes v.names.scope (parameters_at ys) sound fresh)
 
@@ -303,5 +362,5 @@ module _ (scopes : ScopesAreSound) (g : Package) (v w u : Framed) (xs ys : List 
 
   pub narrows_reordered : NarrowsFrame g w u
   narrows_reordered =
-      narrows_same g w u sound_reordered types_between names_reordered slots_reordered subprograms_reordered
-      (room_stays ys v u second ∙ sym (room_stays xs v w first)) reserved_reordered
+      narrows_same g w u sound_reordered types_between names_reordered slots_reordered subprograms_reordered externals_reordered
+      (room_stays ys v u second ∙ sym (room_stays xs v w first)) (within_stays xs v w first ∙ sym (within_stays ys v u second)) reserved_reordered

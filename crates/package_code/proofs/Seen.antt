@@ -1,8 +1,8 @@
 -- What is visible in front of each declaration and body of a package is told by the text alone, as names become visible one by one.
-use Rattle.std.proofs.Common.{◌≡◌, ℕ, zero, suc, ◌+◌, ◌≤◌, List, [], ◌∷◌, ◌++◌, append-nil, append_assoc, length, take, ◌⊎◌, inl, inr, Option, Some, None, refl, sym, ap, ◌∙◌, subst, arith, length-append}
+use Rattle.std.proofs.Common.{◌≡◌, ℕ, zero, suc, ◌+◌, ◌≤◌, List, [], ◌∷◌, ◌++◌, append-nil, append_assoc, length, map, take, ◌⊎◌, inl, inr, Option, Some, None, refl, sym, ap, ◌∙◌, subst, arith, length-append}
 use Rattle.std.specs.Prelude.{cond, replicate, slice_get}
 use Rattle.ada_tree.specs.ProgramTree.{BodyItemTree, OfItem, PackageTree, ProgramTree, ProtectedBody, SubprogramBody, TaskBody}
-use Rattle.types.specs.Entities.{Entity}
+use Rattle.types.specs.Entities.{Entity, Operation, ProtectedObject}
 use Rattle.types.specs.Places.{or_else}
 use Rattle.types.specs.Scopes.{Named, Scope, number_of, standard}
 use Rattle.legality.specs.MainRules.{item_name}
@@ -14,9 +14,10 @@ use Rattle.program_soundness.proofs.Walked.{declares, kept_at, one_of, scope_nex
 use Rattle.program_soundness.proofs.WiderScopes.{bytes_same, number_stands, stands}
 use Rattle.expr_code.specs.Seeing.{told_of}
 use Rattle.expr_code.specs.declared.visible.Visible.{Visible}
-use Rattle.package_code.specs.Directory.{IsDirectory, IsUnseen, TellsMore, TellsNext}
+use Rattle.package_code.specs.Directory.{IsDirectory, IsUnseen, TellsMore, TellsNext, number_told, operations_told}
 use Rattle.package_code.specs.Bodies.{number_in}
-use Rattle.package_code.specs.Refusing.{seen_at, slot_in, told_behind}
+use Rattle.package_code.specs.Owners.{offered_names, protected_objects, told_behind_objects}
+use Rattle.package_code.specs.Refusing.{operation_numbers, seen_at, slot_in, told_behind}
 use Rattle.package_code.specs.declared.directory.Directory.{Directory}
 use Rattle.package_code.proofs.Told.{Grows, item_grows, subprogram_grows}
 
@@ -38,6 +39,22 @@ behind_long tell zero [] = refl
 behind_long tell (suc first) [] = refl
 behind_long tell zero (n ∷ s) = ap suc (behind_long tell zero s)
 behind_long tell (suc first) (n ∷ s) = ap suc (behind_long tell first s)
+
+-- ---- operations of protected objects
+
+objects_same : {X : Type 0} (f g : Option ℕ → List ℕ → Option X) (objects : List ProtectedObject) → ((o : ℕ) (name : List ℕ) → f (Some o) name ≡ g (Some o) name)
+    → told_behind_objects f objects ≡ told_behind_objects g objects
+objects_same f g [] same = refl
+objects_same f g (p ∷ objects) same = λ j. each p.operations j ∷ objects_same f g objects same j
+  where
+    each : (os : List Operation) → map (f (Some p.number)) (offered_names os) ≡ map (g (Some p.number)) (offered_names os)
+    each [] = refl
+    each (q ∷ os) = λ j. same p.number q.name j ∷ each os j
+
+-- the directory tells their numbers
+pub operations_are : (t : ProgramTree) (d : Directory) → IsDirectory t d → operations_told (program_of t).scope d ≡ operation_numbers t
+operations_are t d is =
+    objects_same (number_told (program_of t).scope d) (number_in t) (protected_objects (program_of t).scope) (λ o name. is.operations o name)
 
 -- ---- scopes
 
@@ -89,9 +106,10 @@ module _ (t : ProgramTree) where
       fits a b n e = omega (arith, e)
 
   -- what is visible in front of the package
-  pub seen_first : (s : Scope) (v : Visible) → IsUnseen s v → s ≡ start → v ≡ seen_at t 0
-  seen_first s v u is =
-      λ j. record { scope = scope j; slots = slots j; subprograms = subprograms j }
+  pub seen_first : (s : Scope) (operations : List (List (Option ℕ))) (v : Visible) → IsUnseen s operations v → operations ≡ operation_numbers t → s ≡ start
+      → v ≡ seen_at t 0
+  seen_first s operations v u numbers is =
+      λ j. record { scope = scope j; slots = slots j; subprograms = subprograms j; operations = (u.operations ∙ numbers) j }
     where
       begins : start ≡ front t 0
       begins = sym (first_front start all)
@@ -155,6 +173,7 @@ module _ (t : ProgramTree) where
           scope = tells.scope j;
           slots = (ap (λ v. v.slots) kept ∙ ap (told_behind (length start) (slot_in t None)) (sym same)) j;
           subprograms = (ap (λ v. v.subprograms) kept ∙ ap (told_behind (length start) (number_in t None)) (sym same)) j;
+          operations = tells.operations j;
         }
     by_growth later tells (inl same) (inr added) =
         absurd (
@@ -173,6 +192,7 @@ module _ (t : ProgramTree) where
           slots = (added.slots ∙ told_more (slot_in t None) (told_of whole d.slots.items name) grown.0 grown.1 (is.slots name)) j;
           subprograms = (added.subprograms
               ∙ told_more (number_in t None) (told_of whole d.numbers.items name) grown.0 grown.1 (is.numbers name known.0 known.1)) j;
+          operations = tells.operations j;
         }
 
     pub seen_next : (old later : Visible) (scope : Scope) → old ≡ seen_at t place → scope ≡ next → Grows here name next

@@ -8,7 +8,8 @@ use Rattle.ada_tree.specs.ProgramTree.{BodyItemTree, BodyTree, ItemTree, OfExcep
 use Rattle.types.specs.Scopes.{Scope, number_of}
 use Rattle.expr_soundness.specs.expr_rules.proofs.TypedLaw.{unbroken}
 use Rattle.expr_soundness.specs.meaning.specs.Programs.{OfBody, Task, body_among, items_among, package_bodies, program_of, task_with, tasks_among}
-use Rattle.program_soundness.specs.BodyLaws.{PremisesHold}
+use Rattle.expr_soundness.specs.Laws.{ScopesAreSound}
+use Rattle.program_soundness.specs.BodyLaws.{NamesAreKnown, PremisesHold}
 use Rattle.program_soundness.specs.Fronts.{declared_in, front, start_in}
 use Rattle.program_soundness.proofs.Listing.{Has, dropped_at, has_either, one_passes, passes_at}
 use Rattle.program_soundness.proofs.OneList.{is_task_body, matched_at}
@@ -117,8 +118,8 @@ not_false : (b : Bool) → not b ≡ false → b ≡ true
 not_false true h = refl
 not_false false h = cc
 
-pub tasks_have_bodies : PremisesHold → TasksHaveBodies
-tasks_have_bodies premises t legal restricted place d at =
+pub tasks_have_bodies : ScopesAreSound → NamesAreKnown → PremisesHold → TasksHaveBodies
+tasks_have_bodies scopes known premises t legal restricted place d at =
     let all : List BodyItemTree = declared_in t.package_ in
     let w = tree_package t legal restricted (premises t legal).sound in
     let item = item_there all place (OfTask d) (ap (λ l. slice_get l place) (sym (items_are t.package_)) ∙ at) in
@@ -129,8 +130,8 @@ tasks_have_bodies premises t legal restricted place d at =
     let own = task_passes d.name one.1 one.3 in
     let there : slice_get all (suc item.0 + one.0) ≡ Some (TaskBody own.0 own.1) =
     sym (dropped_at all (suc item.0) one.0) ∙ one.2 ∙ ap Some own.2 in
-    let numbered = bodies_numbered premises t legal restricted (suc item.0 + one.0) (TaskBody own.0 own.1) 0
-    (of_task (front t (suc (suc item.0 + one.0))) own.0 own.1) there refl refl in
+    let numbered = bodies_numbered scopes known premises t legal restricted (suc item.0 + one.0) (TaskBody own.0 own.1) 0
+    (of_task (front t (suc (suc item.0 + one.0))) own.0 own.1) there refl in
     let any : list_any (is_task_body d.name) all ≡ true =
     passes_at (is_task_body d.name) all (suc item.0 + one.0) (TaskBody own.0 own.1) there (ap (is_task_body d.name) (sym own.2) ∙ one.3) in
     let body = one_body d.name all any in
@@ -138,5 +139,5 @@ tasks_have_bodies premises t legal restricted place d at =
       body = body.0;
       alone = sym (all_bodies d.name t.package_) ∙ body.1;
       numbered = ap (λ name. is_some (number_in t None name)) (sym own.3) ∙ ap is_some numbered.0;
-      visible = ap (λ name. is_some (number_of (program_of t).scope name)) (sym own.3) ∙ numbered.1;
+      visible = ap (λ name. is_some (number_of (program_of t).scope name)) (sym own.3) ∙ numbered.1 refl;
     }

@@ -12,7 +12,7 @@ use Rattle.legality.specs.MainRules.{item_name}
 use Rattle.expr_code.specs.Seeing.{told_of}
 use Rattle.expr_code.specs.declared.visible.Visible.{Visible}
 use Rattle.step_simulation.specs.part_code.proofs.Names.{same_name, told_of_more}
-use Rattle.package_code.specs.Directory.{AreTold, IsUnseen, TellsNext}
+use Rattle.package_code.specs.Directory.{AreTold, IsUnseen, TellsNext, operations_told}
 use Rattle.package_code.specs.declared.directory.Directory.{Directory}
 use Rattle.package_code.proofs.Variables.{none_told}
 
@@ -42,10 +42,12 @@ subprogram_grows s d = with_grows s d.name.name _
 -- ---- what is told
 
 -- of names of which nothing is told
-pub unseen_told : (whole : Scope) (d : Directory) (s : Scope) (v : Visible) → IsUnseen s v → AreTold whole d v
-unseen_told whole d s v u = record {
+pub unseen_told : (whole : Scope) (d : Directory) (s : Scope) (operations : List (List (Option ℕ))) (v : Visible) → operations ≡ operations_told whole d
+    → IsUnseen s operations v → AreTold whole d None v
+unseen_told whole d s operations v numbers u = record {
   slots = λ name x h. (let no = sym (ap (λ l. told_of v.scope l name) u.slots ∙ none_told v.scope (length s) name) ∙ h in cc);
   calls = λ name x h. (let no = sym (ap (λ l. told_of v.scope l name) u.subprograms ∙ none_told v.scope (length s) name) ∙ h in cc);
+  operations = u.operations ∙ numbers;
   entries = record {
     slots = ap length u.slots ∙ length-replicate (length s) None ∙ ap length (sym u.scope);
     subprograms = ap length u.subprograms ∙ length-replicate (length s) None ∙ ap length (sym u.scope);
@@ -75,9 +77,10 @@ entries_next whole told s t name all more long wide (inr grown) (inr added) befo
     ]
 
 -- behind a declaration of a name
-pub told_next : (whole : Scope) (d : Directory) (old mid new : Visible) (name : List ℕ) → AreTold whole d old → mid.slots ≡ old.slots
-    → mid.subprograms ≡ old.subprograms → Grows old.scope name mid.scope → TellsNext whole d mid name new → AreTold whole d new
-told_next whole d old mid new name before slots subprograms grows next = record {
+pub told_next : (whole : Scope) (d : Directory) (old mid new : Visible) (name : List ℕ) → AreTold whole d None old → mid.slots ≡ old.slots
+    → mid.subprograms ≡ old.subprograms → mid.operations ≡ old.operations → Grows old.scope name mid.scope → TellsNext whole d mid name new
+    → AreTold whole d None new
+told_next whole d old mid new name before slots subprograms operations grows next = record {
   slots = entries_next whole d.slots.items old.scope new.scope name old.slots new.slots before.entries.slots next.entries.slots grown
       (elim next.tells [ inl e ↦ inl (ap (λ v. v.slots) e ∙ slots) | inr e ↦ inr (e.slots ∙ ap (λ l. l ++ told_of whole d.slots.items name ∷ []) slots) ])
       before.slots;
@@ -88,6 +91,7 @@ told_next whole d old mid new name before slots subprograms grows next = record 
         | inr e ↦ inr (e.subprograms ∙ ap (λ l. l ++ told_of whole d.numbers.items name ∷ []) subprograms)
       ])
       before.calls;
+  operations = next.operations ∙ operations ∙ before.operations;
   entries = next.entries;
 }
   where

@@ -1,8 +1,8 @@
 -- How far a walk over a package is: in front of it, behind a declaration, and behind a body, with the rows of handlers that it has.
-use Rattle.std.proofs.Common.{◌≡◌, ℕ, zero, suc, ◌+◌, ◌<◌, ◌≤◌, List, [], ◌∷◌, ◌++◌, length, ◌⊎◌, inl, inr, None, Some, refl, sym, ap, ◌∙◌, subst, arith, append-nil, append_assoc, length-append}
+use Rattle.std.proofs.Common.{◌≡◌, ℕ, zero, suc, ◌+◌, ◌<◌, ◌≤◌, List, [], ◌∷◌, ◌++◌, length, ◌⊎◌, inl, inr, Option, None, Some, false, refl, sym, ap, ◌∙◌, subst, arith, append-nil, append_assoc, length-append}
 use Rattle.std.proofs.lemmas.List.Elements.{All-append, All-nil, All-weaker}
 use Rattle.std.proofs.lemmas.Option.{slice_get_within}
-use Rattle.std.specs.Prelude.{slice_get}
+use Rattle.std.specs.Prelude.{is_none, slice_get}
 use Rattle.ada_tree.specs.declared.expression.Identifier.{Identifier}
 use Rattle.ada_tree.specs.StatementTree.{SubprogramTree}
 use Rattle.ada_tree.specs.ProgramTree.{BodyItemTree, BodyTree, ItemTree, OfItem, ProgramTree, SubprogramBody, TaskBody}
@@ -26,8 +26,8 @@ use Rattle.step_simulation.specs.part_code.specs.Rows.{LiesWithin}
 use Rattle.stmt_code.specs.Subprograms.{KeepsRules, fresh}
 use Rattle.stmt_code.specs.declared.draft.Draft.{Draft}
 use Rattle.stmt_code.proofs.RowsAdded.{rows_kept, rows_then}
-use Rattle.package_code.specs.Bodies.{Coded, bodies_among, bodies_before, bodies_of, coded_at, of_subprogram, of_task}
-use Rattle.package_code.specs.Directory.{AreTold, TellsNext}
+use Rattle.package_code.specs.Bodies.{Coded, bodies_among, bodies_before, bodies_of, coded_at, is_entry_body, of_subprogram, of_task}
+use Rattle.package_code.specs.Directory.{AreTold, TellsNext, operations_told}
 use Rattle.package_code.specs.Laws.{MayBeAdded}
 use Rattle.package_code.specs.Walking.{AddsBody, AddsSubprogram, BeginsWalk, HasBody, HasRows, IsDraftKept, IsWalked, LieInFront, LiesInOne, begins_at, row_of}
 use Rattle.package_code.specs.declared.directory.Directory.{Directory}
@@ -167,11 +167,11 @@ module _ (t : ProgramTree) (directory : Directory) where
   plus_none : (n : ℕ) → n + 0 ≡ n
   plus_none n = omega arith
 
-  pub walk_begins : (s : Scope) (names : List (List ℕ)) (w : Walk) → BeginsWalk s names w → s ≡ start_in t.package_
-      → names ≡ (program_of t).exceptions → IsWalked t directory w
-  walk_begins s names w begins is known = record {
+  pub walk_begins : (s : Scope) (operations : List (List (Option ℕ))) (names : List (List ℕ)) (w : Walk) → BeginsWalk s operations names w
+      → s ≡ start_in t.package_ → operations ≡ operations_told whole directory → names ≡ (program_of t).exceptions → IsWalked t directory w
+  walk_begins s operations names w begins is numbers known = record {
     scope = begins.visible.scope ∙ is ∙ sym (ap (front t) begins.place ∙ first_front (start_in t.package_) all);
-    told = unseen_told whole directory s w.visible begins.visible;
+    told = unseen_told whole directory s operations w.visible numbers begins.visible;
     bodies = λ n c less is. absurd (let none = ap length begins.subprograms in omega (arith, less, none));
     end = ap (λ l. begins_at l (length l)) begins.subprograms ∙ sym (ap length begins.instructions);
     many = ap length begins.subprograms ∙ sym (ap (bodies_before t) begins.place);
@@ -186,7 +186,7 @@ module _ (t : ProgramTree) (directory : Directory) where
   moved old new number c more kept subprograms has =
       let within = slice_get_within old.subprograms.items number (row_of c.kind has.words (here has.new.code)) has.there in
       record {
-        outside = has.outside;
+        no_entry = has.no_entry;
         seen = has.seen;
         scope = has.scope;
         told = has.told;
@@ -211,47 +211,137 @@ module _ (t : ProgramTree) (directory : Directory) where
   last_or_before (suc n) zero h = absurd (omega (arith, h))
   last_or_before (suc n) (suc k) h = elim (last_or_before n k (omega (arith, h))) [ inl e ↦ inl (ap suc e) | inr e ↦ inr (omega (arith, e)) ]
 
+  -- ---- the code of the bodies so far
+
+  -- what a walk has of them, wherever it is
+  pub record HaveCode (w : Walk) : Type 0 where
+    pub bodies : (number : ℕ) (c : Coded) → number < length w.subprograms.items → slice_get (bodies_of t) number ≡ Some c → HasBody t directory number c w
+    pub end : begins_at w.subprograms.items (length w.subprograms.items) ≡ here w.draft.code
+    pub exceptions : w.draft.exceptions.items ≡ (program_of t).exceptions
+    pub rows : HasRows w.subprograms.items w.draft
+
+  pub walked_code : (w : Walk) → IsWalked t directory w → HaveCode w
+  walked_code w walked = record { bodies = walked.bodies; end = walked.end; exceptions = walked.exceptions; rows = walked.rows }
+
+  -- where nothing was added
+  pub code_kept : (old new : Walk) → new.draft ≡ old.draft → new.subprograms ≡ old.subprograms → HaveCode old → HaveCode new
+  code_kept old new draft subprograms has = record {
+    bodies = λ n c less is. moved old new n c [] (subst (IsDraftKept old.draft) (sym draft) (kept_self old.draft))
+        (ap (λ l. l.items) subprograms ∙ sym (append-nil old.subprograms.items))
+        (has.bodies n c (let same = ap (λ l. length l.items) subprograms in omega (arith, less, same)) is);
+    end = ap (λ l. begins_at l.items (length l.items)) subprograms ∙ has.end ∙ ap (λ z. here z.code) (sym draft);
+    exceptions = ap (λ z. z.exceptions.items) draft ∙ has.exceptions;
+    rows = subst (λ z. HasRows new.subprograms.items z) (sym draft) (subst (λ l. HasRows l.items old.draft) (sym subprograms) has.rows);
+  }
+
+  -- one body more, whose code was added where its names are visible
+  module _ (old mid after : Walk) (place k : ℕ) (item : BodyItemTree) (c : Coded) (has : HaveCode old) (at : slice_get all place ≡ Some item)
+      (is : slice_get (coded_at t place item) k ≡ Some c) (many : length old.subprograms.items ≡ bodies_before t place + k)
+      (no_entry : is_entry_body c.kind ≡ false) (scope : mid.visible.scope ≡ c.front) (told : AreTold whole directory c.owner mid.visible)
+      (draft : mid.draft ≡ old.draft) (subprograms : mid.subprograms ≡ old.subprograms) (adds : AddsBody t directory c mid after) where
+    abbrev row : Subprogram
+    row = row_of c.kind adds.words (here after.draft.code)
+
+    rows : after.subprograms.items ≡ old.subprograms.items ++ row ∷ []
+    rows = adds.row ∙ ap (λ l. l.items ++ row ∷ []) subprograms
+
+    added : AddsSubprogram t c.head c.body mid.visible old.draft adds.words after.draft
+    added = subst (λ z. AddsSubprogram t c.head c.body mid.visible z adds.words after.draft) draft adds.adds
+
+    keeps : KeepsRules (is_none c.head.result) mid.visible old.draft adds.words after.draft
+    keeps = subst (λ z. KeepsRules (is_none c.head.result) mid.visible z adds.words after.draft) draft adds.keeps
+
+    kept : IsDraftKept old.draft after.draft
+    kept = kept_by old.draft after.draft keeps.extends keeps.labels keeps.rows
+
+    this : HasBody t directory (length old.subprograms.items) c after
+    this = record {
+      no_entry = no_entry;
+      seen = mid.visible;
+      scope = scope;
+      told = told;
+      old = old.draft;
+      new = after.draft;
+      words = adds.words;
+      adds = added;
+      called = adds.called;
+      keeps = keeps;
+      before = rows_in_front old.subprograms.items old.draft has.rows;
+      numbered = adds.numbered ∙ ap (λ l. Some (length l.items)) subprograms;
+      there = ap (λ l. slice_get l (length old.subprograms.items)) rows ∙ get_last old.subprograms.items row;
+      begins = ap (λ l. begins_at l (length old.subprograms.items)) rows
+          ∙ begins_kept old.subprograms.items (row ∷ []) (length old.subprograms.items) (omega arith) ∙ has.end;
+      kept = kept_self after.draft;
+    }
+
+    -- the body of that number
+    that : slice_get (bodies_of t) (length old.subprograms.items) ≡ Some c
+    that = ap (slice_get (bodies_of t)) many ∙ body_at t place k item c at is
+
+    by_number : (n : ℕ) (e : Coded) → slice_get (bodies_of t) n ≡ Some e → (n ≡ length old.subprograms.items) ⊎ (n < length old.subprograms.items)
+        → HasBody t directory n e after
+    by_number n e there (inl same) =
+        let code : c ≡ e = same_some c e (sym that ∙ ap (slice_get (bodies_of t)) (sym same) ∙ there) in
+        subst (λ k. HasBody t directory k e after) (sym same) (subst (λ z. HasBody t directory (length old.subprograms.items) z after) code this)
+    by_number n e there (inr less) = moved old after n e (row ∷ []) kept rows (has.bodies n e less there)
+
+    pub code_more : HaveCode after
+    code_more = record {
+      bodies = λ n e less there. by_number n e there
+          (last_or_before n (length old.subprograms.items)
+          (let long = ap length rows ∙ length-append old.subprograms.items (row ∷ []) in omega (arith, less, long)));
+      end = ap (λ l. begins_at l (length l)) rows ∙ begins_behind old.subprograms.items row;
+      exceptions = ap (λ e. e.items) kept.exceptions ∙ has.exceptions;
+      rows = subst (λ l. HasRows l after.draft) (sym rows)
+          (rows_more old.subprograms.items row old.draft after.draft has.rows keeps.rows keeps.extends has.end refl);
+    }
+
+    pub many_more : length after.subprograms.items ≡ bodies_before t place + suc k
+    many_more = (let long = ap length rows ∙ length-append old.subprograms.items (row ∷ []) in omega (arith, long, many))
+
+  -- ---- behind an item
+
   -- behind a declaration: nothing was added
   pub declared_next : (old new : Walk) (i : ItemTree) → IsWalked t directory old → slice_get all old.place ≡ Some (OfItem i)
       → new.place ≡ old.place + 1 → new.draft ≡ old.draft → new.subprograms ≡ old.subprograms → new.visible.scope ≡ front t (suc old.place)
-      → AreTold whole directory new.visible → IsWalked t directory new
-  declared_next old new i walked at place draft subprograms scope told = record {
-    scope = scope ∙ ap (front t) (sym next);
-    told = told;
-    bodies = λ n c less is. moved old new n c [] (subst (IsDraftKept old.draft) (sym draft) (kept_self old.draft))
-        (ap (λ l. l.items) subprograms ∙ sym (append-nil old.subprograms.items))
-        (walked.bodies n c (let same = ap (λ l. length l.items) subprograms in omega (arith, less, same)) is);
-    end = ap (λ l. begins_at l.items (length l.items)) subprograms ∙ walked.end ∙ ap (λ z. here z.code) (sym draft);
-    many = ap (λ l. length l.items) subprograms ∙ walked.many
-        ∙ sym (ap (bodies_before t) next ∙ more_before old.place (OfItem i) at ∙ plus_none (bodies_before t old.place));
-    exceptions = ap (λ z. z.exceptions.items) draft ∙ walked.exceptions;
-    rows = subst (λ z. HasRows new.subprograms.items z) (sym draft) (subst (λ l. HasRows l.items old.draft) (sym subprograms) walked.rows);
-  }
+      → AreTold whole directory None new.visible → IsWalked t directory new
+  declared_next old new i walked at place draft subprograms scope told =
+      let code = code_kept old new draft subprograms (walked_code old walked) in
+      record {
+        scope = scope ∙ ap (front t) (sym next);
+        told = told;
+        bodies = code.bodies;
+        end = code.end;
+        many = ap (λ l. length l.items) subprograms ∙ walked.many
+            ∙ sym (ap (bodies_before t) next ∙ more_before old.place (OfItem i) at ∙ plus_none (bodies_before t old.place));
+        exceptions = code.exceptions;
+        rows = code.rows;
+      }
     where
       next : new.place ≡ suc old.place
       next = omega (arith, place)
 
   -- behind a body of no object, the only one of its item, whose code was added where its name is visible
   pub body_next : (old mid after new : Walk) (item : BodyItemTree) (c : Coded) → IsWalked t directory old
-      → slice_get all old.place ≡ Some item → coded_at t old.place item ≡ c ∷ [] → c.owner ≡ None → c.front ≡ front t (suc old.place)
-      → mid.draft ≡ old.draft → mid.subprograms ≡ old.subprograms → mid.visible.scope ≡ front t (suc old.place) → AreTold whole directory mid.visible
+      → slice_get all old.place ≡ Some item → coded_at t old.place item ≡ c ∷ [] → c.owner ≡ None → is_entry_body c.kind ≡ false
+      → c.front ≡ front t (suc old.place)
+      → mid.draft ≡ old.draft → mid.subprograms ≡ old.subprograms → mid.visible.scope ≡ front t (suc old.place) → AreTold whole directory None mid.visible
       → AddsBody t directory c mid after
       → new.place ≡ old.place + 1 → new.draft ≡ after.draft → new.subprograms ≡ after.subprograms → new.visible ≡ after.visible
       → IsWalked t directory new
-  body_next old mid after new item c walked at alone outside own draft subprograms scope told adds place new_draft new_subprograms new_visible = record {
-    scope = ap (λ v. v.scope) seen ∙ scope ∙ ap (front t) (sym next);
-    told = subst (AreTold whole directory) (sym seen) told;
-    bodies = λ n e less there. by_number n e there
-        (last_or_before n (length old.subprograms.items)
-        (let long = ap length rows ∙ length-append old.subprograms.items (row ∷ []) in omega (arith, less, long)));
-    end = ap (λ l. begins_at l (length l)) rows ∙ begins_behind old.subprograms.items row ∙ ap (λ z. here z.code) (sym new_draft);
-    many = ap length rows ∙ length-append old.subprograms.items (row ∷ []) ∙ ap (λ n. n + 1) walked.many
-        ∙ sym (ap (bodies_before t) next ∙ more_before old.place item at
-        ∙ ap (λ n. bodies_before t old.place + n) (sym (coded_many t old.place item) ∙ ap length alone));
-    exceptions = ap (λ e. e.items) kept.exceptions ∙ walked.exceptions;
-    rows = subst (λ l. HasRows l new.draft) (sym rows)
-        (rows_more old.subprograms.items row old.draft new.draft walked.rows keeps.rows keeps.extends walked.end (ap (λ z. here z.code) (sym new_draft)));
-  }
+  body_next old mid after new item c walked at alone outside no_entry own draft subprograms scope told adds place new_draft new_subprograms new_visible =
+      record {
+        scope = ap (λ v. v.scope) seen ∙ scope ∙ ap (front t) (sym next);
+        told = subst (AreTold whole directory None) (sym seen) told;
+        bodies = code.bodies;
+        end = code.end;
+        many = ap (λ l. length l.items) new_subprograms
+            ∙ many_more old mid after old.place 0 item c (walked_code old walked) at is count no_entry (scope ∙ sym own) told_there draft subprograms adds
+            ∙ sym (ap (bodies_before t) next ∙ more_before old.place item at
+            ∙ ap (λ n. bodies_before t old.place + n) (sym (coded_many t old.place item) ∙ ap length alone));
+        exceptions = code.exceptions;
+        rows = code.rows;
+      }
     where
       next : new.place ≡ suc old.place
       next = omega (arith, place)
@@ -259,58 +349,19 @@ module _ (t : ProgramTree) (directory : Directory) where
       seen : new.visible ≡ mid.visible
       seen = new_visible ∙ adds.visible
 
-      row : Subprogram
-      row = row_of c.kind adds.words (here after.draft.code)
+      is : slice_get (coded_at t old.place item) 0 ≡ Some c
+      is = ap (λ l. slice_get l 0) alone
 
-      rows : new.subprograms.items ≡ old.subprograms.items ++ row ∷ []
-      rows = ap (λ l. l.items) new_subprograms ∙ adds.row ∙ ap (λ l. l.items ++ row ∷ []) subprograms
+      count : length old.subprograms.items ≡ bodies_before t old.place + 0
+      count = walked.many ∙ sym (plus_none (bodies_before t old.place))
 
-      added : AddsSubprogram t c.head c.body mid.visible old.draft adds.words new.draft
-      added =
-          subst (AddsSubprogram t c.head c.body mid.visible old.draft adds.words) (sym new_draft)
-          (subst (λ z. AddsSubprogram t c.head c.body mid.visible z adds.words after.draft) draft adds.adds)
+      told_there : AreTold whole directory c.owner mid.visible
+      told_there = subst (λ o. AreTold whole directory o mid.visible) (sym outside) told
 
-      keeps : KeepsRules mid.visible old.draft adds.words new.draft
-      keeps =
-          subst (KeepsRules mid.visible old.draft adds.words) (sym new_draft)
-          (subst (λ z. KeepsRules mid.visible z adds.words after.draft) draft adds.keeps)
-
-      kept : IsDraftKept old.draft new.draft
-      kept = kept_by old.draft new.draft keeps.extends keeps.labels keeps.rows
-
-      this : HasBody t directory (length old.subprograms.items) c new
-      this = record {
-        outside = outside;
-        seen = mid.visible;
-        scope = scope ∙ sym own;
-        told = told;
-        old = old.draft;
-        new = new.draft;
-        words = adds.words;
-        adds = added;
-        called = adds.called;
-        keeps = keeps;
-        before = rows_in_front old.subprograms.items old.draft walked.rows;
-        numbered = adds.numbered ∙ ap (λ l. Some (length l.items)) subprograms;
-        there = ap (λ l. slice_get l (length old.subprograms.items)) rows ∙ get_last old.subprograms.items row
-            ∙ ap (λ z. Some (row_of c.kind adds.words (here z.code))) (sym new_draft);
-        begins = ap (λ l. begins_at l (length old.subprograms.items)) rows
-            ∙ begins_kept old.subprograms.items (row ∷ []) (length old.subprograms.items) (omega arith) ∙ walked.end;
-        kept = kept_self new.draft;
-      }
-
-      -- the body of that number
-      that : slice_get (bodies_of t) (length old.subprograms.items) ≡ Some c
-      that =
-          let plus : bodies_before t old.place ≡ bodies_before t old.place + 0 = omega arith in
-          ap (slice_get (bodies_of t)) (walked.many ∙ plus) ∙ body_at t old.place 0 item c at (ap (λ l. slice_get l 0) alone)
-
-      by_number : (n : ℕ) (e : Coded) → slice_get (bodies_of t) n ≡ Some e → (n ≡ length old.subprograms.items) ⊎ (n < length old.subprograms.items)
-          → HasBody t directory n e new
-      by_number n e there (inl same) =
-          let code : c ≡ e = same_some c e (sym that ∙ ap (slice_get (bodies_of t)) (sym same) ∙ there) in
-          subst (λ k. HasBody t directory k e new) (sym same) (subst (λ z. HasBody t directory (length old.subprograms.items) z new) code this)
-      by_number n e there (inr less) = moved old new n e (row ∷ []) kept rows (walked.bodies n e less there)
+      code : HaveCode new
+      code =
+          code_kept after new new_draft new_subprograms
+          (code_more old mid after old.place 0 item c (walked_code old walked) at is count no_entry (scope ∙ sym own) told_there draft subprograms adds)
 
   -- behind what code does there
   pub declared_goes : (old new : Walk) (i : ItemTree) (scope told_in : Scope) (name : Identifier) (later : Visible) → IsWalked t directory old
@@ -326,8 +377,8 @@ module _ (t : ProgramTree) (directory : Directory) where
       declared_next old new i walked at place draft subprograms
       (ap (λ v. v.scope) visible ∙ tells.scope ∙ goes ∙ ap (λ s. item_scope s i) walked.scope
       ∙ sym (scope_next (start_in t.package_) all old.place (OfItem i) at))
-      (subst (AreTold whole directory) (sym visible)
-      (told_next whole directory old.visible seen later (item_name i).name walked.told refl refl
+      (subst (AreTold whole directory None) (sym visible)
+      (told_next whole directory old.visible seen later (item_name i).name walked.told refl refl refl
       (subst (Grows old.visible.scope (item_name i).name) (sym goes) (item_grows old.visible.scope i)) tells))
 
   module _ (old : Walk) (d : SubprogramTree) (b : BodyTree) (scope told_in : Scope) (later : Visible) (walked : IsWalked t directory old)
@@ -351,10 +402,10 @@ module _ (t : ProgramTree) (directory : Directory) where
         → new.place ≡ old.place + 1 → new.draft ≡ after.draft → new.subprograms ≡ after.subprograms → new.visible ≡ after.visible
         → IsWalked t directory new
     body_goes mid after new visible draft subprograms adds place new_draft new_subprograms new_visible =
-        body_next old mid after new (SubprogramBody d b) (of_subprogram (front t (suc old.place)) d b) walked at refl refl refl draft subprograms
+        body_next old mid after new (SubprogramBody d b) (of_subprogram (front t (suc old.place)) d b) walked at refl refl refl refl draft subprograms
         (ap (λ v. v.scope) visible ∙ scope_there)
-        (subst (AreTold whole directory) (sym visible)
-        (told_next whole directory old.visible seen later d.name.name walked.told refl refl
+        (subst (AreTold whole directory None) (sym visible)
+        (told_next whole directory old.visible seen later d.name.name walked.told refl refl refl
         (subst (Grows old.visible.scope d.name.name) (sym goes) (subprogram_grows old.visible.scope d)) tells))
         (subst (λ s. AddsBody t directory (of_subprogram s d b) mid after) (ap (λ v. v.scope) visible ∙ scope_there) adds)
         place new_draft new_subprograms new_visible
@@ -372,5 +423,5 @@ module _ (t : ProgramTree) (directory : Directory) where
         → new.place ≡ old.place + 1 → new.draft ≡ after.draft → new.subprograms ≡ after.subprograms → new.visible ≡ after.visible
         → IsWalked t directory new
     task_goes after new adds place new_draft new_subprograms new_visible =
-        body_next old old after new (TaskBody name b) (of_task (front t (suc old.place)) name b) walked at refl refl refl refl refl task_scope walked.told
+        body_next old old after new (TaskBody name b) (of_task (front t (suc old.place)) name b) walked at refl refl refl refl refl refl task_scope walked.told
         (subst (λ s. AddsBody t directory (of_task s name b) old after) task_scope adds) place new_draft new_subprograms new_visible

@@ -1,6 +1,6 @@
 -- The bodies of a program that have code of their own, in the order of the text: those of its subprograms and tasks, and of the operations and entries of its
 -- protected objects; their numbers, and what is visible in front of the parameters of each (RM 6.3, 9.1, 9.4).
-use Rattle.std.specs.Prelude.{ℕ, suc, false, ◌&&◌, List, [], ◌∷◌, ◌++◌, Option, Some, None, bytes_eq, take, length, if◌then◌else◌, ◌+◌}
+use Rattle.std.specs.Prelude.{ℕ, suc, Bool, true, false, ◌&&◌, List, [], ◌∷◌, ◌++◌, Option, Some, None, bytes_eq, take, length, if◌then◌else◌, ◌+◌}
 use Rattle.ada_tree.specs.declared.expression.Identifier.{Identifier}
 use Rattle.ada_tree.specs.StatementTree.{SubprogramTree}
 use Rattle.ada_tree.specs.ProgramTree.{BodyItemTree, BodyTree, EntryBody, OfItem, OperationBody, ProgramTree, ProtectedBody, ProtectedItemTree, SubprogramBody, TaskBody}
@@ -97,10 +97,13 @@ abbrev pub operation_kind : (object : ℕ) → (result : Option Identifier) → 
 operation_kind o None = kinds.ProtectedProcedure o
 operation_kind o (Some r) = kinds.ProtectedFunction o
 
+-- an operation of an object, in front of whose parameters these names are visible
+abbrev pub of_object : (object : ℕ) → Scope → SubprogramTree → BodyTree → Coded
+of_object o s d b = record { owner = Some o; head = d; body = b; kind = operation_kind o d.result; front = s }
+
 -- An operation of an object sees its components, a function as constants, and its own name behind them; an entry's name is visible by its declaration alone.
 abbrev pub of_operation : (object : ℕ) → Scope → List RecordComponent → ProtectedItemTree → Coded
-of_operation o s components (OperationBody d b) =
-    record { owner = Some o; head = d; body = b; kind = operation_kind o d.result; front = subprogram_scope (operation_sees s components d) d }
+of_operation o s components (OperationBody d b) = of_object o (subprogram_scope (operation_sees s components d) d) d b
 of_operation o s components (EntryBody d barrier b) =
     record {
       owner = Some o;
@@ -109,6 +112,11 @@ of_operation o s components (EntryBody d barrier b) =
       kind = kinds.EntryBody o;
       front = components_scope s false components;
     }
+
+-- it is the body of an entry
+abbrev pub is_entry_body : Kind → Bool
+is_entry_body (kinds.EntryBody o) = true
+is_entry_body kind = false
 
 -- those of an object with these components, where these names are visible in front of the first
 abbrev pub operations_of : (object : ℕ) → Scope → List RecordComponent → List ProtectedItemTree → List Coded

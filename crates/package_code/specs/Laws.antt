@@ -1,6 +1,6 @@
 -- What is proved of code that is put together from a program, as statements; each is the contract of a public function.
 use Rattle.std.specs.Prelude.{◌≡◌, ◌+◌, ◌≤◌, ℕ, suc, [], length, true, false, None, Some, is_some, slice_get}
-use Rattle.base.specs.declared.limits.TheConstants.{EXCEPTIONS, LABELS, SUBPROGRAMS, TASKS, WORDS}
+use Rattle.base.specs.declared.limits.TheConstants.{EXCEPTIONS, LABELS, OBJECTS, SUBPROGRAMS, TASKS, WORDS}
 use Rattle.ada_tree.specs.declared.expression.Identifier.{Identifier}
 use Rattle.ada_tree.specs.ExpressionTree.{ExprTree}
 use Rattle.ada_tree.specs.StatementTree.{SubprogramTree}
@@ -21,12 +21,11 @@ use Rattle.expr_code.specs.Emitting.{IsFit}
 use Rattle.stmt_code.specs.Emitting.{IsLegalRun}
 use Rattle.step_simulation.specs.part_code.specs.Needs.{are_unknown}
 use Rattle.stmt_code.specs.Subprograms.{CallsProcedures}
-use Rattle.package_code.specs.Bodies.{Coded, bodies_among, bodies_before, coded_at, number_in}
+use Rattle.package_code.specs.Bodies.{Coded, bodies_among, bodies_before, coded_at, is_entry_body, number_in}
 use Rattle.package_code.specs.Counts.{instructions_bound}
 use Rattle.package_code.specs.Globals.{refuses_items}
-use Rattle.package_code.specs.Package.{first_words_of}
 use Rattle.package_code.specs.Program.{HasProgram, KeepsTables}
-use Rattle.package_code.specs.Refusing.{program_labels, program_needs, seen_at}
+use Rattle.package_code.specs.Refusing.{program_labels, program_needs, program_words, seen_at}
 use Rattle.package_code.specs.Tasks.{AreKnownTasks}
 
 -- the names of an accepted program are sound
@@ -43,21 +42,23 @@ pub record MayBeAdded (t : ProgramTree) (s : Scope) (d : SubprogramTree) (b : Bo
       → IsFit (formals_scope s d.formals) (subtype_named (program_of t).scope r) value
   pub result : (r : Identifier) → d.result ≡ Some r → is_some (subtype_of (program_of t).scope r) ≡ true
 
--- that is so of each body of an accepted program, of a subprogram or a task
+-- that is so of each body of an accepted program, of a subprogram, a task, or a protected object's operation
 abbrev pub BodiesMayBeAdded : Type 0
 BodiesMayBeAdded = (t : ProgramTree) → IsLegal t → IsRestricted t → (place : ℕ) (item : BodyItemTree) (k : ℕ) (c : Coded)
-    → slice_get (declared_in t.package_) place ≡ Some item → slice_get (coded_at t place item) k ≡ Some c → c.owner ≡ None
+    → slice_get (declared_in t.package_) place ≡ Some item → slice_get (coded_at t place item) k ≡ Some c → is_entry_body c.kind ≡ false
     → MayBeAdded t c.front c.head c.body
 
 -- main calls procedures of the package without parameters
 abbrev pub MainMayBeAdded : Type 0
 MainMayBeAdded = (t : ProgramTree) → IsLegal t → IsRestricted t → CallsProcedures (front t (length (declared_in t.package_))) t.main.statements
 
--- no two bodies of an accepted program have one name, outside of protected objects: each has the number of its name, which is visible behind the package
+-- no two bodies of an accepted program have one name, outside of protected objects or within one: each has the number of its name; that of a subprogram or task
+-- is visible behind the package
 abbrev pub BodiesAreNumbered : Type 0
 BodiesAreNumbered = (t : ProgramTree) → IsLegal t → IsRestricted t → (place : ℕ) (item : BodyItemTree) (k : ℕ) (c : Coded)
-    → slice_get (declared_in t.package_) place ≡ Some item → slice_get (coded_at t place item) k ≡ Some c → c.owner ≡ None
-    → (number_in t None c.head.name.name ≡ Some (bodies_before t place + k)) × (is_some (number_of (program_of t).scope c.head.name.name) ≡ true)
+    → slice_get (declared_in t.package_) place ≡ Some item → slice_get (coded_at t place item) k ≡ Some c
+    → (number_in t c.owner c.head.name.name ≡ Some (bodies_before t place + k))
+    × (c.owner ≡ None → is_some (number_of (program_of t).scope c.head.name.name) ≡ true)
 
 -- each task that is declared in an accepted program has one body
 abbrev pub TasksHaveBodies : Type 0
@@ -68,13 +69,15 @@ abbrev pub VariablesArePlaced : Type 0
 VariablesArePlaced = (t : ProgramTree) → IsLegal t → IsRestricted t → refuses_items (program_of t).scope [] (package_items t.package_) ≡ true
     → (program_needs t).outside ≡ true
 
--- a program has no more labels, subprograms and tasks, main's among them, and exceptions, and its variables no more words, than an image
+-- a program has no more labels, subprograms and tasks, main's among them, exceptions and protected objects, and its variables and components no more words, than
+-- an image
 pub record HasFew (t : ProgramTree) : Type 0 where
   pub labels : length (program_labels t) ≤ LABELS
-  pub words : length (first_words_of (program_of t).variables) ≤ WORDS
+  pub words : program_words t ≤ WORDS
   pub subprograms : suc (bodies_among (declared_in t.package_)) ≤ SUBPROGRAMS
   pub exceptions : length (program_of t).exceptions ≤ EXCEPTIONS
   pub tasks : length (program_of t).tasks ≤ TASKS
+  pub objects : (program_of t).objects ≤ OBJECTS
 
 -- that is so of accepted ones
 abbrev pub TablesAreSmall : Type 0

@@ -11,3 +11,4 @@ pub mod Objects
 pub mod Tasks
 pub mod Program
 pub mod Laws
+pub mod Owners

@@ -1,16 +1,24 @@
 -- The rows of a program's protected objects in the image's table (RM 9.4, D.3): in the order of their declarations, and so each at its number.
-use Rattle.std.specs.Prelude.{◌≡◌, ◌||◌, ℕ, Bool, true, false, List, [], ◌∷◌, map, Option, Some, None}
+use Rattle.std.specs.Prelude.{◌≡◌, ◌<◌, ◌+◌, ◌&&◌, ◌||◌, nat_le, ℕ, suc, Bool, true, false, List, [], ◌∷◌, ◌++◌, length, map, Some, None, ⊤}
+use Rattle.base.specs.declared.limits.TheConstants.{WORDS}
 use Rattle.ada_tree.specs.declared.expression.Identifier.{Identifier}
 use Rattle.ada_tree.specs.StatementTree.{ProtectedComponentTree, ProtectedTree}
 use Rattle.ada_tree.specs.ProgramTree.{ItemTree, OfProtected, ProgramTree}
 use Rattle.image.specs.ObjectTable.{ObjectRow}
+use Rattle.image.specs.declared.instruction.Region.TheVariants as regions
 use Rattle.image.specs.declared.objects.Barrier.TheVariants as barriers
-use Rattle.types.specs.declared.entity.Subtype.{Subtype}
+use Rattle.types.specs.Layouts.{total}
+use Rattle.types.specs.Places.{Object}
 use Rattle.types.specs.Scopes.{Scope, protected_of}
-use Rattle.type_rules.specs.SubtypeNames.{named_entity, subtype_of}
-use Rattle.expr_soundness.specs.meaning.specs.Programs.{component, package_items, program_of}
+use Rattle.types.specs.Shapes.{value_words}
+use Rattle.type_rules.specs.SubtypeNames.{named_entity}
+use Rattle.expr_soundness.specs.meaning.specs.Programs.{component, components_among, package_items, program_of}
+use Rattle.expr_code.specs.declared.refusal.Refusal.{Refusal}
+use Rattle.expr_code.specs.declared.refusal.Refusal.TheVariants as refusal
 use Rattle.package_code.specs.Package.{first_words_of}
-use Rattle.package_code.specs.Refusing.{lacks_first_words}
+use Rattle.package_code.specs.Refusing.{lack_components}
+use Rattle.package_code.specs.declared.components.ComponentSlot.{ComponentSlot}
+use Rattle.package_code.specs.declared.objects.ProtectedObjects.{ProtectedObjects}
 
 -- the ceiling of the protected object of this name
 abbrev pub ceiling_named : Scope → Identifier → ℕ
@@ -31,18 +39,61 @@ object_rows s (d ∷ rest) = object_rows s rest
 abbrev pub HaveObjects : ProgramTree → List ObjectRow → Type 0
 HaveObjects t rows = rows ≡ object_rows (program_of t).scope (package_items t.package_)
 
+-- where components of this object stand, one behind another: the first of them behind so many words
+abbrev pub slots_of : (object offset : ℕ) → List Object → List ComponentSlot
+slots_of o offset [] = []
+slots_of o offset (x ∷ xs) =
+    record { object = o; name = x.name; slot = record { region = regions.Object; offset = offset } } ∷ slots_of o (offset + length (value_words x.value)) xs
+
+-- those of the objects that are declared among these, the first of which has this number
+abbrev pub component_slots : Scope → (object : ℕ) → List ItemTree → List ComponentSlot
+component_slots s o [] = []
+component_slots s o (OfProtected d ∷ rest) = slots_of o 0 (map (component s) d.components) ++ component_slots s (suc o) rest
+component_slots s o (d ∷ rest) = component_slots s o rest
+
+-- each component has a word at least
+abbrev pub have_words : List Object → Bool
+have_words [] = true
+have_words (x ∷ xs) = nat_le 1 (length (value_words x.value)) && have_words xs
+
+-- ... each of the objects that are declared among these
+abbrev pub objects_have_words : Scope → List ItemTree → Bool
+objects_have_words s [] = true
+objects_have_words s (OfProtected d ∷ rest) = have_words (map (component s) d.components) && objects_have_words s rest
+objects_have_words s (d ∷ rest) = objects_have_words s rest
+
+-- what these declarations tell of protected objects was added
+pub record AddsObjects (s : Scope) (old : ProtectedObjects) (items : List ItemTree) (new : ProtectedObjects) : Type 0 where
+  pub rows : new.rows.items ≡ old.rows.items ++ object_rows s items
+  pub components : new.components.items ≡ old.components.items ++ component_slots s (length old.rows.items) items
+  pub made : objects_have_words s items ≡ true
+
 -- ---- refusals
 
-abbrev pub lacks_component : Scope → Option Subtype → ProtectedComponentTree → Bool
-lacks_component s None c = true
-lacks_component s (Some t) c = lacks_first_words s t c.value
+-- how many words the components of objects have that are declared among these
+abbrev pub object_words : Scope → List ItemTree → ℕ
+object_words s items = total (map (λ cs. length (first_words_of cs)) (components_among s items))
 
--- a component's text doesn't tell its first words; those of an accepted program do
-abbrev pub lack_components : Scope → List ProtectedComponentTree → Bool
-lack_components s [] = false
-lack_components s (c ∷ cs) = lacks_component s (subtype_of s c.subtype) c || lack_components s cs
-
+-- a component's text doesn't tell its first words, or it has none; those of an accepted program do
 abbrev pub lack_objects : Scope → List ItemTree → Bool
 lack_objects s [] = false
 lack_objects s (OfProtected d ∷ rest) = lack_components s d.components || lack_objects s rest
 lack_objects s (d ∷ rest) = lack_objects s rest
+
+-- why their rows aren't made: for want of memory, by that test, or because components have too many words
+abbrev pub RefusesObjects : Scope → List ItemTree → Refusal → Type 0
+RefusesObjects s items refusal.Memory = ⊤
+RefusesObjects s items refusal.Limit = WORDS < object_words s items
+RefusesObjects s items refusal.Outside = lack_objects s items ≡ true
+
+-- ... of components of one object
+abbrev pub RefusesComponents : Scope → List ProtectedComponentTree → Refusal → Type 0
+RefusesComponents s cs refusal.Memory = ⊤
+RefusesComponents s cs refusal.Limit = WORDS < length (first_words_of (map (component s) cs))
+RefusesComponents s cs refusal.Outside = lack_components s cs ≡ true
+
+-- ... of one component, behind so many words of others
+abbrev pub RefusesComponent : Scope → (words : ℕ) → ProtectedComponentTree → Refusal → Type 0
+RefusesComponent s words c refusal.Memory = ⊤
+RefusesComponent s words c refusal.Limit = WORDS < words
+RefusesComponent s words c refusal.Outside = lack_components s (c ∷ []) ≡ true

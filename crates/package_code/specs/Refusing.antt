@@ -1,22 +1,19 @@
 -- When an accepted program is refused, by its text alone: memory was refused, it has what no code is made of yet, or it passes a limit of images.
-use Rattle.std.specs.Prelude.{◌≡◌, ℕ, zero, suc, ◌+◌, ◌<◌, Bool, true, false, ◌||◌, ◌&&◌, not, nat_eq, List, [], ◌∷◌, length, Option, Some, None, is_none, option_map, ◌⊎◌}
+use Rattle.std.specs.Prelude.{◌≡◌, ℕ, zero, suc, ◌+◌, ◌<◌, Bool, true, false, ◌||◌, ◌&&◌, not, nat_eq, List, [], ◌∷◌, length, map, Option, Some, None, is_none, option_map, ◌⊎◌, if◌then◌else◌}
 use Rattle.std.specs.List.{list_all}
 use Rattle.base.specs.Names.{is_label, is_name}
-use Rattle.base.specs.declared.limits.TheConstants.{EXCEPTIONS, ROWS, SUBPROGRAMS, TASKS, WORDS}
+use Rattle.base.specs.declared.limits.TheConstants.{EXCEPTIONS, OBJECTS, ROWS, SUBPROGRAMS, TASKS, WORDS}
 use Rattle.ada_tree.specs.declared.declaration.Formal.{Formal}
 use Rattle.ada_tree.specs.ExpressionTree.{ExprTree}
-use Rattle.ada_tree.specs.StatementTree.{SubprogramTree}
+use Rattle.ada_tree.specs.StatementTree.{ProtectedComponentTree, SubprogramTree}
 use Rattle.ada_tree.specs.ProgramTree.{BodyItemTree, BodyTree, EntryBody, ItemTree, OfItem, OfObject, OfProtected, OperationBody, ProgramTree, ProtectedBody, ProtectedItemTree, SubprogramBody, TaskBody}
 use Rattle.types.specs.declared.entity.Subtype.{Subtype}
-use Rattle.image.specs.declared.instruction.Region.TheVariants as regions
 use Rattle.types.specs.Layouts.{total}
-use Rattle.types.specs.Places.{or_else}
 use Rattle.types.specs.Scopes.{Scope}
 use Rattle.types.specs.Shapes.{shape_of, value_words}
 use Rattle.type_rules.specs.ObjectRules.{fixed_scalar}
 use Rattle.type_rules.specs.SubtypeNames.{subtype_of}
-use Rattle.declaring.specs.ProtectedRules.{protected_count}
-use Rattle.expr_soundness.specs.meaning.specs.Programs.{initial_value, program_of, returned, subtype_named}
+use Rattle.expr_soundness.specs.meaning.specs.Programs.{components_among, initial_value, package_items, program_of, returned, subtype_named}
 use Rattle.program_soundness.specs.Fronts.{declared_in, front, start_in}
 use Rattle.expr_code.specs.declared.refusal.Refusal.{Refusal}
 use Rattle.expr_code.specs.declared.refusal.Refusal.TheVariants as refusal
@@ -26,25 +23,17 @@ use Rattle.step_simulation.specs.part_code.specs.Bounds.{main_bound}
 use Rattle.step_simulation.specs.part_code.specs.Needs.{HasManyLabels, IsNeeding, Needs, beyond, beyond_if, both, lacks_word, nothing}
 use Rattle.step_simulation.specs.part_code.specs.Rows.{body_rows}
 use Rattle.stmt_code.specs.WholeRefusals.{body_labels, function_needs, procedure_needs}
-use Rattle.package_code.specs.Bodies.{Coded, bodies_among, number_in, of_subprogram, of_task}
+use Rattle.package_code.specs.Bodies.{Coded, bodies_among, coded_at, is_entry_body, number_in, of_subprogram, of_task}
 use Rattle.package_code.specs.Counts.{bounds_from}
+use Rattle.package_code.specs.Owners.{in_object, protected_objects, told_behind_objects, told_inside, told_slot}
 use Rattle.package_code.specs.Package.{first_words_of, place_among}
 
 -- ---- what is told of names
-
-abbrev pub in_object : Slot → Slot
-in_object slot = record slot { region = regions.Object }
 
 -- where the variable of this name stands, or the component of this protected object: one behind the other, in the order of the text
 abbrev pub slot_in : ProgramTree → (owner : Option ℕ) → (name : List ℕ) → Option Slot
 slot_in t None name = place_among 0 (program_of t).variables name
 slot_in t (Some o) name = option_map in_object (place_among 0 ((program_of t).components o) name)
-
--- what is told of a name in the body of this object's operation, or in one that belongs to no object: what is told of the object's own names, or else of those
--- of the package
-abbrev pub told_inside : {X : Type 0} → ((owner : Option ℕ) → (name : List ℕ) → Option X) → (owner : Option ℕ) → (name : List ℕ) → Option X
-told_inside tell None name = tell None name
-told_inside tell (Some o) name = or_else (tell (Some o) name) (tell None name)
 
 -- what is told of each name, of the first ones nothing
 abbrev pub told_behind : {X : Type 0} → (first : ℕ) → (List ℕ → Option X) → Scope → List (Option X)
@@ -52,14 +41,19 @@ told_behind first tell [] = []
 told_behind zero tell (n ∷ rest) = tell n.name ∷ told_behind zero tell rest
 told_behind (suc first) tell (n ∷ rest) = None ∷ told_behind first tell rest
 
+-- the numbers of the bodies of operations, of each protected object of the package
+abbrev pub operation_numbers : ProgramTree → List (List (Option ℕ))
+operation_numbers t = told_behind_objects (number_in t) (protected_objects (program_of t).scope)
+
 -- What is visible to code where these names are, outside of protected objects or in the body of an operation of this one. The names in front of the package
--- have neither words nor a subprogram.
+-- have neither words nor a subprogram. Operations have theirs wherever their object is visible.
 abbrev pub seen_with : ProgramTree → (owner : Option ℕ) → Scope → Visible
 seen_with t owner s =
     record {
       scope = s;
-      slots = told_behind (length (start_in t.package_)) (told_inside (slot_in t) owner) s;
+      slots = told_behind (length (start_in t.package_)) (told_slot (slot_in t) (number_in t) owner) s;
       subprograms = told_behind (length (start_in t.package_)) (told_inside (number_in t) owner) s;
+      operations = operation_numbers t;
     }
 
 -- in front of the declaration or body at this place of the package
@@ -82,10 +76,14 @@ abbrev pub is_outside_variable : Scope → Option Subtype → Option ExprTree �
 is_outside_variable s None value = true
 is_outside_variable s (Some t) value = lacks_first_words s t value || nat_eq (length (value_words (initial_value s t value))) 0
 
--- code is made of no protected objects
+-- ... of a component of a protected object; an accepted program has none
+abbrev pub lack_components : Scope → List ProtectedComponentTree → Bool
+lack_components s [] = false
+lack_components s (c ∷ cs) = is_outside_variable s (subtype_of s c.subtype) c.value || lack_components s cs
+
 abbrev pub is_outside_item : Scope → ItemTree → Bool
 is_outside_item s (OfObject d) = not d.constant && is_outside_variable s (subtype_of s d.subtype) d.value
-is_outside_item s (OfProtected d) = true
+is_outside_item s (OfProtected d) = lack_components s d.components
 is_outside_item s d = false
 
 -- ---- what code needs
@@ -103,15 +101,19 @@ subprogram_needs t v exceptions d b =
       | Some r ↦ function_if_any v d.formals (subtype_named (program_of t).scope r) (returned b.statements)
     ]
 
+-- of entries no code is made yet
 abbrev pub body_needs : ProgramTree → Coded → Needs
-body_needs t c = subprogram_needs t (seen_by t c) (program_of t).exceptions c.head c.body
+body_needs t c = if is_entry_body c.kind then beyond else subprogram_needs t (seen_by t c) (program_of t).exceptions c.head c.body
 
--- of those of a protected object no code is made yet
+abbrev pub bodies_needs : ProgramTree → List Coded → Needs
+bodies_needs t [] = nothing
+bodies_needs t (c ∷ cs) = both (body_needs t c) (bodies_needs t cs)
+
 abbrev pub item_needs : ProgramTree → (place : ℕ) → BodyItemTree → Needs
 item_needs t place (OfItem d) = beyond_if (is_outside_item (program_of t).scope d)
 item_needs t place (SubprogramBody d b) = body_needs t (of_subprogram (front t (suc place)) d b)
 item_needs t place (TaskBody name b) = body_needs t (of_task (front t (suc place)) name b)
-item_needs t place (ProtectedBody name items end_name) = beyond
+item_needs t place (ProtectedBody name items end_name) = bodies_needs t (coded_at t place (ProtectedBody name items end_name))
 
 -- of items that stand from this place on
 abbrev pub items_needs : ProgramTree → (place : ℕ) → List BodyItemTree → Needs
@@ -119,7 +121,7 @@ items_needs t place [] = nothing
 items_needs t place (x ∷ rest) = both (item_needs t place x) (items_needs t (suc place) rest)
 
 abbrev pub program_needs : ProgramTree → Needs
-program_needs t = both (beyond_if (not (nat_eq (protected_count (program_of t).scope) 0))) (items_needs t 0 (declared_in t.package_))
+program_needs t = items_needs t 0 (declared_in t.package_)
 
 -- the most instructions of all bodies and main
 abbrev pub program_bound : ProgramTree → ℕ
@@ -137,6 +139,11 @@ operation_labels before (EntryBody d barrier b) = body_labels before b
 abbrev pub operations_labels : (before : List (List ℕ)) → List ProtectedItemTree → List (List ℕ)
 operations_labels before [] = before
 operations_labels before (i ∷ is) = operations_labels (operation_labels before i) is
+
+-- ... behind these bodies
+abbrev pub coded_labels : (before : List (List ℕ)) → List Coded → List (List ℕ)
+coded_labels before [] = before
+coded_labels before (c ∷ cs) = coded_labels (subprogram_labels before c.head c.body) cs
 
 abbrev pub item_labels : (before : List (List ℕ)) → BodyItemTree → List (List ℕ)
 item_labels before (OfItem d) = before
@@ -164,6 +171,11 @@ abbrev pub operations_rows : (before : ℕ) → List ProtectedItemTree → ℕ
 operations_rows before [] = before
 operations_rows before (i ∷ is) = operations_rows (operation_rows before i) is
 
+-- ... behind these bodies
+abbrev pub coded_rows : (before : ℕ) → List Coded → ℕ
+coded_rows before [] = before
+coded_rows before (c ∷ cs) = coded_rows (subprogram_rows before c.head c.body) cs
+
 abbrev pub item_rows : (before : ℕ) → BodyItemTree → ℕ
 item_rows before (OfItem d) = before
 item_rows before (SubprogramBody d b) = subprogram_rows before d b
@@ -183,10 +195,11 @@ program_rows t = items_rows 0 (declared_in t.package_)
 abbrev pub RefusesCode : ProgramTree → Refusal → Type 0
 RefusesCode t why = IsNeeding (program_bound t) (program_needs t) why ⊎ HasManyLabels (program_labels t) why
 
--- it has more subprograms or tasks, main's among them, or more exceptions than an image
+-- it has more subprograms or tasks, main's among them, or more exceptions or protected objects than an image
 abbrev pub HasMany : ProgramTree → Refusal → Type 0
 HasMany t refusal.Limit =
-    (SUBPROGRAMS < suc (bodies_among (declared_in t.package_))) ⊎ ((EXCEPTIONS < length (program_of t).exceptions) ⊎ (TASKS < length (program_of t).tasks))
+    (SUBPROGRAMS < suc (bodies_among (declared_in t.package_)))
+    ⊎ ((EXCEPTIONS < length (program_of t).exceptions) ⊎ ((TASKS < length (program_of t).tasks) ⊎ (OBJECTS < (program_of t).objects)))
 HasMany t why = ⊥
 
 -- ... or more rows of handlers
@@ -194,9 +207,15 @@ abbrev pub HasManyRows : ProgramTree → Refusal → Type 0
 HasManyRows t refusal.Limit = ROWS < program_rows t
 HasManyRows t why = ⊥
 
--- ... or more words of variables
+-- how many words its variables and the components of its protected objects have
+abbrev pub program_words : ProgramTree → ℕ
+program_words t =
+    length (first_words_of (program_of t).variables)
+    + total (map (λ cs. length (first_words_of cs)) (components_among (program_of t).scope (package_items t.package_)))
+
+-- ... or more words of these
 abbrev pub HasManyWords : ProgramTree → Refusal → Type 0
-HasManyWords t refusal.Limit = WORDS < length (first_words_of (program_of t).variables)
+HasManyWords t refusal.Limit = WORDS < program_words t
 HasManyWords t why = ⊥
 
 -- what is a name or a label in a tree is spelled as one; trees of source texts are spelled so
@@ -214,7 +233,7 @@ RefusesSections t why = RefusesCode t why ⊎ (HasManyWords t why ⊎ (HasMany t
 
 -- Why an accepted program is refused. Memory may always be refused. It is outside where it has what code isn't made of, or a text is misspelt. It passes a limit
 -- where all its code may have more instructions than an image, where a frame and its operand stack need more words together than a frame has, where an object
--- takes no words, or more than an image has, or where it has more rows of handlers than an image. No legal program has too many labels, words of variables,
--- subprograms or exceptions.
+-- takes no words, or more than an image has, or where it has more rows of handlers than an image. No legal program has too many labels, words of variables and
+-- components, subprograms, exceptions or protected objects.
 abbrev pub RefusesLinking : ProgramTree → Refusal → Type 0
 RefusesLinking t why = IsNeeding (program_bound t) (program_needs t) why ⊎ (HasManyRows t why ⊎ IsMisspelt t why)

@@ -1,19 +1,23 @@
 -- What a walk over the declarations and bodies of a package adds: the code of each body, one behind another, each a subprogram, and the rows of its handlers.
-use Rattle.std.specs.Prelude.{◌≡◌, ◌+◌, ◌<◌, ◌≤◌, ◌⊎◌, ℕ, zero, suc, List, [], ◌∷◌, ◌++◌, length, Some, None, slice_get, take}
+use Rattle.std.specs.Prelude.{◌≡◌, ◌+◌, ◌<◌, ◌≤◌, ◌⊎◌, ℕ, zero, suc, Bool, false, List, [], ◌∷◌, ◌++◌, is_none, is_some, length, map, Option, Some, None, slice_get, take}
 use Rattle.std.specs.List.{All}
 use Rattle.ada_tree.specs.declared.expression.Identifier.{Identifier}
 use Rattle.ada_tree.specs.ExpressionTree.{ExprTree}
 use Rattle.ada_tree.specs.StatementTree.{SubprogramTree}
-use Rattle.ada_tree.specs.ProgramTree.{BodyItemTree, BodyTree, ProgramTree}
+use Rattle.ada_tree.specs.ProgramTree.{BodyItemTree, BodyTree, OperationBody, ProgramTree, ProtectedBody, ProtectedItemTree}
 use Rattle.image_laws.specs.handlers.specs.declared.rows.Row.{Row}
 use Rattle.image.specs.Sections.{end_of}
 use Rattle.image.specs.declared.subprograms.Kind.{Kind}
 use Rattle.image.specs.declared.subprograms.Subprogram.{Subprogram}
+use Rattle.types.specs.declared.entity.RecordComponent.{RecordComponent}
 use Rattle.types.specs.declared.entity.Subtype.{Subtype}
 use Rattle.types.specs.Layouts.{total}
 use Rattle.types.specs.Scopes.{Scope}
+use Rattle.type_rules.specs.ProfileRules.{subprogram_scope}
+use Rattle.declaring.specs.BodyNames.{components_scope}
+use Rattle.legality.specs.ProtectedBodyRules.{protected_items_scope}
 use Rattle.expr_soundness.specs.meaning.specs.Programs.{program_of, returned, subtype_named}
-use Rattle.program_soundness.specs.Fronts.{declared_in, front}
+use Rattle.program_soundness.specs.Fronts.{declared_in, front, start_in}
 use Rattle.expr_code.specs.Code.{StandsFrom, here}
 use Rattle.expr_code.specs.declared.refusal.Refusal.{Refusal}
 use Rattle.expr_code.specs.declared.visible.Visible.{Visible}
@@ -24,10 +28,11 @@ use Rattle.step_simulation.specs.part_code.specs.Rows.{LiesWithin}
 use Rattle.stmt_code.specs.Subprograms.{AddsFunction, AddsProcedure, IsCalledFunction, IsCalledProcedure, KeepsRules}
 use Rattle.stmt_code.specs.declared.draft.Draft.{Draft}
 use Rattle.stmt_code.specs.declared.subprogram.SubprogramWords.{SubprogramWords}
-use Rattle.package_code.specs.Bodies.{Coded, bodies_before, bodies_of}
-use Rattle.package_code.specs.Counts.{bounds_from}
-use Rattle.package_code.specs.Directory.{AreTold, IsUnseen, number_told}
-use Rattle.package_code.specs.Refusing.{items_labels, items_rows, seen_at, subprogram_labels, subprogram_needs, subprogram_rows}
+use Rattle.package_code.specs.Bodies.{Coded, bodies_before, bodies_of, coded_at, is_entry_body, of_operation, operations_of}
+use Rattle.package_code.specs.Counts.{bound_of, bounds_from}
+use Rattle.package_code.specs.Directory.{AreTold, IsUnseen, number_told, seen_inside}
+use Rattle.package_code.specs.Owners.{component_names}
+use Rattle.package_code.specs.Refusing.{coded_labels, coded_rows, items_labels, items_rows, seen_at, seen_with, subprogram_labels, subprogram_needs, subprogram_rows}
 use Rattle.package_code.specs.declared.directory.Directory.{Directory}
 use Rattle.package_code.specs.declared.walk.Walk.{Walk}
 
@@ -72,7 +77,7 @@ pub record AddsBody (t : ProgramTree) (directory : Directory) (c : Coded) (old n
   pub words : SubprogramWords
   pub adds : AddsSubprogram t c.head c.body old.visible old.draft words new.draft
   pub called : IsCalledSubprogram t c.head old.visible.scope words
-  pub keeps : KeepsRules old.visible old.draft words new.draft
+  pub keeps : KeepsRules (is_none c.head.result) old.visible old.draft words new.draft
   pub numbered : number_told (program_of t).scope directory c.owner c.head.name.name ≡ Some (length old.subprograms.items)
   pub row : new.subprograms.items ≡ old.subprograms.items ++ row_of c.kind words (here new.draft.code) ∷ []
   pub visible : new.visible ≡ old.visible
@@ -88,6 +93,40 @@ abbrev pub RefusesBody : ProgramTree → Visible → (old : Draft) → Subprogra
 RefusesBody t v old d b why =
     IsNeeding (here old.code + procedure_bound v.scope d.formals b) (subprogram_needs t v old.exceptions.items d b) why
     ⊎ HasManyLabels (subprogram_labels old.labels d b) why
+
+-- ---- the body of an operation of a protected object
+
+-- what is visible where these components have become so, in a function as constants
+abbrev pub with_components : (whole : Scope) → Directory → (o : ℕ) → (is_function : Bool) → List RecordComponent → Visible → Visible
+with_components whole directory o is_function components v =
+    seen_inside whole directory o (record v { scope = components_scope v.scope is_function components }) (component_names components)
+
+-- ... or the name of an operation
+abbrev pub with_own_name : (whole : Scope) → Directory → (o : ℕ) → SubprogramTree → Visible → Visible
+with_own_name whole directory o d v = seen_inside whole directory o (record v { scope = subprogram_scope v.scope d }) (d.name.name ∷ [])
+
+-- in front of the parameters of an operation, where these names are visible in front of its body
+abbrev pub operation_visible : (whole : Scope) → Directory → (o : ℕ) → List RecordComponent → SubprogramTree → Visible → Visible
+operation_visible whole directory o components d v =
+    with_own_name whole directory o d (with_components whole directory o (is_some d.result) components v)
+
+-- the first names
+abbrev pub first_visible : (many : ℕ) → Visible → Visible
+first_visible many v = record v { scope = take many v.scope; slots = take many v.slots; subprograms = take many v.subprograms }
+
+-- The body of an operation of this object was added. Behind it its name is visible, and no component.
+pub record AddsOperation (t : ProgramTree) (directory : Directory) (o : ℕ) (components : List RecordComponent) (d : SubprogramTree) (b : BodyTree)
+    (old new : Walk) : Type 0 where
+  pub after : Walk
+  pub adds : AddsBody t directory (of_operation o old.visible.scope components (OperationBody d b))
+      (record old { visible = operation_visible (program_of t).scope directory o components d old.visible }) after
+  pub told : AddsAsTold old.draft d b after.draft
+  pub visible : new.visible
+      ≡ with_own_name (program_of t).scope directory o d
+      (first_visible (length old.visible.scope) (operation_visible (program_of t).scope directory o components d old.visible))
+  pub draft : new.draft ≡ after.draft
+  pub subprograms : new.subprograms ≡ after.subprograms
+  pub place : new.place ≡ old.place
 
 -- ---- all of them
 
@@ -110,19 +149,19 @@ pub record IsDraftKept (old new : Draft) : Type 0 where
 abbrev pub LieInFront : (place : ℕ) → List Row → Type 0
 LieInFront place rows = All (λ q. q.end_ ≤ place) rows
 
--- The body of this number has its code, and its subprogram; the rows in front of its own lie in front of its code. It belongs to no protected object: no code
--- is made of those that do yet.
+-- The body of this number has its code, and its subprogram; the rows in front of its own lie in front of its code. It is no entry's: no code is made of these
+-- yet.
 pub record HasBody (t : ProgramTree) (directory : Directory) (number : ℕ) (c : Coded) (w : Walk) : Type 0 where
-  pub outside : c.owner ≡ None
+  pub no_entry : is_entry_body c.kind ≡ false
   pub seen : Visible
   pub scope : seen.scope ≡ c.front
-  pub told : AreTold (program_of t).scope directory seen
+  pub told : AreTold (program_of t).scope directory c.owner seen
   pub old : Draft
   pub new : Draft
   pub words : SubprogramWords
   pub adds : AddsSubprogram t c.head c.body seen old words new
   pub called : IsCalledSubprogram t c.head seen.scope words
-  pub keeps : KeepsRules seen old words new
+  pub keeps : KeepsRules (is_none c.head.result) seen old words new
   pub before : LieInFront (here old.code) old.rows.items
   pub numbered : number_told (program_of t).scope directory c.owner c.head.name.name ≡ Some number
   pub there : slice_get w.subprograms.items number ≡ Some (row_of c.kind words (here new.code))
@@ -147,9 +186,9 @@ pub record HasRows (all : List Subprogram) (draft : Draft) : Type 0 where
 
 -- ---- the walk
 
--- in front of all of them, where these names are visible, in a program with these exceptions
-pub record BeginsWalk (s : Scope) (names : List (List ℕ)) (w : Walk) : Type 0 where
-  pub visible : IsUnseen s w.visible
+-- in front of all of them, where these names are visible and operations have these numbers, in a program with these exceptions
+pub record BeginsWalk (s : Scope) (operations : List (List (Option ℕ))) (names : List (List ℕ)) (w : Walk) : Type 0 where
+  pub visible : IsUnseen s operations w.visible
   pub place : w.place ≡ 0
   pub instructions : w.draft.code.instructions.items ≡ []
   pub labels : w.draft.labels ≡ []
@@ -161,7 +200,7 @@ pub record BeginsWalk (s : Scope) (names : List (List ℕ)) (w : Walk) : Type 0 
 -- draft's exceptions, and the rows of handlers are rows of the bodies.
 pub record IsWalked (t : ProgramTree) (directory : Directory) (w : Walk) : Type 0 where
   pub scope : w.visible.scope ≡ front t w.place
-  pub told : AreTold (program_of t).scope directory w.visible
+  pub told : AreTold (program_of t).scope directory None w.visible
   pub bodies : (number : ℕ) (c : Coded) → number < length w.subprograms.items → slice_get (bodies_of t) number ≡ Some c → HasBody t directory number c w
   pub end : begins_at w.subprograms.items (length w.subprograms.items) ≡ here w.draft.code
   pub many : length w.subprograms.items ≡ bodies_before t w.place
@@ -174,3 +213,29 @@ pub record IsAsTold (t : ProgramTree) (w : Walk) : Type 0 where
   pub few : here w.draft.code ≤ total (bounds_from t 0 (take w.place (declared_in t.package_)))
   pub labels : w.draft.labels ≡ items_labels [] (take w.place (declared_in t.package_))
   pub rows : length w.draft.rows.items ≡ items_rows 0 (take w.place (declared_in t.package_))
+
+-- ---- in the body of a protected object
+
+-- the body of the object with this name stands there, with these bodies of operations and entries
+abbrev pub HasObjectBody : ProgramTree → (place : ℕ) → Identifier → List ProtectedItemTree → Type 0
+HasObjectBody t place name items = (end_name : Identifier) × (slice_get (declared_in t.package_) place ≡ Some (ProtectedBody name items end_name))
+
+-- The walk is at the body of the object with this number and these components, behind the first of its bodies: each of these has its code too. In front of the
+-- first the names `s` are visible.
+pub record IsInObjectBody (t : ProgramTree) (directory : Directory) (o : ℕ) (s : Scope) (components : List RecordComponent) (items : List ProtectedItemTree) (k : ℕ)
+    (w : Walk) : Type 0 where
+  pub item : BodyItemTree
+  pub at : slice_get (declared_in t.package_) w.place ≡ Some item
+  pub coded : coded_at t w.place item ≡ operations_of o s components items
+  -- the names in front of the package are among them
+  pub wide : length (start_in t.package_) ≤ length s
+  pub seen : w.visible ≡ seen_with t (Some o) (protected_items_scope s (take k items))
+  pub told : AreTold (program_of t).scope directory (Some o) w.visible
+  pub bodies : (number : ℕ) (c : Coded) → number < length w.subprograms.items → slice_get (bodies_of t) number ≡ Some c → HasBody t directory number c w
+  pub end : begins_at w.subprograms.items (length w.subprograms.items) ≡ here w.draft.code
+  pub many : length w.subprograms.items ≡ bodies_before t w.place + k
+  pub exceptions : w.draft.exceptions.items ≡ (program_of t).exceptions
+  pub rows : HasRows w.subprograms.items w.draft
+  pub few : here w.draft.code ≤ total (bounds_from t 0 (take w.place (declared_in t.package_))) + total (map bound_of (take k (coded_at t w.place item)))
+  pub labels : w.draft.labels ≡ coded_labels (items_labels [] (take w.place (declared_in t.package_))) (take k (coded_at t w.place item))
+  pub choices : length w.draft.rows.items ≡ coded_rows (items_rows 0 (take w.place (declared_in t.package_))) (take k (coded_at t w.place item))

@@ -13,16 +13,20 @@ pub fn bodies_may_be_added()
     scopes_are_sound();
 }
 
-/// Each body of an accepted program has the number of its name, since no two of them have one name.
+/// Each body of an accepted program has the number of its name, since no two of them have one name outside of protected objects or within one.
 pub fn bodies_are_numbered()
     ensures { BodiesAreNumbered }
 {
+    names_are_known();
     premises_hold();
+    scopes_are_sound();
 }
 
 /// Each task that is declared in an accepted program has one body, whose number is told of its name.
 pub fn tasks_have_bodies()
     ensures { TasksHaveBodies }
 {
+    names_are_known();
     premises_hold();
+    scopes_are_sound();
 }

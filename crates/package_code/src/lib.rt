@@ -1,6 +1,7 @@
 //! The code of a package: where its variables stand, what its bodies see of it, the code of each body, and the rows of its protected objects and tasks.
 #![tactic(auto)]
 
+mod components;
 mod directory;
 mod globals;
 mod initial;
@@ -10,9 +11,10 @@ mod operations;
 mod tasks;
 mod walk;
 
+pub use components::ComponentSlot;
 pub use directory::Directory;
 pub use globals::{Globals, globals_of};
-pub use objects::object_rows;
+pub use objects::{ProtectedObjects, protected_objects};
 pub use operations::OperationNumber;
 pub use tasks::{task_row, task_rows};
 pub use walk::{Walk, row, walk_over};

@@ -1,20 +1,29 @@
-//! The rows of a program's protected objects in the table of an image, in the order of their declarations (RM 9.4, D.3).
-ghost use Rattle.std.specs.Prelude.{◌≡◌, ◌∷◌, ◌++◌, [], Some, map, IfErr, IfOk, OnOk};
+//! What a program's protected objects have in an image: their rows, in the order of their declarations, and the places of their components (RM 9.4, D.3).
+ghost use Rattle.std.specs.Prelude.{◌≡◌, ◌∷◌, ◌++◌, [], Some, length, map, true, IfErr, IfOk, OnOk};
 ghost use Rattle.ada_tree.specs.StatementTree.{optional_tree, protected_component_tree, protected_tree};
-ghost use Rattle.ada_tree.specs.ProgramTree.{body_item_tree, item_tree, package_tree};
+ghost use Rattle.ada_tree.specs.ProgramTree.{OfProtected, body_item_tree, item_tree, package_tree};
 ghost use Rattle.expr_soundness.specs.meaning.specs.Programs.{component, items_among, package_items};
 ghost use Rattle.expr_soundness.specs.SoundScopes.{SoundScope};
-ghost use Rattle.expr_code.specs.Refusing.{IsRefused};
-ghost use Rattle.package_code.specs.Objects.{ceiling_named, lack_components, lack_objects, object_row, object_rows};
+ghost use Rattle.package_code.specs.Objects.{AddsObjects, RefusesComponent, RefusesComponents, RefusesObjects, ceiling_named, component_slots, have_words, object_rows, objects_have_words, slots_of};
 ghost use Rattle.package_code.specs.Package.{first_words_of};
 
+use crate::components::ComponentSlot;
 use crate::initial::push_initial;
 use ada_tree::{BodyItem, Identifier, Item, Package, ProtectedComponent, ProtectedDeclaration};
-use expr_code::Refusal;
-use image::{Barrier, Object};
+use expr_code::{Refusal, Slot};
+use image::{Barrier, Object, Region};
 use std::alloc::Global;
 use type_rules::{named_entity, subtype_of};
 use types::{Entity, Scope};
+
+/// What the declarations of protected objects tell.
+#[derive(Drop)]
+pub struct ProtectedObjects {
+    /// Their rows in the table of an image.
+    pub rows: Vec<Object>,
+    /// Where their components stand.
+    pub components: Vec<ComponentSlot>,
+}
 
 // The ceiling of the protected object of this name.
 fn ceiling_named(scope: &Scope, name: &Identifier) -> u8
@@ -26,162 +35,180 @@ fn ceiling_named(scope: &Scope, name: &Identifier) -> u8
     }
 }
 
-// Adds the words of a component's initial value.
+// Adds the words of a component's initial value, and its place.
 fn push_component(
     words: &mut Vec<i64>,
+    slots: &mut Vec<ComponentSlot>,
+    object: usize,
     scope: &Scope,
     part: &ProtectedComponent,
 ) -> Result<(), Refusal>
     requires sound { SoundScope scope.now }
     ensures words { OnOk result (words.new.items ≡ words.old.items ++ first_words_of (component scope.now (protected_component_tree part.now) ∷ [])) }
-    ensures refused { IfErr result (λ why. IsRefused 0 0 (lack_components scope.now (protected_component_tree part.now ∷ [])) why) }
+    ensures slots { OnOk result (slots.new.items ≡ slots.old.items ++ slots_of object (length words.old.items) (component scope.now (protected_component_tree part.now) ∷ [])) }
+    ensures made { OnOk result (have_words (component scope.now (protected_component_tree part.now) ∷ []) ≡ true) }
+    ensures refused { IfErr result (λ why. RefusesComponent scope.now (length words.old.items) (protected_component_tree part.now) why) }
 {
-    match subtype_of(scope, &part.subtype) {
-        Some(subtype) => push_initial(words, scope, subtype, &part.value),
-        None => Err(Refusal::Outside),
+    let Some(subtype) = subtype_of(scope, &part.subtype) else {
+        return Err(Refusal::Outside);
+    };
+    let offset = u16::try_from(words.len()).map_err(|_| Refusal::Limit)?;
+    slots.push(ComponentSlot {
+        object,
+        name: part.name.name.clone()?,
+        slot: Slot {
+            region: Region::Object,
+            offset,
+        },
+    })?;
+    push_initial(words, scope, subtype, &part.value)?;
+    if words.len() <= usize::from(offset) {
+        return Err(Refusal::Outside);
     }
+    Ok(())
 }
 
-// The words of the initial values of components, one behind the other.
+// The words of the initial values of an object's components, one behind the other; adds their places.
 fn component_words(
     alloc: Global,
+    slots: &mut Vec<ComponentSlot>,
+    object: usize,
     scope: &Scope,
     components: &[ProtectedComponent],
 ) -> Result<Vec<i64>, Refusal>
     requires sound { SoundScope scope.now }
     ensures words { IfOk result (λ words. words.items ≡ first_words_of (map (component scope.now) (map protected_component_tree components.now))) }
-    ensures refused { IfErr result (λ why. IsRefused 0 0 (lack_components scope.now (map protected_component_tree components.now)) why) }
+    ensures slots { OnOk result (slots.new.items ≡ slots.old.items ++ slots_of object 0 (map (component scope.now) (map protected_component_tree components.now))) }
+    ensures made { IfOk result (λ words. have_words (map (component scope.now) (map protected_component_tree components.now)) ≡ true) }
+    ensures refused { IfErr result (λ why. RefusesComponents scope.now (map protected_component_tree components.now) why) }
 {
     let mut words = Vec::new(alloc);
     for part in components {
-        push_component(&mut words, scope, part)?;
+        push_component(&mut words, slots, object, scope, part)?;
     }
     Ok(words)
 }
 
-// The row of a declared object.
-fn object_row(
-    alloc: Global,
-    scope: &Scope,
-    object: &ProtectedDeclaration,
-) -> Result<Object, Refusal>
-    requires sound { SoundScope scope.now }
-    ensures row { IfOk result (λ row. row ≡ object_row scope.now (protected_tree object.now)) }
-    ensures refused { IfErr result (λ why. IsRefused 0 0 (lack_components scope.now (protected_tree object.now).components) why) }
-{
-    let words = component_words(alloc, scope, &object.components)?;
-    Ok(Object::new(
-        ceiling_named(scope, &object.name),
-        None,
-        Barrier::Closed,
-        words,
-    ))
-}
+impl ProtectedObjects {
+    // Adds a declared object.
+    fn object(
+        &mut self,
+        alloc: Global,
+        scope: &Scope,
+        object: &ProtectedDeclaration,
+    ) -> Result<(), Refusal>
+        requires sound { SoundScope scope.now }
+        ensures adds { OnOk result (AddsObjects scope.now self.old (OfProtected (protected_tree object.now) ∷ []) self.new) }
+        ensures refused { IfErr result (λ why. RefusesObjects scope.now (OfProtected (protected_tree object.now) ∷ []) why) }
+    {
+        let number = self.rows.len();
+        let words = component_words(
+            alloc,
+            &mut self.components,
+            number,
+            scope,
+            &object.components,
+        )?;
+        let ceiling = ceiling_named(scope, &object.name);
+        self.rows
+            .push(Object::new(ceiling, None, Barrier::Closed, words))?;
+        Ok(())
+    }
 
-// Adds that of a declaration, if it is one of an object.
-fn add_item(
-    alloc: Global,
-    objects: &mut Vec<Object>,
-    scope: &Scope,
-    item: &Item,
-) -> Result<(), Refusal>
-    requires sound { SoundScope scope.now }
-    ensures adds { OnOk result (objects.new.items ≡ objects.old.items ++ object_rows scope.now (item_tree item.now ∷ [])) }
-    ensures refused { IfErr result (λ why. IsRefused 0 0 (lack_objects scope.now (item_tree item.now ∷ [])) why) }
-{
-    match item {
-        Item::Protected(object) => {
-            objects.push(object_row(alloc, scope, object)?)?;
-            Ok(())
+    // Adds what a declaration declares, if that is an object.
+    fn item(&mut self, alloc: Global, scope: &Scope, item: &Item) -> Result<(), Refusal>
+        requires sound { SoundScope scope.now }
+        ensures adds { OnOk result (AddsObjects scope.now self.old (item_tree item.now ∷ []) self.new) }
+        ensures refused { IfErr result (λ why. RefusesObjects scope.now (item_tree item.now ∷ []) why) }
+    {
+        match item {
+            Item::Protected(object) => self.object(alloc, scope, object),
+            Item::Type(_) => Ok(()),
+            Item::Object(_) => Ok(()),
+            Item::Exception(_) => Ok(()),
+            Item::Subprogram(_) => Ok(()),
+            Item::Task(_) => Ok(()),
         }
-        Item::Type(_) => Ok(()),
-        Item::Object(_) => Ok(()),
-        Item::Exception(_) => Ok(()),
-        Item::Subprogram(_) => Ok(()),
-        Item::Task(_) => Ok(()),
+    }
+
+    // Adds the objects among declarations.
+    fn items(&mut self, alloc: Global, scope: &Scope, items: &[Item]) -> Result<(), Refusal>
+        requires sound { SoundScope scope.now }
+        ensures adds { OnOk result (AddsObjects scope.now self.old (map item_tree items.now) self.new) }
+        ensures refused { IfErr result (λ why. RefusesObjects scope.now (map item_tree items.now) why) }
+    {
+        for item in items {
+            self.item(alloc, scope, item)?;
+        }
+        Ok(())
+    }
+
+    // Adds what a declaration in the body of a package declares, if that is an object; bodies declare none.
+    fn body_item(&mut self, alloc: Global, scope: &Scope, item: &BodyItem) -> Result<(), Refusal>
+        requires sound { SoundScope scope.now }
+        ensures adds { OnOk result (AddsObjects scope.now self.old (items_among (body_item_tree item.now ∷ [])) self.new) }
+        ensures refused { IfErr result (λ why. RefusesObjects scope.now (items_among (body_item_tree item.now ∷ [])) why) }
+    {
+        match item {
+            BodyItem::Item(item) => self.item(alloc, scope, item),
+            BodyItem::Subprogram(_, _) => Ok(()),
+            BodyItem::Task(_, _) => Ok(()),
+            BodyItem::Protected(_, _, _) => Ok(()),
+        }
+    }
+
+    // Adds the objects that are declared in the body of a package.
+    fn body_items(
+        &mut self,
+        alloc: Global,
+        scope: &Scope,
+        items: &[BodyItem],
+    ) -> Result<(), Refusal>
+        requires sound { SoundScope scope.now }
+        ensures adds { OnOk result (AddsObjects scope.now self.old (items_among (map body_item_tree items.now)) self.new) }
+        ensures refused { IfErr result (λ why. RefusesObjects scope.now (items_among (map body_item_tree items.now)) why) }
+    {
+        for item in items {
+            self.body_item(alloc, scope, item)?;
+        }
+        Ok(())
+    }
+
+    // Adds all objects of a package.
+    fn package(&mut self, alloc: Global, scope: &Scope, package_: &Package) -> Result<(), Refusal>
+        requires sound { SoundScope scope.now }
+        ensures adds { OnOk result (AddsObjects scope.now self.old (package_items (Some (package_tree package_.now))) self.new) }
+        ensures refused { IfErr result (λ why. RefusesObjects scope.now (package_items (Some (package_tree package_.now))) why) }
+    {
+        self.items(alloc, scope, &package_.declaration.items)?;
+        self.body_items(alloc, scope, &package_.body.items)?;
+        Ok(())
     }
 }
 
-// Adds those of the objects among declarations.
-fn add_items(
-    alloc: Global,
-    objects: &mut Vec<Object>,
-    scope: &Scope,
-    items: &[Item],
-) -> Result<(), Refusal>
-    requires sound { SoundScope scope.now }
-    ensures adds { OnOk result (objects.new.items ≡ objects.old.items ++ object_rows scope.now (map item_tree items.now)) }
-    ensures refused { IfErr result (λ why. IsRefused 0 0 (lack_objects scope.now (map item_tree items.now)) why) }
-{
-    for item in items {
-        add_item(alloc, objects, scope, item)?;
-    }
-    Ok(())
-}
-
-// Adds that of a declaration in the body of a package, if it is one of an object; bodies declare none.
-fn add_body_item(
-    alloc: Global,
-    objects: &mut Vec<Object>,
-    scope: &Scope,
-    item: &BodyItem,
-) -> Result<(), Refusal>
-    requires sound { SoundScope scope.now }
-    ensures adds { OnOk result (objects.new.items ≡ objects.old.items ++ object_rows scope.now (items_among (body_item_tree item.now ∷ []))) }
-    ensures refused { IfErr result (λ why. IsRefused 0 0 (lack_objects scope.now (items_among (body_item_tree item.now ∷ []))) why) }
-{
-    match item {
-        BodyItem::Item(item) => add_item(alloc, objects, scope, item),
-        BodyItem::Subprogram(_, _) => Ok(()),
-        BodyItem::Task(_, _) => Ok(()),
-        BodyItem::Protected(_, _, _) => Ok(()),
-    }
-}
-
-// Adds those of the objects that are declared in the body of a package.
-fn add_body_items(
-    alloc: Global,
-    objects: &mut Vec<Object>,
-    scope: &Scope,
-    items: &[BodyItem],
-) -> Result<(), Refusal>
-    requires sound { SoundScope scope.now }
-    ensures adds { OnOk result (objects.new.items ≡ objects.old.items ++ object_rows scope.now (items_among (map body_item_tree items.now))) }
-    ensures refused { IfErr result (λ why. IsRefused 0 0 (lack_objects scope.now (items_among (map body_item_tree items.now))) why) }
-{
-    for item in items {
-        add_body_item(alloc, objects, scope, item)?;
-    }
-    Ok(())
-}
-
-// Those of all objects of a package.
-fn package_rows(alloc: Global, scope: &Scope, package_: &Package) -> Result<Vec<Object>, Refusal>
-    requires sound { SoundScope scope.now }
-    ensures rows { IfOk result (λ objects. objects.items ≡ object_rows scope.now (package_items (Some (package_tree package_.now)))) }
-    ensures refused { IfErr result (λ why. IsRefused 0 0 (lack_objects scope.now (package_items (Some (package_tree package_.now)))) why) }
-{
-    let mut objects = Vec::new(alloc);
-    add_items(alloc, &mut objects, scope, &package_.declaration.items)?;
-    add_body_items(alloc, &mut objects, scope, &package_.body.items)?;
-    Ok(objects)
-}
-
-/// The rows of the protected objects that a package declares, whose names are visible: each has its ceiling and the words of its components, and nothing opens it.
+/// The protected objects that a package declares, whose names are visible: the row of each has its ceiling and the words of its components, and nothing opens
+/// it; its components stand one behind another.
 ///
 /// # Errors
-/// `Memory` where memory was refused, `Outside` where the text of a component doesn't tell its first words, as that of a legal program does.
-pub fn object_rows(
+/// `Memory` where memory was refused, `Limit` where components have more words than a program, `Outside` where the text of a component doesn't tell its first
+/// words, or it has none; neither is so of a legal program.
+pub fn protected_objects(
     alloc: Global,
     scope: &Scope,
     package_: &Option<Package>,
-) -> Result<Vec<Object>, Refusal>
+) -> Result<ProtectedObjects, Refusal>
     requires sound { SoundScope scope.now }
-    ensures rows { IfOk result (λ objects. objects.items ≡ object_rows scope.now (package_items (optional_tree package_tree package_.now))) }
-    ensures refused { IfErr result (λ why. IsRefused 0 0 (lack_objects scope.now (package_items (optional_tree package_tree package_.now))) why) }
+    ensures rows { IfOk result (λ objects. objects.rows.items ≡ object_rows scope.now (package_items (optional_tree package_tree package_.now))) }
+    ensures components { IfOk result (λ objects. objects.components.items ≡ component_slots scope.now 0 (package_items (optional_tree package_tree package_.now))) }
+    ensures made { IfOk result (λ objects. objects_have_words scope.now (package_items (optional_tree package_tree package_.now)) ≡ true) }
+    ensures refused { IfErr result (λ why. RefusesObjects scope.now (package_items (optional_tree package_tree package_.now)) why) }
 {
-    match package_ {
-        None => Ok(Vec::new(alloc)),
-        Some(package_) => package_rows(alloc, scope, package_),
+    let mut objects = ProtectedObjects {
+        rows: Vec::new(alloc),
+        components: Vec::new(alloc),
+    };
+    if let Some(package_) = package_ {
+        objects.package(alloc, scope, package_)?;
     }
+    Ok(objects)
 }

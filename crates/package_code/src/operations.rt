@@ -22,8 +22,8 @@ pub struct OperationNumber {
     pub number: u16,
 }
 
-// The number of the protected object of this name.
-fn object_number(scope: &Scope, name: &Identifier) -> usize
+/// The number of the protected object of this name.
+pub(crate) fn object_number(scope: &Scope, name: &Identifier) -> usize
     ensures { result ≡ object_number scope.now name.now }
 {
     match named_entity(scope, name) {

@@ -1,37 +1,47 @@
 //! The walk over the declarations and bodies of a package in the order of the text, which adds the code of each body (RM 7.2).
-ghost use Rattle.std.specs.Prelude.{◌≡◌, ◌+◌, false, is_none, is_some, length, map, slice_get, true, None, Some, IfErr, IfOk, OnOk};
+ghost use Rattle.std.specs.Prelude.{◌≡◌, ◌≤◌, ◌+◌, false, is_none, is_some, length, map, slice_get, true, None, Some, IfErr, IfOk, OnOk};
 ghost use Rattle.ada_tree.specs.ExpressionTree.{expr_tree};
 ghost use Rattle.ada_tree.specs.StatementTree.{MoreStmts, NoStmts, stmt_tree, stmt_trees, subprogram_tree};
-ghost use Rattle.ada_tree.specs.ProgramTree.{OfItem, SubprogramBody, TaskBody, body_item_tree, body_tree, item_tree, program_tree};
+ghost use Rattle.ada_tree.specs.ProgramTree.{OfItem, OperationBody, SubprogramBody, TaskBody, body_item_tree, body_tree, item_tree, program_tree, protected_item_tree};
+ghost use Rattle.base.specs.declared.limits.TheConstants.{OBJECTS};
+ghost use Rattle.types.specs.Scopes.{number_of};
+ghost use Rattle.declaring.specs.BodyNames.{object_body_scope};
+ghost use Rattle.legality.specs.ProtectedBodyRules.{components_at};
 ghost use Rattle.program_soundness.specs.checking.specs.ProgramRules.{IsLegal};
 ghost use Rattle.ravenscar.specs.ProgramRules.{IsRestricted};
 ghost use Rattle.expr_soundness.specs.meaning.specs.Programs.{program_of, returned, subtype_named};
-ghost use Rattle.program_soundness.specs.Fronts.{declared_in};
+ghost use Rattle.program_soundness.specs.Fronts.{declared_in, front};
 ghost use Rattle.type_rules.specs.SubtypeNames.{subtype_of};
 ghost use Rattle.expr_code.specs.Code.{here};
 ghost use Rattle.expr_code.specs.Refusing.{IsRefused};
 ghost use Rattle.expr_code.specs.Seeing.{told_of};
 ghost use Rattle.step_simulation.specs.part_code.specs.Emitting.{HasEntries};
 ghost use Rattle.stmt_code.specs.Subprograms.{IsCalledFunction, KeepsRules};
-ghost use Rattle.package_code.specs.Bodies.{of_subprogram, of_task};
-ghost use Rattle.package_code.specs.Directory.{IsDirectory};
+ghost use Rattle.package_code.specs.Bodies.{components_or_none, of_object, of_operation, of_subprogram, of_task, operation_kind};
+ghost use Rattle.package_code.specs.Directory.{IsDirectory, number_told};
 ghost use Rattle.package_code.specs.Laws.{MayBeAdded};
 ghost use Rattle.package_code.specs.Refusing.{RefusesCode};
-ghost use Rattle.package_code.specs.Walking.{AddsAsTold, AddsBody, AddsSubprogram, AddsValueFunction, BeginsWalk, IsAsTold, IsCalledSubprogram, IsWalked, RefusesBody, StandFrom, row_of};
+ghost use Rattle.package_code.specs.Walking.{AddsAsTold, AddsBody, AddsOperation, AddsSubprogram, AddsValueFunction, BeginsWalk, HasObjectBody, IsAsTold, IsCalledSubprogram, IsWalked, IsInObjectBody, RefusesBody, StandFrom, operation_visible, row_of};
 
 use crate::directory::{Directory, unseen};
 use crate::laws::{bodies_are_numbered, bodies_may_be_added};
-use ada_tree::{Body, BodyItem, Expr, Identifier, Item, Package, Stmt, Subprogram};
-use declaring::declare_item;
-use expr_code::{Refusal, Visible};
+use crate::operations::object_number;
+use ada_tree::{
+    Body, BodyItem, Expr, Identifier, Item, Package, ProtectedBodyItem, Stmt, Subprogram,
+};
+use declaring::laws::object_bodies_end;
+use declaring::{declare_components, declare_item, enter_object, leave_object};
+use expr_code::{OperationNumbers, Refusal, Visible};
+use expr_soundness::laws::scopes_are_sound;
 use image::Kind;
 use legality::{inside_scope, item_name};
 use lexer::Text;
+use program_soundness::body_laws::{names_are_known, premises_hold};
 use ravenscar::Accepted;
 use std::alloc::Global;
 use stmt_code::{Draft, SubprogramWords};
 use type_rules::{declare_subprogram, subtype_of};
-use types::{Scope, Subtype};
+use types::{RecordComponent, Scope, Subtype};
 
 /// How far the walk is: so many declarations and bodies of the package are behind it.
 #[derive(Drop)]
@@ -96,17 +106,65 @@ pub fn row(kind: Kind, words: SubprogramWords, draft: &Draft) -> Result<image::S
     })
 }
 
+// The kind of the body of an operation of this object, which is a function if it has a result.
+fn operation_kind(object: u16, given: &Option<Identifier>) -> Kind
+    ensures { result ≡ operation_kind object given.now }
+{
+    match given {
+        None => Kind::ProtectedProcedure(object),
+        Some(_) => Kind::ProtectedFunction(object),
+    }
+}
+
+// A copy of these components.
+fn components_copy(
+    alloc: Global,
+    components: &[RecordComponent],
+) -> Result<Vec<RecordComponent>, Refusal>
+    ensures copy { IfOk result (λ copy. copy.items ≡ components.now) }
+    ensures refused { IfErr result (λ why. IsRefused 0 0 false why) }
+{
+    let mut copy = Vec::new(alloc);
+    for component in components {
+        copy.push(RecordComponent {
+            name: component.name.clone()?,
+            subtype: component.subtype,
+        })?;
+    }
+    Ok(copy)
+}
+
+// Those of the protected object whose name has this number.
+fn components_of(
+    alloc: Global,
+    scope: &Scope,
+    number: usize,
+) -> Result<Vec<RecordComponent>, Refusal>
+    ensures components { IfOk result (λ copy. copy.items ≡ components_or_none (components_at scope.now number)) }
+    ensures refused { IfErr result (λ why. IsRefused 0 0 false why) }
+{
+    match scope.protected(number) {
+        Some(object) => components_copy(alloc, &object.components),
+        None => Ok(Vec::new(alloc)),
+    }
+}
+
 impl Walk {
-    // In front of all of them, where these names are visible, in a program with these exceptions.
-    fn new(alloc: Global, scope: Scope, exceptions: Vec<Text>) -> Result<Walk, Refusal>
-        ensures begins { IfOk result (λ walk. BeginsWalk scope exceptions.items walk) }
+    // In front of all of them, where these names are visible and operations have these numbers, in a program with these exceptions.
+    fn new(
+        alloc: Global,
+        scope: Scope,
+        operations: OperationNumbers,
+        exceptions: Vec<Text>,
+    ) -> Result<Walk, Refusal>
+        ensures begins { IfOk result (λ walk. BeginsWalk scope operations exceptions.items walk) }
         ensures refused { IfErr result (λ why. IsRefused 0 0 false why) }
     {
         Ok(Walk {
             alloc,
             place: 0,
             draft: Draft::new(alloc, exceptions),
-            visible: unseen(alloc, scope)?,
+            visible: unseen(alloc, scope, operations)?,
             subprograms: Vec::new(alloc),
         })
     }
@@ -124,7 +182,7 @@ impl Walk {
         requires subtype { (subprogram_tree subprogram.now).result ≡ Some subtype.now }
         ensures adds { IfOk result (λ words. AddsValueFunction (program_tree accepted.now) (subprogram_tree subprogram.now) (body_tree body.now) subtype.now self.old.visible self.old.draft words self.new.draft) }
         ensures called { IfOk result (λ words. IsCalledFunction self.old.visible.scope (subprogram_tree subprogram.now).formals (subtype_named (program_of (program_tree accepted.now)).scope subtype.now) words) }
-        ensures keeps { IfOk result (λ words. KeepsRules self.old.visible self.old.draft words self.new.draft) }
+        ensures keeps { IfOk result (λ words. KeepsRules false self.old.visible self.old.draft words self.new.draft) }
         ensures visible { OnOk result (self.new.visible ≡ self.old.visible) }
         ensures place { OnOk result (self.new.place ≡ self.old.place) }
         ensures subprograms { OnOk result (self.new.subprograms ≡ self.old.subprograms) }
@@ -148,7 +206,7 @@ impl Walk {
         requires entries { HasEntries self.old.visible }
         ensures adds { IfOk result (λ words. AddsSubprogram (program_tree accepted.now) (subprogram_tree subprogram.now) (body_tree body.now) self.old.visible self.old.draft words self.new.draft) }
         ensures called { IfOk result (λ words. IsCalledSubprogram (program_tree accepted.now) (subprogram_tree subprogram.now) self.old.visible.scope words) }
-        ensures keeps { IfOk result (λ words. KeepsRules self.old.visible self.old.draft words self.new.draft) }
+        ensures keeps { IfOk result (λ words. KeepsRules (is_none (subprogram_tree subprogram.now).result) self.old.visible self.old.draft words self.new.draft) }
         ensures visible { OnOk result (self.new.visible ≡ self.old.visible) }
         ensures place { OnOk result (self.new.place ≡ self.old.place) }
         ensures subprograms { OnOk result (self.new.subprograms ≡ self.old.subprograms) }
@@ -203,6 +261,169 @@ impl Walk {
         self.subprograms
             .push(row(Kind::TaskBody, words, &self.draft)?)?;
         Ok(())
+    }
+
+    // Adds the code and the row of the body of an operation of this object, whose name and components are visible.
+    fn operation_body(
+        &mut self,
+        accepted: &Accepted,
+        directory: &Directory,
+        object: u16,
+        subprogram: &Subprogram,
+        body: &Body,
+    ) -> Result<(), Refusal>
+        requires added { MayBeAdded (program_tree accepted.now) self.old.visible.scope (subprogram_tree subprogram.now) (body_tree body.now) }
+        requires entries { HasEntries self.old.visible }
+        requires numbered { number_told (program_of (program_tree accepted.now)).scope directory.now (Some object) (subprogram_tree subprogram.now).name.name ≡ Some (length self.old.subprograms.items) }
+        ensures adds { OnOk result (AddsBody (program_tree accepted.now) directory.now (of_object object self.old.visible.scope (subprogram_tree subprogram.now) (body_tree body.now)) self.old self.new) }
+        ensures told { OnOk result (AddsAsTold self.old.draft (subprogram_tree subprogram.now) (body_tree body.now) self.new.draft) }
+        ensures refused { IfErr result (λ why. RefusesBody (program_tree accepted.now) self.old.visible self.old.draft (subprogram_tree subprogram.now) (body_tree body.now) why) }
+    {
+        let words = self.code(accepted, subprogram, body)?;
+        let kind = operation_kind(object, &subprogram.result);
+        self.subprograms.push(row(kind, words, &self.draft)?)?;
+        Ok(())
+    }
+
+    // Adds the body of an operation of this object, which sees these components.
+    fn operation(
+        &mut self,
+        accepted: &Accepted,
+        directory: &Directory,
+        object: u16,
+        components: &[RecordComponent],
+        subprogram: &Subprogram,
+        body: &Body,
+    ) -> Result<(), Refusal>
+        requires added { MayBeAdded (program_tree accepted.now) (of_operation object self.old.visible.scope components.now (OperationBody (subprogram_tree subprogram.now) (body_tree body.now))).front (subprogram_tree subprogram.now) (body_tree body.now) }
+        requires entries { HasEntries self.old.visible }
+        requires numbered { number_told (program_of (program_tree accepted.now)).scope directory.now (Some object) (subprogram_tree subprogram.now).name.name ≡ Some (length self.old.subprograms.items) }
+        ensures adds { OnOk result (AddsOperation (program_tree accepted.now) directory.now object components.now (subprogram_tree subprogram.now) (body_tree body.now) self.old self.new) }
+        ensures refused { IfErr result (λ why. RefusesBody (program_tree accepted.now) (operation_visible (program_of (program_tree accepted.now)).scope directory.now object components.now (subprogram_tree subprogram.now) self.old.visible) self.old.draft (subprogram_tree subprogram.now) (body_tree body.now) why) }
+    {
+        let whole = accepted.scope();
+        let inside = usize::from(object);
+        let len = self.visible.scope.len();
+        let is_function = subprogram.result.is_some();
+        declare_components(&mut self.visible.scope, is_function, components)?;
+        directory.tell_components(whole, inside, &mut self.visible, components)?;
+        declare_subprogram(self.alloc, &mut self.visible.scope, subprogram)?;
+        directory.tell_inside(whole, inside, &mut self.visible, &subprogram.name.name)?;
+        self.operation_body(accepted, directory, object, subprogram, body)?;
+        self.visible.scope.truncate(len);
+        self.visible.slots.truncate(len);
+        self.visible.subprograms.truncate(len);
+        declare_subprogram(self.alloc, &mut self.visible.scope, subprogram)?;
+        directory.tell_inside(whole, inside, &mut self.visible, &subprogram.name.name)?;
+        Ok(())
+    }
+
+    // Adds the bodies of operations in the body of an object with this number and these components, whose name has this number in front of it.
+    fn operations(
+        &mut self,
+        accepted: &Accepted,
+        directory: &Directory,
+        object: u16,
+        place: usize,
+        components: &[RecordComponent],
+        items: &[ProtectedBodyItem],
+    ) -> Result<(), Refusal>
+        requires legal { IsLegal (program_tree accepted.now) }
+        requires restricted { IsRestricted (program_tree accepted.now) }
+        requires directory { IsDirectory (program_tree accepted.now) directory.now }
+        requires within { IsInObjectBody (program_tree accepted.now) directory.now object (object_body_scope (front (program_tree accepted.now) self.old.place) place) components.now (map protected_item_tree items.now) 0 self.old }
+        ensures within { OnOk result (IsInObjectBody (program_tree accepted.now) directory.now object (object_body_scope (front (program_tree accepted.now) self.old.place) place) components.now (map protected_item_tree items.now) (length items.now) self.new) }
+        ensures place { OnOk result (self.new.place ≡ self.old.place) }
+        ensures refused { IfErr result (λ why. RefusesCode (program_tree accepted.now) why) }
+    {
+        bodies_are_numbered();
+        bodies_may_be_added();
+        scopes_are_sound();
+        names_are_known();
+        premises_hold();
+        for item in items {
+            match item {
+                ProtectedBodyItem::Subprogram(subprogram, body) => {
+                    self.operation(accepted, directory, object, components, subprogram, body)?;
+                }
+                ProtectedBodyItem::Entry(_, _, _) => return Err(Refusal::Outside),
+            }
+        }
+        Ok(())
+    }
+
+    // Goes on behind the body of a protected object, whose name has this number.
+    fn object_body(
+        &mut self,
+        accepted: &Accepted,
+        directory: &Directory,
+        name: &Identifier,
+        number: usize,
+        items: &[ProtectedBodyItem],
+    ) -> Result<(), Refusal>
+        requires legal { IsLegal (program_tree accepted.now) }
+        requires restricted { IsRestricted (program_tree accepted.now) }
+        requires objects { (program_of (program_tree accepted.now)).objects ≤ OBJECTS }
+        requires walked { IsWalked (program_tree accepted.now) directory.now self.old }
+        requires directory { IsDirectory (program_tree accepted.now) directory.now }
+        requires told { IsAsTold (program_tree accepted.now) self.old }
+        requires numbered { number_of self.old.visible.scope name.now.name ≡ Some number }
+        requires at { HasObjectBody (program_tree accepted.now) self.old.place name.now (map protected_item_tree items.now) }
+        ensures walked { OnOk result (IsWalked (program_tree accepted.now) directory.now self.new) }
+        ensures place { OnOk result (self.new.place ≡ self.old.place + 1) }
+        ensures told { OnOk result (IsAsTold (program_tree accepted.now) self.new) }
+        ensures refused { IfErr result (λ why. RefusesCode (program_tree accepted.now) why) }
+    {
+        scopes_are_sound();
+        names_are_known();
+        premises_hold();
+        object_bodies_end();
+        let object = object_number(accepted.scope(), name);
+        let short = u16::try_from(object).map_err(|_| Refusal::Limit)?;
+        let components = components_of(self.alloc, &self.visible.scope, number)?;
+        let len = self.visible.scope.len();
+        let operations = enter_object(self.alloc, &mut self.visible.scope, number)?;
+        directory.tell_operations(
+            accepted.scope(),
+            object,
+            &mut self.visible,
+            operations.as_slice(),
+        )?;
+        self.operations(accepted, directory, short, number, &components, items)?;
+        leave_object(&mut self.visible.scope, number, len, operations);
+        self.visible.slots.truncate(len);
+        self.visible.subprograms.truncate(len);
+        self.place += 1;
+        Ok(())
+    }
+
+    // Goes on behind the body of a protected object.
+    fn object(
+        &mut self,
+        accepted: &Accepted,
+        directory: &Directory,
+        name: &Identifier,
+        items: &[ProtectedBodyItem],
+    ) -> Result<(), Refusal>
+        requires legal { IsLegal (program_tree accepted.now) }
+        requires restricted { IsRestricted (program_tree accepted.now) }
+        requires objects { (program_of (program_tree accepted.now)).objects ≤ OBJECTS }
+        requires walked { IsWalked (program_tree accepted.now) directory.now self.old }
+        requires directory { IsDirectory (program_tree accepted.now) directory.now }
+        requires told { IsAsTold (program_tree accepted.now) self.old }
+        requires at { HasObjectBody (program_tree accepted.now) self.old.place name.now (map protected_item_tree items.now) }
+        ensures walked { OnOk result (IsWalked (program_tree accepted.now) directory.now self.new) }
+        ensures place { OnOk result (self.new.place ≡ self.old.place + 1) }
+        ensures told { OnOk result (IsAsTold (program_tree accepted.now) self.new) }
+        ensures refused { IfErr result (λ why. RefusesCode (program_tree accepted.now) why) }
+    {
+        scopes_are_sound();
+        names_are_known();
+        premises_hold();
+        match self.visible.scope.number_of(&name.name) {
+            Some(number) => self.object_body(accepted, directory, name, number, items),
+            None => unreachable!(),
+        }
     }
 
     // Goes on behind a declaration.
@@ -312,6 +533,7 @@ impl Walk {
     ) -> Result<(), Refusal>
         requires legal { IsLegal (program_tree accepted.now) }
         requires restricted { IsRestricted (program_tree accepted.now) }
+        requires objects { (program_of (program_tree accepted.now)).objects ≤ OBJECTS }
         requires walked { IsWalked (program_tree accepted.now) directory.now self.old }
         requires directory { IsDirectory (program_tree accepted.now) directory.now }
         requires told { IsAsTold (program_tree accepted.now) self.old }
@@ -328,7 +550,9 @@ impl Walk {
                     self.subprogram(accepted, directory, subprogram, body)?;
                 }
                 BodyItem::Task(name, body) => self.task(accepted, directory, name, body)?,
-                BodyItem::Protected(_, _, _) => return Err(Refusal::Outside),
+                BodyItem::Protected(name, items, _) => {
+                    self.object(accepted, directory, name, items)?;
+                }
             }
         }
         Ok(())
@@ -345,6 +569,7 @@ fn walk_package(
 ) -> Result<Walk, Refusal>
     requires legal { IsLegal (program_tree accepted.now) }
     requires restricted { IsRestricted (program_tree accepted.now) }
+    requires objects { (program_of (program_tree accepted.now)).objects ≤ OBJECTS }
     requires is { accepted.now.package_ ≡ Some package_.now }
     requires directory { IsDirectory (program_tree accepted.now) directory.now }
     requires exceptions { exceptions.items ≡ (program_of (program_tree accepted.now)).exceptions }
@@ -353,7 +578,13 @@ fn walk_package(
     ensures told { IfOk result (λ walk. IsAsTold (program_tree accepted.now) walk) }
     ensures refused { IfErr result (λ why. RefusesCode (program_tree accepted.now) why) }
 {
-    let mut walk = Walk::new(alloc, inside_scope(alloc, package_)?, exceptions)?;
+    let operations = directory.visible_operations(alloc, accepted.scope())?;
+    let mut walk = Walk::new(
+        alloc,
+        inside_scope(alloc, package_)?,
+        operations,
+        exceptions,
+    )?;
     walk.declarations(accepted, directory, &package_.declaration.items)?;
     walk.bodies(accepted, directory, &package_.body.items)?;
     Ok(walk)
@@ -367,13 +598,15 @@ fn walk_nothing(
     exceptions: Vec<Text>,
 ) -> Result<Walk, Refusal>
     requires is { accepted.now.package_ ≡ None }
+    requires directory { IsDirectory (program_tree accepted.now) directory.now }
     requires exceptions { exceptions.items ≡ (program_of (program_tree accepted.now)).exceptions }
     ensures walked { IfOk result (λ walk. IsWalked (program_tree accepted.now) directory.now walk) }
     ensures whole { IfOk result (λ walk. walk.place ≡ length (declared_in (program_tree accepted.now).package_)) }
     ensures told { IfOk result (λ walk. IsAsTold (program_tree accepted.now) walk) }
     ensures refused { IfErr result (λ why. RefusesCode (program_tree accepted.now) why) }
 {
-    let walk = Walk::new(alloc, Scope::standard(alloc)?, exceptions)?;
+    let operations = directory.visible_operations(alloc, accepted.scope())?;
+    let walk = Walk::new(alloc, Scope::standard(alloc)?, operations, exceptions)?;
     Ok(walk)
 }
 
@@ -384,6 +617,7 @@ pub fn walk_over(
     directory: &Directory,
     exceptions: Vec<Text>,
 ) -> Result<Walk, Refusal>
+    requires objects { (program_of (program_tree accepted.now)).objects ≤ OBJECTS }
     requires directory { IsDirectory (program_tree accepted.now) directory.now }
     requires exceptions { exceptions.items ≡ (program_of (program_tree accepted.now)).exceptions }
     ensures walked { IfOk result (λ walk. IsWalked (program_tree accepted.now) directory.now walk) }

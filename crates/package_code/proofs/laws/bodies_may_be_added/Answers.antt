@@ -1,4 +1,4 @@
-use Rattle.package_code.proofs.Adding.{bodies_added}
+use Rattle.package_code.proofs.OperationsAdded.{bodies_added}
 use Rattle.package_code.proofs.laws.bodies_may_be_added.Goals as goal
 
 pub returns : goal.returns

@@ -2,6 +2,7 @@ use Rattle.std.proofs.Common.{sym, ap, ◌∙◌}
 use Rattle.ada_tree.specs.StatementTree.{optional_tree}
 use Rattle.ada_tree.specs.ProgramTree.{package_tree, program_tree}
 use Rattle.program_soundness.specs.Fronts.{start_in}
+use Rattle.package_code.specs.Directory.{operations_told}
 use Rattle.package_code.proofs.AsTold.{begins_told}
 use Rattle.package_code.proofs.Declared.{body_stands, declared_many, specification_stands}
 use Rattle.package_code.proofs.Walked.{walk_begins}
@@ -9,8 +10,9 @@ use Rattle.package_code.proofs.walk.walk_package.Goals as goal
 
 pub declarations-requires-clause-walked : goal.declarations-requires-clause-walked
 declarations-requires-clause-walked c =
-    walk_begins (program_tree c.args.accepted.now) c.args.directory.now c.in_ok-inside_scope.field-0 _ c.in_ok-walk.walk c.in_ok-walk.ensures.begins
-    (c.in_ok-inside_scope.ensures ∙ ap (λ o. start_in (optional_tree package_tree o)) (sym c.requires.is)) c.requires.exceptions
+    walk_begins (program_tree c.args.accepted.now) c.args.directory.now c.in_ok-inside_scope.field-0 c.in_ok-operations.operations _ c.in_ok-walk.walk
+    c.in_ok-walk.ensures.begins (c.in_ok-inside_scope.ensures ∙ ap (λ o. start_in (optional_tree package_tree o)) (sym c.requires.is))
+    (c.in_ok-operations.ensures.numbers ∙ ap (λ s. operations_told s c.args.directory.now) c.scope.ensures) c.requires.exceptions
 
 pub declarations-requires-clause-at : goal.declarations-requires-clause-at
 declarations-requires-clause-at c =
@@ -30,5 +32,7 @@ returns-clause-whole c =
 
 pub declarations-requires-clause-told : goal.declarations-requires-clause-told
 declarations-requires-clause-told c =
-    begins_told (program_tree c.args.accepted.now) c.in_ok-inside_scope.field-0 _ c.in_ok-walk.walk c.in_ok-walk.ensures.begins
+    begins_told (program_tree c.args.accepted.now) c.args.directory.now c.requires.directory c.in_ok-inside_scope.field-0 c.in_ok-operations.operations _
+    c.in_ok-walk.walk c.in_ok-walk.ensures.begins
     (c.in_ok-inside_scope.ensures ∙ ap (λ o. start_in (optional_tree package_tree o)) (sym c.requires.is))
+    (c.in_ok-operations.ensures.numbers ∙ ap (λ s. operations_told s c.args.directory.now) c.scope.ensures)

@@ -27,6 +27,13 @@ returns-in-Task-clause-adds c =
     subst (λ i. AddsItems s g (item_tree i ∷ []) g) (sym c.in-Task.is)
     (adds_nothing s (item_tree (item.Task c.in-Task.field-0)) g refl refl)
 
+pub returns-in-Protected-clause-adds : goal.returns-in-Protected-clause-adds
+returns-in-Protected-clause-adds c =
+    let s = c.args.scope.now in
+    let g = c.args.self.now in
+    subst (λ i. AddsItems s g (item_tree i ∷ []) g) (sym c.in-Protected.is)
+    (adds_nothing s (item_tree (item.Protected c.in-Protected.field-0)) g refl refl)
+
 pub returns-in-Object-clause-adds : goal.returns-in-Object-clause-adds
 returns-in-Object-clause-adds c =
     subst (λ i. OnOk c.object.result (AddsItems c.args.scope.now c.args.self.now (item_tree i ∷ []) c.object.new.self)) (sym c.in-Object.is)

@@ -1,10 +1,10 @@
-use Rattle.std.proofs.Common.{Some, refl, ap, ◌∙◌}
-use Rattle.ada_tree.specs.ProgramTree.{body_item_tree, program_tree}
+use Rattle.std.proofs.Common.{Some, ap, map, sym, ◌∙◌}
+use Rattle.ada_tree.specs.ProgramTree.{ProtectedBody, body_item_tree, program_tree, protected_item_tree}
 use Rattle.program_soundness.specs.Fronts.{declared_in}
-use Rattle.package_code.proofs.AsTold.{goes_on, item_refused}
+use Rattle.package_code.proofs.AsTold.{goes_on}
 use Rattle.package_code.proofs.Declared.{stands_at}
 use Rattle.package_code.proofs.walk.Walk.bodies.Goals as goal
-use Rattle.package_code.proofs.walk.Walk.bodies.Goals.{in-Item+in_ok-declaration-in-Item, in-Subprogram+in_ok-subprogram-in-Subprogram, in-Task+in_ok-task-in-Task}
+use Rattle.package_code.proofs.walk.Walk.bodies.Goals.{in-Item+in_ok-declaration-in-Item, in-Protected+in_ok-object-in-Protected, in-Subprogram+in_ok-subprogram-in-Subprogram, in-Task+in_ok-task-in-Task}
 
 pub declaration-requires-clause-at : goal.declaration-requires-clause-at
 declaration-requires-clause-at c =
@@ -24,12 +24,14 @@ task-requires-clause-at c =
     c.loop-item.item-index c.item-item.result c.requires.at c.loop-item.invariant.1.1 c.loop-item-test.true c.item-item.is
     ∙ ap (λ x. Some (body_item_tree x)) c.in-Task.is
 
-pub returns-in-Protected-clause-refused : goal.returns-in-Protected-clause-refused
-returns-in-Protected-clause-refused c =
-    item_refused (program_tree c.args.accepted.now) c.loop-item.self.place _
-    (stands_at (declared_in (program_tree c.args.accepted.now).package_) c.args.self.now.place c.loop-item.self.place body_item_tree c.args.items.now
-    c.loop-item.item-index c.item-item.result c.requires.at c.loop-item.invariant.1.1 c.loop-item-test.true c.item-item.is
-    ∙ ap (λ x. Some (body_item_tree x)) c.in-Protected.is) refl
+pub object-requires-clause-at : goal.object-requires-clause-at
+object-requires-clause-at c = (
+  c.in-Protected.field-2,
+  stands_at (declared_in (program_tree c.args.accepted.now).package_) c.args.self.now.place c.loop-item.self.place body_item_tree c.args.items.now
+      c.loop-item.item-index c.item-item.result c.requires.at c.loop-item.invariant.1.1 c.loop-item-test.true c.item-item.is
+      ∙ ap (λ x. Some (body_item_tree x)) c.in-Protected.is
+      ∙ ap (λ l. Some (ProtectedBody c.in-Protected.name (map protected_item_tree l) c.in-Protected.field-2)) (sym c.deref.ensures.value),
+)
 
 pub loop-item-preserved : goal.loop-item-preserved
 loop-item-preserved c =
@@ -48,4 +50,8 @@ loop-item-preserved c =
       | in-Task+in_ok-task-in-Task w ↦
           goes_on t c.args.directory.now c.match-item.self w.task.new.self from start c.loop-item.item-index w.self-is
           w.in_ok-task-in-Task.ensures.walked w.in_ok-task-in-Task.ensures.told w.in_ok-task-in-Task.ensures.place c.loop-item.invariant.1.1
+      | in-Protected+in_ok-object-in-Protected w ↦
+          goes_on t c.args.directory.now c.match-item.self w.object.new.self from start c.loop-item.item-index w.self-is
+          w.in_ok-object-in-Protected.ensures.walked w.in_ok-object-in-Protected.ensures.told w.in_ok-object-in-Protected.ensures.place
+          c.loop-item.invariant.1.1
     ]

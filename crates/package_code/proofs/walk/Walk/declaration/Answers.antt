@@ -16,7 +16,7 @@ pub tell-requires : goal.tell-requires
 tell-requires c =
     record {
       next =
-          entries_next c.args.self.now.visible _ (item_name (item_tree c.args.item.now)).name c.requires.walked.told.entries
+          entries_next c.args.self.now.visible (record c.args.self.now.visible { scope = c.declare_item.new.scope }) (item_name (item_tree c.args.item.now)).name c.requires.walked.told.entries
           (subst (Grows c.args.self.now.visible.scope (item_name (item_tree c.args.item.now)).name) (sym c.in_ok-declare_item.ensures.ok)
           (item_grows c.args.self.now.visible.scope (item_tree c.args.item.now))) refl refl;
     }

@@ -27,7 +27,7 @@ pub tell-requires : goal.tell-requires
 tell-requires c =
     record {
       next =
-          entries_next c.args.self.now.visible _ (subprogram_tree c.args.subprogram.now).name.name c.requires.walked.told.entries
+          entries_next c.args.self.now.visible (record c.args.self.now.visible { scope = c.declare_subprogram.new.scope }) (subprogram_tree c.args.subprogram.now).name.name c.requires.walked.told.entries
           (subst (Grows c.args.self.now.visible.scope (subprogram_tree c.args.subprogram.now).name.name) (sym c.in_ok-declare_subprogram.ensures.ok)
           (subprogram_grows c.args.self.now.visible.scope (subprogram_tree c.args.subprogram.now))) refl refl;
     }
@@ -38,8 +38,7 @@ body-requires-clause-numbered c =
     (body_tree c.args.body.now) c.declare_subprogram.new.scope c.scope.result.now c.tell.new.visible c.requires.told c.requires.at
     c.in_ok-declare_subprogram.ensures.ok c.scope.ensures c.in_ok-tell.ensures.tells
     (length c.args.self.now.subprograms.items)
-    ((c.bodies_are_numbered.ensures (program_tree c.args.accepted.now) c.requires.legal c.requires.restricted c.args.self.now.place _ 0 _ c.requires.at refl
-    refl).0
+    ((c.bodies_are_numbered.ensures (program_tree c.args.accepted.now) c.requires.legal c.requires.restricted c.args.self.now.place _ 0 _ c.requires.at refl).0
     ∙ ap Some (plus_none (bodies_before (program_tree c.args.accepted.now) c.args.self.now.place) ∙ sym c.requires.walked.many))
 
 pub returns-clause-told : goal.returns-clause-told
@@ -58,8 +57,8 @@ returns-in_err-body-clause-refused c =
     (body_tree c.args.body.now) c.declare_subprogram.new.scope c.scope.result.now c.tell.new.visible c.requires.told c.requires.at
     c.in_ok-declare_subprogram.ensures.ok c.scope.ensures c.in_ok-tell.ensures.tells in
     let t = program_tree c.args.accepted.now in
-    let whole = body_refused t c.args.self.now _ 0
+    let whole = body_refused t c.args.self.now _
     (of_subprogram (front t (suc c.args.self.now.place)) (subprogram_tree c.args.subprogram.now) (body_tree c.args.body.now))
-    c.tell.new.visible c.args.self.now.draft c.in_err-body.field-0.0 c.requires.told c.requires.walked.exceptions c.requires.at refl refl refl seen refl
+    c.tell.new.visible c.args.self.now.draft c.in_err-body.field-0.0 c.requires.told c.requires.walked.exceptions c.requires.at refl refl seen refl
     c.in_err-body.ensures.refused in
     search (rules, whole)

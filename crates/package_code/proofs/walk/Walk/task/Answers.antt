@@ -16,8 +16,8 @@ task_body-requires-clause-added c =
 pub task_body-requires-clause-numbered : goal.task_body-requires-clause-numbered
 task_body-requires-clause-numbered c =
     let t = program_tree c.args.accepted.now in
-    let told = c.bodies_are_numbered.ensures t c.requires.legal c.requires.restricted c.args.self.now.place _ 0 _ c.requires.at refl refl in
-    task_number t c.args.directory.now c.requires.directory c.args.name.now.name told.1
+    let told = c.bodies_are_numbered.ensures t c.requires.legal c.requires.restricted c.args.self.now.place _ 0 _ c.requires.at refl in
+    task_number t c.args.directory.now c.requires.directory c.args.name.now.name (told.1 refl)
     (length c.args.self.now.subprograms.items)
     (told.0 ∙ ap Some (plus_none (bodies_before t c.args.self.now.place) ∙ sym c.requires.walked.many))
 
@@ -42,8 +42,8 @@ pub returns-in_err-task_body-clause-refused : goal.returns-in_err-task_body-clau
 returns-in_err-task_body-clause-refused c =
     let seen = task_seen (program_tree c.args.accepted.now) c.args.self.now c.args.name.now (body_tree c.args.body.now) c.requires.told c.requires.at in
     let t = program_tree c.args.accepted.now in
-    let whole = body_refused t c.args.self.now _ 0 (of_task (front t (suc c.args.self.now.place)) c.args.name.now (body_tree c.args.body.now))
-    c.args.self.now.visible c.args.self.now.draft c.in_err-task_body.field-0.0 c.requires.told c.requires.walked.exceptions c.requires.at refl refl refl seen
+    let whole = body_refused t c.args.self.now _ (of_task (front t (suc c.args.self.now.place)) c.args.name.now (body_tree c.args.body.now))
+    c.args.self.now.visible c.args.self.now.draft c.in_err-task_body.field-0.0 c.requires.told c.requires.walked.exceptions c.requires.at refl refl seen
     refl
     c.in_err-task_body.ensures.refused in
     search (rules, whole)

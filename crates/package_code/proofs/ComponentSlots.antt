@@ -1,0 +1,354 @@
+-- Protected objects one behind another: their rows, and where their components stand, as the text tells it.
+use Rattle.std.proofs.Common.{◌≡◌, ℕ, ℤ, zero, suc, ◌+◌, ◌<◌, List, [], ◌∷◌, ◌++◌, append-nil, append_assoc, drop, get_or, length, length-append, map, take, Bool, true, false, ◌&&◌, ◌||◌, Option, Some, None, refl, sym, ap, ◌∙◌, subst, arith}
+use Rattle.std.specs.Prelude.{bytes_eq, if◌then◌else◌, nat_eq, option_map, nat_le, slice_get, ⊤}
+use Rattle.std.proofs.lemmas.List.{map-append}
+use Rattle.base.specs.declared.limits.TheConstants.{WORDS}
+use Rattle.ada_tree.specs.declared.declaration.Item.{Item}
+use Rattle.ada_tree.specs.declared.declaration.ProtectedComponent.{ProtectedComponent}
+use Rattle.ada_tree.specs.declared.program.BodyItem.{BodyItem}
+use Rattle.ada_tree.specs.StatementTree.{ProtectedComponentTree, ProtectedTree, protected_component_tree}
+use Rattle.ada_tree.specs.ProgramTree.{BodyItemTree, ItemTree, OfException, OfObject, OfProtected, OfSubprogram, OfTask, OfType, ProgramTree, body_item_tree, item_tree}
+use Rattle.image.specs.declared.instruction.Region.TheVariants as regions
+use Rattle.types.specs.declared.entity.Subtype.{Subtype}
+use Rattle.types.specs.Layouts.{total}
+use Rattle.types.specs.Places.{Object, or_else}
+use Rattle.types.specs.Scopes.{Scope}
+use Rattle.types.specs.Shapes.{value_words}
+use Rattle.type_rules.specs.SubtypeNames.{subtype_of}
+use Rattle.expr_soundness.specs.meaning.specs.Programs.{component, components_among, initial_value, items_among, objects_or_none, package_items, program_of, subtype_or_integer}
+use Rattle.program_soundness.proofs.Listing.{or_else_none}
+use Rattle.expr_code.specs.declared.refusal.Refusal.{Refusal}
+use Rattle.expr_code.specs.declared.refusal.Refusal.TheVariants as refusal
+use Rattle.expr_code.specs.declared.visible.Slot.{Slot}
+use Rattle.step_simulation.specs.part_code.proofs.Lists.{mapped_next}
+use Rattle.package_code.specs.Directory.{component_told}
+use Rattle.package_code.specs.Objects.{AddsObjects, RefusesComponent, RefusesComponents, RefusesObjects, component_slots, lack_objects, object_row, object_rows, object_words, slots_of, have_words, objects_have_words}
+use Rattle.package_code.specs.Owners.{in_object}
+use Rattle.package_code.specs.Package.{first_words_of, place_among}
+use Rattle.package_code.specs.Refusing.{is_outside_variable, lack_components, slot_in}
+use Rattle.package_code.specs.declared.components.ComponentSlot.{ComponentSlot}
+use Rattle.package_code.specs.declared.objects.ProtectedObjects.{ProtectedObjects}
+use Rattle.package_code.proofs.Declared.{among_both}
+use Rattle.package_code.proofs.GlobalsRefused.{split_at}
+use Rattle.package_code.proofs.Variables.{words_more}
+use Rattle.std.proofs.lemmas.Bool.{and_from, and_parts, le-leb}
+
+-- ---- components of one object
+
+slots_more : (o from : ℕ) (xs ys : List Object) → slots_of o from (xs ++ ys) ≡ slots_of o from xs ++ slots_of o (from + length (first_words_of xs)) ys
+slots_more o from [] ys = (let e : from ≡ from + 0 = omega arith in ap (λ n. slots_of o n ys) e)
+slots_more o from (x ∷ xs) ys =
+    let one : ComponentSlot = record { object = o; name = x.name; slot = record { region = regions.Object; offset = from } } in
+    let long = length-append (value_words x.value) (first_words_of xs) in
+    let e : (from + length (value_words x.value)) + length (first_words_of xs) ≡ from + length (value_words x.value ++ first_words_of xs) =
+    omega (arith, long) in
+    ap (λ l. one ∷ l)
+    (slots_more o (from + length (value_words x.value)) xs ys
+    ∙ ap (λ n. slots_of o (from + length (value_words x.value)) xs ++ slots_of o n ys) e)
+
+-- one component more: the words in front of it, and its place
+pub component_slots_next : (s : Scope) (o : ℕ) (before old new : List ComponentSlot) (words : ℕ) (all : List ProtectedComponent) (n : ℕ)
+    (x : ProtectedComponent) → n < length all → x ≡ get_or all n x
+    → words ≡ length (first_words_of (map (component s) (map protected_component_tree (take n all))))
+    → old ≡ before ++ slots_of o 0 (map (component s) (map protected_component_tree (take n all)))
+    → new ≡ old ++ slots_of o words (component s (protected_component_tree x) ∷ [])
+    → new ≡ before ++ slots_of o 0 (map (component s) (map protected_component_tree (take (n + 1) all)))
+component_slots_next s o before old new words all n x less is many front after =
+    let xs : List Object = map (component s) (map protected_component_tree (take n all)) in
+    let one : List Object = component s (protected_component_tree x) ∷ [] in
+    let e : words ≡ 0 + length (first_words_of xs) = omega (arith, many) in
+    after ∙ (λ j. front j ++ slots_of o (e j) one)
+    ∙ append_assoc before (slots_of o 0 xs) (slots_of o (0 + length (first_words_of xs)) one)
+    ∙ ap (λ l. before ++ l)
+    (sym (slots_more o 0 xs one)
+    ∙ ap (slots_of o 0) (sym (map-append (component s) (map protected_component_tree (take n all)) (protected_component_tree x ∷ [])))
+    ∙ ap (λ l. slots_of o 0 (map (component s) l)) (sym (mapped_next protected_component_tree all n x less is)))
+
+-- ---- objects
+
+one_more : (n : ℕ) → n + 0 ≡ n
+one_more n = omega arith
+
+slots_both : (s : Scope) (o : ℕ) (xs ys : List ItemTree)
+    → component_slots s o (xs ++ ys) ≡ component_slots s o xs ++ component_slots s (o + length (object_rows s xs)) ys
+slots_both s o [] ys = ap (λ n. component_slots s n ys) (sym (one_more o))
+slots_both s o (OfProtected d ∷ xs) ys =
+    let e : suc o + length (object_rows s xs) ≡ o + suc (length (object_rows s xs)) = omega arith in
+    ap (λ l. slots_of o 0 (map (component s) d.components) ++ l) (slots_both s (suc o) xs ys
+    ∙ ap (λ n. component_slots s (suc o) xs ++ component_slots s n ys) e)
+    ∙ sym (append_assoc (slots_of o 0 (map (component s) d.components)) (component_slots s (suc o) xs)
+    (component_slots s (o + suc (length (object_rows s xs))) ys))
+slots_both s o (OfType d ∷ xs) ys = slots_both s o xs ys
+slots_both s o (OfObject d ∷ xs) ys = slots_both s o xs ys
+slots_both s o (OfException name ∷ xs) ys = slots_both s o xs ys
+slots_both s o (OfSubprogram d ∷ xs) ys = slots_both s o xs ys
+slots_both s o (OfTask d ∷ xs) ys = slots_both s o xs ys
+
+all_rows : (s : Scope) (xs ys : List ItemTree) → object_rows s (xs ++ ys) ≡ object_rows s xs ++ object_rows s ys
+all_rows s [] ys = refl
+all_rows s (OfProtected d ∷ xs) ys = ap (λ l. object_row s d ∷ l) (all_rows s xs ys)
+all_rows s (OfType d ∷ xs) ys = all_rows s xs ys
+all_rows s (OfObject d ∷ xs) ys = all_rows s xs ys
+all_rows s (OfException name ∷ xs) ys = all_rows s xs ys
+all_rows s (OfSubprogram d ∷ xs) ys = all_rows s xs ys
+all_rows s (OfTask d ∷ xs) ys = all_rows s xs ys
+
+-- nothing was added, and one part behind another
+pub adds_none : (s : Scope) (a : ProtectedObjects) → AddsObjects s a [] a
+adds_none s a = record { rows = sym (append-nil a.rows.items); components = sym (append-nil a.components.items); made = refl }
+
+made_both : (s : Scope) (xs ys : List ItemTree) → objects_have_words s xs ≡ true → objects_have_words s ys ≡ true → objects_have_words s (xs ++ ys) ≡ true
+made_both s [] ys h k = k
+made_both s (OfProtected d ∷ xs) ys h k =
+    let both = and_parts (have_words (map (component s) d.components)) (objects_have_words s xs) h in
+    and_from (have_words (map (component s) d.components)) (objects_have_words s (xs ++ ys)) both.0 (made_both s xs ys both.1 k)
+made_both s (OfType d ∷ xs) ys h k = made_both s xs ys h k
+made_both s (OfObject d ∷ xs) ys h k = made_both s xs ys h k
+made_both s (OfException name ∷ xs) ys h k = made_both s xs ys h k
+made_both s (OfSubprogram d ∷ xs) ys h k = made_both s xs ys h k
+made_both s (OfTask d ∷ xs) ys h k = made_both s xs ys h k
+
+pub adds_both : (s : Scope) (a b c : ProtectedObjects) (xs ys : List ItemTree) → AddsObjects s a xs b → AddsObjects s b ys c → AddsObjects s a (xs ++ ys) c
+adds_both s a b c xs ys one two = record {
+  rows = two.rows ∙ ap (λ l. l ++ object_rows s ys) one.rows ∙ append_assoc a.rows.items (object_rows s xs) (object_rows s ys)
+      ∙ ap (λ l. a.rows.items ++ l) (sym (all_rows s xs ys));
+  components = two.components
+      ∙ (λ j. one.components j ++ component_slots s (many j) ys)
+      ∙ append_assoc a.components.items (component_slots s (length a.rows.items) xs)
+      (component_slots s (length a.rows.items + length (object_rows s xs)) ys)
+      ∙ ap (λ l. a.components.items ++ l) (sym (slots_both s (length a.rows.items) xs ys));
+  made = made_both s xs ys one.made two.made;
+}
+  where
+    many : length b.rows.items ≡ length a.rows.items + length (object_rows s xs)
+    many = ap length one.rows ∙ length-append a.rows.items (object_rows s xs)
+
+-- one declaration more
+pub objects_next : (s : Scope) (a b c : ProtectedObjects) (all : List Item) (n : ℕ) (x : Item) → n < length all → x ≡ get_or all n x
+    → AddsObjects s a (map item_tree (take n all)) b → AddsObjects s b (item_tree x ∷ []) c → AddsObjects s a (map item_tree (take (n + 1) all)) c
+objects_next s a b c all n x less is one two =
+    subst (λ l. AddsObjects s a l c) (sym (mapped_next item_tree all n x less is)) (adds_both s a b c (map item_tree (take n all)) (item_tree x ∷ []) one two)
+
+pub body_objects_next : (s : Scope) (a b c : ProtectedObjects) (all : List BodyItem) (n : ℕ) (x : BodyItem) → n < length all → x ≡ get_or all n x
+    → AddsObjects s a (items_among (map body_item_tree (take n all))) b → AddsObjects s b (items_among (body_item_tree x ∷ [])) c
+    → AddsObjects s a (items_among (map body_item_tree (take (n + 1) all))) c
+body_objects_next s a b c all n x less is one two =
+    subst (λ l. AddsObjects s a l c)
+    (sym (ap items_among (mapped_next body_item_tree all n x less is) ∙ among_both (map body_item_tree (take n all)) (body_item_tree x ∷ [])))
+    (adds_both s a b c (items_among (map body_item_tree (take n all))) (items_among (body_item_tree x ∷ [])) one two)
+
+-- one component more, with words of its own
+have_both : (xs ys : List Object) → have_words xs ≡ true → have_words ys ≡ true → have_words (xs ++ ys) ≡ true
+have_both [] ys h k = k
+have_both (x ∷ xs) ys h k =
+    let both = and_parts (nat_le 1 (length (value_words x.value))) (have_words xs) h in
+    and_from (nat_le 1 (length (value_words x.value))) (have_words (xs ++ ys)) both.0 (have_both xs ys both.1 k)
+
+-- a component has words where there are more behind it than in front of it
+pub words_added : (s : Scope) (part : ProtectedComponentTree) (t : Subtype) (old new : List ℤ) → subtype_of s part.subtype ≡ Some t
+    → new ≡ old ++ value_words (initial_value s t part.value) → length old < length new → have_words (component s part ∷ []) ≡ true
+words_added s part t old new named added more =
+    let long = ap length added ∙ length-append old (value_words (initial_value s t part.value)) in
+    let same = ap (λ o. length (value_words (initial_value s (subtype_or_integer o) part.value))) named in
+    and_from (nat_le 1 (length (value_words (component s part).value))) true
+    (le-leb 1 (length (value_words (component s part).value)) (omega (arith, long, same, more))) refl
+
+pub component_made_next : (s : Scope) (all : List ProtectedComponent) (n : ℕ) (x : ProtectedComponent) → n < length all → x ≡ get_or all n x
+    → have_words (map (component s) (map protected_component_tree (take n all))) ≡ true
+    → have_words (component s (protected_component_tree x) ∷ []) ≡ true
+    → have_words (map (component s) (map protected_component_tree (take (n + 1) all))) ≡ true
+component_made_next s all n x less is before this =
+    subst (λ l. have_words (map (component s) l) ≡ true) (sym (mapped_next protected_component_tree all n x less is))
+    (subst (λ l. have_words l ≡ true) (sym (map-append (component s) (map protected_component_tree (take n all)) (protected_component_tree x ∷ [])))
+    (have_both (map (component s) (map protected_component_tree (take n all))) (component s (protected_component_tree x) ∷ []) before this))
+
+-- ---- refusals: what one lacks, all lack
+
+assoc : (a b c : Bool) → (a || (b || c)) ≡ ((a || b) || c)
+assoc true b c = refl
+assoc false b c = refl
+
+or_first : (a b : Bool) → a ≡ true → (a || b) ≡ true
+or_first a b h = ap (λ x. x || b) h
+
+or_second : (a b : Bool) → b ≡ true → (a || b) ≡ true
+or_second true b h = refl
+or_second false b h = h
+
+parts_both : (s : Scope) (xs ys : List ProtectedComponentTree) → lack_components s (xs ++ ys) ≡ (lack_components s xs || lack_components s ys)
+parts_both s [] ys = refl
+parts_both s (c ∷ xs) ys =
+    ap (λ b. is_outside_variable s (subtype_of s c.subtype) c.value || b) (parts_both s xs ys)
+    ∙ assoc (is_outside_variable s (subtype_of s c.subtype) c.value) (lack_components s xs) (lack_components s ys)
+
+lacking_both : (s : Scope) (xs ys : List ItemTree) → lack_objects s (xs ++ ys) ≡ (lack_objects s xs || lack_objects s ys)
+lacking_both s [] ys = refl
+lacking_both s (OfProtected d ∷ xs) ys =
+    ap (λ b. lack_components s d.components || b) (lacking_both s xs ys) ∙ assoc (lack_components s d.components) (lack_objects s xs) (lack_objects s ys)
+lacking_both s (OfType d ∷ xs) ys = lacking_both s xs ys
+lacking_both s (OfObject d ∷ xs) ys = lacking_both s xs ys
+lacking_both s (OfException name ∷ xs) ys = lacking_both s xs ys
+lacking_both s (OfSubprogram d ∷ xs) ys = lacking_both s xs ys
+lacking_both s (OfTask d ∷ xs) ys = lacking_both s xs ys
+
+words_both : (s : Scope) (xs ys : List ItemTree) → object_words s (xs ++ ys) ≡ object_words s xs + object_words s ys
+words_both s [] ys = omega arith
+words_both s (OfProtected d ∷ xs) ys = (let e = words_both s xs ys in omega (arith, e))
+words_both s (OfType d ∷ xs) ys = words_both s xs ys
+words_both s (OfObject d ∷ xs) ys = words_both s xs ys
+words_both s (OfException name ∷ xs) ys = words_both s xs ys
+words_both s (OfSubprogram d ∷ xs) ys = words_both s xs ys
+words_both s (OfTask d ∷ xs) ys = words_both s xs ys
+
+pub refused_first : (s : Scope) (xs ys : List ItemTree) (why : Refusal) → RefusesObjects s xs why → RefusesObjects s (xs ++ ys) why
+refused_first s xs ys refusal.Memory r = tt
+refused_first s xs ys refusal.Limit r = (let e = words_both s xs ys in omega (arith, e, r))
+refused_first s xs ys refusal.Outside r = lacking_both s xs ys ∙ or_first (lack_objects s xs) (lack_objects s ys) r
+
+pub refused_second : (s : Scope) (xs ys : List ItemTree) (why : Refusal) → RefusesObjects s ys why → RefusesObjects s (xs ++ ys) why
+refused_second s xs ys refusal.Memory r = tt
+refused_second s xs ys refusal.Limit r = (let e = words_both s xs ys in omega (arith, e, r))
+refused_second s xs ys refusal.Outside r = lacking_both s xs ys ∙ or_second (lack_objects s xs) (lack_objects s ys) r
+
+pub object_refused_among : (s : Scope) (all : List Item) (n : ℕ) (x : Item) (why : Refusal) → n < length all → x ≡ get_or all n x
+    → RefusesObjects s (item_tree x ∷ []) why → RefusesObjects s (map item_tree all) why
+object_refused_among s all n x why less is r =
+    let front : List ItemTree = map item_tree (take n all) in
+    let one : List ItemTree = item_tree x ∷ [] in
+    let behind : List ItemTree = map item_tree (drop (n + 1) all) in
+    subst (λ l. RefusesObjects s l why) (split_at item_tree all n x less is)
+    (refused_first s (front ++ one) behind why (refused_second s front one why r))
+
+pub body_object_refused : (s : Scope) (all : List BodyItem) (n : ℕ) (x : BodyItem) (why : Refusal) → n < length all → x ≡ get_or all n x
+    → RefusesObjects s (items_among (body_item_tree x ∷ [])) why → RefusesObjects s (items_among (map body_item_tree all)) why
+body_object_refused s all n x why less is r =
+    let front : List BodyItemTree = map body_item_tree (take n all) in
+    let one : List BodyItemTree = body_item_tree x ∷ [] in
+    let behind : List BodyItemTree = map body_item_tree (drop (n + 1) all) in
+    subst (λ l. RefusesObjects s (items_among l) why) (split_at body_item_tree all n x less is)
+    (subst (λ l. RefusesObjects s l why) (sym (among_both (front ++ one) behind ∙ ap (λ l. l ++ items_among behind) (among_both front one)))
+    (refused_first s (items_among front ++ items_among one) (items_among behind) why (refused_second s (items_among front) (items_among one) why r)))
+
+-- of one object
+pub part_refused : (s : Scope) (all : List ProtectedComponent) (n : ℕ) (x : ProtectedComponent) (words : ℕ) (why : Refusal) → n < length all
+    → x ≡ get_or all n x
+    → words ≡ length (first_words_of (map (component s) (map protected_component_tree (take n all))))
+    → RefusesComponent s words (protected_component_tree x) why → RefusesComponents s (map protected_component_tree all) why
+part_refused s all n x words why less is many r =
+    subst (λ l. RefusesComponents s l why) (split_at protected_component_tree all n x less is) (by_reason why r)
+  where
+    front : List ProtectedComponentTree
+    front = map protected_component_tree (take n all)
+
+    one : List ProtectedComponentTree
+    one = protected_component_tree x ∷ []
+
+    behind : List ProtectedComponentTree
+    behind = map protected_component_tree (drop (n + 1) all)
+
+    by_reason : (r : Refusal) → RefusesComponent s words (protected_component_tree x) r → RefusesComponents s ((front ++ one) ++ behind) r
+    by_reason refusal.Memory h = tt
+    by_reason refusal.Limit h =
+        (let a = ap (λ l. length (first_words_of l)) (map-append (component s) (front ++ one) behind
+        ∙ ap (λ l. l ++ map (component s) behind) (map-append (component s) front one)) in
+        let b = ap length (words_more (map (component s) front ++ map (component s) one) (map (component s) behind))
+        ∙ length-append (first_words_of (map (component s) front ++ map (component s) one)) (first_words_of (map (component s) behind)) in
+        let c = ap length (words_more (map (component s) front) (map (component s) one))
+        ∙ length-append (first_words_of (map (component s) front)) (first_words_of (map (component s) one)) in
+        omega (arith, a, b, c, many, h))
+    by_reason refusal.Outside h =
+        parts_both s (front ++ one) behind
+        ∙ or_first (lack_components s (front ++ one)) (lack_components s behind)
+        (parts_both s front one ∙ or_second (lack_components s front) (lack_components s one) h)
+
+pub parts_refused : (s : Scope) (d : ProtectedTree) (why : Refusal) → RefusesComponents s d.components why → RefusesObjects s (OfProtected d ∷ []) why
+parts_refused s d refusal.Memory r = tt
+parts_refused s d refusal.Limit r = omega (arith, r)
+parts_refused s d refusal.Outside r = or_first (lack_components s d.components) false r
+
+-- ---- what is told
+
+same_number : (n : ℕ) → nat_eq n n ≡ true
+same_number n = grind arith
+
+less_number : (n m : ℕ) → n < m → nat_eq m n ≡ false
+less_number n m less = grind (arith, less)
+
+further_number : (n k : ℕ) → nat_eq n (n + suc k) ≡ false
+further_number n k = grind arith
+
+-- of the components of this object
+told_own : (o from : ℕ) (xs : List Object) (rest : List ComponentSlot) (name : List ℕ)
+    → component_told (slots_of o from xs ++ rest) o name ≡ or_else (option_map in_object (place_among from xs name)) (component_told rest o name)
+told_own o from [] rest name = refl
+told_own o from (x ∷ xs) rest name =
+    ap (λ b. if b && bytes_eq x.name name then Some slot else component_told (slots_of o (from + length (value_words x.value)) xs ++ rest) o name)
+    (same_number o)
+    ∙ by_test (bytes_eq x.name name) (told_own o (from + length (value_words x.value)) xs rest name)
+  where
+    slot : Slot
+    slot = record { region = regions.Object; offset = from }
+
+    by_test : (b : Bool)
+        → component_told (slots_of o (from + length (value_words x.value)) xs ++ rest) o name
+        ≡ or_else (option_map in_object (place_among (from + length (value_words x.value)) xs name)) (component_told rest o name)
+        → (if b then Some slot else component_told (slots_of o (from + length (value_words x.value)) xs ++ rest) o name)
+        ≡ or_else
+        (option_map in_object
+        (if b then Some (record { region = regions.Plain; offset = from }) else place_among (from + length (value_words x.value)) xs name))
+        (component_told rest o name)
+    by_test true later = refl
+    by_test false later = later
+
+-- of another object nothing
+told_other : (o from : ℕ) (xs : List Object) (rest : List ComponentSlot) (object : ℕ) (name : List ℕ) → nat_eq o object ≡ false
+    → component_told (slots_of o from xs ++ rest) object name ≡ component_told rest object name
+told_other o from [] rest object name other = refl
+told_other o from (x ∷ xs) rest object name other =
+    ap (λ b. if b && bytes_eq x.name name then Some (record { region = regions.Object; offset = from })
+    else component_told (slots_of o (from + length (value_words x.value)) xs ++ rest) object name) other
+    ∙ told_other o (from + length (value_words x.value)) xs rest object name other
+
+-- of objects in front of the first nothing
+told_before : (s : Scope) (first : ℕ) (items : List ItemTree) (object : ℕ) (name : List ℕ) → object < first
+    → component_told (component_slots s first items) object name ≡ None
+told_before s first [] object name less = refl
+told_before s first (OfProtected d ∷ rest) object name less =
+    told_other first 0 (map (component s) d.components) (component_slots s (suc first) rest) object name (less_number object first less)
+    ∙ told_before s (suc first) rest object name (omega (arith, less))
+told_before s first (OfType d ∷ rest) object name less = told_before s first rest object name less
+told_before s first (OfObject d ∷ rest) object name less = told_before s first rest object name less
+told_before s first (OfException e ∷ rest) object name less = told_before s first rest object name less
+told_before s first (OfSubprogram d ∷ rest) object name less = told_before s first rest object name less
+told_before s first (OfTask d ∷ rest) object name less = told_before s first rest object name less
+
+abbrev place_in : List (List Object) → (k : ℕ) → (name : List ℕ) → Option Slot
+place_in objects k name = option_map in_object (place_among 0 (objects_or_none (slice_get objects k)) name)
+
+slots_told_from : (s : Scope) (first : ℕ) (items : List ItemTree) (k : ℕ) (name : List ℕ)
+    → component_told (component_slots s first items) (first + k) name ≡ place_in (components_among s items) k name
+slots_told_from s first [] zero name = refl
+slots_told_from s first [] (suc k) name = refl
+slots_told_from s first (OfProtected d ∷ rest) zero name =
+    ap (λ n. component_told (component_slots s first (OfProtected d ∷ rest)) n name) (one_more first)
+    ∙ told_own first 0 (map (component s) d.components) (component_slots s (suc first) rest) name
+    ∙ ap (or_else (option_map in_object (place_among 0 (map (component s) d.components) name)))
+    (told_before s (suc first) rest first name (omega arith))
+    ∙ or_else_none (option_map in_object (place_among 0 (map (component s) d.components) name))
+slots_told_from s first (OfProtected d ∷ rest) (suc k) name =
+    let e : first + suc k ≡ suc first + k = omega arith in
+    told_other first 0 (map (component s) d.components) (component_slots s (suc first) rest) (first + suc k) name (further_number first k)
+    ∙ ap (λ n. component_told (component_slots s (suc first) rest) n name) e ∙ slots_told_from s (suc first) rest k name
+slots_told_from s first (OfType d ∷ rest) k name = slots_told_from s first rest k name
+slots_told_from s first (OfObject d ∷ rest) k name = slots_told_from s first rest k name
+slots_told_from s first (OfException e ∷ rest) k name = slots_told_from s first rest k name
+slots_told_from s first (OfSubprogram d ∷ rest) k name = slots_told_from s first rest k name
+slots_told_from s first (OfTask d ∷ rest) k name = slots_told_from s first rest k name
+
+-- components stand where the program's do
+pub components_told : (t : ProgramTree) (o : ℕ) (name : List ℕ)
+    → component_told (component_slots (program_of t).scope 0 (package_items t.package_)) o name ≡ slot_in t (Some o) name
+components_told t o name =
+    let e : o ≡ 0 + o = omega arith in
+    ap (λ n. component_told (component_slots (program_of t).scope 0 (package_items t.package_)) n name) e
+    ∙ slots_told_from (program_of t).scope 0 (package_items t.package_) o name
