@@ -2,15 +2,18 @@ mod Closing
 mod LinkedTasks
 mod Unmoved
 mod Meaning
+mod Callees
 mod MainCalls
 mod Suited
 mod KeptCode
 mod RowRules
+mod ObjectLines
 mod WellFormed
 pub mod MainKnown
 mod Refusals
 mod LabelsFit
 mod WordsFit
+mod PartsFit
 mod CountsFit
 mod OperationsFit
 mod TasksFit

@@ -1,11 +1,11 @@
 -- The tasks of a program beside the rows of an image's table: as many, with the same names and priorities, and each stands at the beginning of its work.
-use Rattle.std.proofs.Common.{◌≡◌, ◌<◌, ℕ, zero, suc, List, [], ◌∷◌, ◌++◌, length, map, None, Option, Some, refl, sym, ap, subst, arith}
+use Rattle.std.proofs.Common.{◌≡◌, ◌<◌, ℕ, zero, suc, List, [], ◌∷◌, ◌++◌, length, map, None, Option, Some, refl, sym, ap, ◌∙◌, subst, arith}
 use Rattle.std.specs.Prelude.{slice_get}
 use Rattle.kernel.specs.State.{Kernel}
-use Rattle.image.specs.Sections.{Sections}
+use Rattle.image.specs.Sections.{Sections, object_of}
 use Rattle.image.specs.Operations.{called}
 use Rattle.image.specs.Texts.{name_of, text_at}
-use Rattle.image.specs.Frames.{TaskState}
+use Rattle.image.specs.Frames.{TaskState, kind_of}
 use Rattle.image.specs.Code.{body_frame, body_of, priority_of}
 use Rattle.image.specs.declared.tasks.Task as rows
 use Rattle.ada_tree.specs.StatementTree.{DeclarationTree, HandlerTrees, StmtTrees}
@@ -75,11 +75,10 @@ module _ (program : Program) (i : Sections) (g : Package) (numbers : Numbers) wh
         around = h.around;
         follows = h.begins;
         rests = h.rests;
-        outside = refl;
+        object = ap (λ o. object_of (kind_of o)) h.there ∙ h.object;
         stack = refl;
         going = refl;
         depth = duty_ends task.duty;
-        inner = tt;
       }))
 
   pub tasks_stand : (k : Kernel) (t : ℕ) (tasks : List Task) (table : List rows.Task) → Linked tasks table → (u : ℕ) → u < length table

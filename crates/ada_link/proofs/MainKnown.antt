@@ -108,8 +108,8 @@ module _ (laws : LawsOfNames) (t : ProgramTree) (legal : IsLegal t) (restricted 
       (ap (λ l. procedure_among l None name) (sym (w.procedures ∙ procedures_are program.scope all)) ∙ among) in
       let named : x.d.name.name ≡ name = ap (λ y. y.name) (sym x.is ∙ u.is) ∙ u.named in
       let e = body_entity program start all w x.place x.d x.b x.at in
-      let number = (bodies_numbered laws.premises t legal restricted x.place (SubprogramBody x.d x.b) 0
-      (of_subprogram (front t (suc x.place)) x.d x.b) x.at refl refl).0 in
+      let number = (bodies_numbered laws.scopes laws.names laws.premises t legal restricted x.place (SubprogramBody x.d x.b) 0
+      (of_subprogram (front t (suc x.place)) x.d x.b) x.at refl).0 in
       ap is_none (told_there name e.profile (ap (stands program.scope) (sym named) ∙ e.stands_) ∙ ap (number_in t None) (sym named) ∙ number)
 
   none_unknown : (xs : List MainStatement) → AreFound program xs → are_unknown (seen_at t last) xs ≡ false

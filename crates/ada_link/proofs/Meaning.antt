@@ -41,7 +41,7 @@ use Rattle.expr_code.specs.Seeing.{Package}
 use Rattle.step_simulation.specs.Laws.{IsKnownHere, StepsAreMet}
 use Rattle.step_simulation.specs.part_code.specs.Resting.{StandsFor}
 use Rattle.step_simulation.specs.part_code.specs.Statements.{Numbers}
-use Rattle.step_simulation.specs.Standing.{Catching, CodeStands, Copying, Going, Note, Over, Raised, relation, work_size}
+use Rattle.step_simulation.specs.Standing.{Catching, Closing, CodeStands, Copying, Going, Note, Over, Raised, relation, work_size}
 use Rattle.package_code.specs.LinkLaws.{LinkedKeepsCount, LinkedMeansTheSame}
 use Rattle.package_code.specs.Linked.{IsLinkedProgram}
 use Rattle.ada_link.proofs.Closing.{closes}
@@ -74,11 +74,10 @@ module _ (laws : LawsBelow) (p : ProgramTree) (i : Sections) (g : Package) (numb
   same_partition =
       (λ j. record {
         tasks = as_many program i g numbers program.tasks i.tasks linked.tasks j;
-        objects = linked.unprotected j;
+        objects = (sym linked.objects) j;
         base = λ u. same_priority program i g numbers program.tasks i.tasks linked.tasks u j;
         ceiling = λ o. linked.ceilings o j;
       })
-      ∙ sym (λ j. image.partition_of (record i { objects = linked.objects j }))
 
   -- ---- each task of the image stands for its work
 
@@ -88,8 +87,10 @@ module _ (laws : LawsBelow) (p : ProgramTree) (i : Sections) (g : Package) (numb
   stays k l u w s on opened ranked (Going items is h) = Going items is h
   stays k l u w s on opened ranked (Copying vs xs items is h) = Copying vs xs items is h
   stays k l u w s on opened ranked (Catching items is h) = Catching items is h
-  stays k l u w s on opened ranked (Raised x items f fs is throws inner caught) =
-      Raised x items f fs is (record { throws = λ schedule n m here there. throws.throws schedule n m (here ∙ opened) (there ∙ ranked) }) inner caught
+  stays k l u w s on opened ranked (Raised x items f fs is throws caught) =
+      Raised x items f fs is (record { throws = λ schedule n m here there. throws.throws schedule n m (here ∙ opened) (there ∙ ranked) }) caught
+  stays k l u w s on opened ranked (Closing o done items next is ends h) =
+      Closing o done items next is (record { ends = λ schedule n m here there. ends.ends schedule n m (here ∙ opened) (there ∙ ranked) }) h
   stays k l u w s on opened ranked (Over o h) = absurd cc
 
   -- behind the last task there is neither work nor code
@@ -132,7 +133,7 @@ module _ (laws : LawsBelow) (p : ProgramTree) (i : Sections) (g : Package) (numb
 
     -- no object has an entry
     bare : (o : ℕ) → entry_of (slice_get i.objects o) ≡ None
-    bare o = ap (λ l. entry_of (slice_get l o)) linked.objects
+    bare o = linked.entries o
 
     owed : (note : Note) (k : Kernel) (t : ℕ) (c : Tasks Store TaskWork) (d : Tasks Words TaskState) (e : Effect) (a : Solo Store TaskWork)
         (b : Solo Words TaskState) (x : Option GivenToCaller) (y : Option steps.Given)

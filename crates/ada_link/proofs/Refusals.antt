@@ -1,42 +1,42 @@
 -- Why no sections of a program are put together: what refuses its variables, its bodies, main or its tables refuses the program.
 use Rattle.std.proofs.Common.{◌≡◌, ℕ, zero, suc, ◌+◌, ◌≤◌, ◌<◌, List, [], ◌∷◌, ◌++◌, length, map, take, inl, inr, Bool, true, false, ◌&&◌, Option, Some, None, refl, sym, ap, ◌∙◌, subst, arith, length-append, take_all}
 use Rattle.std.specs.List.{list_all}
-use Rattle.std.specs.Prelude.{nat_eq, nat_le, not}
+use Rattle.std.specs.Prelude.{nat_le, sum_by, ◌||◌}
 use Rattle.base.specs.Names.{is_label, is_name}
-use Rattle.base.specs.declared.limits.TheConstants.{EXCEPTIONS, INSTRUCTIONS, LABELS, ROWS, SUBPROGRAMS, TASKS, WORDS}
-use Rattle.ada_tree.specs.ProgramTree.{BodyItemTree, ItemTree, OfItem, PackageTree, ProgramTree}
+use Rattle.base.specs.declared.limits.TheConstants.{EXCEPTIONS, INSTRUCTIONS, LABELS, OBJECTS, ROWS, SUBPROGRAMS, TASKS, WORDS}
+use Rattle.ada_tree.specs.ProgramTree.{BodyItemTree, ItemTree, OfException, OfItem, OfObject, OfProtected, OfSubprogram, OfTask, OfType, PackageTree, ProgramTree, ProtectedBody, SubprogramBody, TaskBody}
+use Rattle.image.specs.ObjectTable.{ObjectRow}
 use Rattle.image.specs.Sections.{Sections}
 use Rattle.types.specs.Layouts.{total}
 use Rattle.types.specs.Scopes.{Scope}
-use Rattle.declaring.specs.ProtectedRules.{protected_count}
-use Rattle.meaning.specs.Programs.{package_bodies, package_items, program_of}
+use Rattle.meaning.specs.Programs.{components_among, items_among, package_bodies, package_items, program_of}
 use Rattle.program_soundness.specs.Fronts.{declared_in}
 use Rattle.expr_code.specs.Code.{here}
 use Rattle.expr_code.specs.Refusing.{IsRefused}
 use Rattle.expr_code.specs.Seeing.{told_of}
 use Rattle.expr_code.specs.declared.refusal.Refusal.{Refusal}
 use Rattle.expr_code.specs.declared.refusal.Refusal.TheVariants as refusal
-use Rattle.expr_code.proofs.Refusals.{or_left}
+use Rattle.expr_code.proofs.Refusals.{or_left, or_right}
 use Rattle.step_simulation.specs.part_code.specs.Bounds.{main_bound}
 use Rattle.step_simulation.specs.part_code.specs.Needs.{RefusesMain, are_unknown, beyond_if}
 use Rattle.step_simulation.specs.part_code.proofs.Within.{needing_refused}
 use Rattle.package_code.specs.Bodies.{bodies_among, bodies_before, names_among, number_from}
 use Rattle.package_code.specs.Counts.{bounds_from}
-use Rattle.package_code.specs.Directory.{HaveBodyNumbers, HasManyBodies, IsDirectory, entries_among, operation_told}
+use Rattle.package_code.specs.Directory.{HaveBodyNumbers, HasManyBodies, IsDirectory, component_told, entries_among, operation_told}
 use Rattle.package_code.specs.Globals.{AreGlobals, RefusesGlobals, refuses_items}
 use Rattle.package_code.specs.Laws.{HasFew}
+use Rattle.package_code.specs.Package.{first_words_of}
 use Rattle.package_code.specs.Program.{HasProgram, has_texts, is_within_limits}
-use Rattle.package_code.specs.Refusing.{RefusesCode, RefusesSections, RefusesLinking, is_spelled, items_labels, items_needs, items_rows, program_bound, program_labels, program_needs, program_rows, seen_at}
+use Rattle.package_code.specs.Refusing.{RefusesCode, RefusesSections, RefusesLinking, is_spelled, item_needs, items_labels, items_needs, items_rows, lack_components, program_bound, program_labels, program_needs, program_rows, program_words, seen_at}
 use Rattle.package_code.specs.Walking.{IsAsTold, IsWalked}
 use Rattle.package_code.specs.declared.directory.Directory.{Directory}
 use Rattle.package_code.specs.declared.globals.Globals.{Globals}
 use Rattle.package_code.specs.declared.walk.Walk.{Walk}
-use Rattle.checking.specs.ProgramRules.{IsLegal}
-use Rattle.ravenscar.specs.ProgramRules.{IsRestricted}
-use Rattle.program_soundness.specs.BodyLaws.{PremisesHold}
-use Rattle.package_code.specs.Objects.{lack_objects}
+use Rattle.package_code.specs.Objects.{RefusesObjects, component_slots, lack_objects, object_words}
+use Rattle.package_code.proofs.ComponentSlots.{components_told}
 use Rattle.package_code.proofs.Numbered.{operations_numbered}
-use Rattle.package_code.proofs.ObjectRows.{lack_none}
+use Rattle.package_code.proofs.ObjectNumbers.{rows_words}
+use Rattle.package_code.proofs.Placed.{items_are}
 use Rattle.ada_link.proofs.TaskLines.{as_many_tasks, names_told}
 
 -- ---- bodies stand in the package's body
@@ -62,13 +62,6 @@ no_more words (inl h) = absurd (omega (arith, h))
 no_more words (inr (inl h)) = absurd (omega (arith, h))
 no_more words (inr (inr h)) = h
 
-suc_differs : (n : ℕ) → nat_eq (suc n) 0 ≡ false
-suc_differs n = grind arith
-
-nat_differ : (n : ℕ) → (n ≡ 0 → ⊥) → not (nat_eq n 0) ≡ true
-nat_differ zero h = absurd (h refl)
-nat_differ (suc n) h = ap not (suc_differs n)
-
 module _ (t : ProgramTree) where
   abbrev all : List BodyItemTree
   all = declared_in t.package_
@@ -79,13 +72,16 @@ module _ (t : ProgramTree) where
   -- what the tables of a program tell
   pub directory_told : (g : Globals) (numbers : List (Option ℕ)) (directory : Directory) → AreGlobals whole (package_items t.package_) g
       → HaveBodyNumbers whole (package_bodies t.package_) numbers → directory.slots.items ≡ g.slots.items → directory.numbers.items ≡ numbers
-      → directory.operations.items ≡ entries_among whole 0 (package_bodies t.package_) → IsDirectory t directory
-  directory_told g numbers directory are numbered slots same entries = record {
+      → directory.operations.items ≡ entries_among whole 0 (package_bodies t.package_)
+      → directory.components.items ≡ component_slots whole 0 (package_items t.package_)
+      → IsDirectory t directory
+  directory_told g numbers directory are numbered slots same entries parts = record {
     slots = λ name. ap (λ l. told_of whole l name) slots ∙ are.slots name;
     numbers = λ name n seen. ap (λ l. told_of whole l name) same ∙ numbered.told name n seen
         ∙ ap (λ l. number_from 0 l None name) (names_of whole t.package_);
     operations = λ o name. ap (λ l. operation_told l o name) entries ∙ operations_numbered whole 0 (package_bodies t.package_) o name
         ∙ ap (λ l. number_from 0 l (Some o) name) (names_of whole t.package_);
+    components = λ o name. ap (λ l. component_told l o name) parts ∙ components_told t o name;
   }
 
   -- ---- memory
@@ -97,22 +93,46 @@ module _ (t : ProgramTree) where
 
   -- ---- protected objects
 
-  pub protected_refused : (protected_count whole ≡ 0 → ⊥) → RefusesSections t refusal.Outside
-  protected_refused h =
-      inl (inl (or_left (not (nat_eq (protected_count whole) 0)) (items_needs t 0 all).outside (nat_differ (protected_count whole) h)))
+  lacking_behind : (k : ℕ) (x : BodyItemTree) (items : List BodyItemTree) → (items_needs t (suc k) items).outside ≡ true
+      → (items_needs t k (x ∷ items)).outside ≡ true
+  lacking_behind k x items h = or_right (item_needs t k x).outside (items_needs t (suc k) items).outside h
 
-  -- where there are none, memory alone refuses their rows
-  pub objects_refused : PremisesHold → IsLegal t → IsRestricted t → protected_count whole ≡ 0 → (why : Refusal)
-      → IsRefused 0 0 (lack_objects whole (package_items t.package_)) why → RefusesSections t why
-  objects_refused premises legal restricted none why r =
-      plain_refused why (subst (λ b. IsRefused 0 0 b why) (lack_none premises t legal restricted none) r)
+  -- where a component's words aren't told, no code is made of the object's declaration
+  lacking : (k : ℕ) (items : List BodyItemTree) → lack_objects whole (items_among items) ≡ true → (items_needs t k items).outside ≡ true
+  lacking k [] h = cc
+  lacking k (OfItem (OfProtected d) ∷ items) h = by_test (lack_components whole d.components) refl h (lacking (suc k) items)
+    where
+      by_test : (b : Bool) → lack_components whole d.components ≡ b → (b || lack_objects whole (items_among items)) ≡ true
+          → (lack_objects whole (items_among items) ≡ true → (items_needs t (suc k) items).outside ≡ true)
+          → (lack_components whole d.components || (items_needs t (suc k) items).outside) ≡ true
+      by_test true is r later = or_left (lack_components whole d.components) (items_needs t (suc k) items).outside is
+      by_test false is r later = or_right (lack_components whole d.components) (items_needs t (suc k) items).outside (later r)
+  lacking k (OfItem (OfType d) ∷ items) h = lacking_behind k (OfItem (OfType d)) items (lacking (suc k) items h)
+  lacking k (OfItem (OfObject d) ∷ items) h = lacking_behind k (OfItem (OfObject d)) items (lacking (suc k) items h)
+  lacking k (OfItem (OfException name) ∷ items) h = lacking_behind k (OfItem (OfException name)) items (lacking (suc k) items h)
+  lacking k (OfItem (OfSubprogram d) ∷ items) h = lacking_behind k (OfItem (OfSubprogram d)) items (lacking (suc k) items h)
+  lacking k (OfItem (OfTask d) ∷ items) h = lacking_behind k (OfItem (OfTask d)) items (lacking (suc k) items h)
+  lacking k (SubprogramBody d b ∷ items) h = lacking_behind k (SubprogramBody d b) items (lacking (suc k) items h)
+  lacking k (TaskBody name b ∷ items) h = lacking_behind k (TaskBody name b) items (lacking (suc k) items h)
+  lacking k (ProtectedBody name parts end_name ∷ items) h = lacking_behind k (ProtectedBody name parts end_name) items (lacking (suc k) items h)
+
+  pub objects_refused : (why : Refusal) → RefusesObjects whole (package_items t.package_) why → RefusesSections t why
+  objects_refused refusal.Memory r = inl (inl tt)
+  objects_refused refusal.Limit r = inr (inl (omega (arith, r)))
+  objects_refused refusal.Outside r =
+      inl (inl (lacking 0 all (ap (lack_objects whole) (sym (items_are t.package_)) ∙ r)))
 
   -- ---- variables and bodies
 
   pub globals_refused : (refuses_items whole [] (package_items t.package_) ≡ true → (program_needs t).outside ≡ true) → (why : Refusal)
       → RefusesGlobals whole [] (package_items t.package_) why → RefusesSections t why
   globals_refused placed refusal.Memory r = inl (inl tt)
-  globals_refused placed refusal.Limit r = inr (inl r)
+  globals_refused placed refusal.Limit r =
+      inr (inl (more (length (first_words_of (program_of t).variables))
+      (total (map (λ cs. length (first_words_of cs)) (components_among whole (package_items t.package_)))) r))
+    where
+      more : (a b : ℕ) → WORDS < a → WORDS < a + b
+      more a b h = omega (arith, h)
   globals_refused placed refusal.Outside r = inl (inl (placed r))
 
   pub bodies_refused : (why : Refusal) → HasManyBodies (package_bodies t.package_) why → RefusesSections t why
@@ -206,19 +226,29 @@ module _ (t : ProgramTree) where
         let b = walked_bodies h.walk h.walked h.whole in
         omega (arith, a, b)
 
-    pub limits_refused : is_within_limits i ≡ false → RefusesSections t refusal.Limit
-    limits_refused missed =
+    -- words of variables and of components
+    all_words : length i.plain_words + sum_by (λ o. length o.words) i.objects ≡ program_words t
+    all_words =
+        let plain = ap length (h.plain_words ∙ h.are.words) in
+        let parts : sum_by (λ o. length o.words) i.objects ≡ object_words whole (package_items t.package_) =
+        ap (sum_by (λ (o : ObjectRow). length o.words)) h.objects ∙ rows_words whole (package_items t.package_) in
+        (λ j. plain j + parts j)
+
+    pub limits_refused : length i.objects ≡ (program_of t).objects → is_within_limits i ≡ false → RefusesSections t refusal.Limit
+    limits_refused objects missed =
         either (nat_le (length i.subprograms) SUBPROGRAMS) _ (RefusesSections t refusal.Limit) missed
         (λ e. inr (inr (inl (inl (let up = beyond_ (length i.subprograms) SUBPROGRAMS e in omega (arith, up, many))))))
         (λ rest. either (nat_le (length i.tasks) TASKS) _ (RefusesSections t refusal.Limit) rest
-        (λ e. inr (inr (inl (inr (inr (subst (λ n. TASKS < n) (as_many_tasks t (program_of t).tasks i.tasks h.tasks) (beyond_ (length i.tasks) TASKS e)))))))
+        (λ e. inr (inr (inl (inr (inr (inl (subst (λ n. TASKS < n) (as_many_tasks t (program_of t).tasks i.tasks h.tasks) (beyond_ (length i.tasks) TASKS e))))))))
         (λ rest. either (nat_le (length i.exceptions) EXCEPTIONS) _ (RefusesSections t refusal.Limit) rest
         (λ e. inr (inr (inl (inr (inl (subst (λ l. EXCEPTIONS < length l) (h.exceptions ∙ h.are.exceptions) (beyond_ (length i.exceptions) EXCEPTIONS e)))))))
         (λ rest. either (nat_le (length i.labels) LABELS) _ (RefusesSections t refusal.Limit) rest
         (λ e. inl (inr (subst (λ l. LABELS < length l) labels (beyond_ (length i.labels) LABELS e))))
-        (λ rest. either (nat_le (length i.plain_words) WORDS) (nat_le (length i.rows) ROWS) (RefusesSections t refusal.Limit) rest
-        (λ e. inr (inl (subst (λ l. WORDS < length l) (h.plain_words ∙ h.are.words) (beyond_ (length i.plain_words) WORDS e))))
-        (λ e. inr (inr (inr (inl (subst (λ n. ROWS < n) rows (beyond_ (length i.rows) ROWS e))))))))))
+        (λ rest. either (nat_le (length i.plain_words + sum_by (λ o. length o.words) i.objects) WORDS) _ (RefusesSections t refusal.Limit) rest
+        (λ e. inr (inl (subst (λ n. WORDS < n) all_words (beyond_ (length i.plain_words + sum_by (λ o. length o.words) i.objects) WORDS e))))
+        (λ rest. either (nat_le (length i.rows) ROWS) (nat_le (length i.objects) OBJECTS) (RefusesSections t refusal.Limit) rest
+        (λ e. inr (inr (inr (inl (subst (λ n. ROWS < n) rows (beyond_ (length i.rows) ROWS e))))))
+        (λ e. inr (inr (inl (inr (inr (inr (subst (λ n. OBJECTS < n) objects (beyond_ (length i.objects) OBJECTS e)))))))))))))
 
   -- ---- no legal program has too many
 
@@ -233,6 +263,7 @@ module _ (t : ProgramTree) where
   few_refused few refusal.Outside (inr (inl h)) = absurd h
   few_refused few refusal.Limit (inr (inr (inl (inl h)))) = absurd (let up = few.subprograms in omega (arith, h, up))
   few_refused few refusal.Limit (inr (inr (inl (inr (inl h))))) = absurd (let up = few.exceptions in omega (arith, h, up))
-  few_refused few refusal.Limit (inr (inr (inl (inr (inr h))))) = absurd (let up = few.tasks in omega (arith, h, up))
+  few_refused few refusal.Limit (inr (inr (inl (inr (inr (inl h)))))) = absurd (let up = few.tasks in omega (arith, h, up))
+  few_refused few refusal.Limit (inr (inr (inl (inr (inr (inr h)))))) = absurd (let up = few.objects in omega (arith, h, up))
   few_refused few refusal.Memory (inr (inr (inl h))) = absurd h
   few_refused few refusal.Outside (inr (inr (inl h))) = absurd h

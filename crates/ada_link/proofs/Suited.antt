@@ -1,286 +1,352 @@
--- What is visible in front of a body, and in front of main, stands in the image and in each of its subprograms.
-use Rattle.std.proofs.Common.{◌≡◌, ℕ, suc, ◌+◌, ◌<◌, List, [], ◌∷◌, length, map, Option, Some, None, refl, sym, ap, ◌∙◌, subst}
+-- What is visible in front of a body, and in front of main, stands in the image and in the subprogram to which the code is added.
+use Rattle.std.proofs.Common.{◌≡◌, ◌⊎◌, inl, inr, ℕ, suc, ◌+◌, ◌<◌, ◌≤◌, List, [], ◌∷◌, ◌++◌, length, length-append, Bool, true, false, Option, Some, None, ◌||◌, refl, sym, ap, ◌∙◌, subst, arith}
+use Rattle.std.specs.Prelude.{is_none, nat_eq, nat_lt, option_map, slice_get}
+use Rattle.std.proofs.lemmas.Bool.{eq-eqb, lt-ltb}
 use Rattle.ada_tree.specs.declared.declaration.Formal.{Formal}
-use Rattle.ada_tree.specs.declared.declaration.Mode.TheVariants as mode
 use Rattle.ada_tree.specs.declared.expression.Identifier.{Identifier}
-use Rattle.ada_tree.specs.ProgramTree.{ProgramTree, SubprogramBody}
-use Rattle.ada_tree.specs.Size.{total}
-use Rattle.image.specs.Operations.{called}
-use Rattle.image.specs.Rules.{has_region}
-use Rattle.image.specs.Sections.{Sections}
+use Rattle.ada_tree.specs.StatementTree.{SubprogramTree}
+use Rattle.ada_tree.specs.ProgramTree.{BodyItemTree, BodyTree, OperationBody, ProgramTree, ProtectedBody, ProtectedItemTree}
+use Rattle.image.specs.Code as sections
+use Rattle.image.specs.ObjectTable.{ObjectRow}
+use Rattle.image.specs.Rules.{calls_inside, has_region, has_word, is_external, is_plain, object_row, some_and, writes_region}
+use Rattle.image.specs.Sections.{Sections, object_of, writes_object}
+use Rattle.image.specs.declared.instruction.Region.{Region}
 use Rattle.image.specs.declared.instruction.Region.TheVariants as regions
+use Rattle.image.specs.declared.subprograms.Kind.{Kind}
 use Rattle.image.specs.declared.subprograms.Kind.TheVariants as kinds
 use Rattle.image.specs.declared.subprograms.Subprogram.{Subprogram}
-use Rattle.types.specs.declared.entity.FormalParameter.{FormalParameter}
 use Rattle.types.specs.declared.entity.Subtype.{Subtype}
-use Rattle.types.specs.Entities.{Profile}
+use Rattle.types.specs.Entities.{Profile, Protected, ProtectedObject}
 use Rattle.types.specs.Entities as entity
 use Rattle.types.specs.Layouts.{words_of}
-use Rattle.types.specs.Scopes.{Scope}
-use Rattle.meaning.specs.type_rules.specs.ProfileRules.{formal_parameters, profile_with}
-use Rattle.meaning.specs.type_rules.specs.SubtypeNames.{subtype_of}
+use Rattle.types.specs.Places as places
+use Rattle.types.specs.Places.{or_else}
+use Rattle.types.specs.Scopes.{Scope, offering}
+use Rattle.types.specs.Shapes.{value_words}
 use Rattle.checking.specs.ProgramRules.{IsLegal}
 use Rattle.ravenscar.specs.ProgramRules.{IsRestricted}
-use Rattle.expr_soundness.specs.Agreeing.{parameter_subtype}
-use Rattle.expr_soundness.specs.SoundScopes.{AreIn, AreKnown, IsKnown, IsSoundProfile, IsSoundResult, SoundScope}
-use Rattle.expr_soundness.proofs.Widening.{subtype_known}
-use Rattle.meaning.specs.Programs.{Program, program_of, subtype_named}
+use Rattle.expr_soundness.specs.SoundScopes.{IsKnown, SoundScope}
+use Rattle.meaning.specs.type_rules.specs.ProfileRules.{formal_parameters, profile_with}
+use Rattle.meaning.specs.Programs.{Program, components_among, objects_or_none, package_items, program_of}
 use Rattle.program_soundness.specs.Fronts.{declared_in, front, start_in}
-use Rattle.program_soundness.proofs.BodyProfiles.{first_formal, named_is, parameters_are, profile_formals, profile_none, profile_some}
-use Rattle.program_soundness.proofs.Called as bodies
+use Rattle.program_soundness.proofs.BodyProfiles.{profile_none}
 use Rattle.program_soundness.proofs.Listing.{same_some}
-use Rattle.program_soundness.proofs.Whole.{IsPackage}
+use Rattle.program_soundness.proofs.Moved.{hidden_stands}
 use Rattle.program_soundness.proofs.WiderScopes.{stands, stands_number}
-use Rattle.expr_code.specs.Code.{here}
 use Rattle.expr_code.specs.Seeing.{IsCallable, NamesProfile, Package, Suits, slot_of, subprogram_of, told_of}
 use Rattle.expr_code.specs.declared.visible.Slot.{Slot}
 use Rattle.expr_code.specs.declared.visible.Visible.{Visible}
 use Rattle.step_simulation.specs.part_code.specs.Resting.{Framed}
-use Rattle.stmt_code.specs.Subprograms.{IsCalledFunction, IsCalledProcedure}
-use Rattle.step_simulation.specs.part_code.specs.Suiting.{IsCallableProcedure, SuitsStatements, passed_width, returned_width}
-use Rattle.package_code.specs.Directory.{AreTold}
-use Rattle.package_code.specs.Package.{IsPackageOf}
+use Rattle.step_simulation.specs.part_code.specs.Suiting.{IsCallableProcedure, SuitsStatements}
+use Rattle.stmt_code.specs.Subprograms.{SuitsBody}
+use Rattle.package_code.specs.Bodies.{bodies_before, number_in, operation_kind}
+use Rattle.package_code.specs.Owners.{in_object}
+use Rattle.package_code.specs.Directory.{AreTold, number_told}
+use Rattle.package_code.specs.Package.{IsInFront, IsPackageOf, first_words_of, place_among}
 use Rattle.package_code.specs.Program.{HasProgram}
-use Rattle.package_code.specs.Bodies.{Coded, bodies_before, of_subprogram}
-use Rattle.package_code.specs.Walking.{HasBody, row_of}
-use Rattle.package_code.proofs.InFront.{LawsOfNames, front_sound, front_words, kept_behind, names, whole}
-use Rattle.package_code.proofs.InOrder.{package_in_order}
-use Rattle.package_code.proofs.Linking.{body_there_at, called_front, in_front, ordered, package_of, with_one, without}
-use Rattle.package_code.proofs.NewParameters.{formals_told, result_told}
+use Rattle.package_code.proofs.BodyFronts.{IsBodyFront, body_words}
+use Rattle.package_code.proofs.InFront.{LawsOfNames, front_sound, front_words, kept_behind, memory, whole}
+use Rattle.package_code.proofs.InOrder.{stands_there}
+use Rattle.package_code.proofs.Linking.{in_front, ordered}
+use Rattle.package_code.proofs.ObjectFronts as fronts
+use Rattle.package_code.proofs.ObjectNumbers.{components_wide, row_words}
+use Rattle.package_code.proofs.Placed.{items_are}
+use Rattle.package_code.proofs.OperationBodies.{has_number, object}
+use Rattle.ada_link.proofs.Callees.{IsCallee, IsExternal, callable, external_there, g, of_program, own_callee, own_item, package_callee, procedure}
 
--- ---- words of parameters, whose subtypes take as many in the one scope as in the other
+-- ---- kinds
 
-abbrev passed_by : FormalParameter → ℕ → ℕ
-passed_by f n = elim f.mode [ mode.In ↦ n | mode.Out ↦ 1 | mode.InOut ↦ suc n ]
+-- a function of an object calls its functions, a procedure both
+calls_function : (o : ℕ) (caller : Option Identifier) (r : Identifier) → (is_plain (operation_kind o (Some r)) || calls_inside (operation_kind o caller) (operation_kind o (Some r))) ≡ true
+calls_function o None r = eq-eqb o o refl
+calls_function o (Some q) r = eq-eqb o o refl
 
-abbrev returned_by : FormalParameter → ℕ → ℕ
-returned_by f n = elim f.mode [ mode.In ↦ 0 | mode.Out ↦ suc n | mode.InOut ↦ suc n ]
+calls_any : (o : ℕ) (r : Option Identifier) → (is_plain (operation_kind o r) || calls_inside (operation_kind o None) (operation_kind o r)) ≡ true
+calls_any o None = eq-eqb o o refl
+calls_any o (Some r) = eq-eqb o o refl
 
-module _ (all s : Scope) (same : (u : Subtype) → IsKnown s u → words_of all u ≡ words_of s u) where
-  values_same : (fs : List FormalParameter) → AreKnown s fs
-      → total (words_of all) (map parameter_subtype fs) ≡ total (words_of s) (map parameter_subtype fs)
-  values_same [] known = refl
-  values_same (f ∷ fs) known = let one = same f.subtype known.0 in let rest = values_same fs known.1 in (λ j. one j + rest j)
+kind_object : (o : ℕ) (r : Option Identifier) → object_of (operation_kind o r) ≡ Some o
+kind_object o None = refl
+kind_object o (Some r) = refl
 
-  passed_same : (fs : List FormalParameter) → AreKnown s fs → total (passed_width all) fs ≡ total (passed_width s) fs
-  passed_same [] known = refl
-  passed_same (f ∷ fs) known =
-      let one = ap (passed_by f) (same f.subtype known.0) in let rest = passed_same fs known.1 in (λ j. one j + rest j)
+calls_gives : (s : Scope) (o : ℕ) (caller : Option Identifier) (fs : List Formal) (r : Option Identifier) (p : Profile)
+    → profile_with s (formal_parameters s fs) r ≡ Some p → (u : Subtype) → p.result ≡ Some u
+    → (is_plain (operation_kind o r) || calls_inside (operation_kind o caller) (operation_kind o r)) ≡ true
+calls_gives s o caller fs (Some r) p own u some = calls_function o caller r
+calls_gives s o caller fs None p own u some = (let none = profile_none s (formal_parameters s fs) p own in let bad = sym none ∙ some in cc)
 
-  returned_same : (fs : List FormalParameter) → AreKnown s fs → total (returned_width all) fs ≡ total (returned_width s) fs
-  returned_same [] known = refl
-  returned_same (f ∷ fs) known =
-      let one = ap (returned_by f) (same f.subtype known.0) in let rest = returned_same fs known.1 in (λ j. one j + rest j)
+subprogram_before : (b : entity.Entity) (p : Profile) → (b ≡ entity.Subprogram p) ⊎ (offering [] b ≡ entity.Subprogram p) → b ≡ entity.Subprogram p
+subprogram_before b p (inl h) = h
+subprogram_before (Protected q) p (inr h) = cc
+subprogram_before b p (inr h) = h
 
-formals_known : (s : Scope) → SoundScope s → (fs : List Formal) (ps : List FormalParameter) → formal_parameters s fs ≡ Some ps → AreKnown s ps
-formals_known s sound [] ps h = subst (AreKnown s) (same_some [] ps h) tt
-formals_known s sound (f ∷ fs) ps h =
-    let x = first_formal s f fs ps h in
-    subst (AreKnown s) (sym x.is) (subtype_known s f.subtype x.subtype sound x.named, formals_known s sound fs x.rest x.further)
-
--- ---- the image
+-- ---- the package
 
 module _ (laws : LawsOfNames) (t : ProgramTree) (legal : IsLegal t) (restricted : IsRestricted t) (i : Sections) (h : HasProgram t i) where
   abbrev program : Program
   program = program_of t
 
-  abbrev g : Package
-  g = package_of program h.directory
-
-  abbrev w : IsPackage program (start_in t.package_) (declared_in t.package_)
-  w = whole laws t legal restricted
-
-  of_program : IsPackageOf t i g
-  of_program = package_in_order laws t legal restricted i g (ordered t i h)
+  abbrev all : List BodyItemTree
+  all = declared_in t.package_
 
   -- a frame with these names alone
-  abbrev seeing : Visible → Framed
-  seeing v = record { names = v; room = 0; reserved = [] }
+  abbrev seeing : Option ℕ → Visible → Framed
+  seeing owner v = record { names = v; room = 0; reserved = []; within = owner }
 
-  sound_front : (v : Visible) (place : ℕ) → v.scope ≡ front t place → AreTold program.scope h.directory v → SoundScope v.scope
-  sound_front v place scope told = front_sound laws t legal restricted i g of_program (seeing v) place (in_front t i h (seeing v) place scope told)
+  plain_within : (name : List ℕ) (x : Slot) → (g laws t legal restricted i h).slots None name ≡ Some x → x.offset < length i.plain_words
+  plain_within name x told =
+      subst (λ l. x.offset < length l) (sym h.plain_words)
+      (h.are.within name x (sym (ap (λ z. told_of program.scope z.items name) h.slots) ∙ told))
 
-  words_front : (v : Visible) (place : ℕ) → v.scope ≡ front t place → AreTold program.scope h.directory v
-      → (u : Subtype) → IsKnown v.scope u → words_of program.scope u ≡ words_of v.scope u
-  words_front v place scope told = front_words laws t legal restricted i g of_program (seeing v) place (in_front t i h (seeing v) place scope told)
+  module _ (v : Visible) (place : ℕ) (scope : v.scope ≡ front t place) (told : AreTold program.scope h.directory None v) where
+    before : IsInFront (front t place) (g laws t legal restricted i h) None (seeing None v)
+    before = in_front t i h (front t place) None (seeing None v) scope refl told
 
-  module _ (v : Visible) (place : ℕ) (scope : v.scope ≡ front t place) (told : AreTold program.scope h.directory v) where
     sound : SoundScope v.scope
-    sound = sound_front v place scope told
+    sound = front_sound laws t legal restricted i (g laws t legal restricted i h) (of_program laws t legal restricted i h) (seeing None v) place before
 
     same : (u : Subtype) → IsKnown v.scope u → words_of program.scope u ≡ words_of v.scope u
-    same = words_front v place scope told
-
-    -- ---- variables
+    same = front_words laws t legal restricted i (g laws t legal restricted i h) (of_program laws t legal restricted i h) (seeing None v) place before
 
     shared : (name : List ℕ) (x : Slot) → slot_of v name ≡ Some x → x.region ≡ regions.Plain
-    shared name x seen = of_program.laid.plain name x (told.slots name x seen)
+    shared name x seen = (of_program laws t legal restricted i h).laid.plain name x (told.slots name x seen)
 
-    within : (name : List ℕ) (x : Slot) → slot_of v name ≡ Some x → x.offset < length i.plain_words
-    within name x seen =
-        subst (λ l. x.offset < length l) (sym h.plain_words)
-        (h.are.within name x (sym (ap (λ z. told_of program.scope z.items name) h.slots) ∙ told.slots name x seen))
+    whole_here : (name : List ℕ) (e : entity.Entity) → stands v.scope name ≡ Some e → stands program.scope name ≡ Some e
+    whole_here name e k = kept_behind laws t legal restricted place name e (ap (λ s. stands s name) (sym scope) ∙ k)
 
-    -- ---- subprograms
+    outer : (name : List ℕ) (q : ProtectedObject) → stands v.scope name ≡ Some (Protected q)
+        → (o : ProtectedObject) × (stands program.scope name ≡ Some (Protected o)) × ((q ≡ o) ⊎ (q.operations ≡ []))
+    outer name q k = (q, whole_here name (Protected q) k, inl refl)
 
-    module _ (name : List ℕ) (number : ℕ) (profile : Profile) (seen : subprogram_of v name ≡ Some number) (n : NamesProfile v.scope name profile) where
-      stands_here : stands v.scope name ≡ Some (entity.Subprogram profile)
-      stands_here = stands_number v.scope name n.number (entity.Subprogram profile) n.numbered n.stands
-
-      stands_whole : stands program.scope name ≡ Some (entity.Subprogram profile)
-      stands_whole =
-          kept_behind laws t legal restricted place name (entity.Subprogram profile) (ap (λ s. stands s name) (sym scope) ∙ stands_here)
-
-      -- the body with this name, and its code
-      abbrev there : bodies.HasBody program (start_in t.package_) (declared_in t.package_) w name profile
-      there = bodies.subprogram_there program (start_in t.package_) (declared_in t.package_) w name profile stands_whole
-
-      abbrev code_of : Coded
-      code_of = of_subprogram (front t (suc there.place)) there.subprogram there.body
-
-      abbrev own_number : ℕ
-      own_number = bodies_before t there.place
-
-      abbrev body : HasBody t h.directory own_number code_of h.walk
-      body = body_there_at t i h there.place (SubprogramBody there.subprogram there.body) code_of there.at refl
-
-      abbrev row : Subprogram
-      row = row_of kinds.Plain body.words (here body.new.code)
-
-      numbered : own_number ≡ number
-      numbered =
-          same_some own_number number
-          (sym body.numbered ∙ ap (told_of program.scope h.directory.numbers.items) there.named ∙ told.calls name number seen)
-
-      called_there : called i number ≡ Some row
-      called_there = ap (called i) (sym numbered) ∙ called_front t i h own_number row body.there
-
-      -- its parameters take the same words where it is called
-
-      sound_profile : IsSoundProfile v.scope profile
-      sound_profile = sound.each n.number (entity.Subprogram profile) n.stands
-
-      sound_there : SoundScope body.seen.scope
-      sound_there = sound_front body.seen (suc there.place) body.scope body.told
-
-      same_there : (u : Subtype) → IsKnown body.seen.scope u → words_of program.scope u ≡ words_of body.seen.scope u
-      same_there = words_front body.seen (suc there.place) body.scope body.told
-
-      formals_there : formal_parameters body.seen.scope there.subprogram.formals ≡ Some profile.formals
-      formals_there =
-          ap (λ s. formal_parameters s there.subprogram.formals) body.scope
-          ∙ formals_told laws.scopes program (start_in t.package_) (declared_in t.package_) w (names laws t legal restricted).fronts there.place there.subprogram
-          there.body there.at
-          ∙ ap Some
-          (parameters_are program.scope there.subprogram.formals profile.formals
-          (profile_formals program.scope (formal_parameters program.scope there.subprogram.formals) there.subprogram.result profile there.own))
-
-      known_there : AreKnown body.seen.scope profile.formals
-      known_there = formals_known body.seen.scope sound_there there.subprogram.formals profile.formals formals_there
-
-      values_there : total (words_of body.seen.scope) (map parameter_subtype profile.formals) ≡ total (words_of v.scope) (map parameter_subtype profile.formals)
-      values_there =
-          sym (values_same program.scope body.seen.scope same_there profile.formals known_there)
-          ∙ values_same program.scope v.scope same profile.formals sound_profile.known
-
-      passed_there : total (passed_width body.seen.scope) profile.formals ≡ total (passed_width v.scope) profile.formals
-      passed_there =
-          sym (passed_same program.scope body.seen.scope same_there profile.formals known_there)
-          ∙ passed_same program.scope v.scope same profile.formals sound_profile.known
-
-      returned_there : total (returned_width body.seen.scope) profile.formals ≡ total (returned_width v.scope) profile.formals
-      returned_there =
-          sym (returned_same program.scope body.seen.scope same_there profile.formals known_there)
-          ∙ returned_same program.scope v.scope same profile.formals sound_profile.known
-
-      own_as : (o : Option Identifier) → there.subprogram.result ≡ o
-          → profile_with program.scope (formal_parameters program.scope there.subprogram.formals) o ≡ Some profile
-      own_as o is = ap (profile_with program.scope (formal_parameters program.scope there.subprogram.formals)) (sym is) ∙ there.own
-
-      -- ---- a function
-
-      module _ (result : Subtype) (some : profile.result ≡ Some result) where
-        module _ (r : Identifier) (is : there.subprogram.result ≡ Some r) where
-          abbrev returned : Subtype
-          returned = subtype_named program.scope r
-
-          function : IsCalledFunction body.seen.scope there.subprogram.formals returned body.words
-          function =
-              with_one (IsCalledProcedure body.seen.scope there.subprogram.formals body.words)
-              (λ z. IsCalledFunction body.seen.scope there.subprogram.formals (subtype_named program.scope z) body.words) there.subprogram.result body.called r is
-
-          result_is : returned ≡ result
-          result_is =
-              let x = profile_some program.scope (formal_parameters program.scope there.subprogram.formals) r profile (own_as (Some r) is) in
-              named_is program.scope r x.0 x.1 ∙ same_some x.0 result (sym x.2 ∙ some)
-
-          result_known : IsKnown body.seen.scope returned
-          result_known =
-              subtype_known body.seen.scope r returned sound_there
-              (ap (λ s. subtype_of s r) body.scope
-              ∙ result_told laws.scopes program (start_in t.package_) (declared_in t.package_) w (names laws t legal restricted).fronts there.place
-              there.subprogram there.body there.at r is)
-
-          sound_result : IsKnown v.scope result × AreIn profile.formals
-          sound_result = subst (IsSoundResult v.scope profile.formals) some sound_profile.result
-
-          function_callable : IsCallable i v.scope number profile result
-          function_callable = record {
-            code = row;
-            is = called_there;
-            plain = refl;
-            parameters = function.passed profile.formals formals_there sound_result.1 ∙ values_there;
-            results = function.results result_known ∙ sym (same_there returned result_known) ∙ ap (words_of program.scope) result_is
-                ∙ same result sound_result.0;
-          }
-
-        callable : IsCallable i v.scope number profile result
-        callable = by_result there.subprogram.result refl
-          where
-            by_result : (o : Option Identifier) → there.subprogram.result ≡ o → IsCallable i v.scope number profile result
-            by_result (Some r) is = function_callable r is
-            by_result None is =
-                let none = profile_none program.scope (formal_parameters program.scope there.subprogram.formals) profile (own_as None is) in
-                let bad = sym none ∙ some in cc
-
-      -- ---- a procedure
-
-      module _ (none : profile.result ≡ None) where
-        procedure_callable : there.subprogram.result ≡ None → IsCallableProcedure i v.scope number profile
-        procedure_callable is =
-            let words =
-            without (IsCalledProcedure body.seen.scope there.subprogram.formals body.words)
-            (λ z. IsCalledFunction body.seen.scope there.subprogram.formals (subtype_named program.scope z) body.words) there.subprogram.result body.called is in
-            record {
-              code = row;
-              is = called_there;
-              plain = refl;
-              parameters = words.passed profile.formals formals_there ∙ passed_there;
-              results = words.results profile.formals formals_there ∙ returned_there;
-            }
-
-        procedure : IsCallableProcedure i v.scope number profile
-        procedure = by_result there.subprogram.result refl
-          where
-            by_result : (o : Option Identifier) → there.subprogram.result ≡ o → IsCallableProcedure i v.scope number profile
-            by_result None is = procedure_callable is
-            by_result (Some r) is =
-                let x = profile_some program.scope (formal_parameters program.scope there.subprogram.formals) r profile (own_as (Some r) is) in
-                let bad = sym none ∙ x.2 in cc
-
-    -- ---- all of it
+    callee : (name : List ℕ) (number : ℕ) (profile : Profile) → subprogram_of v name ≡ Some number → NamesProfile v.scope name profile
+        → IsCallee laws t legal restricted i h number profile kinds.Plain
+    callee name number profile seen n =
+        package_callee laws t legal restricted i h name number profile
+        (whole_here name (entity.Subprogram profile) (stands_number v.scope name n.number (entity.Subprogram profile) n.numbered n.stands))
+        (told.calls name number seen)
 
     suits : (s : Subprogram) → Suits v i s
     suits s = record {
       locals = λ name x seen local. absurd (let p = sym (shared name x seen) ∙ local in cc);
-      plain = λ name x seen plain. within name x seen;
+      plain = λ name x seen plain. plain_within name x (told.slots name x seen);
       object = λ name x seen object. absurd (let p = sym (shared name x seen) ∙ object in cc);
       region = λ name x seen. ap (has_region s) (shared name x seen);
-      calls = λ name number profile result seen n some. callable name number profile seen n result some;
+      calls = λ name number profile result seen n some.
+          callable laws t legal restricted i h v sound same number profile kinds.Plain (callee name number profile seen n)
+          (sound.each n.number (entity.Subprogram profile) n.stands) (λ kind. is_plain kind || calls_inside s.kind kind) refl result some;
+      externals = λ name operation number profile result seen named some.
+          let x = external_there laws t legal restricted i h v sound told.operations outer name operation number profile seen named in
+          callable laws t legal restricted i h v sound same number profile x.kind x.callee x.sound is_external x.external result some;
     }
 
-    pub front_suited : (s : Subprogram) → SuitsStatements v i s
-    front_suited s = record {
+    pub front_suited : (s : Subprogram) → object_of s.kind ≡ None → SuitsStatements v i s
+    front_suited s bare = record {
       names = suits s;
-      procedures = λ name number profile seen n none. procedure name number profile seen n none;
+      writes = λ r has. by_region r has;
+      procedures = λ name number profile seen n none.
+          procedure laws t legal restricted i h v sound same number profile kinds.Plain (callee name number profile seen n)
+          (sound.each n.number (entity.Subprogram profile) n.stands) (λ kind. is_plain kind || calls_inside s.kind kind) refl none;
+      externals = λ name operation number profile seen named none.
+          let x = external_there laws t legal restricted i h v sound told.operations outer name operation number profile seen named in
+          procedure laws t legal restricted i h v sound same number profile x.kind x.callee x.sound is_external x.external none;
     }
+      where
+        by_region : (r : Region) → has_region s r ≡ true → writes_region s r ≡ true
+        by_region regions.Locals e = refl
+        by_region regions.Plain e = refl
+        by_region regions.Object e = (let bad = sym (ap (λ o. some_and o (λ n. true)) bare) ∙ e in cc)
+
+  -- ---- an object's operation
+
+  module _ (place : ℕ) (name : Identifier) (items : List ProtectedItemTree) (end_name : Identifier)
+      (at : slice_get (declared_in t.package_) place ≡ Some (ProtectedBody name items end_name))
+      (k : ℕ) (d : SubprogramTree) (b : BodyTree) (there : slice_get items k ≡ Some (OperationBody d b))
+      (v : Visible) where
+    abbrev o : ProtectedObject
+    o = object laws.scopes laws.names laws.premises t legal restricted place name items end_name at
+
+    abbrev gg : Package
+    gg = g laws t legal restricted i h
+
+    module _ (scope : v.scope ≡ fronts.seen laws t legal restricted place name items end_name at k d b there)
+        (told : AreTold program.scope h.directory (Some o.number) v) where
+      inside : IsInFront (fronts.seen laws t legal restricted place name items end_name at k d b there) gg (Some o.number) (seeing (Some o.number) v)
+      inside = in_front t i h (fronts.seen laws t legal restricted place name items end_name at k d b there) (Some o.number) (seeing (Some o.number) v) scope refl told
+
+      abbrev Came : List ℕ → entity.Entity → Type 0
+      Came x e =
+          fronts.CameHere laws t legal restricted place name items end_name at k d b there i gg (ordered t i h) (of_program laws t legal restricted i h)
+          h.told.operations (seeing (Some o.number) v) inside x e
+
+      came : (x : List ℕ) (e : entity.Entity) → stands v.scope x ≡ Some e → Came x e
+      came =
+          fronts.came laws t legal restricted place name items end_name at k d b there i gg (ordered t i h) (of_program laws t legal restricted i h)
+          h.told.operations (seeing (Some o.number) v) inside
+
+      front_body : IsBodyFront t (Some o.number) v.scope d b
+      front_body =
+          subst (λ u. IsBodyFront t (Some o.number) u d b) (sym scope)
+          (fronts.operation_front laws t legal restricted place name items end_name at k d b there)
+
+      same_inside : (u : Subtype) → IsKnown v.scope u → words_of program.scope u ≡ words_of v.scope u
+      same_inside = body_words laws.scopes t (Some o.number) v.scope d b front_body (memory laws t legal restricted)
+
+      -- ---- what is called
+
+      record IsCalledInside (number : ℕ) (p : Profile) : Type 0 where
+        kind : Kind
+        callee : IsCallee laws t legal restricted i h number p kind
+        function : (u : Subtype) → p.result ≡ Some u → (is_plain kind || calls_inside (operation_kind o.number d.result) kind) ≡ true
+        procedure : d.result ≡ None → (is_plain kind || calls_inside (operation_kind o.number d.result) kind) ≡ true
+
+      called_inside : (x : List ℕ) (number : ℕ) (p : Profile) → subprogram_of v x ≡ Some number → NamesProfile v.scope x p → IsCalledInside number p
+      called_inside x number p seen n = by_came (came x (entity.Subprogram p) (stands_number v.scope x n.number (entity.Subprogram p) n.numbered n.stands))
+        where
+          both : or_else (number_told program.scope h.directory (Some o.number) x) (number_told program.scope h.directory None x) ≡ Some number
+          both = told.calls x number seen
+
+          first_same : (a c : Option ℕ) (m : ℕ) → a ≡ Some m → or_else a c ≡ Some number → m ≡ number
+          first_same (Some y) c m is e = sym (same_some y m is) ∙ same_some y number e
+          first_same None c m is e = cc
+
+          second_same : (a c : Option ℕ) → a ≡ None → or_else a c ≡ Some number → c ≡ Some number
+          second_same (Some y) c is e = cc
+          second_same None c is e = e
+
+          by_came : Came x (entity.Subprogram p) → IsCalledInside number p
+          by_came (inl hidden) =
+              let f = hidden_stands (front t place) (fronts.own_name_number laws t legal restricted place name items end_name at k d b there i gg (ordered t i h)
+              (of_program laws t legal restricted i h) h.told.operations (seeing (Some o.number) v) inside) x (entity.Subprogram p) hidden in
+              let is = kept_behind laws t legal restricted place x (entity.Subprogram p) (f.stands_ ∙ ap Some (subprogram_before f.before p f.same)) in
+              let untold = fronts.front_unnumbered laws t legal restricted place name items end_name at k d b there i gg (ordered t i h)
+              (of_program laws t legal restricted i h) h.told.operations (seeing (Some o.number) v) inside x f.before f.stands_ in
+              record {
+                kind = kinds.Plain;
+                callee = package_callee laws t legal restricted i h x number p is
+                    (second_same (number_told program.scope h.directory (Some o.number) x) (number_told program.scope h.directory None x) untold both);
+                function = λ u some. refl;
+                procedure = λ none. refl;
+              }
+          by_came (inr (inl op)) =
+              let y = own_item laws t legal restricted i h place name items end_name at x p op.stands_ op.item.0 op.item.1 op.item.2 op.item.3 in
+              let own_told =
+              h.told.operations o.number x ∙ ap (number_in t (Some o.number)) (sym y.named)
+              ∙ has_number laws.scopes laws.names laws.premises t legal restricted place name items end_name at y.j (OperationBody y.d y.b) y.there in
+              let same = first_same (number_told program.scope h.directory (Some o.number) x) (number_told program.scope h.directory None x)
+              (bodies_before t place + y.j) own_told both in
+              record {
+                kind = operation_kind o.number y.d.result;
+                callee = subst (λ m. IsCallee laws t legal restricted i h m p (operation_kind o.number y.d.result)) same
+                    (own_callee laws t legal restricted i h place name items end_name at y.j y.d y.b y.there p y.profile);
+                function = λ u some. calls_gives program.scope o.number d.result y.d.formals y.d.result p y.profile u some;
+                procedure = λ none. ap (λ r. is_plain (operation_kind o.number y.d.result) || calls_inside (operation_kind o.number r) (operation_kind o.number y.d.result)) none
+                    ∙ calls_any o.number y.d.result;
+              }
+          by_came (inr (inr c)) =
+              absurd (let e = fronts.component_entity (fronts.is_function laws t legal restricted place name items end_name at k d b there) o.components x (entity.Subprogram p) c in let bad = e.1 in cc)
+
+      outer_inside : (x : List ℕ) (q : ProtectedObject) → stands v.scope x ≡ Some (Protected q)
+          → (z : ProtectedObject) × (stands program.scope x ≡ Some (Protected z)) × ((q ≡ z) ⊎ (q.operations ≡ []))
+      outer_inside x q seen = by_came (came x (Protected q) seen)
+        where
+          by_came : Came x (Protected q) → (z : ProtectedObject) × (stands program.scope x ≡ Some (Protected z)) × ((q ≡ z) ⊎ (q.operations ≡ []))
+          by_came (inl hidden) =
+              let f = hidden_stands (front t place) (fronts.own_name_number laws t legal restricted place name items end_name at k d b there i gg (ordered t i h)
+              (of_program laws t legal restricted i h) h.told.operations (seeing (Some o.number) v) inside) x (Protected q) hidden in
+              let c = fronts.protected_before f.before q f.same in
+              (c.0, kept_behind laws t legal restricted place x (Protected c.0) (f.stands_ ∙ ap Some c.1), c.2)
+          by_came (inr (inl op)) = absurd (elim op.kinds [ inl e ↦ cc | inr e ↦ cc ])
+          by_came (inr (inr c)) =
+              absurd (let e = fronts.component_entity (fronts.is_function laws t legal restricted place name items end_name at k d b there) o.components x (Protected q) c in let bad = e.1 in cc)
+
+      -- ---- words
+
+      words_here : (x : List ℕ) (slot : Slot) → slot_of v x ≡ Some slot
+          → ((slot.region ≡ regions.Object) × (gg.slots (Some o.number) x ≡ Some slot)) ⊎ ((slot.region ≡ regions.Plain) × (gg.slots None x ≡ Some slot))
+      words_here x slot seen =
+          elim (fronts.words_there laws t legal restricted place name items end_name at k d b there i gg (ordered t i h) (of_program laws t legal restricted i h)
+          h.told.operations (seeing (Some o.number) v) inside x slot seen) [
+            | inl y ↦ inl ((of_program laws t legal restricted i h).laid.region o.number x slot y.its, y.its)
+            | inr y ↦ inr ((of_program laws t legal restricted i h).laid.plain x slot y.its, y.its)
+          ]
+
+      own_within : (x : List ℕ) (slot : Slot) → gg.slots (Some o.number) x ≡ Some slot → slot.offset < length (sections.initial_words_of (slice_get i.objects o.number))
+      own_within x slot told_slot_ = by_place (place_among 0 parts x) refl (sym ((ordered t i h).components o.number x) ∙ told_slot_)
+        where
+          parts : List places.Object
+          parts = program.components o.number
+
+          these : parts ≡ objects_or_none (slice_get (components_among program.scope (package_items t.package_)) o.number)
+          these =
+              ap (λ f. f o.number) (whole laws t legal restricted).components
+              ∙ ap (λ l. objects_or_none (slice_get (components_among program.scope l) o.number)) (sym (items_are t.package_))
+
+          words : sections.initial_words_of (slice_get i.objects o.number) ≡ first_words_of parts
+          words =
+              ap (λ l. sections.initial_words_of (slice_get l o.number)) h.objects ∙ row_words program.scope (package_items t.package_) o.number
+              ∙ ap first_words_of (sym these)
+
+          by_place : (z : Option Slot) → place_among 0 parts x ≡ z → option_map in_object z ≡ Some slot
+              → slot.offset < length (sections.initial_words_of (slice_get i.objects o.number))
+          by_place None is e = cc
+          by_place (Some z) is e =
+              let r = stands_there parts 0 x z is in
+              let wide = components_wide program.scope (package_items t.package_) o.number x r.object h.made (ap (λ l. places.object_of l x) (sym these) ∙ r.found) in
+              let here_ : z.offset ≡ slot.offset = ap (λ y. y.offset) (same_some (in_object z) slot e) in
+              let long = ap length words ∙ ap length r.words ∙ length-append r.front (value_words r.object.value ++ r.more) in
+              let longer = length-append (value_words r.object.value) r.more in
+              let at_ = r.offset in
+              omega (arith, wide, here_, long, longer, at_)
+
+      has_own_word : (s : Subprogram) → object_of s.kind ≡ Some o.number → (a : ℕ) → a < length (sections.initial_words_of (slice_get i.objects o.number))
+          → has_word i s a ≡ true
+      has_own_word s kind a up = ap (λ z. some_and (object_row i z) (λ r. nat_lt a (length r.words))) kind ∙ by_row (slice_get i.objects o.number) up
+        where
+          by_row : (r : Option ObjectRow) → a < length (sections.initial_words_of r) → some_and r (λ z. nat_lt a (length z.words)) ≡ true
+          by_row (Some r) less = lt-ltb a (length r.words) less
+          by_row None less = absurd (omega (arith, less))
+
+      suits_inside : (s : Subprogram) → s.kind ≡ operation_kind o.number d.result → Suits v i s
+      suits_inside s kind = record {
+        locals = λ x slot seen local. elim (words_here x slot seen) [ inl y ↦ absurd (let bad = sym y.0 ∙ local in cc) | inr y ↦ absurd (let bad = sym y.0 ∙ local in cc) ];
+        plain = λ x slot seen plain. elim (words_here x slot seen) [ inl y ↦ absurd (let bad = sym y.0 ∙ plain in cc) | inr y ↦ plain_within x slot y.1 ];
+        object = λ x slot seen object. elim (words_here x slot seen) [
+          | inl y ↦ has_own_word s (ap object_of kind ∙ kind_object o.number d.result) slot.offset (own_within x slot y.1)
+          | inr y ↦ absurd (let bad = sym y.0 ∙ object in cc)
+        ];
+        region = λ x slot seen. elim (words_here x slot seen) [
+          | inl y ↦ ap (has_region s) y.0 ∙ ap (λ z. some_and z (λ n. true)) (ap object_of kind ∙ kind_object o.number d.result)
+          | inr y ↦ ap (has_region s) y.0
+        ];
+        calls = λ x number p result seen n some.
+            let y = called_inside x number p seen n in
+            callable laws t legal restricted i h v front_body.sound same_inside number p y.kind y.callee
+            (front_body.sound.each n.number (entity.Subprogram p) n.stands) (λ z. is_plain z || calls_inside s.kind z)
+            (ap (λ z. is_plain y.kind || calls_inside z y.kind) kind ∙ y.function result some) result some;
+        externals = λ x operation number p result seen named some.
+            let y = external_there laws t legal restricted i h v front_body.sound told.operations outer_inside x operation number p seen named in
+            callable laws t legal restricted i h v front_body.sound same_inside number p y.kind y.callee y.sound is_external y.external result some;
+      }
+
+      pub operation_suited : (s : Subprogram) → s.kind ≡ operation_kind o.number d.result → SuitsBody (is_none d.result) v i s
+      operation_suited s kind = by_result d.result refl
+        where
+          by_result : (r : Option Identifier) → d.result ≡ r → SuitsBody (is_none r) v i s
+          by_result (Some r) is = suits_inside s kind
+          by_result None is = record {
+            names = suits_inside s kind;
+            writes = λ r has. writes_there r;
+            procedures = λ x number p seen n none.
+                let y = called_inside x number p seen n in
+                procedure laws t legal restricted i h v front_body.sound same_inside number p y.kind y.callee
+                (front_body.sound.each n.number (entity.Subprogram p) n.stands) (λ z. is_plain z || calls_inside s.kind z)
+                (ap (λ z. is_plain y.kind || calls_inside z y.kind) kind ∙ y.procedure is) none;
+            externals = λ x operation number p seen named none.
+                let y = external_there laws t legal restricted i h v front_body.sound told.operations outer_inside x operation number p seen named in
+                procedure laws t legal restricted i h v front_body.sound same_inside number p y.kind y.callee y.sound is_external y.external none;
+          }
+            where
+              writes_there : (r : Region) → writes_region s r ≡ true
+              writes_there regions.Locals = refl
+              writes_there regions.Plain = refl
+              writes_there regions.Object = ap writes_object (kind ∙ ap (operation_kind o.number) is)

@@ -1,4 +1,4 @@
--- An accepted program has no more labels, subprograms, exceptions and tasks, and its variables no more words, than an image.
+-- An accepted program has no more labels, subprograms, exceptions, tasks and protected objects, and its variables and components no more words, than an image.
 use Rattle.std.proofs.Common.{◌≡◌, []}
 use Rattle.meaning.specs.expr_rules.proofs.TypedLaw.{back_empty}
 use Rattle.ada_tree.specs.ProgramTree.{ProgramTree}
@@ -10,7 +10,7 @@ use Rattle.ada_link.proofs.CountsFit.{exceptions_few}
 use Rattle.package_code.proofs.InFront.{LawsOfNames}
 use Rattle.ada_link.proofs.LabelsFit.{labels_few}
 use Rattle.ada_link.proofs.TasksFit.{subprograms_few, tasks_few}
-use Rattle.ada_link.proofs.WordsFit.{words_few}
+use Rattle.ada_link.proofs.PartsFit.{objects_few, words_few}
 
 sizes_legal : (t : ProgramTree) → IsLegal t → size_faults t ≡ []
 sizes_legal t legal = back_empty _ (size_faults t) legal
@@ -24,4 +24,5 @@ tables_small laws room t legal restricted =
       subprograms = subprograms_few laws t legal restricted sizes;
       exceptions = exceptions_few t.package_ sizes;
       tasks = tasks_few t sizes;
+      objects = objects_few laws t legal restricted sizes;
     }

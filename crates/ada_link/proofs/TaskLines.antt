@@ -19,7 +19,6 @@ use Rattle.declaring.specs.TaskRules.{default_priority}
 use Rattle.checking.specs.ProgramRules.{IsLegal}
 use Rattle.ravenscar.specs.ProgramRules.{IsRestricted}
 use Rattle.meaning.specs.Programs.{Duty, OfBody, OfMain, Task, base_priority, body_among, items_among, main_task, program_of, task_with, tasks_among}
-use Rattle.program_soundness.specs.BodyLaws.{PremisesHold}
 use Rattle.program_soundness.specs.Fronts.{declared_in, front}
 use Rattle.program_soundness.proofs.Listing.{Has, has_either, same_some}
 use Rattle.program_soundness.proofs.Priorities.{aspect_low}
@@ -29,6 +28,7 @@ use Rattle.package_code.specs.Bodies.{Coded, bodies_among, bodies_before, number
 use Rattle.package_code.specs.Program.{HasProgram}
 use Rattle.package_code.specs.Tasks.{HasDuty, HasTask, HaveTasks}
 use Rattle.package_code.specs.Walking.{HasBody, row_of}
+use Rattle.package_code.proofs.InFront.{LawsOfNames}
 use Rattle.package_code.proofs.Linking.{body_there_at, called_front, called_main, main_row}
 use Rattle.package_code.proofs.Numbered.{bodies_numbered}
 use Rattle.package_code.proofs.TaskRows.{HasTaskBody, task_found}
@@ -81,7 +81,7 @@ pub record IsTaskNumber (i : Sections) (number : ℕ) : Type 0 where
   pub there : called i number ≡ Some s
   pub body : is_task_body s.kind ≡ true
 
-module _ (premises : PremisesHold) (t : ProgramTree) (legal : IsLegal t) (restricted : IsRestricted t) (i : Sections) (h : HasProgram t i) where
+module _ (laws : LawsOfNames) (t : ProgramTree) (legal : IsLegal t) (restricted : IsRestricted t) (i : Sections) (h : HasProgram t i) where
   abbrev all : List BodyItemTree
   all = declared_in t.package_
 
@@ -95,7 +95,7 @@ module _ (premises : PremisesHold) (t : ProgramTree) (legal : IsLegal t) (restri
       let body : HasBody t h.directory n c h.walk = body_there_at t i h f.place (TaskBody f.own f.body) c f.at refl in
       let s : Subprogram = row_of kinds.TaskBody body.words (here body.new.code) in
       let none : n + 0 ≡ n = omega arith in
-      let counted = (bodies_numbered premises t legal restricted f.place (TaskBody f.own f.body) 0 c f.at refl refl).0 ∙ ap Some none in
+      let counted = (bodies_numbered laws.scopes laws.names laws.premises t legal restricted f.place (TaskBody f.own f.body) 0 c f.at refl).0 ∙ ap Some none in
       let told : HasDuty t x line.subprogram (OfBody f.body) = subst (HasDuty t x line.subprogram) f.duty has.duty in
       let same : line.subprogram ≡ n = same_some line.subprogram n (sym told ∙ ap (number_in t None) (sym f.named) ∙ counted) in
       record { s = s; there = ap (called i) same ∙ called_front t i h n s body.there; body = refl }

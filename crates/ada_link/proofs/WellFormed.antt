@@ -11,17 +11,16 @@ use Rattle.image.specs.Sections.{Sections}
 use Rattle.meaning.specs.Programs.{exceptions_among, items_among, main_task, package_items, program_of, tasks_among}
 use Rattle.checking.specs.ProgramRules.{IsLegal}
 use Rattle.ravenscar.specs.ProgramRules.{IsRestricted}
-use Rattle.program_soundness.specs.BodyLaws.{PremisesHold}
 use Rattle.program_soundness.specs.Fronts.{declared_in}
 use Rattle.program_soundness.proofs.Trees.{tasks_are}
 use Rattle.program_soundness.proofs.WiderScopes.{bytes_same}
 use Rattle.expr_code.specs.Code.{here}
 use Rattle.stmt_code.specs.Whole.{KeptCodePasses, PassesOnCode}
-use Rattle.package_code.proofs.ObjectRows.{no_objects}
 use Rattle.package_code.specs.Laws.{SectionsAreWellFormed}
 use Rattle.package_code.specs.Program.{HasProgram, KeepsTables}
 use Rattle.package_code.proofs.InFront.{LawsOfNames}
 use Rattle.ada_link.proofs.KeptCode.{code_passes, long}
+use Rattle.ada_link.proofs.ObjectLines.{entries_there, objects_right}
 use Rattle.ada_link.proofs.RowRules.{rows_cover, rows_find, rows_known, rows_nested, rows_within}
 use Rattle.ada_link.proofs.TaskLines.{as_many_tasks, tasks_right, tasks_there}
 
@@ -38,11 +37,8 @@ begun_with (name ∷ front) more = and_from (bytes_eq name name) (begins_with fr
 
 -- ---- the image
 
-module _ (premises : PremisesHold) (t : ProgramTree) (legal : IsLegal t) (restricted : IsRestricted t) (i : Sections) (h : HasProgram t i)
+module _ (laws : LawsOfNames) (t : ProgramTree) (legal : IsLegal t) (restricted : IsRestricted t) (i : Sections) (h : HasProgram t i)
     (tables : KeepsTables i) (many : length i.subprograms ≡ suc (length h.walk.subprograms.items)) (p : PassesOnCode i) where
-  without_rows : i.objects ≡ []
-  without_rows = no_objects premises t i legal restricted h
-
   -- ---- code
 
   jumps : jumps_stay_inside i ≡ true
@@ -57,8 +53,8 @@ module _ (premises : PremisesHold) (t : ProgramTree) (legal : IsLegal t) (restri
       let there = all_placed (λ place x. in_holder i place (λ s. names_things i s x.operation)) 0 i.instructions in
       and_from (where_ends i there) _ (asked (has_ends i) there p.named)
       (and_from (list_all (has_object i) i.subprograms) _ p.have_objects
-      (and_from (list_all (has_entry i) i.objects) (list_all (has_body i) i.tasks) (ap (list_all (has_entry i)) without_rows)
-      (tasks_there premises t legal restricted i h)))
+      (and_from (list_all (has_entry i) i.objects) (list_all (has_body i) i.tasks) (entries_there laws t legal restricted i h)
+      (tasks_there laws t legal restricted i h)))
 
   depths : depths_agree i ≡ true
   depths =
@@ -120,9 +116,8 @@ module _ (premises : PremisesHold) (t : ProgramTree) (legal : IsLegal t) (restri
       let tasks = and_parts (nat_le (length i.tasks) TASKS) _ few.1 in
       let fewer = and_parts (nat_le (length i.exceptions) EXCEPTIONS) _ tasks.1 in
       let last = and_parts (nat_le (length i.labels) LABELS) _ fewer.1 in
-      let ends = and_parts (nat_le (length i.plain_words) WORDS) (nat_le (length i.rows) ROWS) last.1 in
-      let words : length i.plain_words + sum_by (λ o. length o.words) i.objects ≡ length i.plain_words + 0 =
-      ap (λ l. length i.plain_words + sum_by (λ o. length o.words) l) without_rows in
+      let ends = and_parts k (nat_le (length i.rows) ROWS && nat_le (length i.objects) OBJECTS) last.1 in
+      let behind = and_parts (nat_le (length i.rows) ROWS) (nat_le (length i.objects) OBJECTS) ends.1 in
       and_from a (b && (c && (d && (e && (f && (g && k))))))
       (and_from (nat_le 1 (length i.instructions)) (nat_le (length i.instructions) INSTRUCTIONS) (le-leb 1 (length i.instructions) some_code)
       (le-leb (length i.instructions) INSTRUCTIONS few_code))
@@ -132,10 +127,9 @@ module _ (premises : PremisesHold) (t : ProgramTree) (legal : IsLegal t) (restri
       (and_from (nat_le 1 (length i.tasks)) (nat_le (length i.tasks) TASKS) (le-leb 1 (length i.tasks) some_task) tasks.0)
       (and_from d (e && (f && (g && k)))
       (and_from (nat_le 4 (length i.exceptions)) (nat_le (length i.exceptions) EXCEPTIONS) (le-leb 4 (length i.exceptions) four) fewer.0)
-      (and_from e (f && (g && k)) (ap (λ l. nat_le (length l) OBJECTS) without_rows)
-      (and_from f (g && k) ends.1
-      (and_from g k last.0
-      (ap (λ n. nat_le n WORDS) (words ∙ (let none : length i.plain_words + 0 ≡ length i.plain_words = omega arith in none)) ∙ ends.0)))))))
+      (and_from e (f && (g && k)) behind.1
+      (and_from f (g && k) behind.0
+      (and_from g k last.0 ends.0))))))
 
   tables_whole : tables_agree i ≡ true
   tables_whole =
@@ -150,8 +144,8 @@ module _ (premises : PremisesHold) (t : ProgramTree) (legal : IsLegal t) (restri
       and_from (has_counts i) (has_ends i && (d && (e && (f && (g && (j && (k && (m && o)))))))) counts
       (and_from (has_ends i) (d && (e && (f && (g && (j && (k && (m && o))))))) p.ends
       (and_from d (e && (f && (g && (j && (k && (m && o)))))) p.subprograms
-      (and_from e (f && (g && (j && (k && (m && o))))) (ap (all_placed (is_object i) 0) without_rows)
-      (and_from f (g && (j && (k && (m && o)))) (tasks_right premises t legal restricted i h tasks_named)
+      (and_from e (f && (g && (j && (k && (m && o))))) (objects_right laws t legal restricted i h)
+      (and_from f (g && (j && (k && (m && o)))) (tasks_right laws t legal restricted i h tasks_named)
       (and_from g (j && (k && (m && o)))
       (ap (begins_with predefined) exceptions_are ∙ begun_with predefined (exceptions_among (package_items t.package_)))
       (and_from j (k && (m && o)) exceptions_named
@@ -163,4 +157,4 @@ module _ (premises : PremisesHold) (t : ProgramTree) (legal : IsLegal t) (restri
 
 pub sections_well_formed : LawsOfNames → KeptCodePasses → SectionsAreWellFormed
 sections_well_formed laws passes t i legal restricted h tables =
-    well_formed laws.premises t legal restricted i h tables (long laws passes t legal restricted i h) (code_passes laws passes t legal restricted i h)
+    well_formed laws t legal restricted i h tables (long laws passes t legal restricted i h) (code_passes laws passes t legal restricted i h)

@@ -1,7 +1,6 @@
--- The variables of a legal program have no more words than an image.
+-- The words of the variables of a legal program are among those that its sizes count.
 use Rattle.std.proofs.Common.{◌≡◌, ℕ, zero, suc, ◌+◌, ◌<◌, ◌≤◌, List, [], ◌∷◌, ◌++◌, append_assoc, length, length-append, take, cond, Bool, true, false, Some, refl, sym, ap, ◌∙◌, subst, arith, take_all}
 use Rattle.std.specs.Prelude.{slice_get}
-use Rattle.base.specs.declared.limits.TheConstants.{WORDS}
 use Rattle.ada_tree.specs.StatementTree.{ObjectTree}
 use Rattle.ada_tree.specs.ProgramTree.{BodyItemTree, OfItem, OfObject, ProgramTree}
 use Rattle.types.specs.declared.entity.Role.TheVariants as role
@@ -14,10 +13,9 @@ use Rattle.types.specs.Shapes.{shape_of, value_words}
 use Rattle.meaning.specs.expr_rules.proofs.TypedLaw.{front_empty}
 use Rattle.meaning.specs.type_rules.specs.ObjectRules.{constant_entity, initial_scalar, object_entity, package_object_entity}
 use Rattle.meaning.specs.type_rules.specs.SubtypeNames.{declared_twice, subtype_faults, subtype_of}
-use Rattle.checking.specs.ProgramLayouts.{WordsHaveRoom, objects_words, total_of_all, variable_words, variables_words}
+use Rattle.checking.specs.ProgramLayouts.{variable_words, variables_words}
 use Rattle.checking.specs.ProgramRules.{IsLegal}
 use Rattle.ravenscar.specs.ProgramRules.{IsRestricted}
-use Rattle.program_soundness.specs.size_rules.specs.ProgramSizes.{size_faults}
 use Rattle.meaning.specs.Programs.{Program, items_among, object_named, program_of, variables_among}
 use Rattle.expr_soundness.proofs.Parts.{subtype_values}
 use Rattle.program_soundness.specs.step_soundness.specs.Objects.{AreSoundObjects}
@@ -32,17 +30,17 @@ use Rattle.package_code.proofs.InFront.{LawsOfNames, last_is, memory, whole}
 use Rattle.package_code.proofs.Seen.{one_behind}
 use Rattle.package_code.proofs.Variables.{variables_both}
 
-some_at : (items : List BodyItemTree) (k : ℕ) → k < length items → (x : BodyItemTree) × (slice_get items k ≡ Some x)
+pub some_at : (items : List BodyItemTree) (k : ℕ) → k < length items → (x : BodyItemTree) × (slice_get items k ≡ Some x)
 some_at [] k h = absurd (omega (arith, h))
 some_at (x ∷ items) zero h = (x, refl)
 some_at (x ∷ items) (suc k) h = some_at items k (omega (arith, h))
 
-none_taken : (items : List BodyItemTree) → take 0 items ≡ []
+pub none_taken : (items : List BodyItemTree) → take 0 items ≡ []
 none_taken [] = refl
 none_taken (x ∷ items) = refl
 
 -- the words of the subtypes of these objects
-abbrev subtypes_words : Scope → List Object → ℕ
+abbrev pub subtypes_words : Scope → List Object → ℕ
 subtypes_words s [] = 0
 subtypes_words s (x ∷ xs) = words_of s x.subtype + subtypes_words s xs
 
@@ -50,7 +48,7 @@ subtypes_both : (s : Scope) (xs ys : List Object) → subtypes_words s (xs ++ ys
 subtypes_both s [] ys = omega arith
 subtypes_both s (x ∷ xs) ys = (let rest = subtypes_both s xs ys in omega (arith, rest))
 
-first_words_wide : ValuesHaveWords → (s : Scope) (xs : List Object) → AreSoundObjects s xs → length (first_words_of xs) ≡ subtypes_words s xs
+pub first_words_wide : ValuesHaveWords → (s : Scope) (xs : List Object) → AreSoundObjects s xs → length (first_words_of xs) ≡ subtypes_words s xs
 first_words_wide sized s [] sound = refl
 first_words_wide sized s (x ∷ xs) sound =
     let one = (sized (shape_of s x.subtype) x.value (subtype_values s x.subtype x.value ∙ sound.0)).sized in
@@ -71,7 +69,7 @@ words_both s (n ∷ xs) ys =
 total_more : (s xs ys : Scope) → total (variables_words s (xs ++ ys)) ≡ total (variables_words s xs) + total (variables_words s ys)
 total_more s xs ys = ap total (words_both s xs ys) ∙ total_both (variables_words s xs) (variables_words s ys)
 
-grows_to : (a b n : ℕ) → n ≡ a + b → 0 + a ≤ n
+pub grows_to : (a b n : ℕ) → n ≡ a + b → 0 + a ≤ n
 grows_to a b n e = omega (arith, e)
 
 module _ (laws : LawsOfNames) (t : ProgramTree) (legal : IsLegal t) (restricted : IsRestricted t) where
@@ -153,17 +151,17 @@ module _ (laws : LawsOfNames) (t : ProgramTree) (legal : IsLegal t) (restricted 
       under : (n a b c d : ℕ) → n ≡ a + b → a ≤ c → b + c ≤ d → n ≤ d
       under n a b c d e h k = omega (arith, e, h, k)
 
-  pub words_few : WordsHaveRoom → size_faults t ≡ [] → length (first_words_of program.variables) ≤ WORDS
-  words_few room none =
+  -- the variables have no more words than those that are counted
+  pub variables_within : length (first_words_of program.variables) ≤ total (variables_words s s)
+  variables_within =
       let wide = first_words_wide laws.sized s program.variables (memory laws t legal restricted).variables in
       let same : subtypes_words s program.variables ≡ subtypes_words s (variables_among s (items_among (take (length all) all))) =
       ap (subtypes_words s) w.variables ∙ ap (λ l. subtypes_words s (variables_among s (items_among l))) (sym (take_all (length all) all (omega arith))) in
       let added = all_added (length all) (omega arith) in
       let last : seen_words (length all) ≡ total (variables_words s s) = ap (λ u. total (variables_words s u)) (last_is laws t legal restricted) in
-      let fits = room t none in
       under (length (first_words_of program.variables)) (subtypes_words s program.variables)
       (subtypes_words s (variables_among s (items_among (take (length all) all)))) (seen_words (length all)) (total (variables_words s s))
-      (total_of_all (objects_words s s)) wide same added last fits
+      wide same added last
     where
-      under : (a b c d e f : ℕ) → a ≡ b → b ≡ c → c ≤ d → d ≡ e → e + f ≤ WORDS → a ≤ WORDS
-      under a b c d e f h k m n o = omega (arith, h, k, m, n, o)
+      under : (a b c d e : ℕ) → a ≡ b → b ≡ c → c ≤ d → d ≡ e → a ≤ e
+      under a b c d e h k m n = omega (arith, h, k, m, n)

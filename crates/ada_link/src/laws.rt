@@ -25,7 +25,8 @@ pub fn variables_are_placed()
     premises_hold();
 }
 
-/// An accepted program has no more labels, words of variables, subprograms, exceptions and tasks than an image (docs/LANGUAGE.md, "Limits").
+/// An accepted program has no more labels, words of variables and components, subprograms, exceptions, tasks and protected objects than an image
+/// (docs/LANGUAGE.md, "Limits").
 pub fn tables_are_small()
     ensures { TablesAreSmall }
 {

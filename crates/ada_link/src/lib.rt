@@ -1,4 +1,4 @@
-//! The images of accepted programs: the variables, the tasks, the bodies and main of a program without protected objects become the sections of an image.
+//! The images of accepted programs: the variables, the protected objects, the tasks, the bodies and main of a program become the sections of an image.
 #![tactic(auto)]
 
 mod compiling;

@@ -1,4 +1,4 @@
-//! The laws of images with the code of a program without protected objects, each what a function without work ensures.
+//! The laws of images with the code of a program whose protected objects have no entries, each what a function without work ensures.
 ghost use Rattle.package_code.specs.LinkLaws.{LinkedKeepsCount, LinkedMeansTheSame};
 
 use image_laws::{code_leads_on, steps_whole};

@@ -1,4 +1,4 @@
-//! The sections of the image of a program without protected objects.
+//! The sections of the image of a program.
 ghost use Rattle.std.specs.Prelude.{◌≡◌, false, length, IfErr, IfOk};
 ghost use Rattle.std.specs.List.{list_all};
 ghost use Rattle.base.specs.Names.{is_label, is_name};
@@ -11,17 +11,21 @@ ghost use Rattle.package_code.specs.Refusing.{RefusesSections, RefusesLinking, p
 use crate::laws::{
     main_is_known, main_may_be_added, names_are_sound, tables_are_small, variables_are_placed,
 };
-use base::limits::{EXCEPTIONS, LABELS, ROWS, SUBPROGRAMS, TASKS, WORDS};
+use base::limits::{EXCEPTIONS, LABELS, OBJECTS, ROWS, SUBPROGRAMS, TASKS};
 use base::names::{is_label, is_name};
 use expr_code::Refusal;
+use expr_soundness::laws::scopes_are_sound;
 use image::{Kind, Parts, Task};
 use lexer::Text;
 use package_code::{
-    Directory, Globals, Walk, globals_of, object_rows, row, task_row, task_rows, walk_over,
+    Directory, Globals, ProtectedObjects, Walk, globals_of, protected_objects, row, task_row,
+    task_rows, walk_over,
 };
-use program_soundness::body_laws::premises_hold;
+use program_soundness::body_laws::{fronts_fit, names_are_known, premises_hold};
+use program_soundness::program_laws::starts_are_sound;
 use ravenscar::Accepted;
 use std::alloc::Global;
+use types::laws::{shapes_stay, values_have_words};
 
 // The row of main, whose subprogram has this number.
 fn main_task(accepted: &Accepted, number: usize) -> Result<Task, Refusal>
@@ -34,7 +38,7 @@ fn main_task(accepted: &Accepted, number: usize) -> Result<Task, Refusal>
 }
 
 // The code of its subprograms and tasks one behind another, in the order of their bodies, with their rows of handlers, that of main behind them, and the
-// variables and tasks in the order of their declarations.
+// variables, protected objects and tasks in the order of their declarations.
 fn put_together(alloc: Global, accepted: &Accepted) -> Result<Parts, Refusal>
     ensures program { IfOk result (λ parts. HasProgram (program_tree accepted.now) parts) }
     ensures labels { IfOk result (λ parts. parts.labels ≡ program_labels (program_tree accepted.now)) }
@@ -45,18 +49,20 @@ fn put_together(alloc: Global, accepted: &Accepted) -> Result<Parts, Refusal>
     main_is_known();
     main_may_be_added();
     premises_hold();
+    tables_are_small();
     variables_are_placed();
     let program = accepted.program();
     let scope = accepted.scope();
-    if scope.protected_count() != 0 {
-        return Err(Refusal::Outside);
-    }
     let Globals {
         slots,
         words,
         exceptions,
     } = globals_of(alloc, scope, &program.package_)?;
-    let directory = Directory::new(alloc, slots, scope, &program.package_)?;
+    let ProtectedObjects {
+        rows: objects,
+        components,
+    } = protected_objects(alloc, scope, &program.package_)?;
+    let directory = Directory::new(alloc, slots, components, scope, &program.package_)?;
     let walk = walk_over(alloc, accepted, &directory, exceptions)?;
     let Walk {
         mut draft,
@@ -65,7 +71,6 @@ fn put_together(alloc: Global, accepted: &Accepted) -> Result<Parts, Refusal>
         ..
     } = walk;
     let main = draft.main(&visible, &program.main.statements)?;
-    let objects = object_rows(alloc, scope, &program.package_)?;
     let mut tasks = task_rows(alloc, accepted, &directory)?;
     tasks.push(main_task(accepted, subprograms.len())?)?;
     subprograms.push(row(Kind::TaskBody, main, &draft)?)?;
@@ -114,8 +119,9 @@ fn is_within_limits(parts: &Parts) -> bool
         && parts.tasks.len() <= TASKS
         && parts.exceptions.len() <= EXCEPTIONS
         && parts.labels.len() <= LABELS
-        && parts.plain_words.len() <= WORDS
+        && parts.has_words()
         && parts.rows.len() <= ROWS
+        && parts.objects.len() <= OBJECTS
 }
 
 // They are put together, and have the texts and counts of an image.
@@ -124,6 +130,14 @@ fn within_tables(alloc: Global, accepted: &Accepted) -> Result<Parts, Refusal>
     ensures tables { IfOk result (λ parts. KeepsTables parts) }
     ensures refused { IfErr result (λ why. RefusesSections (program_tree accepted.now) why) }
 {
+    fronts_fit();
+    names_are_known();
+    premises_hold();
+    scopes_are_sound();
+    shapes_stay();
+    starts_are_sound();
+    values_have_words();
+    let _program = accepted.program();
     let parts = put_together(alloc, accepted)?;
     if !has_texts(&parts) {
         return Err(Refusal::Outside);
@@ -135,13 +149,13 @@ fn within_tables(alloc: Global, accepted: &Accepted) -> Result<Parts, Refusal>
 }
 
 /// The sections of the image of an accepted program (docs/FORMATS.md): the code of its subprograms and tasks one behind another, in the order of their bodies,
-/// with their rows of handlers, that of main behind them, the variables and the tasks in the order of their declarations, and main as the last task (RM 10.2).
+/// with their rows of handlers, that of main behind them, the variables, the protected objects and the tasks in the order of their declarations, and main as the
+/// last task (RM 10.2).
 /// They make a well-formed image (`sections_are_well_formed`).
 ///
 /// # Errors
-/// `Outside` where the program has protected objects, or what has no code yet (docs/CODEGEN.md), or a text that is no name or label; `Limit` where the bound on
-/// its instructions, the choices of its handlers, or the words of a frame or of an object, pass those of images (specs/Refusing); `Memory` where memory was
-/// refused.
+/// `Outside` where the program has an entry, or what else has no code yet (docs/CODEGEN.md), or a text that is no name or label; `Limit` where the bound on its
+/// instructions, the choices of its handlers, or the words of a frame or of an object, pass those of images (specs/Refusing); `Memory` where memory was refused.
 pub(crate) fn sections(alloc: Global, accepted: &Accepted) -> Result<Parts, Refusal>
     ensures program { IfOk result (λ parts. HasProgram (program_tree accepted.now) parts) }
     ensures tables { IfOk result (λ parts. KeepsTables parts) }

@@ -2,7 +2,6 @@ use Rattle.std.proofs.Common.{◌≡◌, ◌∷◌, ◌++◌, [], inl, length, r
 use Rattle.ada_tree.specs.StatementTree.{optional_tree}
 use Rattle.ada_tree.specs.ProgramTree.{package_tree, program_tree}
 use Rattle.image.specs.declared.tasks.Task.{Task}
-use Rattle.declaring.specs.ProtectedRules.{protected_count}
 use Rattle.meaning.specs.Programs.{base_priority, main_task, package_bodies, package_items, program_of, tasks_among}
 use Rattle.expr_soundness.specs.SoundScopes.{SoundScope}
 use Rattle.program_soundness.specs.Fronts.{front}
@@ -13,12 +12,11 @@ use Rattle.step_simulation.specs.part_code.specs.Needs.{RefusesMain}
 use Rattle.expr_code.specs.declared.refusal.Refusal.TheVariants as refusal
 use Rattle.package_code.specs.Refusing.{RefusesSections}
 use Rattle.package_code.specs.Directory.{HaveBodyNumbers, HasManyBodies, entries_among}
-use Rattle.expr_code.specs.Refusing.{IsRefused}
-use Rattle.package_code.specs.Objects.{lack_objects, object_rows}
+use Rattle.package_code.specs.Objects.{RefusesObjects, component_slots, object_rows, objects_have_words}
 use Rattle.package_code.specs.Globals.{AreGlobals, RefusesGlobals}
 use Rattle.package_code.specs.Tasks.{HaveTasks}
 use Rattle.package_code.proofs.TasksAdded.{have_both}
-use Rattle.ada_link.proofs.Refusals.{bodies_refused, code_refused, directory_told, globals_refused, labels_told, main_refused, objects_refused, plain_refused, protected_refused, row_refused, rows_told, task_refused, walked_bodies}
+use Rattle.ada_link.proofs.Refusals.{bodies_refused, code_refused, directory_told, globals_refused, labels_told, main_refused, objects_refused, plain_refused, row_refused, rows_told, task_refused, walked_bodies}
 use Rattle.ada_link.proofs.program.put_together.Goals as goal
 
 pub globals_of-requires : goal.globals_of-requires
@@ -41,7 +39,14 @@ walk_over-requires c =
     let entries =
     c.in_ok-directory.ensures.operations
     ∙ (λ j. entries_among (c.scope-scope.ensures j) 0 (package_bodies (optional_tree package_tree (c.program-program.ensures.same j).package_))) in
-    record { directory = directory_told t g d.numbers.items d are numbered (ap (λ v. v.items) c.in_ok-directory.ensures.slots) refl entries; exceptions = are.exceptions }
+    let parts =
+    ap (λ v. v.items) c.in_ok-directory.ensures.components ∙ c.in_ok-objects.ensures.components
+    ∙ (λ j. component_slots (c.scope-scope.ensures j) 0 (package_items (optional_tree package_tree (c.program-program.ensures.same j).package_))) in
+    record {
+      objects = (c.tables_are_small.ensures t c.program-program.ensures.legal c.program-program.ensures.restricted).objects;
+      directory = directory_told t g d.numbers.items d are numbered (ap (λ v. v.items) c.in_ok-directory.ensures.slots) refl entries parts;
+      exceptions = are.exceptions;
+    }
 
 pub main-requires : goal.main-requires
 main-requires c =
@@ -59,7 +64,6 @@ returns-clause-program c =
     let walk = c.in_ok-walk.walk in
     let words = c.in_ok-main.main in
     let draft = c.main.new.self in
-    let none : c.protected_count.result ≡ 0 = search rules in
     let number : c.len.result ≡ length walk.subprograms.items = search rules in
     let task : Task = c.in_ok-main_task.field-0 in
     let same : task ≡ record { name = t.main.name.name; priority = base_priority (program_of t).scope t.main.aspect; subprogram = c.len.result } =
@@ -75,12 +79,15 @@ returns-clause-program c =
     let entries =
     c.in_ok-directory.ensures.operations
     ∙ (λ j. entries_among (c.scope-scope.ensures j) 0 (package_bodies (optional_tree package_tree (c.program-program.ensures.same j).package_))) in
+    let parts =
+    ap (λ v. v.items) c.in_ok-directory.ensures.components ∙ c.in_ok-objects.ensures.components
+    ∙ (λ j. component_slots (c.scope-scope.ensures j) 0 (package_items (optional_tree package_tree (c.program-program.ensures.same j).package_))) in
     record {
       globals = c.in_ok-slots.field-0;
       are = are;
       directory = d;
       slots = c.in_ok-directory.ensures.slots;
-      told = directory_told t c.in_ok-slots.field-0 d.numbers.items d are numbered (ap (λ v. v.items) c.in_ok-directory.ensures.slots) refl entries;
+      told = directory_told t c.in_ok-slots.field-0 d.numbers.items d are numbered (ap (λ v. v.items) c.in_ok-directory.ensures.slots) refl entries parts;
       walk = walk;
       walked = c.in_ok-walk.ensures.walked;
       whole = c.in_ok-walk.ensures.whole;
@@ -89,12 +96,14 @@ returns-clause-program c =
       main = subst (λ l. AddsMain walk.visible walk.draft l words draft)
           (c.deref.ensures.value ∙ ap (λ p. p.main.statements.items) c.program-program.ensures.same) c.in_ok-main.ensures.adds;
       keeps = c.in_ok-main.ensures.keeps;
-      unprotected = sym (ap protected_count c.scope-scope.ensures) ∙ sym c.protected_count.ensures.count ∙ none;
       exceptions = ap (λ e. e.items) c.in_ok-main.ensures.adds.exceptions ∙ c.in_ok-walk.ensures.walked.exceptions ∙ sym are.exceptions;
       labels = c.in_ok-texts.ensures.texts;
       plain_words = refl;
       objects = c.in_ok-objects.ensures.rows
           ∙ (λ j. object_rows (c.scope-scope.ensures j) (package_items (optional_tree package_tree (c.program-program.ensures.same j).package_)));
+      made = sym
+          (λ j. objects_have_words (c.scope-scope.ensures j) (package_items (optional_tree package_tree (c.program-program.ensures.same j).package_)))
+          ∙ c.in_ok-objects.ensures.made;
       subprograms = c.in_ok-push-2.ensures.items ∙ ap (λ x. walk.subprograms.items ++ x ∷ []) c.in_ok-row.ensures.row;
       tasks = subst (HaveTasks t (program_of t).tasks) (sym c.in_ok-push.ensures.items)
           (have_both t declared (main_task (program_of t).scope t ∷ []) c.in_ok-tasks.tasks.items (task ∷ []) c.in_ok-tasks.ensures.have (
@@ -123,7 +132,10 @@ task_rows-requires c =
     let entries =
     c.in_ok-directory.ensures.operations
     ∙ (λ j. entries_among (c.scope-scope.ensures j) 0 (package_bodies (optional_tree package_tree (c.program-program.ensures.same j).package_))) in
-    record { directory = directory_told t g d.numbers.items d are numbered (ap (λ v. v.items) c.in_ok-directory.ensures.slots) refl entries }
+    let parts =
+    ap (λ v. v.items) c.in_ok-directory.ensures.components ∙ c.in_ok-objects.ensures.components
+    ∙ (λ j. component_slots (c.scope-scope.ensures j) 0 (package_items (optional_tree package_tree (c.program-program.ensures.same j).package_))) in
+    record { directory = directory_told t g d.numbers.items d are numbered (ap (λ v. v.items) c.in_ok-directory.ensures.slots) refl entries parts }
 
 pub returns-clause-labels : goal.returns-clause-labels
 returns-clause-labels c =
@@ -134,13 +146,6 @@ pub returns-clause-rows : goal.returns-clause-rows
 returns-clause-rows c =
     let t = program_tree c.args.accepted.now in
     ap (λ r. length r.items) c.in_ok-main.ensures.adds.rows ∙ rows_told t c.in_ok-walk.walk c.in_ok-walk.ensures.told c.in_ok-walk.ensures.whole
-
-pub returns-then-protected_count-ne0-clause-refused : goal.returns-then-protected_count-ne0-clause-refused
-returns-then-protected_count-ne0-clause-refused c =
-    protected_refused (program_tree c.args.accepted.now)
-    (λ none.
-    let none_there : c.protected_count.result ≡ 0 = c.protected_count.ensures.count ∙ ap protected_count c.scope-scope.ensures ∙ none in
-    c.if-protected_count-ne0.true none_there)
 
 pub returns-in_err-slots-clause-refused : goal.returns-in_err-slots-clause-refused
 returns-in_err-slots-clause-refused c =
@@ -161,8 +166,8 @@ returns-in_err-directory-clause-refused c =
     c.in_err-directory.ensures.refused) in
     search (rules, whole, c.from_residual-in_err-directory.ensures)
 
-pub object_rows-requires : goal.object_rows-requires
-object_rows-requires c = record {
+pub protected_objects-requires : goal.protected_objects-requires
+protected_objects-requires c = record {
   sound = subst SoundScope (sym c.scope-scope.ensures)
       (c.names_are_sound.ensures (program_tree c.args.accepted.now) c.program-program.ensures.legal);
 }
@@ -171,12 +176,10 @@ pub returns-in_err-objects-clause-refused : goal.returns-in_err-objects-clause-r
 returns-in_err-objects-clause-refused c =
     let t = program_tree c.args.accepted.now in
     let why = c.in_err-objects.field-0.0 in
-    let none : c.protected_count.result ≡ 0 = search rules in
-    let whole = objects_refused t c.premises_hold.ensures c.program-program.ensures.legal c.program-program.ensures.restricted
-    (sym (ap protected_count c.scope-scope.ensures) ∙ sym c.protected_count.ensures.count ∙ none) why
-    (subst (λ z. IsRefused 0 0 (lack_objects z (package_items t.package_)) why) c.scope-scope.ensures
-    (subst (λ p. IsRefused 0 0 (lack_objects c.scope-scope.result.now (package_items (optional_tree package_tree p.package_))) why)
-    c.program-program.ensures.same c.in_err-objects.ensures.refused)) in
+    let whole = objects_refused t why
+    (subst (λ z. RefusesObjects z (package_items t.package_) why) c.scope-scope.ensures
+    (subst (λ p. RefusesObjects c.scope-scope.result.now (package_items (optional_tree package_tree p.package_)) why) c.program-program.ensures.same
+    c.in_err-objects.ensures.refused)) in
     search (rules, whole, c.from_residual-in_err-objects.ensures)
 
 pub returns-in_err-walk-clause-refused : goal.returns-in_err-walk-clause-refused

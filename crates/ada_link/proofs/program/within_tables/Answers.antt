@@ -1,5 +1,6 @@
 use Rattle.std.proofs.Common.{sym, ◌∙◌}
 use Rattle.ada_tree.specs.ProgramTree.{program_tree}
+use Rattle.ada_link.proofs.ObjectLines.{as_many_objects}
 use Rattle.ada_link.proofs.Refusals.{limits_refused, texts_refused}
 use Rattle.ada_link.proofs.program.within_tables.Goals as goal
 
@@ -11,4 +12,13 @@ returns-then-not-has_texts-clause-refused c =
 pub returns-then-not-is_within_limits-clause-refused : goal.returns-then-not-is_within_limits-clause-refused
 returns-then-not-is_within_limits-clause-refused c =
     limits_refused (program_tree c.args.accepted.now) c.in_ok-parts.parts c.in_ok-parts.ensures.program c.in_ok-parts.ensures.labels c.in_ok-parts.ensures.rows
+    (as_many_objects (record {
+      sized = c.values_have_words.ensures;
+      stay = c.shapes_stay.ensures;
+      scopes = c.scopes_are_sound.ensures;
+      names = c.names_are_known.ensures;
+      premises = c.premises_hold.ensures;
+      starts = c.starts_are_sound.ensures;
+      fronts = c.fronts_fit.ensures;
+    }) (program_tree c.args.accepted.now) c.program-program.ensures.legal c.program-program.ensures.restricted c.in_ok-parts.parts c.in_ok-parts.ensures.program)
     (sym c.is_within_limits.ensures ∙ c.if-not-is_within_limits.true)
