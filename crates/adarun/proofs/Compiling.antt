@@ -75,10 +75,10 @@ tells outside nothing by_length unlimited text tree is_tree legal restricted fau
         large.1,
         (
           λ small. unless (has_protected tree)
-              (λ plain. by_length None tree is_tree.tokens is_tree.derives.derives legal restricted small
+              (λ plain. by_length None tree is_tree.tokens is_tree.derives.derives legal restricted plain small
               (nothing None tree is_tree.tokens is_tree.derives.derives legal restricted plain) large.1),
           λ it. not_false (has_protected tree)
-              (λ plain. unlimited None tree it.is_tree.tokens it.is_tree.derives.derives legal restricted it.small
+              (λ plain. unlimited None tree it.is_tree.tokens it.is_tree.derives.derives legal restricted plain it.small
               (nothing None tree it.is_tree.tokens it.is_tree.derives.derives legal restricted plain) large.1),
         ),
       ),

@@ -40,7 +40,7 @@ pub record IsSmallText (tree : ProgramTree) (text : List ℕ) : Type 0 where
   pub is_tree : IsTreeOf tree text
   pub small : IsSmall tree is_tree.tokens
 
--- it declares a protected object, of which no code is made yet
+-- it declares a protected object, of whose entries no code is made yet
 abbrev pub IsBeyond : ProgramTree → Type 0
 IsBeyond tree = has_protected tree ≡ true
 

@@ -40,6 +40,7 @@ use Rattle.source_laws.specs.Depths.{FewFormals, formals_take}
 use Rattle.source_laws.specs.Visible.{CalleesHaveFew, FrontsAreSmall, FrontsKeepLimits}
 use Rattle.source_laws.proofs.CodeCounted.{few_at}
 use Rattle.source_laws.proofs.FewCallees.{few_called, fronts_call, start_calls}
+use Rattle.source_laws.proofs.UnprotectedFronts.{unprotected_at}
 use Rattle.source_laws.proofs.VisibleWords.{same_words}
 
 -- ---- formals are visible behind the names in front of them
@@ -193,7 +194,7 @@ pub callees_have_few : PremisesHold → NamesAreKnown → ScopesAreSound → Sha
 callees_have_few premises names scopes stay room t legal restricted place = callees_few premises names scopes stay room t legal restricted place
 
 pub fronts_are_small : PremisesHold → NamesAreKnown → ScopesAreSound → ShapesStay → WordsHaveRoom → FrontsKeepLimits → FrontsAreSmall
-fronts_are_small premises names scopes stay room limits limit t tokens spelled legal restricted small place =
+fronts_are_small premises names scopes stay room limits limit t tokens spelled legal restricted plain small place =
     let kept_here = limits limit t tokens spelled legal restricted place in
     record {
       sound = (names t legal restricted).fronts place;
@@ -201,4 +202,5 @@ fronts_are_small premises names scopes stay room limits limit t tokens spelled l
       words = λ name p h. callees_small premises names scopes stay room t legal restricted small place name p h;
       full = λ n form h. kept_here.types (base_range_of n) (ap is_some h);
       objects = kept_here.objects;
+      bare = unprotected_at premises t legal restricted plain place;
     }

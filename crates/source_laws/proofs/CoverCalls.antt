@@ -1,7 +1,7 @@
 -- Code is made of all legal calls of procedures and of lines, where what is visible has what code needs.
 use Rattle.std.proofs.Common.{◌≡◌, ◌++◌, ℕ, suc, [], ◌∷◌, List, length, Bool, true, false, ◌&&◌, not, Option, Some, None, refl, sym, ap, ◌∙◌, subst, arith}
 use Rattle.std.specs.Prelude.{⊤, is_none, is_some, nat_eq}
-use Rattle.std.proofs.lemmas.Bool.{and_from, or_from}
+use Rattle.std.proofs.lemmas.Bool.{and_from, or_from, or_parts}
 use Rattle.ada_link.specs.base.specs.declared.faults.TheConstants.{WRONG_ARGUMENT_COUNT}
 use Rattle.ada_tree.specs.declared.declaration.Mode.{Mode}
 use Rattle.ada_tree.specs.declared.declaration.Mode.TheVariants as mode
@@ -33,8 +33,8 @@ use Rattle.ada_link.specs.expr_code.specs.Seeing.{profile_named, slot_of, subpro
 use Rattle.ada_link.specs.expr_code.specs.declared.visible.Visible.{Visible}
 use Rattle.ada_link.specs.expr_code.proofs.Language.{gives_number}
 use Rattle.ada_link.specs.part_code.specs.Lines.{is_put, line_behind, line_in, line_of}
-use Rattle.ada_link.specs.part_code.specs.Passing.{actuals_behind, holds_variables}
-use Rattle.ada_link.specs.part_code.specs.Needs.{actual_needs, actuals_needs, address_needs, call_needs, called_needs, copies_needs, destination_at, destinations_for, destinations_of, is_object, is_taken, line_needs, passed_needs, put_needs}
+use Rattle.ada_link.specs.part_code.specs.Passing.{actuals_behind, operation_behind}
+use Rattle.ada_link.specs.part_code.specs.Needs.{actual_needs, actuals_needs, address_needs, call_needs, called_needs, copies_needs, destination_at, destinations_for, destinations_of, is_object, is_taken, line_needs, passed_needs, put_needs, through_needs}
 use Rattle.ada_link.specs.part_code.specs.declared.call.Destination.{Destination}
 use Rattle.source_laws.specs.Covered.{HasWhatCodeNeeds}
 use Rattle.source_laws.proofs.CoverNames.{IsTarget, address_made, attribute_given, is_given, known_taken, name_target, name_visible, slot_held, target_object, wanted_made}
@@ -137,10 +137,10 @@ called_statement s place w g h = absurd cc
 
 -- ---- actual parameters
 
--- what is copied back has words outside of protected objects, and code checks it
+-- code checks what is copied back
 abbrev AreCopied : Visible → List Destination → Type 0
 AreCopied v [] = ⊤
-AreCopied v (d ∷ ds) = ((holds_variables d.region && is_taken v.scope d.subtype) ≡ true) × AreCopied v ds
+AreCopied v (d ∷ ds) = (is_taken v.scope d.subtype ≡ true) × AreCopied v ds
 
 copied_both : (v : Visible) (ds es : List Destination) → AreCopied v ds → AreCopied v es → AreCopied v (ds ++ es)
 copied_both v [] es h k = k
@@ -149,7 +149,7 @@ copied_both v (d ∷ ds) es h k = (h.0, copied_both v ds es h.1 k)
 copies_made : (v : Visible) (ds : List Destination) → AreCopied v ds → (copies_needs v ds).outside ≡ false
 copies_made v [] h = refl
 copies_made v (d ∷ ds) h =
-    or_from (not (holds_variables d.region && is_taken v.scope d.subtype)) (copies_needs v ds).outside (ap not h.0) (copies_made v ds h.1)
+    or_from (not (is_taken v.scope d.subtype)) (copies_needs v ds).outside (ap not h.0) (copies_made v ds h.1)
 
 module _ (exceptions : List (List ℕ)) (v : Visible) (cover : HasWhatCodeNeeds exceptions v) where
   abbrev s : Scope
@@ -179,7 +179,7 @@ module _ (exceptions : List (List ℕ)) (v : Visible) (cover : HasWhatCodeNeeds 
         let it = actual_target in
         subst (λ o. AreCopied v (destination_at o (standing_of s first path))) (sym slot.1)
         (subst (λ w. AreCopied v (destination_at (Some slot.0) w)) (sym it.is)
-        (and_from (holds_variables slot.0.region) (is_taken s it.subtype) slot.2 (known_taken s it.subtype it.known), tt))
+        (known_taken s it.subtype it.known, tt))
 
   -- what is to be changed is named
   unnamed : (n : ℕ) (e : ExprTree) → argument_faults s (Takes n) (Value e) ≡ [] → actual_rule s (OfType n) e ≡ []
@@ -411,11 +411,20 @@ module _ (exceptions : List (List ℕ)) (v : Visible) (cover : HasWhatCodeNeeds 
         (subst (λ u. selectors_faults s first.place u name.selectors ≡ []) put_stands
         (name_begins s cover.sound cover.formals first name.selectors legal).1))
 
+  -- what is written as `Put` or `Put_Line` is isn't named behind an object
+  through_written : (first : Identifier) (x : SelectorTrees) → (put_needs v (record { first = first; selectors = x })).outside ≡ false
+      → (through_needs v (record { first = first; selectors = x }) (operation_behind x)).outside ≡ false
+  through_written first (MoreSelectors (Component operation) NoSelectors) h =
+      absurd (let never = (or_parts (not (is_put (entity_named s first.name))) true h).1 in cc)
+  through_written first (MoreSelectors (Component operation) (MoreSelectors (Arguments a) NoSelectors)) h =
+      absurd (let never = (or_parts (not (is_put (entity_named s first.name))) true h).1 in cc)
+  through_written first x h = h
+
   pub call_made : (name : NameTree) → call_faults s name.first name.selectors ≡ [] → (call_needs v name).outside ≡ false
   call_made name h = by_profile (profile_named s name.first.name) refl
     where
       by_profile : (o : Option Profile) → profile_named s name.first.name ≡ o → (called_needs v name o).outside ≡ false
-      by_profile None none = written name h none
+      by_profile None none = through_written name.first name.selectors (written name h none)
       by_profile (Some p) there =
           or_from (is_none (subprogram_of v name.first.name)) (passed_needs v p.formals (actuals_behind name.selectors)).outside
           (numbered (subprogram_of v name.first.name) (cover.numbered name.first.name p there))

@@ -40,7 +40,7 @@ use Rattle.ada_link.specs.expr_code.specs.declared.visible.Slot as visible
 use Rattle.ada_link.specs.expr_code.specs.declared.visible.Visible.{Visible}
 use Rattle.ada_link.specs.expr_code.proofs.Legal.{legal_left, legal_operand, legal_right}
 use Rattle.ada_link.specs.expr_code.proofs.Widths.{words_by_type}
-use Rattle.ada_link.specs.part_code.specs.Needs.{address_needs, is_object, is_stored, is_taken}
+use Rattle.ada_link.specs.part_code.specs.Needs.{address_needs, is_object, is_taken}
 use Rattle.source_laws.specs.Covered.{HasWhatCodeNeeds}
 use Rattle.source_laws.specs.Depths.{AreScalar, FewFormals, is_scalar_form}
 use Rattle.source_laws.proofs.NeedsScopes.{profile_by}
@@ -244,10 +244,6 @@ module _ (s : Scope) (sound : SoundScope s) where
 
 -- ---- what is visible
 
-stored_some : (o : Option visible.Slot) → is_stored o ≡ true → is_some o ≡ true
-stored_some (Some x) h = refl
-stored_some None h = absurd cc
-
 module _ (exceptions : List (List ℕ)) (v : Visible) (cover : HasWhatCodeNeeds exceptions v) where
   abbrev s : Scope
   s = v.scope
@@ -271,8 +267,8 @@ module _ (exceptions : List (List ℕ)) (v : Visible) (cover : HasWhatCodeNeeds 
     operation_is e is =
         ap (λ o. elim o [ None ↦ None | Some n ↦ operation_of (entity_at s n) ]) x.numbered ∙ ap operation_of (x.stands ∙ ap Some is)
 
-    made_as : (w : Standing) → start ≡ w → is_made v first w ≡ true → is_made v first start ≡ true
-    made_as w is h = subst (λ u. is_made v first u ≡ true) (sym is) h
+    made_as : (w : Standing) → start ≡ w → is_made v first selectors w ≡ true → is_made v first selectors start ≡ true
+    made_as w is h = subst (λ u. is_made v first selectors u ≡ true) (sym is) h
 
     function_made : (p : Profile) → x.entity ≡ Subprogram p → (r : Option Subtype) → p.result ≡ r
         → is_callable s (subprogram_of v first.name) (Some p) ≡ true
@@ -292,10 +288,10 @@ module _ (exceptions : List (List ℕ)) (v : Visible) (cover : HasWhatCodeNeeds 
         (ap (refusing.is_single s) given ∙ single_result s t (cover.results first.name p t there given)))
         (formals_passable s p.formals ((cover.formals (callee.Direct x.number) p called).scalar t given))
 
-    by_entity : (e : Entity) → x.entity ≡ e → is_made v first start ≡ true
+    by_entity : (e : Entity) → x.entity ≡ e → is_made v first selectors start ≡ true
     by_entity (Object r t) is =
         let here = begins_is (Object r t) is in
-        made_as (standing.Part r t) here (stored_some (slot_of v first.name) (cover.stored first.name r t here))
+        made_as (standing.Part r t) here (cover.stored first.name r t here)
     by_entity (OfType form t) is = made_as (standing.Named t) (begins_is (OfType form t) is) refl
     by_entity (OfSubtype t) is = made_as (standing.Named t) (begins_is (OfSubtype t) is) refl
     by_entity (Constant t c) is = made_as (standing.Fixed t c) (begins_is (Constant t c) is) refl
@@ -330,11 +326,11 @@ module _ (exceptions : List (List ℕ)) (v : Visible) (cover : HasWhatCodeNeeds 
   named_made first selectors legal parts = by_value (fixed_value (standing_of s first selectors)) refl
     where
       by_value : (o : Option Scalar) → fixed_value (standing_of s first selectors) ≡ o
-          → (is_none o && (not (is_made v first (stands_first s (number_of s first.name))) || selectors_outside v selectors)) ≡ false
+          → (is_none o && (not (is_made v first selectors (stands_first s (number_of s first.name))) || selectors_outside v selectors)) ≡ false
       by_value (Some c) is = refl
       by_value None is =
           let x = named s first.name (name_visible first selectors (value_name first selectors legal)) in
-          or_from (not (is_made v first (stands_first s (number_of s first.name)))) (selectors_outside v selectors)
+          or_from (not (is_made v first selectors (stands_first s (number_of s first.name)))) (selectors_outside v selectors)
           (ap not (by_entity first selectors legal x x.entity refl)) (parts is)
 
   -- ---- all expressions
@@ -421,10 +417,10 @@ module _ (exceptions : List (List ℕ)) (v : Visible) (cover : HasWhatCodeNeeds 
         let begun = name_begins s cover.sound cover.formals first path h in object_begins s cover.sound first.place path origin begun.0 begun.1 is
 
     -- its words have a place
-    pub slot_held : is_stored (slot_of v first.name) ≡ true
+    pub slot_held : is_some (slot_of v first.name) ≡ true
     slot_held = by_origin origin refl begins_object
       where
-        by_origin : (w : Standing) → origin ≡ w → is_object w ≡ true → is_stored (slot_of v first.name) ≡ true
+        by_origin : (w : Standing) → origin ≡ w → is_object w ≡ true → is_some (slot_of v first.name) ≡ true
         by_origin (standing.Part r t) here k = cover.stored first.name r t here
         by_origin w here k = absurd cc
 
@@ -435,8 +431,8 @@ module _ (exceptions : List (List ℕ)) (v : Visible) (cover : HasWhatCodeNeeds 
     pub address_made : (depth : ℕ) → (address_needs depth v first path).outside ≡ false
     address_made depth =
         let begun = name_begins s cover.sound cover.formals first path h in
-        or_from (not (is_object origin && is_stored (slot_of v first.name))) (selectors_outside v path)
-        (ap not (and_from (is_object origin) (is_stored (slot_of v first.name)) begins_object slot_held))
+        or_from (not (is_object origin && is_some (slot_of v first.name))) (selectors_outside v path)
+        (ap not (and_from (is_object origin) (is_some (slot_of v first.name)) begins_object slot_held))
         (path_made first.place origin path begun.0 begun.1 (no_value (standing_of s first path) is))
 
   -- what is named, of a known subtype

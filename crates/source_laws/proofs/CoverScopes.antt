@@ -33,7 +33,7 @@ use Rattle.ada_link.specs.expr_code.specs.Seeing.{profile_named, told_of}
 use Rattle.ada_link.specs.expr_code.specs.declared.visible.Slot.{Slot}
 use Rattle.ada_link.specs.expr_code.specs.declared.visible.Visible.{Visible}
 use Rattle.ada_link.specs.part_code.specs.Formals.{no_subprogram, slot_for}
-use Rattle.ada_link.specs.part_code.specs.Needs.{is_stored, local_visible, with_object}
+use Rattle.ada_link.specs.part_code.specs.Needs.{local_visible, with_object}
 use Rattle.ada_link.specs.stmt_code.specs.WholeRefusals.{formals_visible, from_behind, out_behind, placed_as, placed_formals, placed_if}
 use Rattle.ada_link.specs.part_code.specs.Bounds.{words_named}
 use Rattle.source_laws.specs.Covered.{AreLegalFormals, HasWhatCodeNeeds}
@@ -69,7 +69,7 @@ present (Some x) h = (x, refl)
 present None h = absurd cc
 
 -- words that are stored have a place
-pub placed : (o : Option Slot) → is_stored o ≡ true → (x : Slot) × (o ≡ Some x) × (is_stored (Some x) ≡ true)
+pub placed : (o : Option Slot) → is_some o ≡ true → (x : Slot) × (o ≡ Some x) × (is_some (Some x) ≡ true)
 placed (Some x) h = (x, refl, h)
 placed None h = absurd cc
 
@@ -125,11 +125,12 @@ named_protected s name x h = by_number (number_of s name) h
 
 -- ---- with an object more
 
-abbrev pub seen_by : Scope → List (Option Slot) → List (Option ℕ) → Visible
-seen_by s xs ys = record { scope = s; slots = xs; subprograms = ys }
+abbrev pub seen_by : (operations : List (List (Option ℕ))) → Scope → List (Option Slot) → List (Option ℕ) → Visible
+seen_by os s xs ys = record { scope = s; slots = xs; subprograms = ys; operations = os }
 
-module _ (exceptions : List (List ℕ)) (s : Scope) (xs : List (Option Slot)) (ys : List (Option ℕ)) (cover : HasWhatCodeNeeds exceptions (seen_by s xs ys))
-    (name : List ℕ) (r : Role) (t : Subtype) (x : Slot) (held : is_stored (Some x) ≡ true) where
+module _ (exceptions : List (List ℕ)) (os : List (List (Option ℕ))) (s : Scope) (xs : List (Option Slot)) (ys : List (Option ℕ))
+    (cover : HasWhatCodeNeeds exceptions (seen_by os s xs ys))
+    (name : List ℕ) (r : Role) (t : Subtype) (x : Slot) (held : is_some (Some x) ≡ true) where
   abbrev own : Named
   own = object_named name r t
 
@@ -163,12 +164,12 @@ module _ (exceptions : List (List ℕ)) (s : Scope) (xs : List (Option Slot)) (y
       by_number None is k = absurd cc
 
   stored_here : (other : List ℕ) (q : Role) (u : Subtype) → stands_first wider (number_of wider other) ≡ standing.Part q u
-      → is_stored (told_of wider slots other) ≡ true
+      → is_some (told_of wider slots other) ≡ true
   stored_here other q u h =
       elim (before other (Object q u) (part_named wider other q u h)) [
         | inl i ↦ (let old = placed (told_of s xs other) (cover.stored other q u (named_part s other q u i)) in
-            ap is_stored (told_kept s (own ∷ []) xs (Some x ∷ []) other old.0 old.1) ∙ old.2)
-        | inr i ↦ ap is_stored (ap (told_by slots) (i.1 ∙ ap Some (sym cover.slots)) ∙ entry_added xs (Some x)) ∙ held
+            ap is_some (told_kept s (own ∷ []) xs (Some x ∷ []) other old.0 old.1) ∙ old.2)
+        | inr i ↦ ap is_some (ap (told_by slots) (i.1 ∙ ap Some (sym cover.slots)) ∙ entry_added xs (Some x)) ∙ held
       ]
 
   numbered_here : (other : List ℕ) (p : Profile) → profile_named wider other ≡ Some p → is_some (told_of wider subprograms other) ≡ true
@@ -191,7 +192,7 @@ module _ (exceptions : List (List ℕ)) (s : Scope) (xs : List (Option Slot)) (y
   no_entry : (other : List ℕ) (p : Profile) → entity_named wider other ≡ Some (Entry p) → ⊥
   no_entry other p h = elim (before other (Entry p) h) [ inl i ↦ cover.without_entries other p i | inr i ↦ (let never = i.0 in absurd cc) ]
 
-  pub covered_behind : IsSoundObject s r t → HasWhatCodeNeeds exceptions (seen_by wider slots subprograms)
+  pub covered_behind : IsSoundObject s r t → HasWhatCodeNeeds exceptions (seen_by os wider slots subprograms)
   covered_behind object =
       record {
         sound = sound_with_object s name r t cover.sound object;
@@ -213,10 +214,11 @@ module _ (exceptions : List (List ℕ)) (s : Scope) (xs : List (Option Slot)) (y
       }
 
   -- a name that was not visible
-  pub covered_with : IsSoundObject s r t → is_visible s name ≡ false → HasWhatCodeNeeds exceptions (seen_by (with_name s name (Object r t)) slots subprograms)
+  pub covered_with : IsSoundObject s r t → is_visible s name ≡ false
+      → HasWhatCodeNeeds exceptions (seen_by os (with_name s name (Object r t)) slots subprograms)
   covered_with object hidden =
       let is : with_name s name (Object r t) ≡ wider = ap (λ b. cond b s wider) hidden in
-      subst (λ u. HasWhatCodeNeeds exceptions (seen_by u slots subprograms)) (sym is) (covered_behind object)
+      subst (λ u. HasWhatCodeNeeds exceptions (seen_by os u slots subprograms)) (sym is) (covered_behind object)
 
 -- ---- declarations of objects, and loop parameters
 
@@ -231,7 +233,7 @@ module _ (exceptions : List (List ℕ)) (v : Visible) (cover : HasWhatCodeNeeds 
       → HasWhatCodeNeeds exceptions (local_visible v taken (LocalObject d))
   covered_local d t is new =
       subst (λ o. HasWhatCodeNeeds exceptions (with_object v (with_name v.scope d.name.name (object_entity (role_of d.constant) o)) taken)) (sym is)
-      (covered_with exceptions v.scope v.slots v.subprograms cover d.name.name (role_of d.constant) t here refl
+      (covered_with exceptions v.operations v.scope v.slots v.subprograms cover d.name.name (role_of d.constant) t here refl
       (constant_or_variable v.scope d.constant t (subtype_known v.scope d.subtype t cover.sound is)) (new_name v.scope d.name new))
 
   pub covered_loop : (parameter : Identifier) (range : RangeTree) → loop_faults v.scope parameter range ≡ []
@@ -245,7 +247,7 @@ module _ (exceptions : List (List ℕ)) (v : Visible) (cover : HasWhatCodeNeeds 
       let found = bounds_known s (own_of s range.first) (own_of s range.last) (integral s cover.sound range.first bounds.first)
       (integral s cover.sound range.last bounds.last) (ap is_integers cover.sound.integer) in
       subst (λ o. HasWhatCodeNeeds exceptions (with_object v (with_name s parameter.name (parameter_entity o)) taken)) (sym found.1)
-      (covered_with exceptions s v.slots v.subprograms cover parameter.name role.LoopParameter (base_range_of found.0) here refl found.2
+      (covered_with exceptions v.operations s v.slots v.subprograms cover parameter.name role.LoopParameter (base_range_of found.0) here refl found.2
       (new_name s parameter (back_empty (first ++ last ++ beside) (declared_twice s parameter) h)))
 
 -- ---- formals
@@ -282,13 +284,13 @@ first_new u f fs h = by_test (is_visible u f.name.name) refl
         let most = formals_most u fs in
         absurd (omega (arith, same, most, h))
 
-module _ (exceptions : List (List ℕ)) (s : Scope) where
+module _ (exceptions : List (List ℕ)) (os : List (List (Option ℕ))) (s : Scope) where
   formals_covered : (fs : List Formal) (u : Scope) (xs : List (Option Slot)) (ys : List (Option ℕ)) (from out : ℕ) → IsBehind s u → AreNamed s fs
-      → HasWhatCodeNeeds exceptions (seen_by u xs ys) → length (formals_scope u fs) ≡ length u + length fs
-      → HasWhatCodeNeeds exceptions (seen_by (formals_scope u fs) (xs ++ map slot_for (placed_formals s from out fs))
+      → HasWhatCodeNeeds exceptions (seen_by os u xs ys) → length (formals_scope u fs) ≡ length u + length fs
+      → HasWhatCodeNeeds exceptions (seen_by os (formals_scope u fs) (xs ++ map slot_for (placed_formals s from out fs))
       (ys ++ map no_subprogram (placed_formals s from out fs)))
   formals_covered [] u xs ys from out h named cover long =
-      let same : seen_by u (xs ++ []) (ys ++ []) ≡ seen_by u xs ys = λ j. seen_by u (append-nil xs j) (append-nil ys j) in
+      let same : seen_by os u (xs ++ []) (ys ++ []) ≡ seen_by os u xs ys = λ j. seen_by os u (append-nil xs j) (append-nil ys j) in
       subst (HasWhatCodeNeeds exceptions) (sym same) cover
   formals_covered (f ∷ fs) u xs ys from out h named cover long =
       let t = named.0.0 in
@@ -299,26 +301,26 @@ module _ (exceptions : List (List ℕ)) (s : Scope) where
       let later = out_behind f.mode (words_named s f.subtype) out in
       let rest = placed_formals s next later fs in
       let visible = visible_there s u f t h named.0.1 in
-      let one : HasWhatCodeNeeds exceptions (seen_by (formal_scope u f) (xs ++ slot_for x ∷ []) (ys ++ no_subprogram x ∷ [])) =
-      subst (λ w. HasWhatCodeNeeds exceptions (seen_by w (xs ++ slot_for x ∷ []) (ys ++ no_subprogram x ∷ []))) (sym visible)
-      (covered_with exceptions u xs ys cover f.name.name (formal_role f.mode) t (record { region = regions.Locals; offset = x.offset }) refl
+      let one : HasWhatCodeNeeds exceptions (seen_by os (formal_scope u f) (xs ++ slot_for x ∷ []) (ys ++ no_subprogram x ∷ [])) =
+      subst (λ w. HasWhatCodeNeeds exceptions (seen_by os w (xs ++ slot_for x ∷ []) (ys ++ no_subprogram x ∷ []))) (sym visible)
+      (covered_with exceptions os u xs ys cover f.name.name (formal_role f.mode) t (record { region = regions.Locals; offset = x.offset }) refl
       (formal_known f.mode u t typed) new) in
       let longer : length (formal_scope u f) ≡ suc (length u) =
       ap (λ b. length (cond b u (u ++ formal_name u f ∷ []))) new ∙ one_longer u (formal_name u f) in
       let all = formals_covered fs (formal_scope u f) (xs ++ slot_for x ∷ []) (ys ++ no_subprogram x ∷ []) next later
       (one_behind s u f t h named.0.1) named.1 one (omega (arith, long, longer)) in
-      let joined : seen_by (formals_scope (formal_scope u f) fs) ((xs ++ slot_for x ∷ []) ++ map slot_for rest)
+      let joined : seen_by os (formals_scope (formal_scope u f) fs) ((xs ++ slot_for x ∷ []) ++ map slot_for rest)
       ((ys ++ no_subprogram x ∷ []) ++ map no_subprogram rest)
-      ≡ seen_by (formals_scope (formal_scope u f) fs) (xs ++ map slot_for (placed_if f.mode from out (Some t) rest))
+      ≡ seen_by os (formals_scope (formal_scope u f) fs) (xs ++ map slot_for (placed_if f.mode from out (Some t) rest))
       (ys ++ map no_subprogram (placed_if f.mode from out (Some t) rest)) =
-      λ j. seen_by (formals_scope (formal_scope u f) fs) (append_assoc xs (slot_for x ∷ []) (map slot_for rest) j)
+      λ j. seen_by os (formals_scope (formal_scope u f) fs) (append_assoc xs (slot_for x ∷ []) (map slot_for rest) j)
       (append_assoc ys (no_subprogram x ∷ []) (map no_subprogram rest) j) in
-      subst (λ o. HasWhatCodeNeeds exceptions (seen_by (formals_scope (formal_scope u f) fs) (xs ++ map slot_for (placed_if f.mode from out o rest))
+      subst (λ o. HasWhatCodeNeeds exceptions (seen_by os (formals_scope (formal_scope u f) fs) (xs ++ map slot_for (placed_if f.mode from out o rest))
       (ys ++ map no_subprogram (placed_if f.mode from out o rest)))) (sym named.0.1)
       (subst (HasWhatCodeNeeds exceptions) joined all)
 
 pub covered_formals : (exceptions : List (List ℕ)) (v : Visible) (fs : List Formal) → HasWhatCodeNeeds exceptions v → AreLegalFormals v.scope fs
     → HasWhatCodeNeeds exceptions (formals_visible v fs)
 covered_formals exceptions v fs cover head =
-    formals_covered exceptions v.scope fs v.scope v.slots v.subprograms 0 _ (record { more = []; is = sym (append-nil v.scope) })
+    formals_covered exceptions v.operations v.scope fs v.scope v.slots v.subprograms 0 _ (record { more = []; is = sym (append-nil v.scope) })
     (formals_named v.scope fs head.named) cover head.new_names

@@ -40,7 +40,6 @@ use Rattle.program_soundness.proofs.Walked.{Constants, Entries, Exceptions, Orig
 use Rattle.program_soundness.proofs.WiderScopes.{equal_bytes, number_stands, stands, stands_number}
 use Rattle.program_soundness.proofs.Whole.{IsPackage, came, entity_variable, is_first, kept, known_subtype, origin_kind}
 use Rattle.ada_link.specs.expr_code.specs.Seeing.{profile_named, slot_of, subprogram_of, told_of}
-use Rattle.ada_link.specs.part_code.specs.Needs.{is_stored}
 use Rattle.ada_link.specs.part_code.specs.Raising.{number_among, number_at}
 use Rattle.ada_link.specs.package_code.specs.Bodies.{number_in, of_subprogram}
 use Rattle.ada_link.specs.package_code.specs.Laws.{BodiesAreNumbered, TablesAreSmall}
@@ -54,18 +53,18 @@ use Rattle.source_laws.specs.Visible.{CalleesHaveFew, KeepsLimits}
 use Rattle.source_laws.proofs.CalleesSmall.{named_there}
 use Rattle.source_laws.proofs.FewCallees.{scalar_form}
 use Rattle.source_laws.proofs.LaterNames.{same_form}
-use Rattle.source_laws.proofs.UnprotectedFronts.{fronts_unprotected, none_protected}
+use Rattle.source_laws.proofs.UnprotectedFronts.{none_protected, unprotected_at}
 use Rattle.source_laws.proofs.VisibleWords.{behind_front}
 
 -- ---- a variable stands among the words of the package
 
-placed_stored : (from : ℕ) (xs : List Object) (name : List ℕ) (x : Object) → object_of xs name ≡ Some x → is_stored (place_among from xs name) ≡ true
+placed_stored : (from : ℕ) (xs : List Object) (name : List ℕ) (x : Object) → object_of xs name ≡ Some x → is_some (place_among from xs name) ≡ true
 placed_stored from [] name x h = cc
 placed_stored from (y ∷ ys) name x h = by_test (bytes_eq y.name name) h (placed_stored (from + length (value_words y.value)) ys name x)
   where
     by_test : (b : Bool) → cond b (Some y) (object_of ys name) ≡ Some x
-        → (object_of ys name ≡ Some x → is_stored (place_among (from + length (value_words y.value)) ys name) ≡ true)
-        → is_stored (cond b (Some (record { region = regions.Plain; offset = from })) (place_among (from + length (value_words y.value)) ys name)) ≡ true
+        → (object_of ys name ≡ Some x → is_some (place_among (from + length (value_words y.value)) ys name) ≡ true)
+        → is_some (cond b (Some (record { region = regions.Plain; offset = from })) (place_among (from + length (value_words y.value)) ys name)) ≡ true
     by_test true k later = refl
     by_test false k later = later k
 
@@ -251,12 +250,12 @@ module _ (premises : PremisesHold) (names : NamesAreKnown) (scopes : ScopesAreSo
   -- ---- objects
 
   stored_at : (place : ℕ) (name : List ℕ) (r : Role) (u : Subtype) → stands_first (front t place) (number_of (front t place) name) ≡ standing.Part r u
-      → is_stored (slot_of (seen_at t place) name) ≡ true
+      → is_some (slot_of (seen_at t place) name) ≡ true
   stored_at place name r u h =
       let x = object_first (front t place) name r u h in
       let e : Entity = entity.Object x.0 x.1 in
       let v = entity_variable program start all w name x.0 x.1 (kept_here place name e x.2) in
-      ap is_stored (told_at (slot_in t None) place name e x.2 refl) ∙ placed_stored 0 program.variables name v.object v.found
+      ap is_some (told_at (slot_in t None) place name e x.2 refl) ∙ placed_stored 0 program.variables name v.object v.found
 
   -- ---- subprograms
 
@@ -267,7 +266,7 @@ module _ (premises : PremisesHold) (names : NamesAreKnown) (scopes : ScopesAreSo
       let here = stands_number (front t place) name n.number (Subprogram p) n.numbered n.stands in
       let x = subprogram_there program start all w name p (kept_here place name (Subprogram p) here) in
       let number = (numbers t legal restricted x.place (SubprogramBody x.subprogram x.body) 0
-      (of_subprogram (front t (suc x.place)) x.subprogram x.body) x.at refl refl).0 in
+      (of_subprogram (front t (suc x.place)) x.subprogram x.body) x.at refl).0 in
       ap is_some (told_at (number_in t None) place name (Subprogram p) here refl ∙ ap (number_in t None) (sym x.named) ∙ number)
 
   -- the result of a body of the package
@@ -364,9 +363,6 @@ module _ (premises : PremisesHold) (names : NamesAreKnown) (scopes : ScopesAreSo
       by_case (inl first) = let never = (w.started name (Entry p) first).first in cc
       by_case (inr o) = entry_item o.item (origin_kind program start all w name (Entry p) o (λ d. cc))
 
-  pub unprotected_at : has_protected t ≡ false → (place : ℕ) → protected_count (front t place) ≡ 0
-  unprotected_at plain place = fronts_unprotected start all place plain w.unprotected
-
   pub covered_at : BodiesAreNumbered → TablesAreSmall → CalleesHaveFew → has_protected t ≡ false → (place : ℕ) → KeepsLimits (front t place)
       → HasWhatCodeNeeds program.exceptions (seen_at t place)
   covered_at numbers tables callees plain place limits =
@@ -380,6 +376,6 @@ module _ (premises : PremisesHold) (names : NamesAreKnown) (scopes : ScopesAreSo
         numbered = numbered_at numbers place;
         results = λ name p u h gives. results_at place name p u h gives;
         raised = raised_at tables place;
-        unprotected = λ name n h. protected_first (front t place) name n (unprotected_at plain place) h;
+        unprotected = λ name n h. protected_first (front t place) name n (unprotected_at premises t legal restricted plain place) h;
         without_entries = λ name p h. no_entry place name p h;
       }

@@ -24,6 +24,7 @@ use Rattle.expr_soundness.specs.type_rules.specs.SubtypeNames.{subtype_in, subty
 use Rattle.program_soundness.specs.declaring.specs.BodyNames.{formals_scope}
 use Rattle.program_soundness.specs.declaring.specs.ItemRules.{item_scope, items_scope}
 use Rattle.program_soundness.specs.declaring.specs.PackageNames.{body_item_scope, inside_scope}
+use Rattle.program_soundness.specs.step_soundness.specs.body_restrictions.specs.BodyRules as restrictions
 use Rattle.size_rules.specs.BodySizes.{body_things, formals_things, handlers_things, locals_things, stmts_things}
 use Rattle.size_rules.specs.BodySizes as size
 use Rattle.size_rules.specs.Laws.{WordsAddUp, counted_words}
@@ -44,6 +45,7 @@ use Rattle.program_soundness.specs.Fronts.{declared_in, front, scope_at, start_i
 use Rattle.program_soundness.proofs.BodyProfiles.{first_formal, profile_formals, subtype_kept}
 use Rattle.program_soundness.proofs.Called.{subprogram_there}
 use Rattle.program_soundness.proofs.Listing.{same_some}
+use Rattle.program_soundness.proofs.OneList.{restricted_at}
 use Rattle.program_soundness.proofs.Trees.{tree_package}
 use Rattle.program_soundness.proofs.Walked.{declares, one_of, own_profile, scope_next, stands_next}
 use Rattle.program_soundness.proofs.WiderScopes.{number_stands, stands}
@@ -56,11 +58,13 @@ use Rattle.ada_link.specs.part_code.specs.declared.formals.PlacedFormal.{PlacedF
 use Rattle.ada_link.specs.package_code.specs.Refusing.{function_if_any, item_needs, items_needs, seen_at, subprogram_needs}
 use Rattle.ada_link.specs.package_code.proofs.InFront.{known_inside}
 use Rattle.ada_link.specs.package_code.proofs.Seen.{one_behind}
+use Rattle.source_laws.specs.Covered.{has_protected}
 use Rattle.source_laws.specs.Visible.{FrontsKeepLimits, KeepsLimits, NothingIsUnfit}
 use Rattle.source_laws.proofs.CalleesSmall.{AreNamed, front_named, same_at}
 use Rattle.source_laws.proofs.CodeCounted.{behind, behind_is}
 use Rattle.source_laws.proofs.FitNeeds.{IsFit, block_inside, both_fit, handlers_fit, locals_fit, seen_fit, stmts_fit}
 use Rattle.source_laws.proofs.FitScopes.{AreFew, FewThings, IsInside, Serves, few_back, few_front, first_few, formals_inside, rest_few}
+use Rattle.source_laws.proofs.UnprotectedFronts.{no_object_body, unprotected_at}
 
 -- ---- frames keep their limit, as legality counts words
 
@@ -139,25 +143,31 @@ module _ (adding : WordsAddUp) (stay : ShapesStay) (s : Scope) (v : Visible) (fs
   abbrev within : Visible
   within = formals_visible v fs
 
-  run_fit : (taken : ℕ) (exceptions : List (List ℕ)) (b : BodyTree) → FewThings (locals_things s b.declarations) → FewThings (stmts_things s b.statements)
-      → FewThings (handlers_things s b.handlers)
+  run_fit : (taken : ℕ) (exceptions : List (List ℕ)) (b : BodyTree) → restrictions.body_faults b ≡ [] → FewThings (locals_things s b.declarations)
+      → FewThings (stmts_things s b.statements) → FewThings (handlers_things s b.handlers)
       → IsFit (run_needs within taken exceptions b.declarations b.statements b.handlers)
-  run_fit taken exceptions b one two three =
+  run_fit taken exceptions b r one two three =
+      let outer = restrictions.locals_faults b.declarations in
+      let inner = restrictions.stmts_faults b.statements in
+      let last = restrictions.handlers_faults b.handlers in
+      let first = front_empty (outer ++ inner) last r in
+      let declared = front_empty outer inner first in
       let a = in_body within taken exceptions in
       let next = behind_locals a b.declarations in
-      let next_inside = block_inside adding stay s a b.declarations inside one in
+      let next_inside = block_inside adding stay s a b.declarations inside declared one in
       both_fit (locals_needs within taken b.declarations) (sequence_needs next b.statements b.handlers)
-      (locals_fit adding stay s within inside taken b.declarations one)
-      (both_fit (stmts_needs next b.statements) (handlers_needs next b.handlers) (stmts_fit adding stay s b.statements next next_inside two)
-      (handlers_fit adding stay s b.handlers next next_inside three))
+      (locals_fit adding stay s within inside taken b.declarations declared one)
+      (both_fit (stmts_needs next b.statements) (handlers_needs next b.handlers)
+      (stmts_fit adding stay s b.statements next next_inside (back_empty outer inner first) two)
+      (handlers_fit adding stay s b.handlers next next_inside (back_empty (outer ++ inner) last r) three))
 
-  procedure_fit : (exceptions : List (List ℕ)) (b : BodyTree) → FewThings (locals_things s b.declarations) → FewThings (stmts_things s b.statements)
-      → FewThings (handlers_things s b.handlers)
+  procedure_fit : (exceptions : List (List ℕ)) (b : BodyTree) → restrictions.body_faults b ≡ [] → FewThings (locals_things s b.declarations)
+      → FewThings (stmts_things s b.statements) → FewThings (handlers_things s b.handlers)
       → IsFit (procedure_needs v exceptions fs b)
-  procedure_fit exceptions b one two three =
+  procedure_fit exceptions b r one two three =
       let run = run_needs within (formals_frame v.scope fs) exceptions b.declarations b.statements b.handlers in
       or_from (outs_needs within (formals_placed v.scope fs)).unfit (run.unfit || false) (outs_fit within (formals_placed v.scope fs))
-      (or_from run.unfit false (run_fit (formals_frame v.scope fs) exceptions b one two three) refl)
+      (or_from run.unfit false (run_fit (formals_frame v.scope fs) exceptions b r one two three) refl)
 
   function_fit : (u : Subtype) (o : Option ExprTree) → IsFit (function_if_any v fs u o)
   function_fit u (Some e) = seen_fit within inside.served
@@ -168,10 +178,12 @@ module _ (adding : WordsAddUp) (stay : ShapesStay) (s : Scope) (v : Visible) (fs
 record IsFramed (t : ProgramTree) (place : ℕ) (fs : List Formal) (b : BodyTree) : Type 0 where
   things : FewThings (body_things (front t place) fs b)
   inside : IsInside (front t place) (front t (suc place))
+  restricted : restrictions.body_faults b ≡ []
 
 abbrev IsItemFramed : ProgramTree → (place : ℕ) → BodyItemTree → Type 0
 IsItemFramed t place (SubprogramBody d b) = IsFramed t place d.formals b
 IsItemFramed t place (TaskBody name b) = IsFramed t place [] b
+IsItemFramed t place (ProtectedBody name items end_name) = ⊥
 IsItemFramed t place x = Unit {0}
 
 abbrev AreFramed : ProgramTree → (place : ℕ) → List BodyItemTree → Type 0
@@ -198,7 +210,7 @@ module _ (adding : WordsAddUp) (stay : ShapesStay) (t : ProgramTree) where
 
     run_of_body_fit : IsFit (procedure_needs (seen_at t (suc place)) (program_of t).exceptions fs b)
     run_of_body_fit =
-        procedure_fit adding stay (front t place) (seen_at t (suc place)) fs behind_formals (program_of t).exceptions b
+        procedure_fit adding stay (front t place) (seen_at t (suc place)) fs behind_formals (program_of t).exceptions b framed.restricted
         (few_back adding one two (few_front adding (one ++ two) three (few_front adding (one ++ two ++ three) four framed.things)))
         (few_back adding (one ++ two) three (few_front adding (one ++ two ++ three) four framed.things))
         (few_back adding (one ++ two ++ three) four framed.things)
@@ -225,13 +237,12 @@ module _ (adding : WordsAddUp) (stay : ShapesStay) (t : ProgramTree) where
       both_fit (item_needs t place (TaskBody name b)) (items_needs t (suc place) rest)
       (run_of_body_fit place [] b (framed 0 (TaskBody name b) refl)) (items_fit (suc place) rest (λ k x at. framed (suc k) x at))
   items_fit place (OfItem y ∷ rest) framed = items_fit (suc place) rest (λ k x at. framed (suc k) x at)
-  items_fit place (ProtectedBody name items end_name ∷ rest) framed = items_fit (suc place) rest (λ k x at. framed (suc k) x at)
+  items_fit place (ProtectedBody name items end_name ∷ rest) framed = absurd (framed 0 (ProtectedBody name items end_name) refl)
 
 -- ---- accepted texts
 
 module _ (adding : WordsAddUp) (premises : PremisesHold) (names : NamesAreKnown) (scopes : ScopesAreSound) (stay : ShapesStay) (room : WordsHaveRoom)
-    (t : ProgramTree) (legal : IsLegal t)
-    (restricted : IsRestricted t) where
+    (t : ProgramTree) (legal : IsLegal t) (restricted : IsRestricted t) (plain : has_protected t ≡ false) where
   abbrev all : List BodyItemTree
   all = declared_in t.package_
 
@@ -310,6 +321,7 @@ module _ (adding : WordsAddUp) (premises : PremisesHold) (names : NamesAreKnown)
         objects = λ number r u at.
             record { known = object_known (front t place) r u ((sound place).each number (Object r u) at); few = limits.objects number r u at };
         called = called_few place;
+        bare = unprotected_at premises t legal restricted plain place;
       }
 
   framed : ((place : ℕ) → KeepsLimits (front t place)) → AreFramed t 0 all
@@ -322,16 +334,19 @@ module _ (adding : WordsAddUp) (premises : PremisesHold) (names : NamesAreKnown)
             things = things_at place d b there;
             inside = subst (IsInside (front t place)) (sym next)
                 (body_inside stay (front t place) d b (front_serves place (limits place)) (subst Serves next (front_serves (suc place) (limits (suc place)))));
+            restricted = restricted_at start all w.list place (SubprogramBody d b) there;
           }
       framed_at place (TaskBody name b) there =
           record {
             things = adding.within FRAME_WORDS (body_things (front t place) [] b) (sizes_legal place (TaskBody name b) there);
             inside = subst (IsInside (front t place)) (sym (scope_next start all place (TaskBody name b) there))
                 (same_inside (front t place) (front_serves place (limits place)));
+            restricted = restricted_at start all w.list place (TaskBody name b) there;
           }
+      framed_at place (ProtectedBody name items end_name) there = no_object_body premises t legal restricted plain place name items end_name there
       framed_at place y there = tt
 
 pub nothing_unfit : WordsAddUp → PremisesHold → NamesAreKnown → ScopesAreSound → ShapesStay → WordsHaveRoom → FrontsKeepLimits → NothingIsUnfit
-nothing_unfit adding premises names scopes stay room limits limit t tokens spelled legal restricted =
+nothing_unfit adding premises names scopes stay room limits limit t tokens spelled legal restricted plain =
     items_fit adding stay t 0 (declared_in t.package_)
-    (framed adding premises names scopes stay room t legal restricted (λ place. limits limit t tokens spelled legal restricted place))
+    (framed adding premises names scopes stay room t legal restricted plain (λ place. limits limit t tokens spelled legal restricted place))

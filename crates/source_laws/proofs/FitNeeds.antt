@@ -14,6 +14,8 @@ use Rattle.types.specs.Scopes.{Scope}
 use Rattle.types.specs.Shapes.{shape_of}
 use Rattle.expr_soundness.specs.type_rules.specs.SubtypeNames.{subtype_of}
 use Rattle.program_soundness.specs.declaring.specs.LocalRules.{locals_scope}
+use Rattle.program_soundness.specs.step_soundness.specs.body_restrictions.specs.BodyRules as restrictions
+use Rattle.expr_soundness.specs.expr_rules.proofs.TypedLaw.{back_empty, front_empty}
 use Rattle.size_rules.specs.Laws.{WordsAddUp}
 use Rattle.size_rules.specs.BodySizes.{alternatives_things, elsifs_things, handlers_things, local_things, locals_things, stmt_things, stmts_things}
 use Rattle.program_soundness.proofs.WiderScopes.{stands_number}
@@ -23,12 +25,13 @@ use Rattle.ada_link.specs.expr_code.specs.declared.visible.Visible.{Visible}
 use Rattle.ada_link.specs.part_code.specs.Bounds.{local_words}
 use Rattle.ada_link.specs.part_code.specs.Lines.{LabelledValue, line_of}
 use Rattle.ada_link.specs.part_code.specs.Moving.{moves}
-use Rattle.ada_link.specs.part_code.specs.Passing.{actuals_behind}
+use Rattle.ada_link.specs.part_code.specs.Passing.{ExternalName, actuals_behind, operation_behind}
 use Rattle.ada_link.specs.stmt_code.specs.Refusing.{Standpoint, alternatives_needs, behind_locals, elsifs_needs, handlers_needs, head_needs, in_loop, inside_handler, needs_if_any, raise_needs, return_needs, stmt_needs, stmts_needs}
-use Rattle.ada_link.specs.part_code.specs.Needs.{Needs, actual_needs, actuals_needs, assignment_needs, both, call_needs, called_needs, choices_needs, copies_needs, destinations_of, has_unfit, in_out_needs, initial_needs, line_needs, local_needs, local_visible, locals_needs, locals_visible, moded_needs, move_needs, moves_needs, needs_by, object_needs, passed_needs, target_needs}
+use Rattle.ada_link.specs.part_code.specs.Needs.{Needs, actual_needs, actuals_needs, assignment_needs, both, call_needs, called_needs, choices_needs, copies_needs, destinations_of, has_unfit, in_out_needs, initial_needs, line_needs, local_needs, local_visible, locals_needs, locals_visible, moded_needs, move_needs, moves_needs, needs_by, object_needs, passed_needs, target_needs, through_needs}
 use Rattle.ada_link.specs.part_code.specs.Suiting.{passed_width}
 use Rattle.ada_link.specs.part_code.specs.declared.call.Destination.{Destination}
 use Rattle.source_laws.proofs.CalleesSmall.{named_there}
+use Rattle.source_laws.proofs.UnprotectedFronts.{external_beyond}
 use Rattle.source_laws.proofs.FitScopes.{AreFew, FewThings, IsFew, IsInside, Serves, all_fit, few_back, few_fit, few_front, local_few, local_inside, locals_inside, loop_inside}
 
 abbrev pub IsFit : Needs → Type 0
@@ -128,11 +131,15 @@ module _ (v : Visible) (serves : Serves v.scope) where
   line_fit None = refl
   line_fit (Some line) = seen_fit
 
+  through_fit : (name : NameTree) (o : Option ExternalName) → IsFit (through_needs v name o)
+  through_fit name None = line_fit (line_of name)
+  through_fit name (Some x) = ap (λ n. n.unfit) (external_beyond v name x serves.bare)
+
   call_fit : (name : NameTree) → IsFit (call_needs v name)
   call_fit name = by_profile (profile_named v.scope name.first.name) refl
     where
       by_profile : (o : Option Profile) → profile_named v.scope name.first.name ≡ o → IsFit (called_needs v name o)
-      by_profile None e = line_fit (line_of name)
+      by_profile None e = through_fit name (operation_behind name.selectors)
       by_profile (Some p) e =
           let n = named_there v.scope name.first.name p e in
           passed_fit p.formals (actuals_behind name.selectors)
@@ -157,14 +164,18 @@ behind_scope v taken [] = refl
 behind_scope v taken (d ∷ ds) = behind_scope (local_visible v taken d) (taken + local_words v.scope d) ds
 
 module _ (adding : WordsAddUp) (stay : ShapesStay) (s : Scope) where
-  pub locals_fit : (v : Visible) → IsInside s v.scope → (taken : ℕ) (ds : List DeclarationTree) → FewThings (locals_things s ds)
+  pub locals_fit : (v : Visible) → IsInside s v.scope → (taken : ℕ) (ds : List DeclarationTree) → restrictions.locals_faults ds ≡ []
+      → FewThings (locals_things s ds)
       → IsFit (locals_needs v taken ds)
-  locals_fit v inside taken [] h = refl
-  locals_fit v inside taken (d ∷ ds) h =
+  locals_fit v inside taken [] r h = refl
+  locals_fit v inside taken (d ∷ ds) r h =
+      let first = restrictions.local_faults d in
+      let later = restrictions.locals_faults ds in
       let own = few_front adding (local_things s d) (locals_things s ds) h in
       both_fit (local_needs v taken d) (locals_needs (local_visible v taken d) (taken + local_words v.scope d) ds)
       (local_fit v inside.served s inside taken d own)
-      (locals_fit (local_visible v taken d) (local_inside stay s v.scope inside d own) (taken + local_words v.scope d) ds
+      (locals_fit (local_visible v taken d) (local_inside stay s v.scope inside d (front_empty first later r) own)
+      (taken + local_words v.scope d) ds (back_empty first later r)
       (few_back adding (local_things s d) (locals_things s ds) h))
 
   -- ---- statements
@@ -180,70 +191,99 @@ module _ (adding : WordsAddUp) (stay : ShapesStay) (s : Scope) where
   in_loop_inside a inside (While condition) = inside
   in_loop_inside a inside (For parameter reversed range) = loop_inside stay s a.visible.scope inside parameter range
 
-  pub block_inside : (a : Standpoint) (ds : List DeclarationTree) → IsInside s a.visible.scope → FewThings (locals_things s ds)
+  pub block_inside : (a : Standpoint) (ds : List DeclarationTree) → IsInside s a.visible.scope → restrictions.locals_faults ds ≡ []
+      → FewThings (locals_things s ds)
       → IsInside s (behind_locals a ds).visible.scope
-  block_inside a ds inside h =
-      subst (IsInside s) (sym (behind_scope a.visible a.taken ds)) (locals_inside adding stay s a.visible.scope inside ds h)
+  block_inside a ds inside r h =
+      subst (IsInside s) (sym (behind_scope a.visible a.taken ds)) (locals_inside adding stay s a.visible.scope inside ds r h)
 
   mutual
-    pub stmt_fit : (x : StmtTree) (a : Standpoint) → IsInside s a.visible.scope → FewThings (stmt_things s x) → IsFit (stmt_needs a x)
-    stmt_fit (Assignment target value) a inside h = assignment_fit a.visible inside.served target value
-    stmt_fit (Call name) a inside h = call_fit a.visible inside.served name
-    stmt_fit (Exit place condition) a inside h = if_any_fit a.visible inside.served condition
-    stmt_fit (Return place value) a inside h = return_fit a.returns value
-    stmt_fit (Raise place name) a inside h = raise_fit a name
-    stmt_fit (DelayUntil place e) a inside h = seen_fit a.visible inside.served
-    stmt_fit (If place condition body elsifs others) a inside h =
+    pub stmt_fit : (x : StmtTree) (a : Standpoint) → IsInside s a.visible.scope → restrictions.stmt_faults x ≡ [] → FewThings (stmt_things s x)
+        → IsFit (stmt_needs a x)
+    stmt_fit (Assignment target value) a inside r h = assignment_fit a.visible inside.served target value
+    stmt_fit (Call name) a inside r h = call_fit a.visible inside.served name
+    stmt_fit (Exit place condition) a inside r h = if_any_fit a.visible inside.served condition
+    stmt_fit (Return place value) a inside r h = return_fit a.returns value
+    stmt_fit (Raise place name) a inside r h = raise_fit a name
+    stmt_fit (DelayUntil place e) a inside r h = seen_fit a.visible inside.served
+    stmt_fit (If place condition body elsifs others) a inside r h =
+        let inner = restrictions.stmts_faults body in
+        let middle = restrictions.elsifs_faults elsifs in
+        let last = restrictions.stmts_faults others in
+        let first = front_empty (inner ++ middle) last r in
         let one = stmts_things s body in
         let two = elsifs_things s elsifs in
         let three = stmts_things s others in
         let front = few_front adding (one ++ two) three h in
         or_from (has_unfit a.visible) _ (seen_fit a.visible inside.served)
-        (both_fit (stmts_needs a body) (both (elsifs_needs a elsifs) (stmts_needs a others)) (stmts_fit body a inside (few_front adding one two front))
-        (both_fit (elsifs_needs a elsifs) (stmts_needs a others) (elsifs_fit elsifs a inside (few_back adding one two front))
-        (stmts_fit others a inside (few_back adding (one ++ two) three h))))
-    stmt_fit (Case place value all) a inside h =
-        or_from (has_unfit a.visible) (alternatives_needs a all).unfit (seen_fit a.visible inside.served) (alternatives_fit all a inside h)
-    stmt_fit (Loop place iteration body) a inside h =
+        (both_fit (stmts_needs a body) (both (elsifs_needs a elsifs) (stmts_needs a others))
+        (stmts_fit body a inside (front_empty inner middle first) (few_front adding one two front))
+        (both_fit (elsifs_needs a elsifs) (stmts_needs a others)
+        (elsifs_fit elsifs a inside (back_empty inner middle first) (few_back adding one two front))
+        (stmts_fit others a inside (back_empty (inner ++ middle) last r) (few_back adding (one ++ two) three h))))
+    stmt_fit (Case place value all) a inside r h =
+        or_from (has_unfit a.visible) (alternatives_needs a all).unfit (seen_fit a.visible inside.served) (alternatives_fit all a inside r h)
+    stmt_fit (Loop place iteration body) a inside r h =
         both_fit (head_needs a iteration) (stmts_needs (in_loop a iteration) body) (head_fit a inside iteration)
-        (stmts_fit body (in_loop a iteration) (in_loop_inside a inside iteration) h)
-    stmt_fit (Block place ds body all) a inside h =
+        (stmts_fit body (in_loop a iteration) (in_loop_inside a inside iteration) r h)
+    stmt_fit (Block place ds body all) a inside r h =
+        let outer = restrictions.locals_faults ds in
+        let inner = restrictions.stmts_faults body in
+        let last = restrictions.handlers_faults all in
+        let first = front_empty (outer ++ inner) last r in
+        let declared = front_empty outer inner first in
         let one = locals_things s ds in
         let two = stmts_things s body in
         let three = handlers_things s all in
         let front = few_front adding (one ++ two) three h in
         let own = few_front adding one two front in
         let next = behind_locals a ds in
-        both_fit (locals_needs a.visible a.taken ds) (both (stmts_needs next body) (handlers_needs next all)) (locals_fit a.visible inside a.taken ds own)
-        (both_fit (stmts_needs next body) (handlers_needs next all) (stmts_fit body next (block_inside a ds inside own) (few_back adding one two front))
-        (handlers_fit all next (block_inside a ds inside own) (few_back adding (one ++ two) three h)))
-    stmt_fit x a inside h = refl
+        both_fit (locals_needs a.visible a.taken ds) (both (stmts_needs next body) (handlers_needs next all))
+        (locals_fit a.visible inside a.taken ds declared own)
+        (both_fit (stmts_needs next body) (handlers_needs next all)
+        (stmts_fit body next (block_inside a ds inside declared own) (back_empty outer inner first) (few_back adding one two front))
+        (handlers_fit all next (block_inside a ds inside declared own) (back_empty (outer ++ inner) last r) (few_back adding (one ++ two) three h)))
+    stmt_fit x a inside r h = refl
 
-    pub stmts_fit : (body : StmtTrees) (a : Standpoint) → IsInside s a.visible.scope → FewThings (stmts_things s body) → IsFit (stmts_needs a body)
-    stmts_fit NoStmts a inside h = refl
-    stmts_fit (MoreStmts x rest) a inside h =
-        both_fit (stmt_needs a x) (stmts_needs a rest) (stmt_fit x a inside (few_front adding (stmt_things s x) (stmts_things s rest) h))
-        (stmts_fit rest a inside (few_back adding (stmt_things s x) (stmts_things s rest) h))
+    pub stmts_fit : (body : StmtTrees) (a : Standpoint) → IsInside s a.visible.scope → restrictions.stmts_faults body ≡ []
+        → FewThings (stmts_things s body) → IsFit (stmts_needs a body)
+    stmts_fit NoStmts a inside r h = refl
+    stmts_fit (MoreStmts x rest) a inside r h =
+        let one = restrictions.stmt_faults x in
+        let more = restrictions.stmts_faults rest in
+        both_fit (stmt_needs a x) (stmts_needs a rest)
+        (stmt_fit x a inside (front_empty one more r) (few_front adding (stmt_things s x) (stmts_things s rest) h))
+        (stmts_fit rest a inside (back_empty one more r) (few_back adding (stmt_things s x) (stmts_things s rest) h))
 
-    elsifs_fit : (all : ElsifTrees) (a : Standpoint) → IsInside s a.visible.scope → FewThings (elsifs_things s all) → IsFit (elsifs_needs a all)
-    elsifs_fit NoElsifs a inside h = refl
-    elsifs_fit (MoreElsifs condition body rest) a inside h =
+    elsifs_fit : (all : ElsifTrees) (a : Standpoint) → IsInside s a.visible.scope → restrictions.elsifs_faults all ≡ []
+        → FewThings (elsifs_things s all) → IsFit (elsifs_needs a all)
+    elsifs_fit NoElsifs a inside r h = refl
+    elsifs_fit (MoreElsifs condition body rest) a inside r h =
+        let one = restrictions.stmts_faults body in
+        let more = restrictions.elsifs_faults rest in
         or_from (has_unfit a.visible) _ (seen_fit a.visible inside.served)
-        (both_fit (stmts_needs a body) (elsifs_needs a rest) (stmts_fit body a inside (few_front adding (stmts_things s body) (elsifs_things s rest) h))
-        (elsifs_fit rest a inside (few_back adding (stmts_things s body) (elsifs_things s rest) h)))
+        (both_fit (stmts_needs a body) (elsifs_needs a rest)
+        (stmts_fit body a inside (front_empty one more r) (few_front adding (stmts_things s body) (elsifs_things s rest) h))
+        (elsifs_fit rest a inside (back_empty one more r) (few_back adding (stmts_things s body) (elsifs_things s rest) h)))
 
-    alternatives_fit : (all : AlternativeTrees) (a : Standpoint) → IsInside s a.visible.scope → FewThings (alternatives_things s all)
+    alternatives_fit : (all : AlternativeTrees) (a : Standpoint) → IsInside s a.visible.scope → restrictions.alternatives_faults all ≡ []
+        → FewThings (alternatives_things s all)
         → IsFit (alternatives_needs a all)
-    alternatives_fit NoAlternatives a inside h = refl
-    alternatives_fit (MoreAlternatives place choices body rest) a inside h =
+    alternatives_fit NoAlternatives a inside r h = refl
+    alternatives_fit (MoreAlternatives place choices body rest) a inside r h =
+        let one = restrictions.stmts_faults body in
+        let more = restrictions.alternatives_faults rest in
         both_fit (choices_needs a.visible.scope choices) (both (stmts_needs a body) (alternatives_needs a rest)) (choices_fit a.visible inside.served choices)
         (both_fit (stmts_needs a body) (alternatives_needs a rest)
-        (stmts_fit body a inside (few_front adding (stmts_things s body) (alternatives_things s rest) h))
-        (alternatives_fit rest a inside (few_back adding (stmts_things s body) (alternatives_things s rest) h)))
+        (stmts_fit body a inside (front_empty one more r) (few_front adding (stmts_things s body) (alternatives_things s rest) h))
+        (alternatives_fit rest a inside (back_empty one more r) (few_back adding (stmts_things s body) (alternatives_things s rest) h)))
 
-    pub handlers_fit : (all : HandlerTrees) (a : Standpoint) → IsInside s a.visible.scope → FewThings (handlers_things s all) → IsFit (handlers_needs a all)
-    handlers_fit NoHandlers a inside h = refl
-    handlers_fit (MoreHandlers choices body rest) a inside h =
+    pub handlers_fit : (all : HandlerTrees) (a : Standpoint) → IsInside s a.visible.scope → restrictions.handlers_faults all ≡ []
+        → FewThings (handlers_things s all) → IsFit (handlers_needs a all)
+    handlers_fit NoHandlers a inside r h = refl
+    handlers_fit (MoreHandlers choices body rest) a inside r h =
+        let one = restrictions.stmts_faults body in
+        let more = restrictions.handlers_faults rest in
         both_fit (stmts_needs (inside_handler a) body) (handlers_needs a rest)
-        (stmts_fit body (inside_handler a) inside (few_front adding (stmts_things s body) (handlers_things s rest) h))
-        (handlers_fit rest a inside (few_back adding (stmts_things s body) (handlers_things s rest) h))
+        (stmts_fit body (inside_handler a) inside (front_empty one more r) (few_front adding (stmts_things s body) (handlers_things s rest) h))
+        (handlers_fit rest a inside (back_empty one more r) (few_back adding (stmts_things s body) (handlers_things s rest) h))

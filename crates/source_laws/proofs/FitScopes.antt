@@ -7,22 +7,22 @@ use Rattle.ada_tree.specs.declared.declaration.Formal.{Formal}
 use Rattle.ada_tree.specs.declared.expression.Identifier.{Identifier}
 use Rattle.ada_tree.specs.StatementTree.{DeclarationTree, LocalObject, LocalProtected, LocalTask, ObjectTree, RangeTree}
 use Rattle.types.specs.declared.entity.FormalParameter.{FormalParameter}
-use Rattle.types.specs.declared.entity.RecordComponent.{RecordComponent}
 use Rattle.types.specs.declared.entity.Role.{Role}
 use Rattle.types.specs.declared.entity.Subtype.{Subtype}
-use Rattle.types.specs.Entities.{Doubtful, Entity, Integers, Object, Operation, Profile, Protected, Subprogram, Task, TypeForm}
+use Rattle.types.specs.Entities.{Doubtful, Entity, Integers, Object, Profile, Protected, Subprogram, Task, TypeForm}
 use Rattle.types.specs.Laws.{ShapesStay}
 use Rattle.types.specs.Layouts.{capped, words_of}
 use Rattle.types.specs.Places.{or_else}
-use Rattle.types.specs.Scopes.{Scope, base_range_of, entity_at, form_at, form_of, is_visible, with_name}
+use Rattle.types.specs.Scopes.{Scope, base_range_of, entity_at, form_at, form_of, is_visible, one_if_protected, protected_count, with_name}
 use Rattle.types.specs.Shapes.{shape_of, words}
 use Rattle.expr_soundness.specs.expr_rules.specs.Typing.{is_integers, own_of}
+use Rattle.expr_soundness.specs.expr_rules.proofs.TypedLaw.{back_empty, front_empty}
 use Rattle.expr_soundness.specs.type_rules.specs.ObjectRules.{object_entity, role_of}
 use Rattle.expr_soundness.specs.type_rules.specs.SubtypeNames.{subtype_in, subtype_of}
 use Rattle.program_soundness.specs.declaring.specs.BodyNames.{bounds_type, formal_role, formal_scope, formals_scope, if_integers, loop_scope, loop_type, parameter_entity}
 use Rattle.program_soundness.specs.declaring.specs.LocalRules.{local_scope, locals_scope}
-use Rattle.program_soundness.specs.declaring.specs.ProtectedRules.{object_components, object_operations, object_with, protected_entity}
 use Rattle.program_soundness.specs.declaring.specs.TaskRules.{default_priority, priority_of}
+use Rattle.program_soundness.specs.step_soundness.specs.body_restrictions.specs.BodyRules as restrictions
 use Rattle.size_rules.specs.BodySizes as size
 use Rattle.size_rules.specs.BodySizes.{formals_things, local_things, locals_things}
 use Rattle.size_rules.specs.Laws.{WordsAddUp, counted_words}
@@ -38,6 +38,7 @@ use Rattle.ada_link.specs.package_code.proofs.InFront.{known_inside}
 use Rattle.source_laws.specs.Depths.{is_full}
 use Rattle.source_laws.proofs.CalleesSmall.{with_behind}
 use Rattle.source_laws.proofs.FullShapes.{full_fit}
+use Rattle.source_laws.proofs.UnprotectedFronts.{with_unprotected}
 
 -- its values take no more words than an image
 pub record IsFew (s : Scope) (u : Subtype) : Type 0 where
@@ -53,6 +54,7 @@ pub record Serves (s : Scope) : Type 0 where
   pub named : (name : Identifier) (u : Subtype) → subtype_of s name ≡ Some u → IsKnown s u
   pub objects : (number : ℕ) (r : Role) (u : Subtype) → entity_at s number ≡ Some (Object r u) → IsFew s u
   pub called : (name : List ℕ) (p : Profile) → stands s name ≡ Some (Subprogram p) → AreFew s p.formals
+  pub bare : protected_count s ≡ 0
 
 -- ---- what is visible is fit
 
@@ -78,30 +80,30 @@ all_fit s serves = names_fit s s serves serves.objects
 abbrev pub IsLocal : Scope → Entity → Type 0
 IsLocal s (Object r u) = IsFew s u
 IsLocal s (Task priority) = Unit {0}
-IsLocal s (Protected o) = Unit {0}
 IsLocal s Doubtful = Unit {0}
 IsLocal s e = ⊥
 
 no_form : (s : Scope) (e : Entity) → IsLocal s e → form_of (Some e) ≡ None
 no_form s (Object r u) h = refl
 no_form s (Task priority) h = refl
-no_form s (Protected o) h = refl
 no_form s Doubtful h = refl
 no_form s e h = absurd h
 
 no_subtype : (s : Scope) (e : Entity) → IsLocal s e → subtype_in (Some e) ≡ None
 no_subtype s (Object r u) h = refl
 no_subtype s (Task priority) h = refl
-no_subtype s (Protected o) h = refl
 no_subtype s Doubtful h = refl
 no_subtype s e h = absurd h
 
 no_subprogram : (s : Scope) (e : Entity) (p : Profile) → IsLocal s e → e ≡ Subprogram p → ⊥
 no_subprogram s (Object r u) p h is = cc
 no_subprogram s (Task priority) p h is = cc
-no_subprogram s (Protected o) p h is = cc
 no_subprogram s Doubtful p h is = cc
 no_subprogram s e p h is = h
+
+no_object : (s : Scope) (e : Entity) → IsLocal s e → one_if_protected e ≡ 0
+no_object s (Protected o) h = absurd h
+no_object s e h = refl
 
 object_few : (s : Scope) (e : Entity) (r : Role) (u : Subtype) → IsLocal s e → e ≡ Object r u → IsFew s u
 object_few s e r u h is = subst (IsLocal s) is h
@@ -178,6 +180,7 @@ module _ (stay : ShapesStay) (s : Scope) (serves : Serves s) (name : List ℕ) (
         named = λ other u h. ap is_some (same_form u.type_number) ∙ serves.named other u (subtype_before other u h);
         objects = objects_next;
         called = called_next;
+        bare = with_unprotected s name e serves.bare (no_object s e own);
       }
 
 -- ---- things that stand in a body, whose objects have the words of a frame
@@ -246,30 +249,28 @@ object_inside : ShapesStay → (s u : Scope) → IsInside s u → (name : List �
 object_inside stay s u inside name r subtype h =
     inside_next stay s u inside name (object_entity r (subtype_of u subtype)) (object_local u r (subtype_of u subtype) (thing_few s u inside subtype h))
 
-protected_local : (s : Scope) (number ceiling : ℕ) (a : Option (List Operation)) (b : Option (List RecordComponent))
-    → IsLocal s (object_with number ceiling a b)
-protected_local s number ceiling (Some operations) (Some components) = tt
-protected_local s number ceiling (Some operations) None = tt
-protected_local s number ceiling None b = tt
-
-pub local_inside : ShapesStay → (s u : Scope) → IsInside s u → (d : DeclarationTree) → FewThings (local_things s d) → IsInside s (local_scope u d)
-local_inside stay s u inside (LocalObject d) h = object_inside stay s u inside d.name.name (role_of d.constant) d.subtype
+pub local_inside : ShapesStay → (s u : Scope) → IsInside s u → (d : DeclarationTree) → restrictions.local_faults d ≡ [] → FewThings (local_things s d)
+    → IsInside s (local_scope u d)
+local_inside stay s u inside (LocalObject d) r h = object_inside stay s u inside d.name.name (role_of d.constant) d.subtype
     (first_few (size.words_named s d.subtype) 0 h)
-local_inside stay s u inside (LocalTask d) h = inside_next stay s u inside d.name.name (Task (priority_of u TASK_PRIORITY default_priority d.aspect)) tt
-local_inside stay s u inside (LocalProtected d) h =
-    inside_next stay s u inside d.name.name (protected_entity u d)
-    (protected_local u _ _ (object_operations u d.operations) (object_components u d.components))
+local_inside stay s u inside (LocalTask d) r h =
+    inside_next stay s u inside d.name.name (Task (priority_of u TASK_PRIORITY default_priority d.aspect)) tt
+local_inside stay s u inside (LocalProtected d) r h = absurd cc
 
 -- the subtype of an object that is declared
 pub local_few : (s u : Scope) → IsInside s u → (d : ObjectTree) → FewThings (local_things s (LocalObject d)) → (t : Subtype) → subtype_of u d.subtype ≡ Some t
     → IsFew u t
 local_few s u inside d h t is = thing_few s u inside d.subtype (first_few (size.words_named s d.subtype) 0 h) t is
 
-pub locals_inside : WordsAddUp → ShapesStay → (s u : Scope) → IsInside s u → (ds : List DeclarationTree) → FewThings (locals_things s ds)
+pub locals_inside : WordsAddUp → ShapesStay → (s u : Scope) → IsInside s u → (ds : List DeclarationTree) → restrictions.locals_faults ds ≡ []
+    → FewThings (locals_things s ds)
     → IsInside s (locals_scope u ds)
-locals_inside adding stay s u inside [] h = inside
-locals_inside adding stay s u inside (d ∷ ds) h =
-    locals_inside adding stay s (local_scope u d) (local_inside stay s u inside d (few_front adding (local_things s d) (locals_things s ds) h)) ds
+locals_inside adding stay s u inside [] r h = inside
+locals_inside adding stay s u inside (d ∷ ds) r h =
+    let own = restrictions.local_faults d in
+    let more = restrictions.locals_faults ds in
+    locals_inside adding stay s (local_scope u d)
+    (local_inside stay s u inside d (front_empty own more r) (few_front adding (local_things s d) (locals_things s ds) h)) ds (back_empty own more r)
     (few_back adding (local_things s d) (locals_things s ds) h)
 
 pub formals_inside : ShapesStay → (s u : Scope) → IsInside s u → (fs : List Formal) → FewThings (formals_things s fs) → IsInside s (formals_scope u fs)

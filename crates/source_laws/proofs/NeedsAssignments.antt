@@ -24,7 +24,7 @@ use Rattle.ada_link.specs.expr_code.specs.Widths.{AreWide, width_of}
 use Rattle.ada_link.specs.expr_code.specs.declared.visible.Visible.{Visible}
 use Rattle.ada_link.specs.part_code.specs.Moving.{moves}
 use Rattle.ada_link.specs.part_code.specs.Needs.{Needs, address_needs, assigned_needs, assignment_needs, beyond, both, has_unfit, move_needs, moves_needs, needs_above, needs_by, words_at}
-use Rattle.source_laws.specs.Depths.{AreStored, IsSmallScope}
+use Rattle.source_laws.specs.Depths.{IsSmallScope}
 use Rattle.source_laws.proofs.PeakSlots.{IsPath, begins, name_path, value_path}
 use Rattle.source_laws.proofs.Peaks.{conditional_parts, inside_legal, legal_of, listed, spelled_parts}
 use Rattle.source_laws.proofs.NeedsBounds.{Fits, IsLow, both_low, low_more, outside_right, value_bound}
@@ -138,7 +138,7 @@ module _ (v : Visible) (small : IsSmallScope v.scope) where
       let low = value_bound (words_at s (standing.Part r t)) (peak s e) (expr_depth e) (typed_low s small t e l ts d h) few in omega (arith, low)
   assigned_low w e l ts d h few out = absurd cc
 
-  module _ (held : AreStored v.slots) (target : NameTree) (e : ExprTree) (l : Limit) (ts us : Tokens) (named : spells_name l target ts)
+  module _ (target : NameTree) (e : ExprTree) (l : Limit) (ts us : Tokens) (named : spells_name l target ts)
       (spelled : expression l e us)
       (h : assignment_faults s target e ≡ []) (out : (assignment_needs v target e).outside ≡ false) where
     abbrev whole : ℕ
@@ -162,7 +162,7 @@ module _ (v : Visible) (small : IsSmallScope v.scope) where
         → Fits (needs_by v target e b) taken words (max (name_depth target) (expr_depth e))
     by_moves false is k taken words =
         let w = standing_of s target.first target.selectors in
-        let few = few_stored v (record { names = small; slots = held }) target e h is k in
+        let few = few_stored v (record { names = small }) target e h is k in
         let value = assigned_low w e l us spelled in_value few (outside_right (address_needs 0 v target.first target.selectors) (assigned_needs v w e) k) in
         let deep = le-max_right (name_depth target) (expr_depth e) in
         record {

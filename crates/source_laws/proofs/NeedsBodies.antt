@@ -27,9 +27,8 @@ use Rattle.ada_link.specs.stmt_code.specs.WholeRefusals.{formals_placed, formals
 use Rattle.ada_link.specs.stmt_code.proofs.Refused.{locals_seen}
 use Rattle.source_laws.specs.Depths.{FunctionsHaveRoom, IsSmallVisible, ProceduresHaveRoom}
 use Rattle.source_laws.proofs.NeedsBounds.{Fits, IsLow, both_fit, both_low, fits_more, outside_left, outside_right}
-use Rattle.source_laws.proofs.NeedsFormals.{formals_held, frame_few, given_few, have_words, outs_fit, outs_frame, outs_low, small_formals}
+use Rattle.source_laws.proofs.NeedsFormals.{frame_few, given_few, have_words, outs_fit, outs_frame, outs_low, small_formals}
 use Rattle.source_laws.proofs.NeedsLocals.{locals_fit}
-use Rattle.source_laws.proofs.NeedsScopes.{all_held}
 use Rattle.source_laws.proofs.NeedsShapes.{nothing_unfit}
 use Rattle.source_laws.proofs.NeedsStatements.{handlers_fit, handlers_spelled, stmts_fit, stmts_spelled}
 use Rattle.source_laws.proofs.NeedsValues.{single_low}
@@ -98,8 +97,6 @@ procedures_have_room v exceptions fs b small h out =
     let p = run_fits inside taken exceptions h.kind b h.limit h.tokens h.spelled h.legal
     (record {
       names = small_formals s fs small.names named (omega (arith, words));
-      slots = all_held v.slots (map slot_for placed) small.slots
-          (formals_held placed);
     }) (omega (arith, words))
     (outside_left run given (outside_right outs (both run given) rest)) in
     let run_stack = p.stack_low in

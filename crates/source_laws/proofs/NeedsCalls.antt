@@ -43,8 +43,8 @@ use Rattle.ada_link.specs.expr_code.specs.declared.visible.Slot as visible
 use Rattle.ada_link.specs.expr_code.specs.declared.visible.Visible.{Visible}
 use Rattle.ada_link.specs.expr_code.proofs.Widths.{integral_one, words_by_type}
 use Rattle.ada_link.specs.part_code.specs.Lines.{LabelledValue, is_put, line_behind, line_in, line_of}
-use Rattle.ada_link.specs.part_code.specs.Passing.{actuals_behind, copied_width}
-use Rattle.ada_link.specs.part_code.specs.Needs.{Needs, actual_needs, actuals_needs, address_needs, beyond_if, both, call_needs, called_needs, check_words, copies_needs, copy_needs, destination_at, destinations_for, destinations_named, destinations_of, has_unfit, in_needs, in_out_needs, line_needs, passed_needs, stacked, target_needs, words_at}
+use Rattle.ada_link.specs.part_code.specs.Passing.{ExternalName, actuals_behind, copied_width, operation_behind}
+use Rattle.ada_link.specs.part_code.specs.Needs.{Needs, actual_needs, actuals_needs, address_needs, beyond_if, both, call_needs, called_needs, check_words, copies_needs, copy_needs, destination_at, destinations_for, destinations_named, destinations_of, has_unfit, in_needs, in_out_needs, line_needs, passed_needs, stacked, target_needs, through_needs, words_at}
 use Rattle.ada_link.specs.part_code.specs.Suiting.{passed_width, returned_width}
 use Rattle.ada_link.specs.part_code.specs.declared.call.Destination.{Destination}
 use Rattle.source_laws.specs.Depths.{IsSmallScope, formals_take}
@@ -56,6 +56,7 @@ use Rattle.source_laws.proofs.NeedsBounds.{Fits, copied_bound, passed_bound}
 use Rattle.source_laws.proofs.NeedsScopes.{few_words, known_formals}
 use Rattle.source_laws.proofs.NeedsShapes.{AreFit, fits_here, nothing_unfit}
 use Rattle.source_laws.proofs.NeedsValues.{single_low, typed_low}
+use Rattle.source_laws.proofs.UnprotectedFronts.{external_beyond}
 
 -- ---- sums over formals
 
@@ -387,15 +388,19 @@ module _ (v : Visible) (small : IsSmallScope v.scope) where
   formals_fit (f ∷ fs) h few =
       (fits_here s small f.subtype h.0 (few_words (words_of s f.subtype) (omega (arith, few))), formals_fit fs h.1 (omega (arith, few)))
 
+  through_plain : (name : NameTree) (o : Option ExternalName) → IsPlain (through_needs v name o)
+  through_plain name None =
+      let put = beyond_if (not (is_put (entity_named s name.first.name))) in
+      both_plain put (line_needs v (line_of name)) (record { frame = omega arith; fit = refl }) (line_plain (line_of name))
+  through_plain name (Some x) = subst IsPlain (sym (external_beyond v name x small.bare)) (record { frame = omega arith; fit = refl })
+
   called_plain : (name : NameTree) (o : Option Profile) → profile_named s name.first.name ≡ o → IsPlain (called_needs v name o)
   called_plain name (Some p) is =
       let number = beyond_if (is_none (subprogram_of v name.first.name)) in
       both_plain number (passed_needs v p.formals (actuals_behind name.selectors)) (record { frame = omega arith; fit = refl })
       (passed_plain p.formals (actuals_behind name.selectors)
       (formals_fit p.formals (known_formals s name.first.name p small.sound is) (small.words name.first.name p is)))
-  called_plain name None is =
-      let put = beyond_if (not (is_put (entity_named s name.first.name))) in
-      both_plain put (line_needs v (line_of name)) (record { frame = omega arith; fit = refl }) (line_plain (line_of name))
+  called_plain name None is = through_plain name (operation_behind name.selectors)
 
   pub call_low : (name : NameTree) (l : Limit) (ts : Tokens) → spells_name l name ts → call_faults s name.first name.selectors ≡ []
       → (call_needs v name).outside ≡ false
@@ -405,13 +410,17 @@ module _ (v : Visible) (small : IsSmallScope v.scope) where
       parts : name_faults s name.first name.selectors ≡ []
       parts = front_empty (name_faults s name.first name.selectors) (call_rule name.first.place (standing_of s name.first name.selectors)) h
 
-      by_profile : (o : Option Profile) → profile_named s name.first.name ≡ o → (called_needs v name o).outside ≡ false
-          → (called_needs v name o).stack ≤ 80 + 12 * name_depth name
-      by_profile (Some p) is k = let low = invoked_low name.first p is name.selectors l d.1 d.4 parts in max-le (omega arith) (omega (arith, low))
-      by_profile None is k =
+      through_low : (o : Option ExternalName) → (through_needs v name o).outside ≡ false → (through_needs v name o).stack ≤ 80 + 12 * name_depth name
+      through_low None k =
           let put = is_put (entity_named s name.first.name) in
           let low = line_low name.first (not_false put ((or_parts (not put) _ k).0)) name.selectors l d.1 d.4 parts in
           max-le (omega arith) (omega (arith, low))
+      through_low (Some x) k = absurd (let never : false ≡ true = sym k ∙ ap (λ n. n.outside) (external_beyond v name x small.bare) in cc)
+
+      by_profile : (o : Option Profile) → profile_named s name.first.name ≡ o → (called_needs v name o).outside ≡ false
+          → (called_needs v name o).stack ≤ 80 + 12 * name_depth name
+      by_profile (Some p) is k = let low = invoked_low name.first p is name.selectors l d.1 d.4 parts in max-le (omega arith) (omega (arith, low))
+      by_profile None is k = through_low (operation_behind name.selectors) k
 
   pub call_fits : (name : NameTree) (l : Limit) (ts : Tokens) → spells_name l name ts → call_faults s name.first name.selectors ≡ []
       → (call_needs v name).outside ≡ false → (taken words : ℕ) → Fits (call_needs v name) taken words (name_depth name)

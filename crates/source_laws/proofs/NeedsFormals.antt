@@ -24,7 +24,7 @@ use Rattle.ada_link.specs.part_code.specs.Formals.{slot_for}
 use Rattle.ada_link.specs.part_code.specs.Needs.{all_given, are_wordless, formals_frame, is_wordless, outs_needs}
 use Rattle.ada_link.specs.stmt_code.specs.WholeRefusals.{from_behind, out_behind, placed_formals, placed_if}
 use Rattle.ada_link.specs.part_code.specs.declared.formals.PlacedFormal.{PlacedFormal}
-use Rattle.source_laws.specs.Depths.{AreStored, IsSmallScope}
+use Rattle.source_laws.specs.Depths.{IsSmallScope}
 use Rattle.source_laws.proofs.NeedsScopes.{few_words, small_named, subtype_kept, words_kept}
 
 -- ---- what is visible behind formals
@@ -218,7 +218,3 @@ module _ (v : Visible) (s : Scope) where
       let one = if_given m (subtype_of s f.subtype) from out (placed_formals s next later fs) (2 * length fs + formals_words s v.scope fs)
       (given_few fs next later) in
       omega (arith, one)
-
-pub formals_held : (xs : List PlacedFormal) → AreStored (map slot_for xs)
-formals_held [] = tt
-formals_held (x ∷ xs) = (refl, formals_held xs)

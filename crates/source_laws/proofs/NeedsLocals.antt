@@ -27,7 +27,7 @@ use Rattle.ada_link.specs.part_code.specs.Bounds.{local_words, locals_words, wor
 use Rattle.ada_link.specs.part_code.specs.Needs.{framed, has_unfit, initial_needs, local_needs, local_visible, locals_needs, locals_visible, object_needs}
 use Rattle.source_laws.specs.Depths.{IsSmallScope, IsSmallVisible}
 use Rattle.source_laws.proofs.NeedsBounds.{Fits, both_fit, fits_more, nothing_fits, outside_left, outside_right, stack_fits, value_bound}
-use Rattle.source_laws.proofs.NeedsScopes.{few_words, one_held, small_local}
+use Rattle.source_laws.proofs.NeedsScopes.{few_words, small_local}
 use Rattle.source_laws.proofs.NeedsShapes.{fits_here, nothing_unfit}
 use Rattle.source_laws.proofs.NeedsValues.{typed_low}
 
@@ -99,7 +99,7 @@ locals_fit (d ∷ ds) v small taken l ts spelled h few out =
     let ours = local_needs v taken d in
     let theirs = locals_needs later (taken + own) ds in
     let one = local_fits v small.names taken d l spelled.0 spelled.3 (front_empty here rest h) (omega (arith, few)) (outside_left ours theirs out) in
-    let more = locals_fit ds later (record { names = one.behind; slots = one_held v.slots taken small.slots }) (taken + own) l spelled.1 spelled.4
+    let more = locals_fit ds later (record { names = one.behind }) (taken + own) l spelled.1 spelled.4
     (back_empty here rest h) (omega (arith, few)) (outside_right ours theirs out) in
     let deep = max (declaration_depth d) (deepest declaration_depth ds) in
     record {

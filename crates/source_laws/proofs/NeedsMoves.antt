@@ -1,5 +1,5 @@
 -- An array or a record of many words is moved where it is assigned, and does not stand on the operand stack.
-use Rattle.std.proofs.Common.{◌≡◌, ◌≤◌, ◌++◌, ℕ, suc, [], List, Bool, true, false, ◌&&◌, ◌||◌, not, Option, Some, None, refl, sym, ap, ◌∙◌, subst, arith}
+use Rattle.std.proofs.Common.{◌≡◌, ◌≤◌, ◌++◌, ℕ, suc, [], List, Bool, true, false, ◌&&◌, ◌||◌, not, Option, Some, None, refl, sym, ap, ◌∙◌, subst, arith, is_some}
 use Rattle.std.specs.Prelude.{cond, nat_le}
 use Rattle.std.proofs.lemmas.Bool.{and_from, and_parts, or_parts}
 use Rattle.ada_link.specs.base.specs.declared.faults.TheConstants.{NO_MEANING}
@@ -32,8 +32,8 @@ use Rattle.ada_link.specs.expr_code.specs.declared.visible.Slot.{Slot}
 use Rattle.ada_link.specs.expr_code.specs.declared.visible.Visible.{Visible}
 use Rattle.ada_link.specs.expr_code.proofs.Fitting.{composite_width}
 use Rattle.ada_link.specs.expr_code.proofs.Widths.{binary_width, boolean_one, numeric_one, unary_width, words_by_type}
-use Rattle.ada_link.specs.part_code.specs.Moving.{are_moved, is_held, is_moved, moves, names_composite}
-use Rattle.ada_link.specs.part_code.specs.Needs.{address_needs, assigned_needs, is_object, is_stored, is_taken, stored_needs, takes_value, words_at}
+use Rattle.ada_link.specs.part_code.specs.Moving.{are_moved, is_moved, moves, names_composite}
+use Rattle.ada_link.specs.part_code.specs.Needs.{address_needs, assigned_needs, is_object, is_taken, stored_needs, takes_value, words_at}
 use Rattle.source_laws.specs.Depths.{IsSmallVisible}
 use Rattle.source_laws.proofs.NeedsBounds.{outside_left, outside_right}
 use Rattle.source_laws.proofs.NeedsNames.{named_source}
@@ -135,10 +135,6 @@ module _ (v : Visible) (small : IsSmallVisible v) where
   standing_type (standing.Part r t) n = t.type_number
   standing_type w n = n
 
-  held_if : (o : Option Slot) → is_stored o ≡ true → is_held o ≡ true
-  held_if (Some x) h = h
-  held_if None h = cc
-
   object_if : (w : Standing) → is_object w ≡ true → (r : Role) × (t : Subtype) × (w ≡ standing.Part r t)
   object_if (standing.Part r t) h = (r, t, refl)
   object_if w h = absurd cc
@@ -165,7 +161,7 @@ module _ (v : Visible) (small : IsSmallVisible v) where
     ends = standing_of s target.first target.selectors
 
     abbrev named : Bool
-    named = is_object begins && is_stored (slot_of v target.first.name)
+    named = is_object begins && is_some (slot_of v target.first.name)
 
     in_target : target_faults s target.first target.selectors ≡ []
     in_target = front_empty (target_faults s target.first target.selectors) (faults_of s (assigned_wanted s target) e) h
@@ -179,7 +175,7 @@ module _ (v : Visible) (small : IsSmallVisible v) where
     value_code = outside_right (address_needs 0 v target.first target.selectors) (assigned_needs v ends e) out
 
     object : (r : Role) × (t : Subtype) × (begins ≡ standing.Part r t)
-    object = object_if begins ((and_parts (is_object begins) (is_stored (slot_of v target.first.name)) is_named).0)
+    object = object_if begins ((and_parts (is_object begins) (is_some (slot_of v target.first.name)) is_named).0)
 
     part : (r : Role) × (t : Subtype) × (ends ≡ standing.Part r t)
     part = takes_if ends (not_false (takes_value s ends) ((or_parts (not (takes_value s ends)) (is_outside v e) value_code).0))
@@ -224,7 +220,7 @@ module _ (v : Visible) (small : IsSmallVisible v) where
     large_moved =
         let first : names_composite s begins ≡ true = ap (names_composite s) object.2 ∙ object_composite in
         let last : names_composite s ends ≡ true = ap (names_composite s) part.2 ∙ part_composite in
-        let held = held_if (slot_of v target.first.name) ((and_parts (is_object begins) (is_stored (slot_of v target.first.name)) is_named).1) in
+        let held = (and_parts (is_object begins) (is_some (slot_of v target.first.name)) is_named).1 in
         let value = value_moved in
         λ j. cond (first j && (last j && held j)) (value j) false
 

@@ -11,14 +11,15 @@ use Rattle.types.specs.declared.entity.Role.{Role}
 use Rattle.types.specs.declared.entity.Role.TheVariants as role
 use Rattle.types.specs.declared.entity.Subtype.{Subtype}
 use Rattle.types.specs.declared.entity.Value.{Value as Scalar}
+use Rattle.types.specs.declared.standing.Callee.{Callee}
 use Rattle.types.specs.declared.standing.Callee.TheVariants as callee
 use Rattle.types.specs.declared.standing.Standing.{Standing}
 use Rattle.types.specs.declared.standing.Standing.TheVariants as standing
 use Rattle.types.specs.Entities.{Arrays, Constant, Doubtful, Entity, Entry, Exception, Integers, LibraryUnit, Literal, Object, OfSubtype, OfType, Predefined, Profile, Protected, Put, Records, Subprogram, Task, TypeForm}
 use Rattle.types.specs.Evaluating.{fixed_value}
 use Rattle.types.specs.Layouts.{words_of}
-use Rattle.types.specs.Scopes.{Scope, entity_at, form_at, is_visible, number_of, profile_of}
-use Rattle.types.specs.Standings.{array_attribute, bounds_stand, call_stands, callee_profile, component_of, component_stands, conversion_stands, element_stands, is_single, object_attribute, part_of, result_stands, select, select_all, standing_of, stands_first, stands_for, subtype_attribute}
+use Rattle.types.specs.Scopes.{Scope, entity_at, form_at, is_visible, number_of, profile_of, protected_of}
+use Rattle.types.specs.Standings.{array_attribute, bounds_stand, call_stands, called_operation, callee_profile, component_of, component_stands, conversion_stands, element_stands, is_single, object_attribute, operation_profile, operation_stands, part_of, profile_among, result_stands, select, select_all, standing_of, stands_first, stands_for, subtype_attribute}
 use Rattle.expr_soundness.specs.expr_rules.specs.ExpressionRules.{selector_faults, selectors_faults}
 use Rattle.expr_soundness.specs.expr_rules.specs.Faults.{rule}
 use Rattle.expr_soundness.specs.expr_rules.specs.NameRules.{value_rule}
@@ -31,45 +32,26 @@ use Rattle.expr_soundness.proofs.Goods.{no_constant_parts, no_integer_parts, par
 use Rattle.expr_soundness.proofs.Positions.{IsNamed, named}
 use Rattle.ada_link.specs.expr_code.specs.Emitting.{IsLegalExpression}
 use Rattle.ada_link.specs.expr_code.specs.Entries.{entry_at}
-use Rattle.ada_link.specs.expr_code.specs.Refusing.{are_passable, is_callable, is_called, is_made, is_outside, selectors_outside}
+use Rattle.ada_link.specs.expr_code.specs.Refusing.{are_passable, is_callable, is_called, is_external_call, is_external_callable, is_made, is_outside, selectors_outside}
 use Rattle.ada_link.specs.expr_code.specs.Refusing as refusing
-use Rattle.ada_link.specs.expr_code.specs.Seeing.{operation_named, operation_of, profile_named, slot_of, subprogram_of, subprogram_profile}
+use Rattle.ada_link.specs.expr_code.specs.Seeing.{external_of, external_profile, operation_named, operation_of, profile_named, slot_of, subprogram_of, subprogram_profile}
 use Rattle.ada_link.specs.expr_code.specs.Widths.{own_words, width_of}
 use Rattle.ada_link.specs.expr_code.specs.declared.visible.Slot.{Slot}
 use Rattle.ada_link.specs.expr_code.specs.declared.visible.Visible.{Visible}
+use Rattle.ada_link.specs.expr_code.proofs.Externals.{is_behind}
 use Rattle.ada_link.specs.expr_code.proofs.Language.{gives_number}
 use Rattle.ada_link.specs.expr_code.proofs.Widths.{fixed_width, integral_one, numeric_one, words_by_type}
 use Rattle.ada_link.specs.part_code.specs.Moving.{source_at, source_by, variable_at}
-use Rattle.ada_link.specs.part_code.specs.Passing.{holds_variables}
 use Rattle.ada_link.specs.part_code.specs.declared.moving.Source.{Source}
-use Rattle.source_laws.specs.Depths.{AreStored, IsSmallVisible}
+use Rattle.source_laws.specs.Depths.{IsSmallVisible}
 use Rattle.source_laws.proofs.NeedsScopes.{profile_by}
 use Rattle.source_laws.proofs.PeakSlots.{IsPath, value_path}
 
 -- ---- slots
 
-slot_held : (all : List (Option Slot)) (n : ℕ) (x : Slot) → AreStored all → entry_at all n ≡ Some x → holds_variables x.region ≡ true
-slot_held [] n x h is = absurd cc
-slot_held (None ∷ rest) zero x h is = absurd cc
-slot_held (Some y ∷ rest) zero x h is =
-    let f : Option Slot → Slot = λ o. elim o [ Some z ↦ z | None ↦ y ] in subst (λ z. holds_variables z.region ≡ true) (ap f is) h.0
-slot_held (None ∷ rest) (suc n) x h is = slot_held rest n x h is
-slot_held (Some y ∷ rest) (suc n) x h is = slot_held rest n x h.1 is
-
-abbrev slot_by : Visible → Option ℕ → Option Slot
-slot_by v o = elim o [ None ↦ None | Some n ↦ entry_at v.slots n ]
-
-held_there : (v : Visible) (name : List ℕ) (x : Slot) → AreStored v.slots → slot_of v name ≡ Some x → holds_variables x.region ≡ true
-held_there v name x h is = by_number (number_of v.scope name) is
-  where
-    by_number : (o : Option ℕ) → slot_by v o ≡ Some x → holds_variables x.region ≡ true
-    by_number (Some n) k = slot_held v.slots n x h k
-    by_number None k = absurd cc
-
-sourced : (r : Role) (t : Subtype) (x : Slot) → (r ≡ role.LoopParameter → ⊥) → holds_variables x.region ≡ true
-    → is_some (variable_at (standing.Part r t) (Some x)) ≡ true
-sourced role.LoopParameter t x other h = absurd (other refl)
-sourced r t x other h = let source : Source = record { slot = x; whole = t } in ap (λ b. is_some (cond b (Some source) None)) h
+sourced : (r : Role) (t : Subtype) (x : Slot) → (r ≡ role.LoopParameter → ⊥) → is_some (variable_at (standing.Part r t) (Some x)) ≡ true
+sourced role.LoopParameter t x other = absurd (other refl)
+sourced r t x other = refl
 
 -- ---- standings of one word
 
@@ -151,12 +133,28 @@ module _ (s : Scope) where
   call_closed : (o : Option Profile) (p : Profile) → o ≡ Some p → refusing.is_single s p.result ≡ true → IsClosed (call_stands o)
   call_closed o p is h = subst (λ x. IsClosed (call_stands x)) (sym is) (result_closed p.result h)
 
-  callee_closed : (n : ℕ) (p : Profile) → callee_profile s (callee.Direct n) ≡ Some p → refusing.is_single s p.result ≡ true
-      → IsClosed (standing.Callee (callee.Direct n))
-  callee_closed n p is h NoSelectors none = subst (λ o. IsThin (call_stands o)) (sym is) (result_thin p.result h) none
-  callee_closed n p is h (MoreSelectors (Arguments a) rest) none = call_closed (callee_profile s (callee.Direct n)) p is h rest none
-  callee_closed n p is h (MoreSelectors (Component name) rest) none = doubtful_closed rest none
-  callee_closed n p is h (MoreSelectors (Attribute name) rest) none = doubtful_closed rest none
+  callee_closed : (f : Callee) (p : Profile) → callee_profile s f ≡ Some p → refusing.is_single s p.result ≡ true → IsClosed (standing.Callee f)
+  callee_closed f p is h NoSelectors none = subst (λ o. IsThin (call_stands o)) (sym is) (result_thin p.result h) none
+  callee_closed f p is h (MoreSelectors (Arguments a) rest) none = call_closed (callee_profile s f) p is h rest none
+  callee_closed f p is h (MoreSelectors (Component name) rest) none = doubtful_closed rest none
+  callee_closed f p is h (MoreSelectors (Attribute name) rest) none = doubtful_closed rest none
+
+  -- what a name stands for that begins with a protected object and its function
+  behind_closed : (object operation : Identifier) (p : Profile) → external_profile s object.name operation.name ≡ Some p
+      → refusing.is_single s p.result ≡ true
+      → (rest : SelectorTrees) → IsThin (standing_of s object (MoreSelectors (Component operation) rest))
+  behind_closed object operation p told single rest =
+      let at = is_behind s object.name operation.name p told in
+      let f = callee.Operation at.number at.place in
+      let there = ap protected_of at.stands in
+      let begins = ap (stands_first s) at.numbered ∙ ap (stands_for at.number) at.stands in
+      let behind : select s (standing.Protected at.number) (Component operation) ≡ standing.Callee f =
+      ap (λ o. operation_stands at.number o operation.name) there ∙ ap (called_operation at.number) at.placed in
+      let profiled : callee_profile s f ≡ Some p =
+      ap (λ o. profile_among o at.place) there ∙ ap operation_profile at.found ∙ ap Some at.profiled in
+      subst IsThin
+      (sym (ap (λ w. select_all s w (MoreSelectors (Component operation) rest)) begins ∙ ap (λ w. select_all s w rest) behind))
+      (callee_closed f p profiled single rest)
 
   put_closed : IsClosed standing.Put
   put_closed NoSelectors none = refl
@@ -196,7 +194,8 @@ module _ (s : Scope) where
 
 -- ---- names
 
-module _ (v : Visible) (small : IsSmallVisible v) (first : Identifier) (selectors : SelectorTrees) (legal : IsLegalExpression v.scope (tree.Named first selectors))
+module _ (v : Visible) (small : IsSmallVisible v) (first : Identifier) (selectors : SelectorTrees)
+    (legal : IsLegalExpression v.scope (tree.Named first selectors))
     (code : is_outside v (tree.Named first selectors) ≡ false) (wide : 2 ≤ width_of v.scope (tree.Named first selectors)) where
   abbrev s : Scope
   s = v.scope
@@ -215,12 +214,12 @@ module _ (v : Visible) (small : IsSmallVisible v) (first : Identifier) (selector
   thin_not thin none = let one = thin none in omega (arith, wide, one)
 
   module _ (none : fixed_value whole ≡ None) where
-    made_if : is_made v first (stands_first s (number_of s first.name)) ≡ true
+    made_if : is_made v first selectors (stands_first s (number_of s first.name)) ≡ true
     made_if =
         let test = subst (λ o. (is_none o && (not
-        (is_made v first (stands_first s (number_of s first.name))) || selectors_outside v selectors)) ≡ false) none code in
-        not_false (is_made v first (stands_first s (number_of s first.name)))
-        ((or_parts (not (is_made v first (stands_first s (number_of s first.name)))) (selectors_outside v selectors) test).0)
+        (is_made v first selectors (stands_first s (number_of s first.name))) || selectors_outside v selectors)) ≡ false) none code in
+        not_false (is_made v first selectors (stands_first s (number_of s first.name)))
+        ((or_parts (not (is_made v first selectors (stands_first s (number_of s first.name)))) (selectors_outside v selectors) test).0)
 
     closed_not : (w : Standing) → stands_first s (number_of s first.name) ≡ w → IsClosed s w → ⊥
     closed_not w is closed = thin_not (subst (λ u. IsThin s (select_all s u selectors)) (sym is) (closed selectors)) none
@@ -262,12 +261,30 @@ module _ (v : Visible) (small : IsSmallVisible v) (first : Identifier) (selector
             (front_empty (selector_faults s first.place (standing.Fixed t c) x) (selectors_faults s first.place (select s (standing.Fixed t c) x) rest) h))
 
     -- what code may call has a result of one word
-    callable_result : (o : Option Profile) (p : Profile) → o ≡ Some p → is_callable s (subprogram_of v first.name) o ≡ true
+    callable_result : (number : Option ℕ) (o : Option Profile) (p : Profile) → o ≡ Some p → is_callable s number o ≡ true
         → refusing.is_single s p.result ≡ true
-    callable_result o p is h =
-        let k : is_callable s (subprogram_of v first.name) (Some p) ≡ true = ap (is_callable s (subprogram_of v first.name)) (sym is) ∙ h in
-        (and_parts (is_some (subprogram_of v first.name)) (refusing.is_single s p.result)
-        (and_parts (is_called s (subprogram_of v first.name) p) (are_passable s p.formals) k).0).1
+    callable_result number o p is h =
+        let k : is_callable s number (Some p) ≡ true = ap (is_callable s number) (sym is) ∙ h in
+        (and_parts (is_some number) (refusing.is_single s p.result) (and_parts (is_called s number p) (are_passable s p.formals) k).0).1
+
+    -- nothing that is named behind a protected object has more words, where code is made of it
+    external_not : (operation : Identifier) (rest : SelectorTrees) → selectors ≡ MoreSelectors (Component operation) rest
+        → is_external_callable v first.name operation.name ≡ true → ⊥
+    external_not operation rest same h = by_profile (external_profile s first.name operation.name) refl h
+      where
+        by_profile : (o : Option Profile) → external_profile s first.name operation.name ≡ o
+            → is_callable s (external_of v first.name operation.name) o ≡ true → ⊥
+        by_profile (Some p) told callable =
+            thin_not
+            (subst (λ all. IsThin s (standing_of s first all)) (sym same)
+            (behind_closed s first operation p told (callable_result (external_of v first.name operation.name) (Some p) p refl callable) rest)) none
+        by_profile None told callable = cc
+
+    object_not : (all : SelectorTrees) → selectors ≡ all → is_external_call v first.name all ≡ true → ⊥
+    object_not (MoreSelectors (Component operation) NoSelectors) same h = external_not operation NoSelectors same h
+    object_not (MoreSelectors (Component operation) (MoreSelectors (Arguments a) NoSelectors)) same h =
+        external_not operation (MoreSelectors (Arguments a) NoSelectors) same h
+    object_not all same h = cc
 
     -- a function of the language gives a number
     language_single : (o : PredefinedOperation) (p : Profile) → IsSoundPredefined s o p → refusing.is_single s p.result ≡ true
@@ -291,8 +308,8 @@ module _ (v : Visible) (small : IsSmallVisible v) (first : Identifier) (selector
       operation_is e is =
           ap (λ o. elim o [ None ↦ None | Some n ↦ operation_of (entity_at s n) ]) x.numbered ∙ ap operation_of (x.stands ∙ ap Some is)
 
-      made_as : (w : Standing) → stands_first s (number_of s first.name) ≡ w → is_made v first w ≡ true
-      made_as w is = subst (λ u. is_made v first u ≡ true) is made_if
+      made_as : (w : Standing) → stands_first s (number_of s first.name) ≡ w → is_made v first selectors w ≡ true
+      made_as w is = subst (λ u. is_made v first selectors u ≡ true) is made_if
 
       -- what is no function of the language is one that code may call
       callable_as : (e : Entity) → x.entity ≡ e → operation_of (Some e) ≡ None → stands_for x.number (Some e) ≡ standing.Callee (callee.Direct x.number)
@@ -308,7 +325,7 @@ module _ (v : Visible) (small : IsSmallVisible v) (first : Identifier) (selector
           let begins = begins_is (Object r t) is in
           let slot = some_slot (slot_of v first.name) (made_as (standing.Part r t) begins) in
           let first_source : is_some (variable_at (stands_first s (number_of s first.name)) (slot_of v first.name)) ≡ true =
-          (λ j. is_some (variable_at (begins j) (slot.1 j))) ∙ sourced r t slot.0 other (held_there v first.name slot.0 small.slots slot.1) in
+          (λ j. is_some (variable_at (begins j) (slot.1 j))) ∙ sourced r t slot.0 other in
           elim (object_ends s selectors r t) [
             | inl part ↦ ap (λ w. is_some (source_by w (variable_at (stands_first s (number_of s first.name)) (slot_of v first.name))))
                 (ap (λ u. select_all s u selectors) begins ∙ part.2) ∙ first_source
@@ -329,17 +346,18 @@ module _ (v : Visible) (small : IsSmallVisible v) (first : Identifier) (selector
       by_entity Exception is = absurd (closed_not standing.Other (begins_is Exception is) (other_closed s))
       by_entity (Subprogram p) is =
           absurd (closed_not (standing.Callee (callee.Direct x.number)) (begins_is (Subprogram p) is)
-          (callee_closed s x.number p (ap profile_of (x.stands ∙ ap Some is))
-          (callable_result (profile_named s first.name) p (profile_is (Subprogram p) is) (callable_as (Subprogram p) is refl refl))))
+          (callee_closed s (callee.Direct x.number) p (ap profile_of (x.stands ∙ ap Some is))
+          (callable_result (subprogram_of v first.name) (profile_named s first.name) p (profile_is (Subprogram p) is)
+          (callable_as (Subprogram p) is refl refl))))
       by_entity (Entry p) is =
           absurd (no_callable (profile_named s first.name) (profile_is (Entry p) is) (callable_as (Entry p) is refl refl))
       by_entity (Predefined o p) is =
           absurd (closed_not (standing.Callee (callee.Direct x.number)) (begins_is (Predefined o p) is)
-          (callee_closed s x.number p (ap profile_of (x.stands ∙ ap Some is))
+          (callee_closed s (callee.Direct x.number) p (ap profile_of (x.stands ∙ ap Some is))
           (language_single o p (sound.each x.number (Predefined o p) (x.stands ∙ ap Some is)))))
       by_entity Put is = absurd (closed_not standing.Put (begins_is Put is) (put_closed s))
       by_entity (Task priority) is = absurd (closed_not standing.Task (begins_is (Task priority) is) (task_closed s))
-      by_entity (Protected o) is = absurd (let never = made_as (standing.Protected x.number) (begins_is (Protected o) is) in cc)
+      by_entity (Protected o) is = absurd (object_not selectors refl (made_as (standing.Protected x.number) (begins_is (Protected o) is)))
       by_entity LibraryUnit is = absurd (closed_not standing.Other (begins_is LibraryUnit is) (other_closed s))
       by_entity Doubtful is = absurd (sound.each x.number Doubtful (x.stands ∙ ap Some is))
 

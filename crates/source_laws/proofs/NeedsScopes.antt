@@ -35,7 +35,8 @@ use Rattle.expr_soundness.proofs.Widening.{subtype_known}
 use Rattle.ada_link.specs.expr_code.specs.Seeing.{NamesProfile, profile_named, subprogram_profile}
 use Rattle.ada_link.specs.expr_code.proofs.Widths.{fits, integral_one, known, words_by_type}
 use Rattle.ada_link.specs.expr_code.specs.declared.visible.Slot.{Slot}
-use Rattle.source_laws.specs.Depths.{AreStored, AreScalar, IsSmallScope, ObjectsHaveRoom, formals_take, is_full, is_scalar_form}
+use Rattle.source_laws.specs.Depths.{AreScalar, IsSmallScope, ObjectsHaveRoom, formals_take, is_full, is_scalar_form}
+use Rattle.source_laws.proofs.UnprotectedFronts.{push_unprotected}
 
 no_profile : (p : Profile) → None ≡ Some p → ⊥
 no_profile p h = cc
@@ -157,6 +158,7 @@ module _ (s : Scope) (name : List ℕ) (r : Role) (t : Subtype) where
             let before = form_before s name r t n form is in
             ap is_full ((grown s more).shapes n form before) ∙ small.full n form before;
         objects = room_behind small object few;
+        bare = push_unprotected s (object_named name r t) small.bare refl;
       }
 
   pub small_named : IsSmallScope s → IsSoundObject s r t → words_of s t ≤ WORDS → IsSmallScope (with_name s name (Object r t))
@@ -226,12 +228,3 @@ small_loop s parameter r small h =
     (let one = integral_one s (Typed found.0) found.2 in few_words (words_of s (base_range_of found.0)) (omega (arith, one))))
 
 -- ---- where words stand
-
-pub all_held : (xs ys : List (Option Slot)) → AreStored xs → AreStored ys → AreStored (xs ++ ys)
-all_held [] ys h k = k
-all_held (None ∷ xs) ys h k = all_held xs ys h k
-all_held (Some x ∷ xs) ys h k = (h.0, all_held xs ys h.1 k)
-
--- with an object more in the frame
-pub one_held : (xs : List (Option Slot)) (taken : ℕ) → AreStored xs → AreStored (xs ++ Some (record { region = regions.Locals; offset = taken }) ∷ [])
-one_held xs taken h = all_held xs (Some (record { region = regions.Locals; offset = taken }) ∷ []) h (refl, tt)

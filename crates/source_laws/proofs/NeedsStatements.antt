@@ -37,7 +37,7 @@ use Rattle.source_laws.proofs.NeedsAssignments.{assignment_fits}
 use Rattle.source_laws.proofs.NeedsBounds.{Fits, beyond_fits, both_fit, fits_more, nothing_fits, outside_left, outside_right}
 use Rattle.source_laws.proofs.NeedsCalls.{call_fits}
 use Rattle.source_laws.proofs.NeedsLocals.{locals_fit}
-use Rattle.source_laws.proofs.NeedsScopes.{bounds_legal, one_held, small_loop}
+use Rattle.source_laws.proofs.NeedsScopes.{bounds_legal, small_loop}
 use Rattle.source_laws.proofs.NeedsShapes.{nothing_unfit}
 use Rattle.source_laws.proofs.NeedsValues.{condition_low, integer_low, selecting_low, until_low}
 
@@ -150,7 +150,7 @@ mutual
       → Fits (stmt_needs a x) a.taken (stmt_words a.visible.scope x) (stmt_depth x)
   stmt_fits (Null place) a b l ts d h small few out = nothing_fits a.taken 0 0
   stmt_fits (Assignment target value) a b l ts d h small few out =
-      assignment_fits a.visible small.names small.slots target value l d.0 d.4.4.0 d.3 d.4.4.3 h out a.taken 0
+      assignment_fits a.visible small.names target value l d.0 d.4.4.0 d.3 d.4.4.3 h out a.taken 0
   stmt_fits (Call name) a b l ts d h small few out = call_fits a.visible small.names name l d.0 d.3 h out a.taken 0
   stmt_fits (Exit place condition) a b l ts d h small few out =
       both_fit (beyond_if _) (needs_if_any a.visible condition) a.taken 0 (depth_if_any expr_depth condition)
@@ -255,7 +255,7 @@ mutual
       let q = value_fits a.visible small.names 1 r.last a.taken w deep
       (integer_low s small.names Simple r.last x.0 ranged.4.1 ranged.4.4 (omega arith) bounds.last) (omega arith) (omega arith) in
       let u = stmts_fit body (inside_counted a parameter r) (in_loop b) x.0 (stmts_spelled x.0 body i.4.0 i.4.3) (back_empty c f h)
-      (record { names = small_loop s parameter r small.names legal; slots = one_held a.visible.slots a.taken small.slots }) few
+      (record { names = small_loop s parameter r small.names legal }) few
       (outside_right head inner out) in
       let frame = u.frame_low in
       let stack = u.stack_low in

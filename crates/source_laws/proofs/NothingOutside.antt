@@ -1,6 +1,6 @@
 -- Code is made of all that stands in an accepted text without protected objects: its variables have first words, and its bodies break no rule.
 use Rattle.std.proofs.Common.{◌≡◌, ℕ, suc, Bool, true, false, not, ◌&&◌, List, [], ◌∷◌, length, Option, Some, None, refl, sym, ap, ◌∙◌, subst, arith}
-use Rattle.std.specs.Prelude.{is_some, nat_eq, slice_get}
+use Rattle.std.specs.Prelude.{is_some, slice_get}
 use Rattle.std.proofs.lemmas.Bool.{or_from}
 use Rattle.ada_link.specs.lexer.specs.declared.token.Token.{Token}
 use Rattle.ada_tree.specs.declared.declaration.Formal.{Formal}
@@ -12,7 +12,7 @@ use Rattle.ada_tree.specs.StatementTree.{ObjectTree, SubprogramTree}
 use Rattle.ada_tree.specs.ProgramTree.{BodyItemTree, BodyTree, OfException, OfItem, OfObject, OfProtected, OfSubprogram, OfTask, OfType, ProgramTree, ProtectedBody, SubprogramBody, TaskBody}
 use Rattle.types.specs.declared.entity.Subtype.{Subtype}
 use Rattle.types.specs.Laws.{ShapesStay, ValuesHaveWords}
-use Rattle.types.specs.Scopes.{Scope, form_at, protected_count}
+use Rattle.types.specs.Scopes.{Scope, form_at}
 use Rattle.types.specs.Shapes.{shape_of}
 use Rattle.expr_soundness.specs.expr_rules.proofs.TypedLaw.{back_empty, judged, unbroken}
 use Rattle.ada_link.specs.base.specs.declared.faults.TheConstants.{WRONG_FUNCTION}
@@ -30,20 +30,20 @@ use Rattle.program_soundness.specs.BodyLaws.{NamesAreKnown, PremisesHold}
 use Rattle.program_soundness.specs.ScopeLaws.{DeclarationsAreSound, ObjectsAreSound}
 use Rattle.program_soundness.specs.Fronts.{declared_in, front, start_in}
 use Rattle.program_soundness.proofs.BodyProfiles.{named_is}
-use Rattle.program_soundness.proofs.Called.{head_legal, object_there}
+use Rattle.program_soundness.proofs.Called.{head_legal}
 use Rattle.program_soundness.proofs.Extending.{Extends, has_types}
 use Rattle.program_soundness.proofs.Listing.{none_passes}
 use Rattle.program_soundness.proofs.OneList.{restricted_at}
 use Rattle.program_soundness.proofs.Trees.{tree_package}
 use Rattle.program_soundness.proofs.Walked.{scope_next}
-use Rattle.program_soundness.proofs.WiderScopes.{number_stands}
 use Rattle.program_soundness.proofs.Whole.{IsPackage, value_returned}
 use Rattle.ada_link.specs.part_code.specs.Needs.{Needs}
 use Rattle.ada_link.specs.stmt_code.specs.WholeRefusals.{procedure_needs}
+use Rattle.ada_link.specs.package_code.proofs.OperationsAdded.{bodies_added}
 use Rattle.ada_link.specs.package_code.specs.Bodies.{of_subprogram}
 use Rattle.ada_link.specs.package_code.specs.Laws.{TablesAreSmall}
 use Rattle.ada_link.specs.package_code.specs.Refusing.{function_if_any, is_outside_item, is_outside_variable, item_needs, items_needs, program_needs, seen_at}
-use Rattle.ada_link.specs.package_code.proofs.Adding.{bodies_added, body_legal, task_legal, value_legal}
+use Rattle.ada_link.specs.package_code.proofs.Adding.{body_legal, task_legal, value_legal}
 use Rattle.ada_link.specs.package_code.proofs.Numbered.{bodies_numbered}
 use Rattle.ada_link.specs.package_code.proofs.Seen.{one_behind}
 use Rattle.source_laws.specs.Covered.{AreLegalFormals, NameSubtypes, FunctionsAreCovered, IsAcceptedBody, HasWhatCodeNeeds, NothingIsOutside, ProceduresAreCovered, has_protected, is_protected}
@@ -52,9 +52,9 @@ use Rattle.source_laws.specs.Visible.{CalleesHaveFew, FrontsKeepLimits, KeepsLim
 use Rattle.source_laws.proofs.CalleesSmall as callees
 use Rattle.source_laws.proofs.CalleesSmall.{formals_named}
 use Rattle.source_laws.proofs.CodeCounted.{behind, behind_is}
-use Rattle.source_laws.proofs.CoveredFronts.{covered_at, result_scalar, scalar_here, unprotected_at}
+use Rattle.source_laws.proofs.CoveredFronts.{covered_at, result_scalar, scalar_here}
 use Rattle.source_laws.proofs.CoveredVariables.{variable_inside}
-use Rattle.source_laws.proofs.UnprotectedFronts.{none_protected}
+use Rattle.source_laws.proofs.UnprotectedFronts.{no_object_body}
 use Rattle.std.proofs.Math.Seq.{take-length}
 use Rattle.program_soundness.specs.declaring.specs.PackageNames.{body_items_scope}
 
@@ -120,7 +120,7 @@ module _ (procedures : ProceduresAreCovered) (functions : FunctionsAreCovered) (
   -- ---- bodies
 
   covered : (place : ℕ) → HasWhatCodeNeeds (program_of t).exceptions (seen_at t place)
-  covered place = covered_at premises names scopes t legal restricted (bodies_numbered premises) tables few plain place (kept_limits place)
+  covered place = covered_at premises names scopes t legal restricted (bodies_numbered scopes names premises) tables few plain place (kept_limits place)
 
   module _ (place : ℕ) (d : SubprogramTree) (b : BodyTree) (at : slice_get all place ≡ Some (SubprogramBody d b)) where
     abbrev here : Scope
@@ -205,17 +205,11 @@ module _ (procedures : ProceduresAreCovered) (functions : FunctionsAreCovered) (
   item_inside place (OfItem (OfProtected d)) at = let never = none_passes is_protected all place (OfItem (OfProtected d)) plain at in cc
   item_inside place (SubprogramBody d b) at = body_inside place d b at
   item_inside place (TaskBody name b) at = task_inside place name b at
-  item_inside place (ProtectedBody name items end_name) at =
-      let x = object_there (program_of t) start all w place name items end_name at in
-      let n = number_stands (front t place) name.name _ x.stands_ in
-      absurd (none_protected (front t place) n.0 x.object (unprotected_at premises names scopes t legal restricted plain place) n.2)
+  item_inside place (ProtectedBody name items end_name) at = absurd (no_object_body premises t legal restricted plain place name items end_name at)
 
   pub nothing_inside : IsInside (program_needs t)
   nothing_inside =
-      let none : protected_count whole ≡ 0 =
-      subst (λ s. protected_count s ≡ 0) last_front (unprotected_at premises names scopes t legal restricted plain (length all)) in
-      or_from (not (nat_eq (protected_count whole) 0)) (items_needs t 0 all).outside (ap (λ n. not (nat_eq n 0)) none)
-      (items_inside t 0 all (λ k x at. subst (λ n. IsInside (item_needs t n x)) (let same = behind_is 0 k in omega (arith, same)) (item_inside k x at)))
+      items_inside t 0 all (λ k x at. subst (λ n. IsInside (item_needs t n x)) (let same = behind_is 0 k in omega (arith, same)) (item_inside k x at))
 
 pub nothing_outside : ProceduresAreCovered → FunctionsAreCovered → PremisesHold → NamesAreKnown → ScopesAreSound → ShapesStay → WordsHaveRoom
     → DeclarationsAreSound → ObjectsAreSound → ValuesHaveWords → FrontsKeepLimits → CalleesHaveFew → TablesAreSmall

@@ -1,6 +1,6 @@
 -- Each body of a small accepted text is small, so its code has room; and no limit refuses the text.
-use Rattle.std.proofs.Common.{◌≡◌, ℕ, zero, suc, ◌+◌, ◌≤◌, max, Bool, true, false, List, [], ◌∷◌, ◌++◌, length, map, inl, inr, Option, Some, None, refl, sym, ap, ◌∙◌, subst, arith}
-use Rattle.std.specs.Prelude.{bytes_eq, cond, nat_eq, not, slice_get}
+use Rattle.std.proofs.Common.{◌≡◌, ℕ, zero, suc, ◌+◌, ◌≤◌, max, false, List, [], ◌∷◌, ◌++◌, length, map, inl, inr, Option, Some, None, refl, sym, ap, ◌∙◌, subst, arith}
+use Rattle.std.specs.Prelude.{slice_get}
 use Rattle.std.proofs.lemmas.Bool.{or_from, or_parts}
 use Rattle.ada_link.specs.base.specs.declared.limits.TheConstants.{FORMALS, FRAME_WORDS}
 use Rattle.ada_link.specs.lexer.specs.declared.token.Token.{Token}
@@ -13,14 +13,10 @@ use Rattle.ada_tree.specs.ProgramGrammar.{body, body_item, package_part, program
 use Rattle.ada_tree.specs.StatementGrammar.{stmts}
 use Rattle.ada_tree.specs.StatementTree.{MoreStmts, NoStmts, Return, StmtTrees, SubprogramTree}
 use Rattle.ada_tree.specs.ProgramTree.{BodyItemTree, BodyTree, ItemTree, OfItem, PackageTree, ProgramTree, ProtectedBody, SubprogramBody, TaskBody}
-use Rattle.ada_link.specs.image.specs.declared.instruction.Region.TheVariants as regions
-use Rattle.types.specs.Places.{Object}
 use Rattle.types.specs.Scopes.{Scope}
-use Rattle.types.specs.Shapes.{value_words}
 use Rattle.expr_soundness.specs.expr_rules.proofs.TypedLaw.{front_empty}
 use Rattle.expr_soundness.specs.type_rules.specs.ProfileRules.{formals_faults, function_faults, profile_faults, result_faults}
 use Rattle.program_soundness.specs.declaring.specs.BodyNames.{formals_scope}
-use Rattle.program_soundness.specs.declaring.specs.ProtectedRules.{protected_count}
 use Rattle.program_soundness.specs.stmt_rules.specs.declared.around.BodyKind.TheVariants as kind
 use Rattle.program_soundness.specs.legality.specs.BodyRules.{body_name_faults, function_body_faults, kind_of, own_name_faults}
 use Rattle.checking.specs.ProgramRules.{IsLegal}
@@ -34,18 +30,18 @@ use Rattle.program_soundness.proofs.Listing.{same_some}
 use Rattle.program_soundness.proofs.Trees.{tree_package}
 use Rattle.ada_link.specs.expr_code.specs.declared.refusal.Refusal.TheVariants as refusal
 use Rattle.ada_link.specs.part_code.specs.Bounds.{body_words, formals_words}
-use Rattle.ada_link.specs.part_code.specs.Needs.{Needs, beyond_if, both}
+use Rattle.ada_link.specs.part_code.specs.Needs.{Needs, both}
 use Rattle.ada_link.specs.stmt_code.specs.WholeRefusals.{procedure_needs}
-use Rattle.ada_link.specs.expr_code.specs.declared.visible.Slot.{Slot}
-use Rattle.ada_link.specs.package_code.specs.Package.{place_among}
-use Rattle.ada_link.specs.package_code.specs.Refusing.{RefusesLinking, slot_in, told_behind, function_if_any, item_needs, items_needs, program_needs, seen_at}
+use Rattle.ada_link.specs.package_code.specs.Refusing.{RefusesLinking, function_if_any, item_needs, items_needs, program_needs, seen_at}
 use Rattle.ada_link.specs.package_code.proofs.Adding.{body_legal, task_legal, value_legal}
-use Rattle.source_laws.specs.Depths.{AreStored, FunctionsHaveRoom, StaysWithinLimits, IsSmallVisible, IsSmallFunction, IsSmallProcedure, ProceduresHaveRoom}
+use Rattle.source_laws.specs.Covered.{has_protected}
+use Rattle.source_laws.specs.Depths.{FunctionsHaveRoom, StaysWithinLimits, IsSmallVisible, IsSmallFunction, IsSmallProcedure, ProceduresHaveRoom}
 use Rattle.source_laws.specs.Limits.{IsLong, SmallBodiesPassByLength, SmallHasRoom, SmallIsUnlimited}
 use Rattle.source_laws.specs.Small.{HasSmallBodies, SmallCodeFits, body_loops}
 use Rattle.source_laws.specs.Visible.{FrontsAreSmall, NothingIsUnfit}
 use Rattle.source_laws.proofs.CodeCounted.{behind, behind_is, few_at}
 use Rattle.source_laws.proofs.FewCallees.{few_formals}
+use Rattle.source_laws.proofs.UnprotectedFronts.{no_object_body}
 
 -- ---- the tokens of a body, and its depth
 
@@ -169,32 +165,14 @@ items_room t place (x ∷ rest) room made =
     room_of_both (item_needs t place x) (items_needs t (suc place) rest) (room 0 x refl parts.0)
     (items_room t (suc place) rest (λ k y at own. room (suc k) y at own) parts.1)
 
--- ---- words of what is visible in front of a body stand among those of the package
-
-held_with : (from : ℕ) (xs : List Object) (name : List ℕ) (rest : List (Option Slot)) → AreStored rest → AreStored (place_among from xs name ∷ rest)
-held_with from [] name rest h = h
-held_with from (x ∷ xs) name rest h =
-    by_test (bytes_eq x.name name) (held_with (from + length (value_words x.value)) xs name rest h)
-  where
-    by_test : (b : Bool) → AreStored (place_among (from + length (value_words x.value)) xs name ∷ rest)
-        → AreStored (cond b (Some (record { region = regions.Plain; offset = from })) (place_among (from + length (value_words x.value)) xs name) ∷ rest)
-    by_test true k = (refl, h)
-    by_test false k = k
-
-all_held : (t : ProgramTree) (first : ℕ) (s : Scope) → AreStored (told_behind first (slot_in t None) s)
-all_held t first [] = tt
-all_held t zero (n ∷ s) = held_with 0 (program_of t).variables n.name (told_behind zero (slot_in t None) s) (all_held t zero s)
-all_held t (suc first) (n ∷ s) = all_held t first s
-
 -- ---- the bodies of a small text: what is visible in front of each, and how deep it is
 
 module _ (fronts : FrontsAreSmall) (limit : Limit) (t : ProgramTree) (tokens : List Token) (spelled : program limit t tokens) (legal : IsLegal t)
-    (restricted : IsRestricted t) (small : HasSmallBodies t) (place : ℕ) where
+    (restricted : IsRestricted t) (plain : has_protected t ≡ false) (small : HasSmallBodies t) (place : ℕ) where
   small_visible : IsSmallVisible (seen_at t (suc place))
   small_visible =
       record {
-        names = fronts limit t tokens spelled legal restricted small (suc place);
-        slots = all_held t (length (start_in t.package_)) (front t (suc place));
+        names = fronts limit t tokens spelled legal restricted plain small (suc place);
       }
 
   shallow_at : (x : BodyItemTree) (c : BodyTree) → slice_get (declared_in t.package_) place ≡ Some x → own_body x ≡ Some c → body_depth c ≤ 16
@@ -210,8 +188,8 @@ few_formals_alone a c e h = omega (arith, h)
 
 module _ (premises : PremisesHold) (names : NamesAreKnown) (scopes : ScopesAreSound) (fronts : FrontsAreSmall)
     (procedures : ProceduresHaveRoom) (functions : FunctionsHaveRoom) (limit : Limit) (t : ProgramTree) (tokens : List Token) (spelled : program limit t tokens)
-    (legal : IsLegal t) (restricted : IsRestricted t) (small : HasSmallBodies t) (place : ℕ) (d : SubprogramTree) (b : BodyTree)
-    (at : slice_get (declared_in t.package_) place ≡ Some (SubprogramBody d b)) where
+    (legal : IsLegal t) (restricted : IsRestricted t) (plain : has_protected t ≡ false) (small : HasSmallBodies t) (place : ℕ)
+    (d : SubprogramTree) (b : BodyTree) (at : slice_get (declared_in t.package_) place ≡ Some (SubprogramBody d b)) where
   abbrev s : Scope
   s = front t (suc place)
 
@@ -228,7 +206,7 @@ module _ (premises : PremisesHold) (names : NamesAreKnown) (scopes : ScopesAreSo
       omega (arith, many)
 
   shallow : body_depth b ≤ 16
-  shallow = shallow_at fronts limit t tokens spelled legal restricted small place (SubprogramBody d b) b at refl
+  shallow = shallow_at fronts limit t tokens spelled legal restricted plain small place (SubprogramBody d b) b at refl
 
   small_procedure : IsSmallProcedure s d.formals b
   small_procedure =
@@ -275,7 +253,7 @@ module _ (premises : PremisesHold) (names : NamesAreKnown) (scopes : ScopesAreSo
           → StaysWithinLimits (function_if_any (seen_at t (suc place)) d.formals (subtype_named (program_of t).scope r) o)
       by_value r some (Some e) is own =
           functions (seen_at t (suc place)) d.formals (subtype_named (program_of t).scope r) e
-          (fronts limit t tokens spelled legal restricted small (suc place))
+          (fronts limit t tokens spelled legal restricted plain small (suc place))
           (small_function r e some is) own
       by_value r some None is own = cc
 
@@ -290,14 +268,14 @@ module _ (premises : PremisesHold) (names : NamesAreKnown) (scopes : ScopesAreSo
           ])
       by_result None e own =
           procedures (seen_at t (suc place)) (program_of t).exceptions d.formals b
-          (small_visible fronts limit t tokens spelled legal restricted small place) small_procedure own
+          (small_visible fronts limit t tokens spelled legal restricted plain small place) small_procedure own
       by_result (Some x) e own = by_value x e (returned b.statements) refl own
 
 -- ---- those of tasks
 
 module _ (premises : PremisesHold) (names : NamesAreKnown) (scopes : ScopesAreSound) (fronts : FrontsAreSmall) (procedures : ProceduresHaveRoom) (limit : Limit)
-    (t : ProgramTree) (tokens : List Token) (spelled : program limit t tokens) (legal : IsLegal t) (restricted : IsRestricted t) (small : HasSmallBodies t)
-    (place : ℕ) (name : Identifier) (b : BodyTree) (at : slice_get (declared_in t.package_) place ≡ Some (TaskBody name b)) where
+    (t : ProgramTree) (tokens : List Token) (spelled : program limit t tokens) (legal : IsLegal t) (restricted : IsRestricted t)
+    (plain : has_protected t ≡ false) (small : HasSmallBodies t) (place : ℕ) (name : Identifier) (b : BodyTree) (at : slice_get (declared_in t.package_) place ≡ Some (TaskBody name b)) where
   small_task : IsSmallProcedure (front t (suc place)) [] b
   small_task =
       let own = body_spelled limit t tokens place (TaskBody name b) b spelled at refl in
@@ -308,31 +286,27 @@ module _ (premises : PremisesHold) (names : NamesAreKnown) (scopes : ScopesAreSo
         spelled = own.1;
         kind = kind.Task;
         legal = task_legal scopes names premises t legal restricted place name b at;
-        shallow = shallow_at fronts limit t tokens spelled legal restricted small place (TaskBody name b) b at refl;
+        shallow = shallow_at fronts limit t tokens spelled legal restricted plain small place (TaskBody name b) b at refl;
         words = few_together 0 (body_words (front t (suc place)) b) (body_loops b) (few_at t small place (TaskBody name b) at).0;
       }
 
   task_room : IsMade (item_needs t place (TaskBody name b)) → StaysWithinLimits (item_needs t place (TaskBody name b))
   task_room made =
       procedures (seen_at t (suc place)) (program_of t).exceptions [] b
-      (small_visible fronts limit t tokens spelled legal restricted small place) small_task made
+      (small_visible fronts limit t tokens spelled legal restricted plain small place) small_task made
 
 -- ---- the whole text
 
 pub small_has_room : PremisesHold → NamesAreKnown → ScopesAreSound → FrontsAreSmall → ProceduresHaveRoom → FunctionsHaveRoom → SmallHasRoom
-small_has_room premises names scopes fronts procedures functions limit t tokens spelled legal restricted small made =
-    let objects = beyond_if (not (nat_eq (protected_count (program_of t).scope) 0)) in
-    let parts = or_parts objects.outside (items_needs t 0 (declared_in t.package_)).outside made in
-    room_of_both objects (items_needs t 0 (declared_in t.package_)) (record { stack = omega arith; frame = omega arith; fit = refl })
-    (items_room t 0 (declared_in t.package_)
-    (λ k x at own. at_place k x (item_room k x at) own) parts.1)
+small_has_room premises names scopes fronts procedures functions limit t tokens spelled legal restricted plain small made =
+    items_room t 0 (declared_in t.package_) (λ k x at own. at_place k x (item_room k x at) own) made
   where
     item_room : (k : ℕ) (x : BodyItemTree) → slice_get (declared_in t.package_) k ≡ Some x → IsMade (item_needs t k x) → StaysWithinLimits (item_needs t k x)
     item_room k (SubprogramBody d b) at own =
-        body_room premises names scopes fronts procedures functions limit t tokens spelled legal restricted small k d b at own
-    item_room k (TaskBody name b) at own = task_room premises names scopes fronts procedures limit t tokens spelled legal restricted small k name b at own
+        body_room premises names scopes fronts procedures functions limit t tokens spelled legal restricted plain small k d b at own
+    item_room k (TaskBody name b) at own = task_room premises names scopes fronts procedures limit t tokens spelled legal restricted plain small k name b at own
     item_room k (OfItem d) at own = record { stack = omega arith; frame = omega arith; fit = refl }
-    item_room k (ProtectedBody name items end_name) at own = record { stack = omega arith; frame = omega arith; fit = refl }
+    item_room k (ProtectedBody name items end_name) at own = absurd (no_object_body premises t legal restricted plain k name items end_name at)
 
     at_place : (k : ℕ) (x : BodyItemTree) → (IsMade (item_needs t k x) → StaysWithinLimits (item_needs t k x)) → IsMade (item_needs t (behind 0 k) x)
         → StaysWithinLimits (item_needs t (behind 0 k) x)
@@ -341,19 +315,19 @@ small_has_room premises names scopes fronts procedures functions limit t tokens 
         subst (λ n. IsMade (item_needs t n x) → StaysWithinLimits (item_needs t n x)) same f own
 
 pub pass_by_length : SmallHasRoom → NothingIsUnfit → SmallBodiesPassByLength
-pass_by_length has_room unfit limit t tokens spelled legal restricted small made refused =
-    by_reason (has_room limit t tokens spelled legal restricted small made) refused
+pass_by_length has_room unfit limit t tokens spelled legal restricted plain small made refused =
+    by_reason (has_room limit t tokens spelled legal restricted plain small made) refused
   where
     by_reason : StaysWithinLimits (program_needs t) → RefusesLinking t refusal.Limit → IsLong t
     by_reason room (inl (inl many)) = inl many
     by_reason room (inl (inr (inl deep))) = let one = room.stack in let two = room.frame in absurd (omega (arith, deep, one, two))
-    by_reason room (inl (inr (inr bad))) = let none = unfit limit t tokens spelled legal restricted in absurd (let never = sym none ∙ bad in cc)
+    by_reason room (inl (inr (inr bad))) = let none = unfit limit t tokens spelled legal restricted plain in absurd (let never = sym none ∙ bad in cc)
     by_reason room (inr (inl many)) = inr many
     by_reason room (inr (inr bad)) = absurd bad
 
 pub small_is_unlimited : SmallBodiesPassByLength → SmallCodeFits → SmallIsUnlimited
-small_is_unlimited by_length fits limit t tokens spelled legal restricted small made refused =
-    by_reason (by_length limit t tokens spelled legal restricted small.bodies made refused)
+small_is_unlimited by_length fits limit t tokens spelled legal restricted plain small made refused =
+    by_reason (by_length limit t tokens spelled legal restricted plain small.bodies made refused)
   where
     by_reason : IsLong t → ⊥
     by_reason (inl many) = let up = (fits limit t tokens spelled legal restricted small).instructions in omega (arith, many, up)

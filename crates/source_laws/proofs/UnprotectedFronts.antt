@@ -1,30 +1,47 @@
--- In a text that declares no protected object nothing that is visible is one.
-use Rattle.std.proofs.Common.{◌≡◌, ℕ, zero, suc, ◌+◌, Bool, true, false, cond, List, [], ◌∷◌, ◌++◌, Some, refl, ap, ◌∙◌, arith}
+-- In a text that declares no protected object nothing that is visible is one, so no operation of one is called.
+use Rattle.std.proofs.Common.{◌≡◌, ℕ, zero, suc, ◌+◌, Bool, true, false, cond, List, [], ◌∷◌, ◌++◌, Option, Some, None, refl, ap, ◌∙◌, arith}
+use Rattle.std.specs.Prelude.{slice_get}
 use Rattle.std.specs.List.{list_any}
 use Rattle.std.proofs.lemmas.Bool.{or_parts}
 use Rattle.ada_link.specs.base.specs.declared.limits.TheConstants.{TASK_PRIORITY}
-use Rattle.ada_tree.specs.ProgramTree.{BodyItemTree, OfException, OfItem, OfObject, OfProtected, OfSubprogram, OfTask, OfType, ProtectedBody, SubprogramBody, TaskBody}
+use Rattle.ada_tree.specs.declared.expression.Identifier.{Identifier}
+use Rattle.ada_tree.specs.ExpressionTree.{NameTree}
+use Rattle.ada_tree.specs.ProgramTree.{BodyItemTree, OfException, OfItem, OfObject, OfProtected, OfSubprogram, OfTask, OfType, ProgramTree, ProtectedBody, ProtectedItemTree, SubprogramBody, TaskBody}
 use Rattle.types.specs.Entities.{Entity, Exception, Protected, ProtectedObject, Task}
-use Rattle.types.specs.Scopes.{Scope, entity_at, is_visible, one_if_protected, protected_count, with_name}
+use Rattle.types.specs.Scopes.{Named, Scope, entity_at, is_visible, number_of, one_if_protected, protected_at, protected_count, protected_of, with_name}
+use Rattle.checking.specs.ProgramRules.{IsLegal}
+use Rattle.program_soundness.specs.ravenscar.specs.ProgramRules.{IsRestricted}
+use Rattle.expr_soundness.specs.meaning.specs.Programs.{program_of}
 use Rattle.expr_soundness.specs.type_rules.specs.ObjectRules.{package_object_entity}
 use Rattle.expr_soundness.specs.type_rules.specs.ProfileRules.{profile_entity}
 use Rattle.expr_soundness.specs.type_rules.specs.TypeRules.{definition_entity}
 use Rattle.program_soundness.specs.declaring.specs.PackageNames.{body_item_scope}
 use Rattle.program_soundness.specs.declaring.specs.TaskRules.{default_priority, priority_of}
-use Rattle.program_soundness.specs.Fronts.{scope_at}
+use Rattle.program_soundness.specs.BodyLaws.{PremisesHold}
+use Rattle.program_soundness.specs.Fronts.{declared_in, front, scope_at, start_in}
+use Rattle.program_soundness.proofs.Called.{object_there}
 use Rattle.program_soundness.proofs.Listing.{same_some}
-use Rattle.program_soundness.proofs.Trees.{count_push}
+use Rattle.program_soundness.proofs.Trees.{count_push, tree_package}
 use Rattle.program_soundness.proofs.Walked.{Constants, IsOne, Kind, ProtectedOnes, Subprograms, Types, Variables, declared_one, own_profile}
-use Rattle.source_laws.specs.Covered.{is_protected}
+use Rattle.program_soundness.proofs.WiderScopes.{number_stands}
+use Rattle.program_soundness.proofs.Whole.{IsPackage}
+use Rattle.ada_link.specs.expr_code.specs.Seeing.{external_profile, object_named, profile_behind}
+use Rattle.ada_link.specs.expr_code.specs.declared.visible.Visible.{Visible}
+use Rattle.ada_link.specs.part_code.specs.Needs.{beyond, external_needs, through_needs}
+use Rattle.ada_link.specs.part_code.specs.Passing.{ExternalName}
+use Rattle.source_laws.specs.Covered.{has_protected, is_protected}
 
 -- ---- one more name
 
-with_unprotected : (s : Scope) (name : List ℕ) (e : Entity) → protected_count s ≡ 0 → one_if_protected e ≡ 0 → protected_count (with_name s name e) ≡ 0
+pub push_unprotected : (s : Scope) (x : Named) → protected_count s ≡ 0 → one_if_protected x.entity ≡ 0 → protected_count (s ++ x ∷ []) ≡ 0
+push_unprotected s x h k = let both = count_push s x in omega (arith, both, h, k)
+
+pub with_unprotected : (s : Scope) (name : List ℕ) (e : Entity) → protected_count s ≡ 0 → one_if_protected e ≡ 0 → protected_count (with_name s name e) ≡ 0
 with_unprotected s name e h k = by_test (is_visible s name)
   where
     by_test : (b : Bool) → protected_count (cond b s (s ++ record { name = name; entity = e } ∷ [])) ≡ 0
     by_test true = h
-    by_test false = let both = count_push s (record { name = name; entity = e }) in omega (arith, both, h, k)
+    by_test false = push_unprotected s (record { name = name; entity = e }) h k
 
 -- ---- what declarations and bodies declare
 
@@ -85,3 +102,43 @@ none_protected (m ∷ s) (suc n) p h at = none_protected s n p (behind (one_if_p
   where
     behind : (a b : ℕ) → a + b ≡ 0 → b ≡ 0
     behind a b k = omega (arith, k)
+
+-- ---- in front of each declaration and body of a text
+
+module _ (premises : PremisesHold) (t : ProgramTree) (legal : IsLegal t) (restricted : IsRestricted t) (plain : has_protected t ≡ false) where
+  abbrev w : IsPackage (program_of t) (start_in t.package_) (declared_in t.package_)
+  w = tree_package t legal restricted (premises t legal).sound
+
+  pub unprotected_at : (place : ℕ) → protected_count (front t place) ≡ 0
+  unprotected_at place = fronts_unprotected (start_in t.package_) (declared_in t.package_) place plain w.unprotected
+
+  -- so there is no body of one
+  pub no_object_body : (place : ℕ) (name : Identifier) (items : List ProtectedItemTree) (end_name : Identifier)
+      → slice_get (declared_in t.package_) place ≡ Some (ProtectedBody name items end_name) → ⊥
+  no_object_body place name items end_name at =
+      let x = object_there (program_of t) (start_in t.package_) (declared_in t.package_) w place name items end_name at in
+      let n = number_stands (front t place) name.name _ x.stands_ in
+      none_protected (front t place) n.0 x.object (unprotected_at place) n.2
+
+-- ---- calls through names of protected objects
+
+abbrev object_if_any : Scope → Option ℕ → Option ProtectedObject
+object_if_any s o = elim o [ None ↦ None | Some n ↦ protected_at s n ]
+
+none_named : (s : Scope) (name : List ℕ) → protected_count s ≡ 0 → object_named s name ≡ None
+none_named s name h = by_number (number_of s name)
+  where
+    by_entity : (n : ℕ) (o : Option Entity) → entity_at s n ≡ o → protected_of o ≡ None
+    by_entity n (Some (Protected p)) is = absurd (none_protected s n p h is)
+    by_entity n (Some e) is = refl
+    by_entity n None is = refl
+
+    by_number : (o : Option ℕ) → object_if_any s o ≡ None
+    by_number (Some n) = by_entity n (entity_at s n) refl
+    by_number None = refl
+
+none_external : (s : Scope) (object operation : List ℕ) → protected_count s ≡ 0 → external_profile s object operation ≡ None
+none_external s object operation h = ap (λ o. profile_behind o operation) (none_named s object h)
+
+pub external_beyond : (v : Visible) (name : NameTree) (x : ExternalName) → protected_count v.scope ≡ 0 → through_needs v name (Some x) ≡ beyond
+external_beyond v name x h = ap (external_needs v name.first.name x) (none_external v.scope name.first.name x.operation.name h)

@@ -28,7 +28,6 @@ use Rattle.program_soundness.specs.step_soundness.specs.Fitting.{entity_named}
 use Rattle.program_soundness.specs.Fronts.{declared_in}
 use Rattle.ada_link.specs.expr_code.specs.Seeing.{profile_named, slot_of, subprogram_of}
 use Rattle.ada_link.specs.expr_code.specs.declared.visible.Visible.{Visible}
-use Rattle.ada_link.specs.part_code.specs.Needs.{is_stored}
 use Rattle.ada_link.specs.part_code.specs.Raising.{number_among}
 use Rattle.ada_link.specs.stmt_code.specs.WholeRefusals.{function_needs, procedure_needs}
 use Rattle.ada_link.specs.package_code.specs.Refusing.{program_needs}
@@ -55,7 +54,7 @@ pub record HasWhatCodeNeeds (exceptions : List (List ℕ)) (v : Visible) : Type 
   pub slots : length v.slots ≡ length v.scope
   pub subprograms : length v.subprograms ≡ length v.scope
   -- the words of an object stand in a frame, or are those of the package
-  pub stored : (name : List ℕ) (r : Role) (t : Subtype) → stands_first v.scope (number_of v.scope name) ≡ standing.Part r t → is_stored (slot_of v name) ≡ true
+  pub stored : (name : List ℕ) (r : Role) (t : Subtype) → stands_first v.scope (number_of v.scope name) ≡ standing.Part r t → is_some (slot_of v name) ≡ true
   -- a subprogram has a number, and a function a result of one word
   pub numbered : (name : List ℕ) (p : Profile) → profile_named v.scope name ≡ Some p → is_some (subprogram_of v name) ≡ true
   pub results : (name : List ℕ) (p : Profile) (t : Subtype) → profile_named v.scope name ≡ Some p → p.result ≡ Some t

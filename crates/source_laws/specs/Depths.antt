@@ -15,7 +15,7 @@ use Rattle.types.specs.declared.entity.Subtype.{Subtype}
 use Rattle.types.specs.declared.standing.Callee.{Callee}
 use Rattle.types.specs.Entities.{Booleans, Integers, Object, Profile, Spans, Times, TypeForm}
 use Rattle.types.specs.Layouts.{words_of}
-use Rattle.types.specs.Scopes.{Scope, entity_at, form_at}
+use Rattle.types.specs.Scopes.{Scope, entity_at, form_at, protected_count}
 use Rattle.types.specs.Shapes.{Grouped, MoreShapes, NoShapes, Repeated, Shape, Shapes, words, words_of_parts}
 use Rattle.types.specs.Standings.{callee_profile}
 use Rattle.expr_soundness.specs.expr_rules.specs.declared.own.Wanted.TheVariants.{OfType}
@@ -32,7 +32,6 @@ use Rattle.ada_link.specs.expr_code.specs.Widths.{width_of}
 use Rattle.ada_link.specs.expr_code.specs.declared.visible.Slot.{Slot}
 use Rattle.ada_link.specs.expr_code.specs.declared.visible.Visible.{Visible}
 use Rattle.ada_link.specs.part_code.specs.Bounds.{body_words, formals_words}
-use Rattle.ada_link.specs.part_code.specs.Passing.{holds_variables}
 use Rattle.ada_link.specs.part_code.specs.Needs.{Needs}
 use Rattle.ada_link.specs.stmt_code.specs.WholeRefusals.{function_needs, procedure_needs}
 
@@ -85,24 +84,18 @@ TypesAreFull s = (n : ℕ) (form : TypeForm) → form_at s n ≡ Some form → i
 abbrev pub ObjectsHaveRoom : Scope → Type 0
 ObjectsHaveRoom s = (n : ℕ) (r : Role) (t : Subtype) → entity_at s n ≡ Some (Object r t) → words_of s t ≤ WORDS
 
--- what is visible in a small source
+-- what is visible in a small source, which declares no protected object
 pub record IsSmallScope (s : Scope) : Type 0 where
   pub sound : SoundScope s
   pub formals : FewFormals s
   pub words : FewWords s
   pub full : TypesAreFull s
   pub objects : ObjectsHaveRoom s
+  pub bare : protected_count s ≡ 0
 
--- the words of visible objects stand in a frame, or are those of the package
-abbrev pub AreStored : List (Option Slot) → Type 0
-AreStored [] = ⊤
-AreStored (None ∷ rest) = AreStored rest
-AreStored (Some x ∷ rest) = (holds_variables x.region ≡ true) × AreStored rest
-
--- ... and where their words stand
+-- ... of names
 pub record IsSmallVisible (v : Visible) : Type 0 where
   pub names : IsSmallScope v.scope
-  pub slots : AreStored v.slots
 
 -- ---- expressions
 

@@ -17,6 +17,7 @@ use Rattle.expr_soundness.specs.SoundScopes.{IsKnown}
 use Rattle.program_soundness.specs.Fronts.{front}
 use Rattle.ada_link.specs.expr_code.specs.Refusing.{is_fit}
 use Rattle.ada_link.specs.package_code.specs.Refusing.{program_needs}
+use Rattle.source_laws.specs.Covered.{has_protected}
 use Rattle.source_laws.specs.Depths.{FewFormals, IsSmallScope, is_full}
 use Rattle.source_laws.specs.Small.{HasSmallBodies}
 
@@ -35,9 +36,10 @@ abbrev pub FrontsKeepLimits : Type 0
 FrontsKeepLimits = (limit : Limit) (t : ProgramTree) (tokens : List Token) → program limit t tokens → IsLegal t → IsRestricted t → (place : ℕ)
     → KeepsLimits (front t place)
 
--- nothing that code of an accepted text needs takes no words, or more than an image has, nor does a part of it
+-- nothing that code of an accepted text without protected objects needs takes no words, or more than an image has, nor does a part of it
 abbrev pub NothingIsUnfit : Type 0
-NothingIsUnfit = (limit : Limit) (t : ProgramTree) (tokens : List Token) → program limit t tokens → IsLegal t → IsRestricted t → (program_needs t).unfit ≡ false
+NothingIsUnfit = (limit : Limit) (t : ProgramTree) (tokens : List Token) → program limit t tokens → IsLegal t → IsRestricted t → has_protected t ≡ false
+    → (program_needs t).unfit ≡ false
 
 -- ---- what can be called
 
@@ -45,7 +47,8 @@ NothingIsUnfit = (limit : Limit) (t : ProgramTree) (tokens : List Token) → pro
 abbrev pub CalleesHaveFew : Type 0
 CalleesHaveFew = (t : ProgramTree) → IsLegal t → IsRestricted t → (place : ℕ) → FewFormals (front t place)
 
--- and in one whose bodies are small these take few words
+-- and in one without protected objects whose bodies are small these take few words
 abbrev pub FrontsAreSmall : Type 0
-FrontsAreSmall = (limit : Limit) (t : ProgramTree) (tokens : List Token) → program limit t tokens → IsLegal t → IsRestricted t → HasSmallBodies t → (place : ℕ)
+FrontsAreSmall = (limit : Limit) (t : ProgramTree) (tokens : List Token) → program limit t tokens → IsLegal t → IsRestricted t → has_protected t ≡ false
+    → HasSmallBodies t → (place : ℕ)
     → IsSmallScope (front t place)

@@ -42,7 +42,7 @@ pub fn fronts_keep_limits()
     words_have_room();
 }
 
-/// Nothing that code of an accepted text needs takes no words, or more than an image has.
+/// Nothing that code of an accepted text without protected objects needs takes no words, or more than an image has.
 pub fn nothing_is_unfit()
     ensures { NothingIsUnfit }
 {
@@ -66,7 +66,7 @@ pub fn callees_have_few()
     words_have_room();
 }
 
-/// What is visible in front of each declaration and body is small in a text whose bodies are: its formals take at most 64 words.
+/// What is visible in front of each declaration and body is small in a text without protected objects whose bodies are: its formals take at most 64 words.
 pub fn fronts_are_small()
     ensures { FrontsAreSmall }
 {
@@ -78,7 +78,7 @@ pub fn fronts_are_small()
     words_have_room();
 }
 
-/// The frames and operand stacks of the code of a text whose bodies, of subprograms and tasks, are small have room.
+/// The frames and operand stacks of the code of a text without protected objects whose bodies, of subprograms and tasks, are small have room.
 pub fn small_has_room()
     ensures { SmallHasRoom }
 {
@@ -90,7 +90,7 @@ pub fn small_has_room()
     scopes_are_sound();
 }
 
-/// So an accepted text whose bodies are small passes a limit of images only by the instructions, or the rows of handlers, of all its code.
+/// So such an accepted text whose bodies are small passes a limit of images only by the instructions, or the rows of handlers, of all its code.
 pub fn small_bodies_pass_by_length()
     ensures { SmallBodiesPassByLength }
 {
@@ -98,7 +98,7 @@ pub fn small_bodies_pass_by_length()
     small_has_room();
 }
 
-/// And no limit of images refuses a small accepted text of which code is made.
+/// And no limit of images refuses a small accepted text without protected objects of which code is made.
 pub fn small_is_unlimited()
     ensures { SmallIsUnlimited }
 {
