@@ -3,7 +3,7 @@
 
     rows.py PROGRAM FOLDER SCRATCH
 
-A table has rows of one kind, told by its name: programs, time, delays, tasks, refused and spelling have sources, schedules has schedules, images and operations
+A table has rows of one kind, told by its name: programs, time, delays, tasks, protected, refused and spelling have sources, schedules has schedules, images and operations
 have images, words has words.
 
 - A source is called by `go`, then by `compile`, and what was compiled by `run`. Where it is refused, no image is made, and one that was there stays.
@@ -223,7 +223,7 @@ def run_words(caller, row):
     caller.same(row, "files have changed", files_left, files)
 
 
-KINDS = {"programs": run_source, "time": run_source, "delays": run_source, "tasks": run_source, "refused": run_source, "spelling": run_source, "schedules": run_source, "images": run_image, "operations": run_image, "words": run_words}
+KINDS = {"programs": run_source, "time": run_source, "delays": run_source, "tasks": run_source, "protected": run_source, "refused": run_source, "spelling": run_source, "schedules": run_source, "images": run_image, "operations": run_image, "words": run_words}
 
 
 def check_table(program, path, scratch):
