@@ -33,7 +33,7 @@ use Rattle.part_code.proofs.TargetsRefused.{by_mode, copied_within, target_withi
 -- ---- no line is a call of a procedure
 
 -- a label is no actual parameter
-label_illegal : (s : Scope) (f : FormalParameter) (label : List ℕ) (place : ℕ) → argument_faults s (formal_slot f) (Text label place) ≡ [] → ⊥
+pub label_illegal : (s : Scope) (f : FormalParameter) (label : List ℕ) (place : ℕ) → argument_faults s (formal_slot f) (Text label place) ≡ [] → ⊥
 label_illegal s f label place h = by_kind f.mode h
   where
     by_kind : (m : Mode) → label_rule

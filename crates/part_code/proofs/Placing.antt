@@ -26,7 +26,7 @@ use Rattle.expr_code.specs.declared.visible.Slot.{Slot}
 use Rattle.part_code.specs.Layout.{AreApart, IsLaidOut, IsLaidPackage, IsVariable, NamesObject, Widens}
 use Rattle.part_code.specs.Resting.{Framed, IsAtHome, IsAtHomeIn, Knows, Rests}
 use Rattle.part_code.proofs.Names.{WasTold, found_behind, found_first, meant_behind, meant_first, meant_width, name_is, object_value, profile_before, same_name, single_number, told_of_more}
-use Rattle.part_code.proofs.OperationNames.{external_was}
+use Rattle.part_code.proofs.OperationNames.{told_without}
 use Rattle.part_code.proofs.Words.{IsWritten}
 
 -- ---- other words of the frame
@@ -298,7 +298,7 @@ module _ (kept : AgreementIsKept) (sized : ValuesHaveWords) (g : Package) (v : F
       wider_external : (name operation : List ℕ) (number : ℕ) (o : ProtectedObject) (f : Function) → external_of later.names name operation ≡ Some number
           → meaning_of p name ≡ IsProtected o → function_of g.functions (Some o.number) operation ≡ Some f → IsOffered g o f number
       wider_external name operation number o f told h found =
-          let was = external_was v.names.operations name operation number v.names.scope named no_object
+          let was = told_without (λ o. number_behind v.names.operations o operation) refl number name v.names.scope named no_object
           ((λ j. number_behind (sym widens.operations j) (object_named (sym scope_is j) name) operation) ∙ told) in
           knew.sees.externals name operation number o f was.2 (sym (behind name (differs name was.0 was.1)) ∙ h) found
 

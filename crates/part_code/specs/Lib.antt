@@ -17,6 +17,7 @@ pub mod Counting
 pub mod Statements
 pub mod Lines
 pub mod Raising
+pub mod EntryNames
 pub mod Suiting
 pub mod Bounds
 pub mod Emitting

@@ -37,6 +37,7 @@ use Rattle.expr_code.specs.declared.visible.Slot.{Slot}
 use Rattle.expr_code.specs.declared.visible.Visible.{Visible}
 use Rattle.part_code.specs.Formals.{passed_for, placed_words, returned_more}
 use Rattle.part_code.specs.Bounds.{local_words, words_named}
+use Rattle.part_code.specs.EntryNames.{entry_behind, is_own_entry}
 use Rattle.part_code.specs.Lines.{LabelledValue, is_put, line_of}
 use Rattle.part_code.specs.Moves.{alone}
 use Rattle.part_code.specs.Moving.{moves}
@@ -243,7 +244,7 @@ abbrev pub line_needs : Visible → Option LabelledValue → Needs
 line_needs v None = beyond
 line_needs v (Some line) = value_needs v line.value
 
--- ---- calls of procedures
+-- ---- calls of procedures and entries
 
 -- of an actual parameter of mode `in`: its value, checked
 abbrev pub in_needs : (depth : ℕ) → Visible → Subtype → ExprTree → Needs
@@ -354,9 +355,25 @@ external_needs v object x None = beyond
 external_needs v object x (Some profile) =
     both (beyond_if (is_none (external_of v object x.operation.name))) (passed_needs v profile.formals (Some x.arguments))
 
+-- ... of its entry, where it is one: nothing else is asked
+abbrev pub entry_needs : Visible → ExternalName → Option Profile → Needs
+entry_needs v x None = beyond
+entry_needs v x (Some profile) = passed_needs v profile.formals (Some x.arguments)
+
+abbrev pub behind_needs : Visible → (object : List ℕ) → ExternalName → (entry : Option ℕ) → Option Profile → Needs
+behind_needs v object x (Some number) profile = entry_needs v x profile
+behind_needs v object x None profile = external_needs v object x profile
+
+-- ... of an entry of the body's own object, which is a test alone; or of a line
+abbrev pub bare_needs : Visible → NameTree → (own_entry : Bool) → Needs
+bare_needs v name true = nothing
+bare_needs v name false = put_needs v name
+
 abbrev pub through_needs : Visible → NameTree → Option ExternalName → Needs
-through_needs v name None = put_needs v name
-through_needs v name (Some x) = external_needs v name.first.name x (external_profile v.scope name.first.name x.operation.name)
+through_needs v name None = bare_needs v name (is_own_entry (entity_named v.scope name.first.name))
+through_needs v name (Some x) =
+    behind_needs v name.first.name x (entry_behind v.scope name.first.name x.operation.name)
+    (external_profile v.scope name.first.name x.operation.name)
 
 abbrev pub called_needs : Visible → NameTree → Option Profile → Needs
 called_needs v name (Some profile) = invoked_needs v name profile

@@ -32,7 +32,7 @@ use Rattle.types.specs.Evaluating.{Calls, val}
 use Rattle.type_rules.specs.SubtypeNames.{named_entity}
 use Rattle.expr_soundness.specs.meaning.specs.Programs.{Parameter, Procedure, Program, exception_number}
 use Rattle.expr_soundness.specs.meaning.specs.Calls.{Actuals, Callee, activation_of, callee_by, procedure_among, procedure_here, results}
-use Rattle.step_soundness.specs.Fitting.{taken_types}
+use Rattle.step_soundness.specs.Fitting.{entry_of, taken_types}
 use Rattle.step_soundness.specs.Objects.{AreOf, IsException}
 use Rattle.expr_code.specs.Views.{At, View, in_frame, placed, view_of}
 use Rattle.expr_code.specs.Coming.{most_steps, on}
@@ -101,17 +101,14 @@ module _ (i : Sections) (program : Program) (g : Package) (numbers : Numbers) wh
       (mid : ℕ) × (number : ℕ) × (from ≤ mid) × IsValue v from mid e × At i mid (op.PutLine number) × (text_at i.labels number ≡ label) × (to ≡ suc mid)
   IsPutCode v from to s = ⊥
 
-  -- the actual parameters, the call, through an object or not, and what is copied back
-  pub record IsCall (v : Framed) (from to : ℕ) (c : Callee) : Type 0 where
-    pub number : ℕ
-    pub numbered : numbers c.procedure ≡ Some number
-    pub plain : c.procedure.barrier ≡ None
+  -- the actual parameters, an instruction that calls, and what is copied back
+  pub record IsInvoked (v : Framed) (from to : ℕ) (c : Callee) (call : Operation) : Type 0 where
     pub mid : ℕ
     pub up : from ≤ mid
     pub over : suc mid ≤ to
     pub computes : Everywhere i (library_of g) (Sees g v.names) from mid (actuals_on v.names c.procedure.parameters)
         (λ calls p. passed_actuals calls p c.procedure.parameters c.arguments)
-    pub calls : At i mid (procedure_operation c.through number)
+    pub calls : At i mid call
     pub destinations : List Destination
     pub many : length destinations ≡ length (results c.procedure.parameters)
     pub copies : AreCopies i program g v (suc mid) to destinations
@@ -121,6 +118,41 @@ module _ (i : Sections) (program : Program) (g : Package) (numbers : Numbers) wh
         → ArePassed (shapes_of c.procedure) a.values × AreOf program.scope (taken_types c.procedure.parameters) a.values
         × ArePlaced v destinations a.targets
 
+  -- the call of a procedure, through an object or not
+  pub record IsCall (v : Framed) (from to : ℕ) (c : Callee) : Type 0 where
+    pub number : ℕ
+    pub numbered : numbers c.procedure ≡ Some number
+    pub plain : c.procedure.barrier ≡ None
+    pub invoked : IsInvoked v from to c (procedure_operation c.through number)
+
+  -- what is called is the entry of this object (RM 9.5.2)
+  pub record IsEntryOf (c : Callee) (object : ℕ) : Type 0 where
+    pub barrier : ExprTree
+    pub condition : c.procedure.barrier ≡ Some barrier
+    pub owner : c.procedure.object ≡ Some object
+    pub only : entry_of program.procedures object ≡ Some c.procedure
+
+  -- the call of an entry through its object: a test that no action is open, in front of the actual parameters (RM 9.5.1, 9.5.3)
+  pub record IsEntryCall (v : Framed) (from to : ℕ) (c : Callee) : Type 0 where
+    pub object : ℕ
+    pub through : c.through ≡ Some object
+    pub entry : IsEntryOf c object
+    pub test : At i from op.CheckBlocking
+    pub invoked : IsInvoked v (suc from) to c (op.EntryCall object)
+
+  -- the call of an entry in a body of its own object, within an action of it: the test alone, which raises there
+  pub record IsOwnEntryCall (from to : ℕ) (c : Callee) : Type 0 where
+    pub object : ℕ
+    pub inside : c.through ≡ None
+    pub entry : IsEntryOf c object
+    pub test : At i from op.CheckBlocking
+    pub end : to ≡ suc from
+
+  pub data IsCallCode (v : Framed) (from to : ℕ) (c : Callee) : Type 0 where
+    OfProcedure : IsCall v from to c → IsCallCode v from to c
+    OfEntry : IsEntryCall v from to c → IsCallCode v from to c
+    OfOwnEntry : IsOwnEntryCall from to c → IsCallCode v from to c
+
   -- a statement of main, which calls a procedure of the package without parameters (RM 10.2)
   abbrev pub IsMainStatementCode : (from to : ℕ) → MainStatement → Type 0
   IsMainStatementCode from to (main.Null place) = from ≡ to
@@ -129,7 +161,7 @@ module _ (i : Sections) (program : Program) (g : Package) (numbers : Numbers) wh
       (op.Call number) × (to ≡ suc from)
 
   abbrev pub IsCalleeCode : Framed → (from to : ℕ) → NameTree → Option Callee → Type 0
-  IsCalleeCode v from to name (Some c) = IsCall v from to c
+  IsCalleeCode v from to name (Some c) = IsCallCode v from to c
   IsCalleeCode v from to name None = (named_entity program.scope name.first ≡ Some Put) × IsPutCode v from to name.selectors
 
   abbrev pub IsAssigned : Framed → (from to : ℕ) → NameTree → ExprTree → Type 0

@@ -3,7 +3,7 @@ use Rattle.std.specs.Prelude.{◌≡◌, ℕ, suc, Bool, ◌||◌, List, None, S
 use Rattle.ada_tree.specs.declared.declaration.Mode.TheVariants as mode
 use Rattle.ada_tree.specs.Size.{total}
 use Rattle.image.specs.Sections.{Sections}
-use Rattle.image.specs.Operations.{called}
+use Rattle.image.specs.Operations.{called, entry_called}
 use Rattle.image.specs.Rules.{calls_inside, has_region, is_external, is_plain, writes_region}
 use Rattle.image.specs.declared.instruction.Region.{Region}
 use Rattle.image.specs.declared.subprograms.Kind.{Kind}
@@ -15,6 +15,7 @@ use Rattle.types.specs.Scopes.{Scope}
 use Rattle.expr_code.specs.Seeing.{NamesProfile, Suits, external_of, external_profile, slot_of, subprogram_of}
 use Rattle.expr_code.specs.declared.visible.Slot.{Slot}
 use Rattle.expr_code.specs.declared.visible.Visible.{Visible}
+use Rattle.part_code.specs.EntryNames.{entry_behind}
 
 -- the words that are passed for a parameter, and those that come back with it: its value, above the address of its target
 abbrev pub passed_width : Scope → FormalParameter → ℕ
@@ -28,6 +29,13 @@ pub record IsCallableProcedure (i : Sections) (s : Scope) (test : Kind → Bool)
   pub code : code.Subprogram
   pub is : called i number ≡ Some code
   pub kind : test code.kind ≡ true
+  pub parameters : code.parameters ≡ total (passed_width s) profile.formals
+  pub results : code.results ≡ total (returned_width s) profile.formals
+
+-- the object of this number has an entry, whose subprogram takes and gives the same
+pub record IsCallableEntry (i : Sections) (s : Scope) (number : ℕ) (profile : Profile) : Type 0 where
+  pub code : code.Subprogram
+  pub is : entry_called i number ≡ Some code
   pub parameters : code.parameters ≡ total (passed_width s) profile.formals
   pub results : code.results ≡ total (returned_width s) profile.formals
 
@@ -50,3 +58,6 @@ pub record SuitsStatements (v : Visible) (i : Sections) (s : code.Subprogram) : 
       → external_profile v.scope name operation ≡ Some profile
       → profile.result ≡ None
       → IsCallableProcedure i v.scope is_external number profile
+  pub entries : (name operation : List ℕ) (number : ℕ) (profile : Profile) → entry_behind v.scope name operation ≡ Some number
+      → external_profile v.scope name operation ≡ Some profile
+      → IsCallableEntry i v.scope number profile

@@ -8,8 +8,10 @@ ghost use Rattle.expr_code.specs.Code.{here, IsShallow};
 ghost use Rattle.expr_code.specs.Emitting as expressions;
 ghost use Rattle.expr_code.specs.Refusing.{IsRefused, IsRefusedBeside, IsUnfit};
 ghost use Rattle.image.specs.Rules.{is_block};
+ghost use Rattle.part_code.specs.EntryNames.{entry_behind, is_own_entry};
 ghost use Rattle.part_code.specs.Passing.{actuals_behind, AddsActuals, AddsCheck, AddsCopy, AddsRange, AddsValue, copied_width, EmitsCopies, EmitsTarget, loaded_at, operation_behind};
 ghost use Rattle.part_code.specs.Needs.{actual_needs, actuals_needs, check_words, copied_needs, copies_needs, copy_needs, destinations_for, destinations_of, IsNeeding, IsPartFit, is_taken, target_needs};
+ghost use Rattle.step_soundness.specs.Fitting.{entity_named};
 ghost use Rattle.types.specs.Layouts.{words_of};
 ghost use Rattle.types.specs.Scopes.{form_at};
 ghost use Rattle.expr_soundness.specs.SoundScopes.{AreKnown, IsKnown, SoundScope};
@@ -22,8 +24,9 @@ use expr_code::{Code, Refusal, Visible, raised};
 use expr_soundness::laws::agreement_is_kept;
 use image::{Operation, Region};
 use kernel::laws::quiet_stays;
+use lexer::Text;
 use types::laws::values_have_words;
-use types::{FormalParameter, Standing, Subtype, TypeForm};
+use types::{Entity, FormalParameter, Standing, Subtype, TypeForm};
 
 /// Where a parameter is copied back to at the end of a call (RM 6.4.1): the region of the variable, and the subtype of the target.
 #[derive(Clone, Copy, PartialEq, Eq, Debug)]
@@ -65,6 +68,32 @@ pub fn operation_of(name: &NameExpr) -> Option<(&Identifier, &[Argument])>
         [Selector::Arguments(..), _] => None,
         [Selector::Attribute(..), _] => None,
         [_, _, _, ..] => None,
+    }
+}
+
+/// The number of the protected object of this name, where the operation of that name is its entry (RM 9.5.2), if an instruction has room for the number.
+pub fn entry_behind(visible: &Visible, object: &Text, operation: &Text) -> Option<u16>
+    ensures { result ≡ entry_behind visible.now.scope object.now operation.now }
+{
+    let number = visible.scope.number_of(object)?;
+    let protected = visible.scope.protected(number)?;
+    let place = protected.position_of(operation)?;
+    match protected.operations.as_slice().get(place) {
+        Some(found) if found.is_entry => match u16::try_from(protected.number) {
+            Ok(number) => Some(number),
+            Err(_) => None,
+        },
+        _ => None,
+    }
+}
+
+/// Whether the name stands for an entry of the protected object in whose body it is read.
+pub fn is_own_entry(visible: &Visible, name: &Text) -> bool
+    ensures { result ≡ is_own_entry (entity_named visible.now.scope name.now) }
+{
+    match visible.scope.number_of(name) {
+        Some(number) => matches!(visible.scope.entity(number), Some(Entity::Entry(_))),
+        None => false,
     }
 }
 

@@ -19,7 +19,10 @@ mod storing;
 mod turns;
 
 pub use body::{initialise_all, return_all};
-pub use call::{Destination, actuals_of, add_actuals, add_copies, operation_of, words_of};
+pub use call::{
+    Destination, actuals_of, add_actuals, add_copies, entry_behind, is_own_entry, operation_of,
+    words_of,
+};
 pub use choice_rows::{add_choice_rows, add_rows};
 pub use choices::add_choices;
 pub use declaration::add_object;

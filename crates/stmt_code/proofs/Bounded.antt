@@ -54,7 +54,7 @@ use Rattle.part_code.proofs.Names.{single_number, is_told, profile_without}
 use Rattle.stmt_code.proofs.Parameters.{AreBelow, HoldsRange, holds_behind, parameter_below, parameter_ends, parameter_laid}
 use Rattle.part_code.specs.Statements.{Numbers}
 use Rattle.part_code.specs.Suiting.{SuitsStatements}
-use Rattle.stmt_code.proofs.Suiting.{entries_wider, external_wider, number_wider, slots_first, stands_wider, subprograms_first, suits_wider}
+use Rattle.stmt_code.proofs.Suiting.{entries_wider, entry_wider, external_wider, number_wider, slots_first, stands_wider, subprograms_first, suits_wider}
 use Rattle.stmt_code.proofs.Widening.{scope_wider}
 
 -- ---- what is legal
@@ -216,6 +216,10 @@ module _ (stay : ShapesStay) (v later : Visible) (start opened : Draft) (paramet
           serves.externals name operation n o q
           (external_wider stay v later parameter.name role.LoopParameter (base_range_of of_type.number) slot sound entries hidden scope_is r.slots r.subprograms
           r.operations name operation n told);
+      entries = λ name operation n o told.
+          serves.entries name operation n o
+          (entry_wider stay v later parameter.name role.LoopParameter (base_range_of of_type.number) slot sound entries hidden scope_is r.slots r.subprograms
+          name operation n told);
       scope = serves.scope;
       place = record serves.place { locals = object ∷ serves.place.locals };
       here = serves.here;

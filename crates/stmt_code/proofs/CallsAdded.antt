@@ -1,5 +1,5 @@
 -- Code of calls of procedures that was added: the actual parameters, CALL or PCALL, and what is copied back (RM 6.4, 6.4.1, 9.5.1).
-use Rattle.std.proofs.Common.{◌≡◌, ℕ, suc, ◌+◌, inl, inr, List, [], ◌++◌, length, map, Bool, true, false, not, ◌||◌, Some, None, Option, refl, sym, ap, ◌∙◌, subst, arith, ◌≤◌, ◌-◌}
+use Rattle.std.proofs.Common.{◌≡◌, ℕ, suc, ◌+◌, ◌*◌, inl, inr, List, [], ◌++◌, length, map, Bool, true, false, not, ◌||◌, Some, None, Option, refl, sym, ap, ◌∙◌, subst, arith, ◌≤◌, ◌-◌}
 use Rattle.std.specs.Prelude.{slice_get, bytes_eq, option_map, position}
 use Rattle.base.specs.declared.faults.TheConstants.{NAME_NOT_VISIBLE}
 use Rattle.kernel.specs.Laws.{QuietStays}
@@ -26,9 +26,9 @@ use Rattle.expr_soundness.specs.expr_rules.specs.NameRules.{call_rule}
 use Rattle.expr_soundness.specs.expr_rules.proofs.TypedLaw.{back_empty, front_empty}
 use Rattle.type_rules.specs.SubtypeNames.{entity_at_or_none}
 use Rattle.expr_soundness.specs.meaning.specs.Calls.{Callee, callee_by, callee_with, procedure_here, callee_through, procedure_among}
-use Rattle.expr_soundness.specs.meaning.specs.Programs.{Parameter, Program, Procedure, object_numbered}
+use Rattle.expr_soundness.specs.meaning.specs.Programs.{Program, Procedure, object_numbered}
 use Rattle.part_code.specs.step_soundness.specs.Fitting as fitting
-use Rattle.part_code.specs.step_soundness.specs.Fitting.{IsProcedure, entity_named, formal_of}
+use Rattle.part_code.specs.step_soundness.specs.Fitting.{entity_named, formal_of}
 use Rattle.part_code.specs.step_soundness.proofs.Naming.{HasArguments, IsCall, called_with, IsOperationCall, operation_called}
 use Rattle.expr_code.specs.Actuals.{ArePassedLegally, arguments_in_front}
 use Rattle.expr_code.specs.Code.{Adds, Extends, Holds, here}
@@ -43,23 +43,23 @@ use Rattle.part_code.specs.Copying.{AreCopies}
 use Rattle.part_code.specs.declared.call.Destination.{Destination}
 use Rattle.stmt_code.specs.Emitting.{EmitsStatement, IsLegalStatement, Serves, AddsInvocation}
 use Rattle.part_code.specs.Passing.{ArePassedInFront, ArePassedAndPlaced, ComputesActuals, EmitsPassedActuals, EmitsCopies, actuals_behind, copied_width, ExternalName, operation_behind}
-use Rattle.part_code.specs.Suiting.{SuitsStatements, IsCallableProcedure}
+use Rattle.part_code.specs.Layout.{IsLaidOut}
+use Rattle.part_code.specs.Suiting.{SuitsStatements, returned_width, passed_width}
 use Rattle.part_code.specs.Resting.{Framed}
-use Rattle.part_code.specs.Statements.{IsCalleeCode, Numbers, Ways, procedure_operation}
+use Rattle.part_code.specs.Statements.{IsCalleeCode, IsInvoked, Numbers, OfProcedure, Ways}
 use Rattle.stmt_code.specs.declared.draft.Draft.{Draft}
 use Rattle.part_code.proofs.Actuals.{computes_none}
 use Rattle.stmt_code.proofs.Adding.{IsBeside, labels_beside, most_beside, taken_beside}
 use Rattle.stmt_code.proofs.RowsAdded.{goes_kept, rows_kept}
-use Rattle.stmt_code.proofs.CodeOfCalls.{calls_procedure}
+use Rattle.stmt_code.proofs.CodeOfCalls.{is_invoked}
 use Rattle.part_code.proofs.PassingWell.{passes_none}
 use Rattle.part_code.proofs.WrittenActuals.{behind_size, same_some as same_trees, size_is}
 use Rattle.image.specs.declared.instruction.Operation.{Operation}
-use Rattle.image.specs.declared.subprograms.Kind.{Kind}
+use Rattle.image.specs.declared.subprograms.Subprogram as code
 use Rattle.types.specs.declared.entity.FormalParameter.{FormalParameter}
 use Rattle.expr_soundness.specs.SoundScopes.{AreKnown, SoundScope}
 use Rattle.expr_soundness.proofs.Positions.{same_some}
 use Rattle.expr_code.proofs.Externals.{IsBehind, is_behind}
-use Rattle.expr_code.specs.Views.{At}
 use Rattle.stmt_code.proofs.Suiting.{profile_sound}
 
 -- ---- the form
@@ -125,13 +125,13 @@ module _ (v : Visible) (name : NameTree) (legal : IsLegalStatement v.scope (stat
   faults_behind = selectors_faults v.scope name.first.place (stands_first v.scope (number_of v.scope name.first.name)) name.selectors
 
   -- the rules of what stands behind the first name, and that of calls
-  selectors_legal : selectors_faults v.scope name.first.place first name.selectors ≡ []
+  pub selectors_legal : selectors_faults v.scope name.first.place first name.selectors ≡ []
   selectors_legal =
       ap (λ w. selectors_faults v.scope name.first.place w name.selectors) (sym stands)
       ∙ back_empty faults_first faults_behind
       (front_empty (faults_first ++ faults_behind) (call_rule name.first.place (standing_of v.scope name.first name.selectors)) legal.unbroken)
 
-  whole_called : call_rule name.first.place (select_all v.scope first name.selectors) ≡ []
+  pub whole_called : call_rule name.first.place (select_all v.scope first name.selectors) ≡ []
   whole_called =
       ap (λ w. call_rule name.first.place (select_all v.scope w name.selectors)) (sym stands)
       ∙ back_empty (faults_first ++ faults_behind) (call_rule name.first.place (standing_of v.scope name.first name.selectors)) legal.unbroken
@@ -234,24 +234,10 @@ pub invocation_added : (v : Visible) (old passed called new : Code) (fs : List F
 invocation_added v old passed called new fs all operation ds height p q r =
     record { destinations = ds; height = height; passed = passed; called = called; actuals = p; adds = q; copies = r }
 
--- what is called is a procedure with these formals, by this instruction with the number of its subprogram
-record Calls (program : Program) (numbers : Numbers) (f : Framed) (name : NameTree) (fs : List FormalParameter) (trees : ArgumentTrees)
-    (operation : Operation) : Type 0 where
-  callee : Callee
-  is : callee_by program f.within name.first name.selectors ≡ Some callee
-  formals : map formal_of callee.procedure.parameters ≡ fs
-  plain : callee.procedure.barrier ≡ None
-  number : ℕ
-  numbered : numbers callee.procedure ≡ Some number
-  way : operation ≡ procedure_operation callee.through number
-  arguments : callee.arguments ≡ trees
+-- ---- the code of an invocation
 
-module _ (quiet : QuietStays) (v : Visible) (w : Ways) (a c : Draft) (name : NameTree) (fs : List FormalParameter) (all : List Argument) (operation : Operation)
-    (size : arguments_size (argument_trees all) ≤ selectors_size name.selectors) (r : AddsInvocation v a.code fs (map argument_tree all) operation c.code)
-    (beside : IsBeside a c)
-    (reaches : (program : Program) (g : Package) (numbers : Numbers) (f : Framed) → f.names ≡ v → Serves program g numbers f a.words.taken
-    → Calls program numbers f name fs (argument_trees all) operation)
-    (changes : Changes (SuitsStatements v) operation r.height (0 + total (copied_width v.scope) r.destinations)) where
+module _ (quiet : QuietStays) (v : Visible) (old new : Code) (fs : List FormalParameter) (all : List Argument) (operation : Operation)
+    (r : AddsInvocation v old fs (map argument_tree all) operation new) where
   abbrev m : Code
   m = r.passed
 
@@ -267,87 +253,93 @@ module _ (quiet : QuietStays) (v : Visible) (w : Ways) (a c : Draft) (name : Nam
   grows : Extends m n
   grows = added_extends m n r.height operation r.adds
 
-  to_call : Extends a.code n
-  to_call = extends_trans a.code m n r.actuals.extends grows
+  to_call : Extends old n
+  to_call = extends_trans old m n r.actuals.extends grows
 
-  module _ (i : Sections) (h : Holds i (here a.code) c.code) (program : Program) (g : Package) (numbers : Numbers) (f : Framed) (seen : f.names ≡ v)
-      (serves : Serves program g numbers f a.words.taken) where
-    abbrev reached : Calls program numbers f name fs (argument_trees all) operation
-    reached = reaches program g numbers f seen serves
+  pub invocation_extends : Extends old new
+  invocation_extends = extends_trans old n new to_call r.copies.extends
 
-    abbrev parameters : List Parameter
-    parameters = reached.callee.procedure.parameters
+  pub invocation_sized : here new ≤ here old + (20 * arguments_size (argument_trees all) + 1)
+  invocation_sized = (let same = sizes_are all in omega (arith, r.actuals.sized, r.copies.sized, next, same))
 
-    abbrev callee_here : Callee
-    callee_here = record reached.callee { arguments = argument_trees all }
+  module _ (i : Sections) (h : Holds i (here old) new) (program : Program) (g : Package) (numbers : Numbers) (f : Framed) (seen : f.names ≡ v)
+      (scope : program.scope ≡ g.scope) (laid : IsLaidOut g f) (q : Procedure) (through : Option ℕ) (formals : map formal_of q.parameters ≡ fs) where
+    in_actuals : Holds i (here old) m
+    in_actuals = holds_before i (here old) m new (extends_trans m n new grows r.copies.extends) h
 
-    in_actuals : Holds i (here a.code) m
-    in_actuals = holds_before i (here a.code) m c.code (extends_trans m n c.code grows r.copies.extends) h
+    passed : ArePassedInFront i program g f (here old) (here m) q.parameters (map argument_tree all) ds
+    passed = r.actuals.stands i in_actuals program g f seen scope q.parameters formals
 
-    passed : ArePassedInFront i program g f (here a.code) (here m) parameters (map argument_tree all) ds
-    passed = r.actuals.stands i in_actuals program g f seen serves.scope parameters reached.formals
-
-    computes : ComputesActuals i program g f (here a.code) (here m) parameters (argument_trees all)
+    computes : ComputesActuals i program g f (here old) (here m) q.parameters (argument_trees all)
     computes =
-        subst (λ l. ComputesActuals i program g f (here a.code) (here m) l (argument_trees all)) (nothing_behind parameters)
-        (subst (λ x. ComputesActuals i program g f (here a.code) (here m) (parameters ++ []) x) (trees_are all)
+        subst (λ l. ComputesActuals i program g f (here old) (here m) l (argument_trees all)) (nothing_behind q.parameters)
+        (subst (λ x. ComputesActuals i program g f (here old) (here m) (q.parameters ++ []) x) (trees_are all)
         (passed.computes (here m) [] NoArguments (omega arith) (computes_none quiet i (library_of g) (Sees g f.names) f.names (here m))))
 
-    passes : ArePassedAndPlaced i program g f parameters (argument_trees all) ds
+    passes : ArePassedAndPlaced i program g f q.parameters (argument_trees all) ds
     passes =
-        subst (λ l. ArePassedAndPlaced i program g f l (argument_trees all) ds) (nothing_behind parameters)
-        (subst (λ x. ArePassedAndPlaced i program g f (parameters ++ []) x ds) (trees_are all)
-        (subst (λ l. ArePassedAndPlaced i program g f (parameters ++ []) (arguments_in_front (map argument_tree all) NoArguments) l) (nothing_behind ds)
-        (passed.passes [] NoArguments [] (passes_none program g serves.scope f))))
+        subst (λ l. ArePassedAndPlaced i program g f l (argument_trees all) ds) (nothing_behind q.parameters)
+        (subst (λ x. ArePassedAndPlaced i program g f (q.parameters ++ []) x ds) (trees_are all)
+        (subst (λ l. ArePassedAndPlaced i program g f (q.parameters ++ []) (arguments_in_front (map argument_tree all) NoArguments) l) (nothing_behind ds)
+        (passed.passes [] NoArguments [] (passes_none program g scope f))))
 
-    copies : AreCopies i program g f (suc (here m)) (here c.code) ds
-    copies = subst (λ x. AreCopies i program g f x (here c.code) ds) next
-        (r.copies.stands i (holds_later i (here a.code) (here n) c.code to_call.longer h) program g f seen serves.laid)
+    copies : AreCopies i program g f (suc (here m)) (here new) ds
+    copies =
+        subst (λ x. AreCopies i program g f x (here new) ds) next
+        (r.copies.stands i (holds_later i (here old) (here n) new to_call.longer h) program g f seen laid)
 
-    calls : IsCalleeCode i program g numbers f (here a.code) (here c.code) name (callee_by program f.within name.first name.selectors)
-    calls =
-        subst (IsCalleeCode i program g numbers f (here a.code) (here c.code) name)
-        (sym (reached.is ∙ (λ j. Some (record reached.callee { arguments = reached.arguments j }))))
-        (calls_procedure quiet i program g serves.scope numbers f callee_here reached.number reached.numbered reached.plain
-        (here a.code) (here m) (here c.code) r.actuals.extends.longer computes
-        (subst (At i (here m)) reached.way
-        (added_at m n r.height operation r.adds i (here a.code) r.actuals.extends.longer (holds_before i (here a.code) n c.code r.copies.extends h)))
-        ds passed.many copies passes)
+    pub invoked : IsInvoked i program g numbers f (here old) (here new) (record { procedure = q; through = through; arguments = argument_trees all }) operation
+    invoked =
+        is_invoked quiet i program g scope numbers f (record { procedure = q; through = through; arguments = argument_trees all }) operation (here old) (here m)
+        (here new) r.actuals.extends.longer computes
+        (added_at m n r.height operation r.adds i (here old) r.actuals.extends.longer (holds_before i (here old) n new r.copies.extends h))
+        ds passed.many copies passes
 
-  flows : Flows (SuitsStatements v) a.code 0 c.code 0
-  flows =
-      flows_then (SuitsStatements v) a.code n c.code 0 (0 + total (copied_width v.scope) ds) 0 to_call r.copies.extends
-      (flows_then (SuitsStatements v) a.code m n 0 r.height (0 + total (copied_width v.scope) ds) r.actuals.extends grows
-      (flows_too v a.code m 0 r.height r.actuals.flows)
+  pub invocation_flows : Changes (SuitsStatements v) operation r.height (0 + total (copied_width v.scope) ds) → Flows (SuitsStatements v) old 0 new 0
+  invocation_flows changes =
+      flows_then (SuitsStatements v) old n new 0 (0 + total (copied_width v.scope) ds) 0 to_call r.copies.extends
+      (flows_then (SuitsStatements v) old m n 0 r.height (0 + total (copied_width v.scope) ds) r.actuals.extends grows
+      (flows_too v old m 0 r.height r.actuals.flows)
       (instruction_flows (SuitsStatements v) m n r.height (0 + total (copied_width v.scope) ds) operation r.adds changes))
       r.copies.flows
 
-  invocation_emits : EmitsStatement v w a (statements.Call name) c
-  invocation_emits = record {
-    extends = extends_trans a.code n c.code to_call r.copies.extends;
-    labels = labels_beside a c beside;
-    taken = taken_beside a c beside;
-    most = (let most = most_beside a c beside in omega (arith, most));
-    sized = (let same = sizes_are all in omega (arith, r.actuals.sized, r.copies.sized, next, size, same));
-    rows = rows_kept a c beside.2;
-    stands = λ i h l program g numbers f seen serves room handling goes.
-        (calls i h program g numbers f seen serves, goes_kept a c beside.2 i program handling goes);
-    flows = λ i s low high down up h l suits deep wide ends ways.
-        widened i s (here a.code) (here c.code) low high (here a.code) (here c.code) 0 down up (flows.flows i s h suits deep (omega arith) ends);
-  }
+-- the code between two drafts is that of a call of what the name calls
+abbrev pub StandsForCall : Visible → (a c : Draft) → NameTree → Type 0
+StandsForCall v a c name =
+    (i : Sections) → Holds i (here a.code) c.code → (program : Program) (g : Package) (numbers : Numbers) (f : Framed) → f.names ≡ v
+    → Serves program g numbers f a.words.taken
+    → IsCalleeCode i program g numbers f (here a.code) (here c.code) name (callee_by program f.within name.first name.selectors)
 
--- a call takes what is passed and gives what comes back
-module _ (v : Visible) (profile : Profile) (number : ℕ) (operation : Operation) (old new : Code) (all : List Argument)
-    (r : AddsInvocation v old profile.formals (map argument_tree all) operation new) (i : Sections) (test : Kind → Bool)
-    (it : IsCallableProcedure i v.scope test number profile) where
-  call_takes : parameters_of (called i number) ≤ r.height
-  call_takes = let many : parameters_of (called i number) ≡ it.code.parameters = ap parameters_of it.is in omega (arith, many, it.parameters, r.actuals.high)
+-- such code, which finds no words on the operand stack and leaves none there, was added for the statement
+pub call_added : (v : Visible) (w : Ways) (a c : Draft) (name : NameTree) → IsBeside a c → Extends a.code c.code
+    → here c.code ≤ here a.code + (20 * selectors_size name.selectors + 2)
+    → StandsForCall v a c name → Flows (SuitsStatements v) a.code 0 c.code 0 → EmitsStatement v w a (statements.Call name) c
+call_added v w a c name beside extends sized stands flows = record {
+  extends = extends;
+  labels = labels_beside a c beside;
+  taken = taken_beside a c beside;
+  most = (let most = most_beside a c beside in omega (arith, most));
+  sized = omega (arith, sized);
+  rows = rows_kept a c beside.2;
+  stands = λ i h l program g numbers f seen serves room handling goes.
+      (stands i h program g numbers f seen serves, goes_kept a c beside.2 i program handling goes);
+  flows = λ i s low high down up h l suits deep wide ends ways.
+      widened i s (here a.code) (here c.code) low high (here a.code) (here c.code) 0 down up (flows.flows i s h suits deep (omega arith) ends);
+}
 
-  call_leaves : r.height - parameters_of (called i number) + results_of (called i number) ≡ 0 + total (copied_width v.scope) r.destinations
+-- a call of a subprogram takes what is passed by the profile, and gives what comes back
+module _ (v : Visible) (profile : Profile) (operation : Operation) (old new : Code) (all : List Argument)
+    (r : AddsInvocation v old profile.formals (map argument_tree all) operation new) (found : Option code.Subprogram) (x : code.Subprogram)
+    (is : found ≡ Some x) (parameters : x.parameters ≡ total (passed_width v.scope) profile.formals)
+    (results : x.results ≡ total (returned_width v.scope) profile.formals) where
+  pub call_takes : parameters_of found ≤ r.height
+  call_takes = let many : parameters_of found ≡ x.parameters = ap parameters_of is in omega (arith, many, parameters, r.actuals.high)
+
+  pub call_leaves : r.height - parameters_of found + results_of found ≡ 0 + total (copied_width v.scope) r.destinations
   call_leaves =
-      let many : parameters_of (called i number) ≡ it.code.parameters = ap parameters_of it.is in
-      let some : results_of (called i number) ≡ it.code.results = ap results_of it.is in
-      omega (arith, many, some, it.parameters, it.results, r.actuals.high, r.actuals.back)
+      let many : parameters_of found ≡ x.parameters = ap parameters_of is in
+      let some : results_of found ≡ x.results = ap results_of is in
+      omega (arith, many, some, parameters, results, r.actuals.high, r.actuals.back)
 
 -- ---- a call of a procedure that is named
 
@@ -358,25 +350,24 @@ module _ (quiet : QuietStays) (v : Visible) (w : Ways) (a c : Draft) (name : Nam
   none : profile.result ≡ None
   none = (call v name profile names legal).none
 
-  reaches : (program : Program) (g : Package) (numbers : Numbers) (f : Framed) → f.names ≡ v → Serves program g numbers f a.words.taken
-      → Calls program numbers f name profile.formals (argument_trees all) (op.Call number)
-  reaches program g numbers f seen serves =
+  stands_for_procedure : StandsForCall v a c name
+  stands_for_procedure i h program g numbers f seen serves =
       let named : entity_named f.names.scope name.first.name ≡ Some (entity.Subprogram profile) =
       ap (λ x. entity_named x.scope name.first.name) seen ∙ ap (entity_at_or_none v.scope) names.numbered ∙ names.stands in
       let found = subst (fitting.IsCalled (procedure_here program f.within name.first.name) profile) none
       (serves.finds name.first.name (entity.Subprogram profile) named) in
-      record {
-        callee = record { procedure = found.procedure; through = None; arguments = argument_trees all };
-        is = callee_is program f.within name.first name.selectors (argument_trees all) written ∙ ap (λ o. callee_with o None (argument_trees all)) found.is;
-        formals = found.formals;
-        plain = found.barrier;
+      subst (IsCalleeCode i program g numbers f (here a.code) (here c.code) name)
+      (sym (callee_is program f.within name.first name.selectors (argument_trees all) written ∙ ap (λ o. callee_with o None (argument_trees all)) found.is))
+      (OfProcedure (record {
         number = number;
         numbered =
             serves.numbered name.first.name found.procedure number profile found.is (ap (λ x. subprogram_of x name.first.name) seen ∙ told)
             (subst (λ x. NamesProfile x.scope name.first.name profile) (sym seen) names) none;
-        way = refl;
-        arguments = refl;
-      }
+        plain = found.barrier;
+        invoked =
+            invoked quiet v a.code c.code profile.formals all (op.Call number) r i h program g numbers f seen serves.scope serves.laid found.procedure None
+            found.formals;
+      }))
 
   changes : Changes (SuitsStatements v) (op.Call number) r.height (0 + total (copied_width v.scope) r.destinations)
   changes = record {
@@ -385,18 +376,23 @@ module _ (quiet : QuietStays) (v : Visible) (w : Ways) (a c : Draft) (name : Nam
         let it = suits.procedures name.first.name number profile told names none in
         ap (λ o. some_and o (λ x. is_plain x.kind || calls_inside s.kind x.kind)) it.is ∙ it.kind;
     takes = λ i s suits.
-        call_takes v profile number (op.Call number) a.code c.code all r i _ (suits.procedures name.first.name number profile told names none);
+        let it = suits.procedures name.first.name number profile told names none in
+        call_takes v profile (op.Call number) a.code c.code all r (called i number) it.code it.is it.parameters it.results;
     leaves = λ i s suits.
-        call_leaves v profile number (op.Call number) a.code c.code all r i _ (suits.procedures name.first.name number profile told names none);
+        let it = suits.procedures name.first.name number profile told names none in
+        call_leaves v profile (op.Call number) a.code c.code all r (called i number) it.code it.is it.parameters it.results;
     stays = refl;
     is_none = refl;
   }
 
   pub call_emits : EmitsStatement v w a (statements.Call name) c
   call_emits =
-      invocation_emits quiet v w a c name profile.formals all (op.Call number) (size_is name.selectors (argument_trees all) written) r beside reaches changes
+      let size = size_is name.selectors (argument_trees all) written in
+      let sized = invocation_sized quiet v a.code c.code profile.formals all (op.Call number) r in
+      call_added v w a c name beside (invocation_extends quiet v a.code c.code profile.formals all (op.Call number) r) (omega (arith, size, sized))
+      stands_for_procedure (invocation_flows quiet v a.code c.code profile.formals all (op.Call number) r changes)
 
--- ---- a call through the name of a protected object
+-- ---- calls through the name of a protected object
 
 -- what is found behind it is a procedure, or an entry
 operation_found : (program : Program) (x : Option Procedure) (is_entry : Bool) (profile : Profile) → profile.result ≡ None
@@ -405,42 +401,62 @@ operation_found : (program : Program) (x : Option Procedure) (is_entry : Bool) (
 operation_found program x true profile without h = (h.procedure, h.is, h.formals)
 operation_found program x false profile without h = let p = subst (fitting.IsCalled x profile) without h in (p.procedure, p.is, p.formals)
 
+module _ (v : Visible) (a : Draft) (name : NameTree) (operation : Identifier) (profile : Profile) (all : List Argument)
+    (behind : operation_behind name.selectors ≡ Some (record { operation = operation; arguments = argument_trees all }))
+    (told : external_profile v.scope name.first.name operation.name ≡ Some profile) where
+  abbrev pub there : IsBehind v.scope name.first.name operation.name profile
+  there = is_behind v.scope name.first.name operation.name profile told
+
+  -- what is called is the operation of this object of the program
+  module _ (program : Program) (g : Package) (numbers : Numbers) (f : Framed) (seen : f.names ≡ v) (serves : Serves program g numbers f a.words.taken) where
+    abbrev pub object : fitting.IsProtectedObject program name.first.name there.protected
+    object =
+        serves.finds name.first.name (entity.Protected there.protected)
+        (ap (λ x. entity_named x.scope name.first.name) seen ∙ ap (entity_at_or_none v.scope) there.numbered ∙ there.stands)
+
+    abbrev pub owner : ℕ
+    owner = object.object.number
+
+    pub called_by : fitting.IsOperation program (procedure_among program.procedures (Some owner) operation.name) there.entry.is_entry there.entry.profile
+    called_by = object.operations operation.name there.place there.entry there.placed there.found
+
+    pub through_is : (q : Procedure) → procedure_among program.procedures (Some owner) operation.name ≡ Some q
+        → callee_by program f.within name.first name.selectors ≡ Some (record { procedure = q; through = Some owner; arguments = argument_trees all })
+    through_is q found =
+        external_is program f.within name.first name.selectors (record { operation = operation; arguments = argument_trees all }) behind
+        ∙ ap (λ e. callee_through program (option_map (λ x. x.number) (protected_of e)) operation.name (argument_trees all)) object.is
+        ∙ ap (λ o. callee_with o (Some owner) (argument_trees all)) found
+
+  pub through_size : arguments_size (argument_trees all) ≤ selectors_size name.selectors
+  through_size = behind_size name.selectors (record { operation = operation; arguments = argument_trees all }) behind
+
 module _ (quiet : QuietStays) (v : Visible) (w : Ways) (a c : Draft) (name : NameTree) (operation : Identifier) (profile : Profile)
     (legal : IsLegalStatement v.scope (statements.Call name)) (number : ℕ)
     (numbered_there : external_of v name.first.name operation.name ≡ Some number) (all : List Argument)
     (behind : operation_behind name.selectors ≡ Some (record { operation = operation; arguments = argument_trees all }))
     (told : external_profile v.scope name.first.name operation.name ≡ Some profile)
     (r : AddsInvocation v a.code profile.formals (map argument_tree all) (op.ProtectedCall number) c.code) (beside : IsBeside a c) where
-  abbrev there : IsBehind v.scope name.first.name operation.name profile
-  there = is_behind v.scope name.first.name operation.name profile told
-
   no_result : profile.result ≡ None
   no_result = external_none v name operation all profile behind told legal
 
-  reaches_through : (program : Program) (g : Package) (numbers : Numbers) (f : Framed) → f.names ≡ v → Serves program g numbers f a.words.taken
-      → Calls program numbers f name profile.formals (argument_trees all) (op.ProtectedCall number)
-  reaches_through program g numbers f seen serves =
-      let named : entity_named f.names.scope name.first.name ≡ Some (entity.Protected there.protected) =
-      ap (λ x. entity_named x.scope name.first.name) seen ∙ ap (entity_at_or_none v.scope) there.numbered ∙ there.stands in
-      let object = serves.finds name.first.name (entity.Protected there.protected) named in
-      let o = object.object.number in
-      let called_by = object.operations operation.name there.place there.entry there.placed there.found in
-      let found = operation_found program (procedure_among program.procedures (Some o) operation.name) there.entry.is_entry there.entry.profile
-      (ap (λ x. x.result) there.profiled ∙ no_result) called_by in
-      let serving = serves.externals name.first.name operation.name number object.object found.0
-      (ap (λ x. external_of x name.first.name operation.name) seen ∙ numbered_there) object.is found.1 in
-      record {
-        callee = record { procedure = found.0; through = Some o; arguments = argument_trees all };
-        is = external_is program f.within name.first name.selectors (record { operation = operation; arguments = argument_trees all }) behind
-            ∙ ap (λ e. callee_through program (option_map (λ x. x.number) (protected_of e)) operation.name (argument_trees all)) object.is
-            ∙ ap (λ q. callee_with q (Some o) (argument_trees all)) found.1;
-        formals = found.2 ∙ ap (λ x. x.formals) there.profiled;
-        plain = serving.1;
+  stands_for_operation : StandsForCall v a c name
+  stands_for_operation i h program g numbers f seen serves =
+      let at = there v a name operation profile all behind told in
+      let o = object v a name operation profile all behind told program g numbers f seen serves in
+      let found = operation_found program (procedure_among program.procedures (Some o.object.number) operation.name) at.entry.is_entry at.entry.profile
+      (ap (λ x. x.result) at.profiled ∙ no_result) (called_by v a name operation profile all behind told program g numbers f seen serves) in
+      let serving = serves.externals name.first.name operation.name number o.object found.0
+      (ap (λ x. external_of x name.first.name operation.name) seen ∙ numbered_there) o.is found.1 in
+      subst (IsCalleeCode i program g numbers f (here a.code) (here c.code) name)
+      (sym (through_is v a name operation profile all behind told program g numbers f seen serves found.0 found.1))
+      (OfProcedure (record {
         number = number;
         numbered = serving.0;
-        way = refl;
-        arguments = refl;
-      }
+        plain = serving.1;
+        invoked =
+            invoked quiet v a.code c.code profile.formals all (op.ProtectedCall number) r i h program g numbers f seen serves.scope serves.laid found.0
+            (Some o.object.number) (found.2 ∙ ap (λ x. x.formals) at.profiled);
+      }))
 
   changes_through : Changes (SuitsStatements v) (op.ProtectedCall number) r.height (0 + total (copied_width v.scope) r.destinations)
   changes_through = record {
@@ -449,16 +465,18 @@ module _ (quiet : QuietStays) (v : Visible) (w : Ways) (a c : Draft) (name : Nam
         let it = suits.externals name.first.name operation.name number profile numbered_there told no_result in
         ap (λ o. some_and o (λ x. is_external x.kind)) it.is ∙ it.kind;
     takes = λ i s suits.
-        call_takes v profile number (op.ProtectedCall number) a.code c.code all r i is_external
-        (suits.externals name.first.name operation.name number profile numbered_there told no_result);
+        let it = suits.externals name.first.name operation.name number profile numbered_there told no_result in
+        call_takes v profile (op.ProtectedCall number) a.code c.code all r (called i number) it.code it.is it.parameters it.results;
     leaves = λ i s suits.
-        call_leaves v profile number (op.ProtectedCall number) a.code c.code all r i is_external
-        (suits.externals name.first.name operation.name number profile numbered_there told no_result);
+        let it = suits.externals name.first.name operation.name number profile numbered_there told no_result in
+        call_leaves v profile (op.ProtectedCall number) a.code c.code all r (called i number) it.code it.is it.parameters it.results;
     stays = refl;
     is_none = refl;
   }
 
   pub external_emits : EmitsStatement v w a (statements.Call name) c
   external_emits =
-      invocation_emits quiet v w a c name profile.formals all (op.ProtectedCall number)
-      (behind_size name.selectors (record { operation = operation; arguments = argument_trees all }) behind) r beside reaches_through changes_through
+      let size = through_size v a name operation profile all behind told in
+      let sized = invocation_sized quiet v a.code c.code profile.formals all (op.ProtectedCall number) r in
+      call_added v w a c name beside (invocation_extends quiet v a.code c.code profile.formals all (op.ProtectedCall number) r) (omega (arith, size, sized))
+      stands_for_operation (invocation_flows quiet v a.code c.code profile.formals all (op.ProtectedCall number) r changes_through)

@@ -16,7 +16,7 @@ use Rattle.image.specs.declared.subprograms.Subprogram.{Subprogram}
 use Rattle.types.specs.declared.entity.Role.{Role}
 use Rattle.types.specs.declared.entity.Subtype.{Subtype}
 use Rattle.types.specs.Entities as entity
-use Rattle.types.specs.Entities.{Arrays, Booleans, Entity, Integers, Records, Spans, Times, TypeForm, Profile}
+use Rattle.types.specs.Entities.{Entity, Profile}
 use Rattle.types.specs.Laws.{InitialValuesHaveShape, ShapesStay, ValuesHaveWords}
 use Rattle.types.specs.Layouts.{capped, words_of}
 use Rattle.types.specs.Places.{Object}
@@ -52,6 +52,7 @@ use Rattle.expr_code.proofs.Going.{uncapped_words}
 use Rattle.part_code.specs.Bounds.{declarations_bound, locals_words, words_if_any}
 use Rattle.part_code.specs.Emitting.{AddsInitial, EmitsInitial, EmitsInitialWords, EmitsObject, FitsIfAny, HasEntries, Pushes, TakesWords, first_word}
 use Rattle.stmt_code.specs.Emitting.{EmitsDeclarations, Serves, seeing}
+use Rattle.part_code.specs.EntryNames.{entry_behind}
 use Rattle.part_code.specs.Layout.{EndsBelow, Spares, Widens}
 use Rattle.part_code.specs.Resting.{Framed, NarrowsFrame}
 use Rattle.part_code.specs.Statements.{AreDeclared, IsDeclared, Numbers}
@@ -68,7 +69,7 @@ use Rattle.stmt_code.proofs.Narrowing.{narrows_wider}
 use Rattle.part_code.specs.Storing.{ArePushed}
 use Rattle.part_code.proofs.ObjectNames.{less_true}
 use Rattle.part_code.proofs.StoresAt.{store_changes}
-use Rattle.stmt_code.proofs.Suiting.{entries_wider, external_wider, number_wider, slots_first, stands_wider, subprograms_first, suits_wider}
+use Rattle.stmt_code.proofs.Suiting.{entries_wider, entry_wider, external_wider, number_wider, slots_first, stands_wider, subprograms_first, suits_wider}
 use Rattle.stmt_code.proofs.Widening.{scope_wider}
 use Rattle.part_code.proofs.Names.{is_told, profile_without}
 
@@ -381,6 +382,10 @@ module _ (kept : AgreementIsKept) (sized : ValuesHaveWords) (calls : CallsAreTyp
             serves.externals name operation n o q
             (ap (λ x. external_of x name operation) names
             ∙ external_wider stay v later d.name.name r t slot sound entries hidden scope_is slots subprograms operations name operation n told);
+        entries = λ name operation n o told.
+            serves.entries name operation n o
+            (ap (λ x. entry_behind x.scope name operation) names
+            ∙ entry_wider stay v later d.name.name r t slot sound entries hidden scope_is slots subprograms name operation n told);
         scope = serves.scope;
         place = record serves.place { locals = object ∷ serves.place.locals };
         here = serves.here;

@@ -85,6 +85,7 @@ module _ (program : Program) (g : Package) (numbers : Numbers) (f : Framed) (tak
     finds = serves.finds;
     numbered = serves.numbered;
     externals = serves.externals;
+    entries = serves.entries;
     scope = serves.scope;
     place = serves.place;
     here = serves.here;

@@ -32,6 +32,7 @@ mod Suiting
 mod Declared
 mod Alternatives
 mod CallsAdded
+mod EntryCalls
 mod Turned
 mod Bounded
 mod Ranged

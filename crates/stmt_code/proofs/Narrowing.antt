@@ -1,5 +1,5 @@
 -- Where the names of a block go out of sight: what is seen with one name more is seen without it.
-use Rattle.std.proofs.Common.{◌≡◌, ℕ, List, [], ◌∷◌, ◌++◌, length, cond, Some, None, ap, ◌∙◌, arith, sym, subst}
+use Rattle.std.proofs.Common.{◌≡◌, ℕ, List, [], ◌∷◌, ◌++◌, length, cond, Some, None, refl, ap, ◌∙◌, arith, sym, subst}
 use Rattle.std.specs.Prelude.{take}
 use Rattle.std.proofs.Math.Seq.{take-append_seam}
 use Rattle.types.specs.declared.entity.Role.{Role}
@@ -14,7 +14,7 @@ use Rattle.expr_code.specs.declared.visible.Slot.{Slot}
 use Rattle.part_code.specs.Layout.{Widens}
 use Rattle.part_code.specs.Resting.{Framed, NarrowsFrame, Shows}
 use Rattle.part_code.proofs.Names.{told_more, profile_kept}
-use Rattle.part_code.proofs.OperationNames.{external_more}
+use Rattle.part_code.proofs.OperationNames.{told_with_more}
 
 module _ (kept : AgreementIsKept) (g : Package) (v later : Framed) (name : List ℕ) (r : Role) (t : Subtype) (slot : Slot)
     (widens : Widens v name r t slot later)
@@ -41,7 +41,7 @@ module _ (kept : AgreementIsKept) (g : Package) (v later : Framed) (name : List 
   external_kept : (other operation : List ℕ) (n : ℕ) → external_of v.names other operation ≡ Some n → external_of later.names other operation ≡ Some n
   external_kept other operation n h =
       (λ j. number_behind (widens.operations j) (object_named (scope_is j) other) operation)
-      ∙ external_more v.names.operations other operation n v.names.scope named h
+      ∙ told_with_more (λ o. number_behind v.names.operations o operation) refl n other v.names.scope named h
 
   pub shows_wider : Shows g later v
   shows_wider p view knows = record {

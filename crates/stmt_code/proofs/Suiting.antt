@@ -16,7 +16,7 @@ use Rattle.types.specs.Entities as entity
 use Rattle.types.specs.Entities.{Entity, Profile, ProtectedObject}
 use Rattle.types.specs.Laws.{ShapesStay}
 use Rattle.types.specs.Layouts.{words_of}
-use Rattle.types.specs.Scopes.{Named, Scope, entity_at, entity_of, is_visible, number_of, protected_at, protected_of, with_name}
+use Rattle.types.specs.Scopes.{Named, Scope, entity_at, entity_of, is_visible, number_of, with_name}
 use Rattle.types.specs.Shapes.{words}
 use Rattle.type_rules.specs.SubtypeNames.{entity_at_or_none}
 use Rattle.expr_soundness.specs.Agreeing.{parameter_subtype}
@@ -29,9 +29,10 @@ use Rattle.expr_code.specs.declared.visible.Slot.{Slot}
 use Rattle.expr_code.specs.declared.visible.Visible.{Visible}
 use Rattle.expr_code.proofs.Externals.{is_behind}
 use Rattle.part_code.specs.Emitting.{HasEntries}
-use Rattle.part_code.specs.Suiting.{IsCallableProcedure, SuitsStatements, passed_width, returned_width}
+use Rattle.part_code.specs.EntryNames.{entry_among, entry_behind}
+use Rattle.part_code.specs.Suiting.{IsCallableEntry, IsCallableProcedure, SuitsStatements, passed_width, returned_width}
 use Rattle.stmt_code.proofs.Laying.{known_inside}
-use Rattle.part_code.proofs.OperationNames.{external_was, tells_external, told_external}
+use Rattle.part_code.proofs.OperationNames.{names_protected, protected_named, told_object, told_without}
 use Rattle.part_code.proofs.Names.{IsTold, WasTold, inside, is_told, same_name, told_again, told_of_more}
 
 -- ---- names behind those that are visible
@@ -82,10 +83,6 @@ entity_inside s n e h = by_item (slice_get s n) refl h
     by_item : (o : Option Named) → slice_get s n ≡ o → entity_of o ≡ Some e → n < length s
     by_item (Some y) is k = inside s n y is
     by_item None is k = cc
-
-object_at : (s : Scope) (name : List ℕ) (n : ℕ) (o : ProtectedObject) → number_of s name ≡ Some n → entity_at s n ≡ Some (entity.Protected o)
-    → object_named s name ≡ Some o
-object_at s name n o numbered stands = ap (λ k. elim k [ None ↦ None | Some m ↦ protected_at s m ]) numbered ∙ ap protected_of stands
 
 pub profile_sound : (s : Scope) → SoundScope s → (name operation : List ℕ) (p : Profile) → external_profile s name operation ≡ Some p → IsSoundProfile s p
 profile_sound s sound name operation p named =
@@ -193,23 +190,41 @@ module _ (stay : ShapesStay) (v later : Visible) (more : Scope) (slots : List (O
         results = c.results ∙ sym (returned_kept p.formals profile.known);
       }
 
+  entry_kept : (i : Sections) (number : ℕ) (p : Profile) → IsSoundProfile front p → IsCallableEntry i front number p → IsCallableEntry i later.scope number p
+  entry_kept i number p profile c =
+      record {
+        code = c.code;
+        is = c.is;
+        parameters = c.parameters ∙ sym (passed_kept p.formals profile.known);
+        results = c.results ∙ sym (returned_kept p.formals profile.known);
+      }
+
   -- ... and no protected object is among them
   module _ (i : Sections) (x : Subprogram) (operations : later.operations ≡ v.operations)
       (objects : (n : ℕ) (o : ProtectedObject) → entity_at later.scope n ≡ Some (entity.Protected o) → entity_at front n ≡ Some (entity.Protected o))
       (within : (k : ℕ) (y : Slot) → slice_get slots k ≡ Some (Some y) → (y.region ≡ regions.Locals) × (y.offset < x.locals)) where
+    -- what is told of an object behind is told of the same in front
+    same_object : {X : Type 0} (told : Option ProtectedObject → Option X) → told None ≡ None → (other : List ℕ) (y : X)
+        → told (object_named later.scope other) ≡ Some y → object_named front other ≡ object_named later.scope other
+    same_object told nothing other y h =
+        let p = told_object told nothing y (object_named later.scope other) h in
+        let t = names_protected other p.0 later.scope p.1 in
+        let stands = objects t.number p.0 t.stands in
+        let numbered = number_before front more other t.number (sym (ap (λ z. number_of z other) scope) ∙ t.numbered)
+        (entity_inside front t.number (entity.Protected p.0) stands) in
+        protected_named other p.0 front (record { number = t.number; numbered = numbered; stands = stands }) ∙ sym p.1
+
     external_before : (other operation : List ℕ) (number : ℕ) → external_of later other operation ≡ Some number
         → (external_of v other operation ≡ Some number) × (external_profile front other operation ≡ external_profile later.scope other operation)
     external_before other operation number told =
-        let t = tells_external later.operations other operation number later.scope told in
-        let stands = objects t.number t.object t.stands in
-        let numbered = number_before front more other t.number (sym (ap (λ z. number_of z other) scope) ∙ t.numbered)
-        (entity_inside front t.number (entity.Protected t.object) stands) in (
-          ap (λ all. number_behind all (object_named front other) operation) (sym operations)
-              ∙ told_external later.operations other operation number front
-              (record { number = t.number; object = t.object; numbered = numbered; stands = stands; there = t.there }),
-          ap (λ o. profile_behind o operation)
-              (object_at front other t.number t.object numbered stands ∙ sym (object_at later.scope other t.number t.object t.numbered t.stands)),
-        )
+        let same = same_object (λ o. number_behind later.operations o operation) refl other number told in
+        ((λ j. number_behind (sym operations j) (same j) operation) ∙ told, ap (λ o. profile_behind o operation) same)
+
+    entry_before : (other operation : List ℕ) (number : ℕ) → entry_behind later.scope other operation ≡ Some number
+        → (entry_behind front other operation ≡ Some number) × (external_profile front other operation ≡ external_profile later.scope other operation)
+    entry_before other operation number told =
+        let same = same_object (λ o. entry_among o operation) refl other number told in
+        (ap (λ o. entry_among o operation) same ∙ told, ap (λ o. profile_behind o operation) same)
 
     external_behind : (number : ℕ) (p : Profile) (result : Subtype) (other operation : List ℕ) → external_profile front other operation ≡ Some p
         → p.result ≡ Some result
@@ -257,6 +272,10 @@ module _ (stay : ShapesStay) (v later : Visible) (more : Scope) (slots : List (O
           let named_before = before.1 ∙ named in
           procedure_behind i number p (profile_sound front sound other operation p named_before) is_external
           (h.externals other operation number p before.0 named_before without);
+      entries = λ other operation number p told named.
+          let before = entry_before other operation number told in
+          let named_before = before.1 ∙ named in
+          entry_kept i number p (profile_sound front sound other operation p named_before) (h.entries other operation number p before.0 named_before);
     }
 
 -- ---- one name behind them
@@ -335,8 +354,12 @@ module _ (stay : ShapesStay) (v later : Visible) (name : List ℕ) (r : Role) (t
   pub external_wider : later.operations ≡ v.operations → (other operation : List ℕ) (n : ℕ) → external_of later other operation ≡ Some n
       → external_of v other operation ≡ Some n
   external_wider operations other operation n told =
-      (external_was v.operations other operation n s new (λ o e. absurd cc)
+      (told_without (λ o. number_behind v.operations o operation) refl n other s new (λ o e. absurd cc)
       ((λ j. number_behind (sym operations j) (object_named (sym scope_is j) other) operation) ∙ told)).2
+
+  pub entry_wider : (other operation : List ℕ) (n : ℕ) → entry_behind later.scope other operation ≡ Some n → entry_behind s other operation ≡ Some n
+  entry_wider other operation n told =
+      (told_without (λ o. entry_among o operation) refl n other s new (λ o e. absurd cc) (ap (λ z. entry_behind z other operation) (sym scope_is) ∙ told)).2
 
   -- ---- the image and the subprogram
 

@@ -27,6 +27,7 @@ use Rattle.expr_code.specs.Flows.{AreKeptBetween}
 use Rattle.expr_code.specs.Seeing.{Package, subprogram_of, NamesProfile, external_of}
 use Rattle.expr_code.specs.declared.code.Code.{Code}
 use Rattle.expr_code.specs.declared.visible.Visible.{Visible}
+use Rattle.part_code.specs.EntryNames.{entry_behind}
 use Rattle.part_code.specs.Bounds.{declarations_bound, elsifs_bound, run_bound, stmt_bound, stmts_bound}
 use Rattle.part_code.specs.Layout.{EndsBelow, IsLaidOut}
 use Rattle.part_code.specs.Suiting.{SuitsStatements}
@@ -83,6 +84,10 @@ pub record Serves (program : Program) (g : Package) (numbers : Numbers) (v : Fra
       → entity_named program.scope name ≡ Some (Protected o)
       → procedure_among program.procedures (Some o.number) operation ≡ Some q
       → (numbers q ≡ Some n) × (q.barrier ≡ None)
+  -- where its entry is named behind the name of a protected object, the number that is told is that of the program's object of this name
+  pub entries : (name operation : List ℕ) (n : ℕ) (o : ProtectedObject) → entry_behind v.names.scope name operation ≡ Some n
+      → entity_named program.scope name ≡ Some (Protected o)
+      → o.number ≡ n
   pub scope : program.scope ≡ g.scope
   pub place : Place
   pub here : place.scope ≡ program.scope

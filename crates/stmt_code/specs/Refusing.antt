@@ -2,7 +2,7 @@
 use Rattle.std.specs.Prelude.{ℕ, ◌+◌, ◌*◌, Bool, true, false, not, List, Option, Some, None, is_none, is_some, ◌⊎◌}
 use Rattle.ada_tree.specs.declared.expression.Identifier.{Identifier}
 use Rattle.ada_tree.specs.declared.statement.ExceptionChoice.{ExceptionChoice}
-use Rattle.ada_tree.specs.ExpressionTree.{ExprTree}
+use Rattle.ada_tree.specs.ExpressionTree.{ExprTree, NameTree}
 use Rattle.ada_tree.specs.StatementTree.{AlternativeTrees, Assignment, Block, Call, Case, DeclarationTree, DelayUntil, ElsifTrees, Exit, For, Forever, HandlerTrees, If, IterationTree, Loop, MoreAlternatives, MoreElsifs, MoreHandlers, MoreStmts, NoAlternatives, NoElsifs, NoHandlers, NoStmts, Null, RangeTree, Raise, Return, StmtTree, StmtTrees, While}
 use Rattle.ada_tree.specs.Size.{expr_size}
 use Rattle.declaring.specs.BodyNames.{loop_scope}
@@ -153,6 +153,10 @@ Refuses old labels bound n why = IsNeeding (here old.code + bound) n why ⊎ Has
 
 abbrev pub RefusesStatement : Visible → Ways → (old : Draft) → StmtTree → Refusal → Type 0
 RefusesStatement v w old x why = Refuses old (stmt_labels old.labels x) (stmt_bound v.scope x) (stmt_needs (around v w old) x) why
+
+-- ... of a call, by what this one needs
+abbrev pub RefusesCall : Visible → (old : Draft) → NameTree → Needs → Refusal → Type 0
+RefusesCall v old name n why = Refuses old (stmt_labels old.labels (Call name)) (stmt_bound v.scope (Call name)) n why
 
 abbrev pub RefusesStatements : Visible → Ways → (old : Draft) → StmtTrees → Refusal → Type 0
 RefusesStatements v w old body why = Refuses old (stmts_labels old.labels body) (stmts_bound v.scope body) (stmts_needs (around v w old) body) why

@@ -1,7 +1,8 @@
 -- What methods that add the code of statements keep within: the words that code needs, and the labels and the number of rows behind it.
 use Rattle.std.specs.Prelude.{◌≡◌, ◌≤◌, ℕ, Bool, List, length, max, None}
 use Rattle.ada_tree.specs.declared.expression.Identifier.{Identifier}
-use Rattle.ada_tree.specs.StatementTree.{AlternativeTrees, DeclarationTree, ElsifTrees, For, HandlerTrees, RangeTree, StmtTree, StmtTrees}
+use Rattle.ada_tree.specs.ExpressionTree.{NameTree}
+use Rattle.ada_tree.specs.StatementTree.{AlternativeTrees, Call, DeclarationTree, ElsifTrees, For, HandlerTrees, RangeTree, StmtTree, StmtTrees}
 use Rattle.expr_code.specs.Code.{IsShallow}
 use Rattle.expr_code.specs.declared.visible.Visible.{Visible}
 use Rattle.part_code.specs.Labels.{alternatives_labels, elsifs_labels, handlers_labels, stmt_labels, stmts_labels}
@@ -20,6 +21,10 @@ pub record Stays (old : Draft) (n : Needs) (behind : List (List ℕ)) (many : �
 
 abbrev pub StaysStatement : Visible → Ways → (old : Draft) → StmtTree → (new : Draft) → Type 0
 StaysStatement v w old x new = Stays old (stmt_needs (around v w old) x) (stmt_labels old.labels x) (stmt_rows (length old.rows.items) x) new
+
+-- ... of a call, by what this one needs
+abbrev pub StaysCall : (old : Draft) → NameTree → Needs → (new : Draft) → Type 0
+StaysCall old name n new = Stays old n (stmt_labels old.labels (Call name)) (length old.rows.items) new
 
 abbrev pub StaysStatements : Visible → Ways → (old : Draft) → StmtTrees → (new : Draft) → Type 0
 StaysStatements v w old body new = Stays old (stmts_needs (around v w old) body) (stmts_labels old.labels body) (stmts_rows (length old.rows.items) body) new

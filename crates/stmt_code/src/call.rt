@@ -1,18 +1,19 @@
-//! The code of calls of procedures (RM 6.4): the actual parameters in order, each checked against the subtype of its formal, the call, and what is copied back.
-ghost use Rattle.std.specs.Prelude.{◌≡◌, ◌+◌, ◌*◌, ◌<◌, length, map, IfErr, OnOk, Some};
+//! The code of calls of procedures (RM 6.4) and entries (RM 9.5.3): the actual parameters in order, each checked against the subtype of its formal, the call,
+//! and what is copied back.
+ghost use Rattle.std.specs.Prelude.{◌≡◌, ◌+◌, ◌*◌, length, map, true, IfErr, OnOk, Some};
 ghost use Rattle.ada_tree.specs.ExpressionTree.{argument_tree, argument_trees, name_tree};
 ghost use Rattle.ada_tree.specs.Size.{argument_size, total};
 ghost use Rattle.ada_tree.specs.StatementTree.{Call};
 ghost use Rattle.expr_code.specs.Actuals.{ArePassedLegally};
 ghost use Rattle.expr_code.specs.Code.{here, IsShallow};
 ghost use Rattle.expr_code.specs.Seeing.{external_profile, NamesProfile};
-ghost use Rattle.part_code.specs.Labels.{stmt_labels};
-ghost use Rattle.stmt_code.specs.Staying.{Stays};
+ghost use Rattle.stmt_code.specs.Staying.{StaysCall};
 ghost use Rattle.stmt_code.specs.Emitting.{AddsInvocation, EmitsStatement, IsLegalStatement};
-ghost use Rattle.part_code.specs.Bounds.{stmt_bound};
-ghost use Rattle.part_code.specs.Needs.{call_needs, external_needs, invoked_needs, IsNeeding, passed_needs};
+ghost use Rattle.part_code.specs.EntryNames.{entry_behind, is_own_entry};
+ghost use Rattle.part_code.specs.Needs.{call_needs, entry_needs, external_needs, invoked_needs, IsNeeding, nothing, passed_needs};
 ghost use Rattle.part_code.specs.Passing.{operation_behind};
-ghost use Rattle.stmt_code.specs.Refusing.{Refuses};
+ghost use Rattle.stmt_code.specs.Refusing.{RefusesCall};
+ghost use Rattle.part_code.specs.step_soundness.specs.Fitting.{entity_named};
 ghost use Rattle.part_code.specs.Statements.{Ways};
 ghost use Rattle.types.specs.Entities.{profile_value};
 ghost use Rattle.expr_soundness.specs.SoundScopes.{AreKnown, SoundScope};
@@ -22,7 +23,7 @@ use ada_tree::{Argument, Identifier, NameExpr};
 use expr_code::{Code, Refusal, Visible};
 use image::Operation;
 use kernel::laws::quiet_stays;
-use part_code::{actuals_of, add_actuals, add_copies, operation_of};
+use part_code::{actuals_of, add_actuals, add_copies, entry_behind, is_own_entry, operation_of};
 use types::{FormalParameter, Profile};
 
 // Adds the actual parameters of a call, the call by an instruction, and what is copied back.
@@ -48,21 +49,32 @@ fn add_invocation(
 }
 
 impl Draft {
-    /// Adds the code of a call of a procedure, which may be named behind its protected object, or of a line.
+    /// Adds the code of a call of a procedure or an entry, which may be named behind its protected object, or of a line.
     pub(crate) fn call(&mut self, visible: &Visible, name: &NameExpr) -> Result<(), Refusal>
         requires sound { SoundScope visible.now.scope }
         requires legal { IsLegalStatement visible.now.scope (Call (name_tree name.now)) }
         ensures emits { (w : Ways) → OnOk result (EmitsStatement visible.now w self.old (Call (name_tree name.now)) self.new) }
-        ensures refused { IfErr result (λ why. Refuses self.old (stmt_labels self.old.labels (Call (name_tree name.now))) (stmt_bound visible.now.scope (Call (name_tree name.now))) (call_needs visible.now (name_tree name.now)) why) }
-        ensures stays { OnOk result (Stays self.old (call_needs visible.now (name_tree name.now)) (stmt_labels self.old.labels (Call (name_tree name.now))) (length self.old.rows.items) self.new) }
+        ensures refused { IfErr result (λ why. RefusesCall visible.now self.old (name_tree name.now) (call_needs visible.now (name_tree name.now)) why) }
+        ensures stays { OnOk result (StaysCall self.old (name_tree name.now) (call_needs visible.now (name_tree name.now)) self.new) }
     {
         match visible.profile(&name.first.name) {
             Some(profile) => self.invoke(visible, name, profile),
             None => match operation_of(name) {
                 Some((operation, arguments)) => {
-                    self.invoke_external(visible, name, operation, arguments)
+                    match entry_behind(visible, &name.first.name, &operation.name) {
+                        Some(object) => {
+                            self.invoke_entry(visible, name, operation, arguments, object)
+                        }
+                        None => self.invoke_external(visible, name, operation, arguments),
+                    }
                 }
-                None => self.put(visible, name),
+                None => {
+                    if is_own_entry(visible, &name.first.name) {
+                        self.test_blocking(visible, name)
+                    } else {
+                        self.put(visible, name)
+                    }
+                }
             },
         }
     }
@@ -78,8 +90,8 @@ impl Draft {
         requires names { NamesProfile visible.now.scope name.now.first.name (profile_value profile.now) }
         requires legal { IsLegalStatement visible.now.scope (Call (name_tree name.now)) }
         ensures emits { (w : Ways) → OnOk result (EmitsStatement visible.now w self.old (Call (name_tree name.now)) self.new) }
-        ensures refused { IfErr result (λ why. Refuses self.old (stmt_labels self.old.labels (Call (name_tree name.now))) (stmt_bound visible.now.scope (Call (name_tree name.now))) (invoked_needs visible.now (name_tree name.now) (profile_value profile.now)) why) }
-        ensures stays { OnOk result (Stays self.old (invoked_needs visible.now (name_tree name.now) (profile_value profile.now)) (stmt_labels self.old.labels (Call (name_tree name.now))) (length self.old.rows.items) self.new) }
+        ensures refused { IfErr result (λ why. RefusesCall visible.now self.old (name_tree name.now) (invoked_needs visible.now (name_tree name.now) (profile_value profile.now)) why) }
+        ensures stays { OnOk result (StaysCall self.old (name_tree name.now) (invoked_needs visible.now (name_tree name.now) (profile_value profile.now)) self.new) }
     {
         quiet_stays();
         let Some(number) = visible.subprogram(&name.first.name) else {
@@ -104,8 +116,8 @@ impl Draft {
         requires behind { operation_behind (name_tree name.now).selectors ≡ Some (record { operation = operation.now; arguments = argument_trees arguments.now }) }
         requires legal { IsLegalStatement visible.now.scope (Call (name_tree name.now)) }
         ensures emits { (w : Ways) → OnOk result (EmitsStatement visible.now w self.old (Call (name_tree name.now)) self.new) }
-        ensures refused { IfErr result (λ why. Refuses self.old (stmt_labels self.old.labels (Call (name_tree name.now))) (stmt_bound visible.now.scope (Call (name_tree name.now))) (external_needs visible.now name.now.first.name (record { operation = operation.now; arguments = argument_trees arguments.now }) (external_profile visible.now.scope name.now.first.name operation.now.name)) why) }
-        ensures stays { OnOk result (Stays self.old (external_needs visible.now name.now.first.name (record { operation = operation.now; arguments = argument_trees arguments.now }) (external_profile visible.now.scope name.now.first.name operation.now.name)) (stmt_labels self.old.labels (Call (name_tree name.now))) (length self.old.rows.items) self.new) }
+        ensures refused { IfErr result (λ why. RefusesCall visible.now self.old (name_tree name.now) (external_needs visible.now name.now.first.name (record { operation = operation.now; arguments = argument_trees arguments.now }) (external_profile visible.now.scope name.now.first.name operation.now.name)) why) }
+        ensures stays { OnOk result (StaysCall self.old (name_tree name.now) (external_needs visible.now name.now.first.name (record { operation = operation.now; arguments = argument_trees arguments.now }) (external_profile visible.now.scope name.now.first.name operation.now.name)) self.new) }
     {
         quiet_stays();
         let Some(profile) = visible.external_profile(&name.first.name, &operation.name) else {
@@ -116,5 +128,43 @@ impl Draft {
         };
         let call = Operation::ProtectedCall(number);
         add_invocation(&mut self.code, visible, &profile.formals, arguments, call)
+    }
+
+    // Adds that of the entry that is named behind its protected object: a test that the task is inside no protected action, so that nothing is evaluated where
+    // it is (RM 9.5.1), and the call.
+    fn invoke_entry(
+        &mut self,
+        visible: &Visible,
+        name: &NameExpr,
+        operation: &Identifier,
+        arguments: &[Argument],
+        object: u16,
+    ) -> Result<(), Refusal>
+        requires sound { SoundScope visible.now.scope }
+        requires behind { operation_behind (name_tree name.now).selectors ≡ Some (record { operation = operation.now; arguments = argument_trees arguments.now }) }
+        requires entry { entry_behind visible.now.scope name.now.first.name operation.now.name ≡ Some object }
+        requires legal { IsLegalStatement visible.now.scope (Call (name_tree name.now)) }
+        ensures emits { (w : Ways) → OnOk result (EmitsStatement visible.now w self.old (Call (name_tree name.now)) self.new) }
+        ensures refused { IfErr result (λ why. RefusesCall visible.now self.old (name_tree name.now) (entry_needs visible.now (record { operation = operation.now; arguments = argument_trees arguments.now }) (external_profile visible.now.scope name.now.first.name operation.now.name)) why) }
+        ensures stays { OnOk result (StaysCall self.old (name_tree name.now) (entry_needs visible.now (record { operation = operation.now; arguments = argument_trees arguments.now }) (external_profile visible.now.scope name.now.first.name operation.now.name)) self.new) }
+    {
+        quiet_stays();
+        let Some(profile) = visible.external_profile(&name.first.name, &operation.name) else {
+            return Err(Refusal::Outside);
+        };
+        self.code.emit(0, Operation::CheckBlocking)?;
+        let entry = Operation::EntryCall(object);
+        add_invocation(&mut self.code, visible, &profile.formals, arguments, entry)
+    }
+
+    // Adds that of an entry of the protected object to which the body belongs, where an action of it is open: the test alone, which raises there (RM 9.5.1).
+    fn test_blocking(&mut self, visible: &Visible, name: &NameExpr) -> Result<(), Refusal>
+        requires own { is_own_entry (entity_named visible.now.scope name.now.first.name) ≡ true }
+        requires legal { IsLegalStatement visible.now.scope (Call (name_tree name.now)) }
+        ensures emits { (w : Ways) → OnOk result (EmitsStatement visible.now w self.old (Call (name_tree name.now)) self.new) }
+        ensures refused { IfErr result (λ why. RefusesCall visible.now self.old (name_tree name.now) nothing why) }
+        ensures stays { OnOk result (StaysCall self.old (name_tree name.now) nothing self.new) }
+    {
+        self.code.emit(0, Operation::CheckBlocking)
     }
 }

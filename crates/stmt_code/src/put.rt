@@ -1,14 +1,12 @@
 //! The code of lines (docs/LANGUAGE.md, `Put` of Control_IO).
-ghost use Rattle.std.specs.Prelude.{length, IfErr, OnOk};
+ghost use Rattle.std.specs.Prelude.{IfErr, OnOk};
 ghost use Rattle.ada_tree.specs.ExpressionTree.{name_tree};
 ghost use Rattle.ada_tree.specs.StatementTree.{Call};
-ghost use Rattle.part_code.specs.Labels.{stmt_labels};
-ghost use Rattle.stmt_code.specs.Staying.{Stays};
+ghost use Rattle.stmt_code.specs.Staying.{StaysCall};
 ghost use Rattle.stmt_code.specs.Emitting.{EmitsStatement, IsLegalStatement};
 ghost use Rattle.part_code.specs.Lines.{is_put, line_of};
 ghost use Rattle.part_code.specs.Needs.{put_needs};
-ghost use Rattle.stmt_code.specs.Refusing.{Refuses};
-ghost use Rattle.part_code.specs.Bounds.{stmt_bound};
+ghost use Rattle.stmt_code.specs.Refusing.{RefusesCall};
 ghost use Rattle.part_code.specs.Statements.{Ways};
 ghost use Rattle.expr_soundness.specs.SoundScopes.{SoundScope};
 
@@ -24,8 +22,8 @@ impl Draft {
         requires sound { SoundScope visible.now.scope }
         requires legal { IsLegalStatement visible.now.scope (Call (name_tree name.now)) }
         ensures emits { (w : Ways) → OnOk result (EmitsStatement visible.now w self.old (Call (name_tree name.now)) self.new) }
-        ensures refused { IfErr result (λ why. Refuses self.old (stmt_labels self.old.labels (Call (name_tree name.now))) (stmt_bound visible.now.scope (Call (name_tree name.now))) (put_needs visible.now (name_tree name.now)) why) }
-        ensures stays { OnOk result (Stays self.old (put_needs visible.now (name_tree name.now)) (stmt_labels self.old.labels (Call (name_tree name.now))) (length self.old.rows.items) self.new) }
+        ensures refused { IfErr result (λ why. RefusesCall visible.now self.old (name_tree name.now) (put_needs visible.now (name_tree name.now)) why) }
+        ensures stays { OnOk result (StaysCall self.old (name_tree name.now) (put_needs visible.now (name_tree name.now)) self.new) }
     {
         if !is_put(visible, &name.first.name) {
             return Err(Refusal::Outside);
