@@ -1,26 +1,21 @@
--- Calls of procedures, and their ends.
-use Rattle.std.proofs.Common.{◌≡◌, ℕ, zero, suc, ◌+◌, ◌-◌, ◌<◌, ◌≤◌, ℤ, List, [], ◌∷◌, length, map, Option, Some, None, Bool, true, false, cond, refl, sym, ap, ◌∙◌, subst, arith, rules}
-use Rattle.std.specs.Prelude.{◌++◌, if◌then◌else◌, nat_le, pos, replicate, take, ⊤}
+-- Calls of procedures.
+use Rattle.std.proofs.Common.{◌≡◌, ℕ, zero, suc, ◌+◌, ◌-◌, ◌<◌, ◌≤◌, ℤ, List, [], ◌∷◌, length, map, Option, Some, None, ◌⊎◌, refl, sym, ap, ◌∙◌, subst, arith}
+use Rattle.std.specs.Prelude.{⊤}
 use Rattle.part_code.specs.base.specs.declared.schedule.ScheduleLine.{ScheduleLine}
 use Rattle.part_code.specs.base.specs.Exceptions.{number_of}
 use Rattle.part_code.specs.base.specs.declared.exceptions.PredefinedException.TheVariants.{ProgramError, StorageError}
 use Rattle.part_code.specs.base.specs.declared.limits.TheConstants.{FRAMES}
 use Rattle.kernel.specs.State.{Kernel}
-use Rattle.kernel.specs.Effects.{Ends, Quiet, Refusal, after}
+use Rattle.kernel.specs.Effects.{Opens, Quiet, Refusal, after}
 use Rattle.kernel.specs.Calm.{Calm}
-use Rattle.kernel.specs.Counting.{Done, Spends}
+use Rattle.kernel.specs.Counting.{Done}
 use Rattle.kernel.specs.Laws.{QuietStays}
-use Rattle.kernel.specs.RunLaws.{spends_trans}
-use Rattle.part_code.specs.image.specs.Sections.{Sections, end_of, first_place, object_of}
-use Rattle.part_code.specs.image.specs.Operations.{called}
-use Rattle.part_code.specs.image.specs.Frames.{Role, Words, Frame, TaskState, kind_of, own_object}
+use Rattle.part_code.specs.image.specs.Sections.{Sections}
+use Rattle.part_code.specs.image.specs.Frames.{Role, Words, Frame, TaskState, own_object}
 use Rattle.part_code.specs.image.specs.Steps as steps
-use Rattle.part_code.specs.image.specs.Steps.{act, behaviour, caught, does_operation, removed, unwind}
-use Rattle.part_code.specs.image.specs.declared.instruction.Operation.TheVariants as op
+use Rattle.part_code.specs.image.specs.Steps.{act}
 use Rattle.part_code.specs.image.specs.declared.subprograms.Kind.{Kind}
-use Rattle.part_code.specs.ada_tree.specs.StatementTree.{ObjectTree, DeclarationTree, LocalObject, LocalTask, LocalProtected, StmtTree, Null, Assignment, Exit, Return, Raise, Delay, DelayUntil, If, Case, Loop, Block, Abort, Requeue, Accept, Select, StmtTrees, NoStmts, MoreStmts, ElsifTrees, NoElsifs, MoreElsifs, Forever, While, HandlerTrees, NoHandlers}
 use Rattle.part_code.specs.types.specs.Evaluations.{Val, Gives, Raises, Meaningless, and_then}
-use Rattle.part_code.specs.types.specs.Values.{Value}
 use Rattle.part_code.specs.types.specs.Evaluating.{call}
 use Rattle.part_code.specs.ada_tree.specs.declared.program.MainStatement.TheVariants as main
 use Rattle.part_code.specs.ada_tree.specs.declared.expression.Identifier.{Identifier}
@@ -29,71 +24,81 @@ use Rattle.part_code.specs.types.specs.Shapes.{shape_of}
 use Rattle.part_code.specs.ada_tree.specs.ExpressionTree as expressions
 use Rattle.part_code.specs.ada_tree.specs.StatementTree as tree
 use Rattle.step_soundness.specs.meaning.specs.Meeting.{Last}
-use Rattle.step_soundness.specs.meaning.specs.MeetingLaws.{spends_takes}
-use Rattle.step_soundness.specs.meaning.specs.SameMeaning.{frames_of}
-use Rattle.step_soundness.specs.meaning.specs.Calls.{Actuals, Callee, actual_expression, actuals, activation_of, callee_by, callee_through, callee_with, declares_parameters, is_open, is_out, procedure_among, procedure_here, results, results_in, with_actuals}
+use Rattle.step_soundness.specs.meaning.specs.Calls.{Actuals, Callee, body_items, actual_expression, actuals, activation_of, callee_by, callee_through, callee_with, procedure_among, procedure_here, results, with_actuals}
 use Rattle.step_soundness.specs.meaning.specs.Programs.{Parameter, Procedure, Program, object_numbered}
 use Rattle.step_soundness.specs.meaning.specs.SourceSteps as source
-use Rattle.step_soundness.specs.meaning.specs.SourceSteps.{here_of, place_of, program_behaviour, with_value, work_step}
-use Rattle.step_soundness.specs.meaning.specs.Works.{Item, Declares, DeclaresParameter, Sequence, Does, DoesMain, EndsAction, EndsCall, Completed, Completion, Pending, Goes, Activation, Store, Target, TaskWork, frames_left}
+use Rattle.step_soundness.specs.meaning.specs.SourceSteps.{place_of, with_value, work_step}
+use Rattle.step_soundness.specs.meaning.specs.Works.{Item, Does, DoesMain, EndsCall, Goes, Activation, Store, TaskWork, frames_left}
 use Rattle.step_soundness.specs.Fitting.{taken_types}
 use Rattle.step_soundness.specs.Objects.{AreOf}
 use Rattle.step_soundness.proofs.Calling.{among_owner, found_here}
 use Rattle.part_code.specs.expr_code.specs.Views.{At, in_frame, placed, view_of}
-use Rattle.part_code.specs.expr_code.specs.Coming.{Comes, Throws, most_steps, size_of}
+use Rattle.part_code.specs.expr_code.specs.Coming.{Comes, Throws, size_of}
 use Rattle.part_code.specs.expr_code.specs.Computing.{ArePassed}
 use Rattle.part_code.specs.expr_code.specs.Seeing.{Package}
-use Rattle.part_code.specs.expr_code.proofs.Coming.{acts, after_first}
 use Rattle.part_code.specs.expr_code.proofs.Coming as coming
-use Rattle.part_code.specs.expr_code.proofs.CallFrames.{replicated}
-use Rattle.part_code.specs.expr_code.specs.declared.visible.Visible.{Visible}
-use Rattle.part_code.specs.Resting.{AreHeld, Framed, NarrowsFrame, RestsWith, StandsFor}
-use Rattle.part_code.specs.Copying.{AreCopies, ArePlaced, actuals_on, addresses_of, copies_on, held_at, left_out, passed_actuals, passed_expression, passed_words, taken}
+use Rattle.part_code.specs.Resting.{Framed, RestsWith, StandsFor}
+use Rattle.part_code.specs.Copying.{AreCopies, ArePlaced, actuals_on, addresses_of, passed_actuals, passed_expression, passed_words, taken}
 use Rattle.part_code.specs.declared.call.Destination.{Destination}
-use Rattle.part_code.specs.Handling.{GoesBy, unhandled}
+use Rattle.part_code.specs.Handling.{GoesBy}
 use Rattle.part_code.specs.Statements.{IsCall, IsProcedureCode, Numbers, parameter_subtype, procedure_kind, procedure_operation, shapes_of}
-use Rattle.part_code.specs.Jumping.{Here, Jumps, There}
-use Rattle.step_simulation.specs.Standing.{Closing, CodeStands, EndsItsAction, Going, IsCompleted, IsCopying, LeadsByWays, LeadsEnd, Raised, WaitsFor, frames_in, items_size, role_of, work_size}
+use Rattle.step_simulation.specs.Standing.{CodeStands, Follows, Going, IsGoingOn, LeadsByWays, LeavesBy, WaitsFor, frames_in, items_size, role_of, work_size}
+use Rattle.step_simulation.proofs.Entering.{entered, entered_frame}
 use Rattle.step_simulation.specs.Laws.{HasCode}
-use Rattle.step_simulation.proofs.Going.{declares_end, declares_follow, earlier, jumps_up, narrows_same, parameters_end, parameters_follow, same_end}
+use Rattle.step_simulation.proofs.Going.{jumps_up}
 use Rattle.step_simulation.proofs.Sizes.{item_counts}
 use Rattle.step_simulation.proofs.Copying as copy
 use Rattle.part_code.proofs.Handling.{goes_within}
-use Rattle.step_simulation.proofs.Opening.{IsThrough, body_frame, effect_of, enters, full, object_is, refusal_kept, refusal_of, refused}
+use Rattle.step_simulation.proofs.Opening.{IsThrough, effect_of, enters, full, refusal_kept, refusal_of, refused}
 use Rattle.step_simulation.proofs.Scenes.{Scene}
 use Rattle.step_simulation.proofs.Scenes as scene
 
--- how the procedure is found that a name calls, and that one which is called through an object is its own
-record IsFoundBy (p : Program) (c : Callee) : Type 0 where
-  owner : Option ℕ
-  name : List ℕ
-  found : procedure_among p.procedures owner name ≡ Some c.procedure
-  own : (o : ℕ) → c.through ≡ Some o → c.procedure.object ≡ Some o
+-- how the procedure is found that a name calls: one which is called through an object is its own, and else it belongs to the object of the body that calls, or
+-- to none
+pub record IsFoundBy (p : Program) (within : Option ℕ) (c : Callee) : Type 0 where
+  pub owner : Option ℕ
+  pub name : List ℕ
+  pub found : procedure_among p.procedures owner name ≡ Some c.procedure
+  pub own : (o : ℕ) → c.through ≡ Some o → c.procedure.object ≡ Some o
+  pub here : c.through ≡ None → (c.procedure.object ≡ within) ⊎ (c.procedure.object ≡ None)
 
-callee_found : (p : Program) (within : Option ℕ) (first : Identifier) (s : SelectorTrees) (c : Callee) → callee_by p within first s ≡ Some c → IsFoundBy p c
+pub callee_found : (p : Program) (within : Option ℕ) (first : Identifier) (s : SelectorTrees) (c : Callee) → callee_by p within first s ≡ Some c
+    → IsFoundBy p within c
 callee_found p within first s c h = by_selectors s h
   where
-    by_name : (o : Option Procedure) (a : ArgumentTrees) → procedure_here p within first.name ≡ o → callee_with o None a ≡ Some c → IsFoundBy p c
+    by_name : (o : Option Procedure) (a : ArgumentTrees) → procedure_here p within first.name ≡ o → callee_with o None a ≡ Some c → IsFoundBy p within c
     by_name (Some q) a is e =
         let here = found_here p within first.name q is in
         let same : q ≡ c.procedure = ap (λ x. elim x [ None ↦ q | Some y ↦ y.procedure ]) e in
         let through : None ≡ c.through = ap (λ x. elim x [ None ↦ None | Some y ↦ y.through ]) e in
-        record { owner = here.owner; name = first.name; found = here.is ∙ ap Some same; own = λ o t. let never = through ∙ t in cc }
+        record {
+          owner = here.owner;
+          name = first.name;
+          found = here.is ∙ ap Some same;
+          own = λ o t. let never = through ∙ t in cc;
+          here = λ t. subst (λ x. (x.object ≡ within) ⊎ (x.object ≡ None)) same here.place;
+        }
     by_name None a is e = cc
 
-    by_object : (o : Option ℕ) (name : List ℕ) (a : ArgumentTrees) → callee_through p o name a ≡ Some c → IsFoundBy p c
+    by_object : (o : Option ℕ) (name : List ℕ) (a : ArgumentTrees) → callee_through p o name a ≡ Some c → IsFoundBy p within c
     by_object (Some n) name a e = by_found (procedure_among p.procedures (Some n) name) refl e
       where
-        by_found : (o : Option Procedure) → procedure_among p.procedures (Some n) name ≡ o → callee_with o (Some n) a ≡ Some c → IsFoundBy p c
+        by_found : (o : Option Procedure) → procedure_among p.procedures (Some n) name ≡ o → callee_with o (Some n) a ≡ Some c → IsFoundBy p within c
         by_found (Some q) is e =
             let same : q ≡ c.procedure = ap (λ x. elim x [ None ↦ q | Some y ↦ y.procedure ]) e in
             let through : Some n ≡ c.through = ap (λ x. elim x [ None ↦ Some n | Some y ↦ y.through ]) e in
             let found = is ∙ ap Some same in
-            record { owner = Some n; name = name; found = found; own = λ o t. among_owner p.procedures (Some n) name c.procedure found ∙ through ∙ t }
+            record {
+              owner = Some n;
+              name = name;
+              found = found;
+              own = λ o t. among_owner p.procedures (Some n) name c.procedure found ∙ through ∙ t;
+              here = λ t. let never = through ∙ t in absurd cc;
+            }
         by_found None is e = cc
     by_object None name a e = cc
 
-    by_selectors : (s : SelectorTrees) → callee_by p within first s ≡ Some c → IsFoundBy p c
+    by_selectors : (s : SelectorTrees) → callee_by p within first s ≡ Some c → IsFoundBy p within c
     by_selectors NoSelectors e = by_name (procedure_here p within first.name) NoArguments refl e
     by_selectors (MoreSelectors (Arguments a) NoSelectors) e = by_name (procedure_here p within first.name) a refl e
     by_selectors (MoreSelectors (Component name) NoSelectors) e = by_object (object_numbered p.scope first) name.name NoArguments e
@@ -195,7 +200,7 @@ module _ (this : Scene) where
     one_actual items q (Named first path) = refl
     one_actual items q e = refl
 
-    actuals_are : (items : List Item) (ps : List Parameter) (xs : ArgumentTrees)
+    pub actuals_are : (items : List Item) (ps : List Parameter) (xs : ArgumentTrees)
         → actuals (place_of now items) store w.own ps xs ≡ passed_actuals (call (frames_left items)) (place_of now items) ps xs
     actuals_are items [] NoArguments = refl
     actuals_are items [] (MoreArguments x rest) = refl
@@ -203,37 +208,6 @@ module _ (this : Scene) where
     actuals_are items (p ∷ ps) (MoreArguments (Text label at) rest) = refl
     actuals_are items (p ∷ ps) (MoreArguments (expressions.Value e) rest) =
         (λ j. and_then (one_actual items p e j) (λ one. and_then (actuals_are items ps rest j) (with_actuals one)))
-
-    -- the items of a body: its `out` parameters, its declarations, its statements, its end
-    all_declared : (ps : List Parameter) (items : List Item) → declares_parameters ps items ≡ map DeclaresParameter (left_out ps) ++ items
-    all_declared [] items = refl
-    all_declared (p ∷ ps) items = by_mode (is_out p.mode) (all_declared ps items)
-      where
-        by_mode : (b : Bool) → declares_parameters ps items ≡ map DeclaresParameter (left_out ps) ++ items
-            → (if b then DeclaresParameter p ∷ declares_parameters ps items else declares_parameters ps items)
-            ≡ map DeclaresParameter (if b then p ∷ left_out ps else left_out ps) ++ items
-        by_mode true e = ap (λ l. DeclaresParameter p ∷ l) e
-        by_mode false e = e
-
-    -- the end of a call, and what comes behind it
-    abbrev ending_of : Procedure → (through : Option ℕ) → List Target → List Item → List Item
-    ending_of q through xs items = EndsCall (results q.parameters) through xs ∷ items
-
-    abbrev statements_of : Procedure → (through : Option ℕ) → List Target → List Item → List Item
-    statements_of q through xs items = Sequence q.body.statements q.body.handlers ∷ ending_of q through xs items
-
-    abbrev declarations_of : Procedure → (through : Option ℕ) → List Target → List Item → List Item
-    declarations_of q through xs items = map Declares q.body.declarations ++ statements_of q through xs items
-
-    abbrev body_of : Procedure → (through : Option ℕ) → List Target → List Item → List Item
-    body_of q through xs items = map DeclaresParameter (left_out q.parameters) ++ declarations_of q through xs items
-
-    runs : (q : Procedure) (through : Option ℕ) (a : Actuals) (items : List Item)
-        → source.run_body now (effect_of through) through q a items
-        ≡ source.enters now (effect_of through) (activation_of q a.values) (body_of q through a.targets items)
-    runs q through a items =
-        ap (λ all. source.enters now (effect_of through) (activation_of q a.values) all)
-        (all_declared q.parameters (map Declares q.body.declarations ++ Sequence q.body.statements q.body.handlers ∷ ending_of q through a.targets items))
 
     -- the refusals in their order, and the body
     abbrev passing : (through : Option ℕ) → Procedure → List Item → Actuals → source.SourceStepped
@@ -245,6 +219,63 @@ module _ (this : Scene) where
         → source.procedure_call now c through items ≡ source.with_actuals_of now c items (passing through c.procedure items)
     passes_by c None items = refl
     passes_by c (Some o) items = refl
+
+    -- The body of a call goes on, up to an end behind which the frame that called goes on.
+    pub call_entered : (q : Procedure) (number : ℕ) (proc : IsProcedureCode i program g numbers q number) (through : Option ℕ) (z : Actuals)
+        (items : List Item) (outer : Setting) (c : Frame) (below : List Frame) (ds : List Destination) (to : ℕ)
+        → ArePassed (shapes_of i program g numbers q) z.values
+        → AreOf program.scope (taken_types q.parameters) z.values
+        → length (addresses_of outer.visible.names z.targets) ≡ length (results q.parameters)
+        → WaitsFor i program g numbers outer c w.own
+        → length ds ≡ length (results q.parameters)
+        → ArePlaced outer.visible ds z.targets
+        → suc c.place ≤ to
+        → In c.subprogram to
+        → AreCopies i program g outer.visible (suc c.place) to ds
+        → Follows i program g numbers this.note outer c.subprogram to items c.role below w.callers
+        → GoesBy i outer.raised c.place to
+        → length below ≡ frames_in items
+        → IsGoingOn i program g numbers this.note (body_items q (EndsCall (results q.parameters) through z.targets) items) (activation_of q z.values)
+        (w.own ∷ w.callers)
+        (record {
+          frame = entered_frame i program g numbers this.note q number proc z.values (addresses_of outer.visible.names z.targets) (role_of through);
+          callers = c ∷ below;
+          raising = None;
+        })
+    call_entered q number proc through z items outer c below ds to shaped typed many waits as_many placed over inside copies rest goes depth =
+        entered i program g numbers this.note q number proc z.values (addresses_of outer.visible.names z.targets) shaped typed many
+        (EndsCall (results q.parameters) through z.targets) items (role_of through) (c ∷ below) (w.own ∷ w.callers) (ap suc depth)
+        (λ a n from ret way same here there. (
+          ret,
+          c,
+          below,
+          w.own,
+          w.callers,
+          outer,
+          ds,
+          to,
+          refl,
+          here,
+          way,
+          same,
+          there,
+          refl,
+          refl,
+          waits,
+          as_many,
+          placed,
+          over,
+          inside,
+          copies,
+          rest,
+          goes,
+        ))
+
+    -- a call gives nothing to a served caller, and whatever kernel comes of it, the task stands for its work
+    left_by_call : (through : Option ℕ) (u : TaskWork) (next : TaskState) → ((l : Kernel) → CodeStands i program g numbers this.note l t u next)
+        → LeavesBy i program g numbers this.note k t (effect_of through) u next None None
+    left_by_call None u next h = h (after t Quiet k)
+    left_by_call (Some o) u next h = h (after t (Opens o) k)
 
     -- the call of a procedure, where its actual parameters are computed
     met_procedure : (i' : Item) (items : List Item) → w.work ≡ Goes (i' ∷ items) → s.frame.stack ≡ [] → s.raising ≡ None
@@ -268,8 +299,8 @@ module _ (this : Scene) where
         → length fs ≡ frames_in items
         → GoesBy i a.raised at to
         → Meet s
-    met_procedure i' items is stack going a now' at mid to q number through ds v same leads le over numbered owner name found kinds here comes many copies passes
-        rest rests object depth goes =
+    met_procedure i' items is stack going a now' at mid to q number through ds v same leads le over numbered owner name found kinds here comes many copies
+        passes rest rests object depth goes =
         by_refusal (refusal_of k t through) refl
       where
         proc : IsProcedureCode i program g numbers q number
@@ -304,7 +335,7 @@ module _ (this : Scene) where
         few n e = omega (arith, e, depth)
 
         step_of : Actuals → source.SourceStepped
-        step_of z = source.enters now (effect_of through) (activation_of q z.values) (body_of q through z.targets items)
+        step_of z = source.run_body now (effect_of through) through q z items
 
         words_of_call : Actuals → List ℤ
         words_of_call z = passed_words q.parameters z.values (addresses_of now'.names z.targets)
@@ -320,7 +351,7 @@ module _ (this : Scene) where
         entered_step n e none (Gives z) =
             ap (λ o. source.unless_refused now o items
             (source.if_frame_left now (frames_left items) items (source.run_body now (effect_of through) through q z items))) none
-            ∙ ap (λ n. source.if_frame_left now n items (source.run_body now (effect_of through) through q z items)) e ∙ runs q through z items
+            ∙ ap (λ n. source.if_frame_left now n items (source.run_body now (effect_of through) through q z items)) e
         entered_step n e none (Raises y) = refl
         entered_step n e none Meaningless = refl
 
@@ -336,51 +367,9 @@ module _ (this : Scene) where
             → (r : steps.Stepped) × (act i schedule k t (in_frame m (placed f mid (actuals_on now'.names q.parameters [] z)) fs) ≡ r) × Meets (step_of z) r
         begins z ez n e none =
             let given = passes z ez in
-            let words = words_of_call z in
-            let addresses = addresses_of now'.names z.targets in
             let caller = placed f mid [] in
-            let locals = replicate (proc.s.locals - proc.s.parameters) (pos 0) in
-            let first = first_place i number in
-            let back = proc.gives.back in
-            let u0 = proc.down in
-            let u1 = proc.runs.up in
-            let u2 = proc.runs.over in
-            let u3 = proc.gives.up in
-            let u4 = proc.within in
             let u = up tt in
-            let ended : end_of (called i number) ≡ proc.s.end_ = ap end_of proc.there in
-            let all_in : (place : ℕ) → first ≤ place → place ≤ back → In number place =
-            λ place low high. (low, omega (arith, low, high, u0, u1, u2, u3, u4, ended)) in
-            let first_in = all_in first (omega arith) (omega (arith, u0, u1, u2, u3)) in
-            let ready_in = all_in proc.first u0 (omega (arith, u1, u2, u3)) in
-            let mid_in = all_in proc.runs.mid (omega (arith, u0, u1)) (omega (arith, u2, u3)) in
-            let way_in = all_in (proc.runs.mid + 1) (omega (arith, u0, u1)) (omega (arith, u2, u3)) in
-            let stop_in = all_in proc.stop (omega (arith, u0, u1, u2)) (omega (arith, u3)) in
-            let last_in = all_in back (omega (arith, u0, u1, u2, u3)) (omega arith) in
-            let around : Setting = record {
-              visible = proc.begins;
-              ways = record { exit = None; return = Some (proc.runs.mid + 1); handled = None };
-              raised = unhandled;
-              held = held_at proc.begins.reserved addresses;
-              behind = proc.middle;
-              ending = proc.middle;
-              handling = proc.middle;
-            } in
-            let enter = proc.enters z.values addresses locals given.0 given.1 (as_many z ez) (replicated (proc.s.locals - proc.s.parameters)) in
-            let ending : (last : Framed) → (from : ℕ) → Jumps i from proc.stop → In number from → NarrowsFrame g last proc.middle
-            → (same : proc.begins.reserved ≡ proc.middle.reserved)
-            → LeadsEnd i program g numbers (seeing last around) number from last names addresses =
-            λ last from jumps inside nar same. record {
-              at = proc.stop;
-              last = proc.middle;
-              jumps = jumps;
-              narrows = nar;
-              gives = proc.gives;
-              held = ap (λ l. held_at l addresses) same;
-              outermost = record { exit = refl; handled = refl; raised = λ x. refl };
-              from_inside = inside;
-              to_inside = last_in;
-            } in
+            let body = entered_frame i program g numbers this.note q number proc z.values (addresses_of now'.names z.targets) (role_of through) in
             let waits : WaitsFor i program g numbers (seeing now' a) caller w.own =
             record {
               object = object;
@@ -390,74 +379,14 @@ module _ (this : Scene) where
               next = (omega (arith, x.0, u, le), omega (arith, y.1, over));
               handles = leads.reaches.2;
             } in
-            let last : (begun : NarrowsFrame g proc.begun proc.begins) → NarrowsFrame g proc.runs.later proc.middle → Follow (seeing proc.runs.later around)
-            number proc.runs.mid
-            (statements_of q through z.targets items) (role_of through) (caller ∷ fs) (w.own ∷ w.callers) =
-            λ begun nar.
-            let same : proc.begins.reserved ≡ proc.middle.reserved = sym begun.reserved ∙ proc.orders.reserved in (
-              proc.runs.mid + 2,
-              proc.stop,
-              proc.runs.later,
-              (record {
-                jumps = There proc.runs.skip (omega arith) Here;
-                narrows = narrows_same g proc.runs.later;
-                reaches = (nar.shows, nar.shows, nar.shows);
-                from_inside = mid_in;
-                up = u2;
-                to_inside = stop_in;
-              }),
-              proc.runs.statements,
-              (
-                proc.runs.mid + 1,
-                caller,
-                fs,
-                w.own,
-                w.callers,
-                seeing now' a,
-                ds,
-                to,
-                refl,
-                ending proc.runs.later proc.stop Here stop_in nar same,
-                refl,
-                nar.reserved,
-                same_end i program g numbers (seeing proc.middle around) proc.runs.later proc.middle number (proc.runs.mid + 1) names addresses
-                    (ending proc.middle (proc.runs.mid + 1) (There proc.runs.way (omega (arith, u2)) Here) way_in (narrows_same g proc.middle) same),
-                refl,
-                refl,
-                waits,
-                many,
-                given.2,
-                over,
-                y,
-                copies,
-                rest,
-                goes_within i a.raised at mid to to goes le (omega arith),
-              ),
-            ) in
-            let middle : (begun : NarrowsFrame g proc.begun proc.begins) → Follow (seeing proc.begun around) number proc.first
-            (declarations_of q through z.targets items) (role_of through) (caller ∷ fs) (w.own ∷ w.callers) =
-            λ begun.
-            earlier i program g numbers (declarations_of q through z.targets items) (seeing proc.middle around) proc.begun number proc.first proc.first
-            (role_of through) (caller ∷ fs) (w.own ∷ w.callers) Here proc.orders ready_in
-            (declares_follow i program g numbers q.body.declarations around proc.middle proc.runs.later number proc.first proc.runs.mid
-            (statements_of q through z.targets items) (role_of through) (caller ∷ fs) (w.own ∷ w.callers) proc.runs.declared proc.runs.uncovered u1 ready_in
-            mid_in
-            ((narrows_same g proc.middle).shows, (narrows_same g proc.middle).shows, (narrows_same g proc.middle).shows) (λ nar. last begun nar)) in (
-              steps.does (effect_of through) m (body_frame quiet i number proc.s proc.there through words) (caller ∷ fs) None None,
-              enters quiet i number proc.s proc.there schedule k t m f fs mid [] words (passed_many z ez) through kind here none (few n e),
+            let goes_on = call_entered q number proc through z items (seeing now' a) caller fs ds to given.0 given.1 (as_many z ez) waits many given.2 over y
+            copies rest (goes_within i a.raised at mid to to goes le (omega arith)) depth in (
+              steps.does (effect_of through) m body (caller ∷ fs) None None,
+              enters quiet i number proc.s proc.there schedule k t m f fs mid [] (words_of_call z) (passed_many z ez) through kind here none (few n e),
               record {
                 effect = refl;
-                code = Going (body_of q through z.targets items) refl (record {
-                  around = around;
-                  follows = parameters_follow i program g numbers (left_out q.parameters) around proc.begins proc.begun number first proc.first
-                      (declarations_of q through z.targets items) (role_of through) (caller ∷ fs) (w.own ∷ w.callers) proc.ready u0 first_in ready_in middle;
-                  rests = enter;
-                  object = ap (λ o. object_of (kind_of o)) proc.there ∙ ap object_of proc.kind ∙ object_is q.object q.barrier;
-                  stack = refl;
-                  going = refl;
-                  depth = ap suc depth ∙ sym (parameters_end i program g numbers (left_out q.parameters) (declarations_of q through z.targets items)
-                      ∙ declares_end i program g numbers q.body.declarations (statements_of q through z.targets items));
-                });
+                leaves = left_by_call through (step_of z).solo.task (record { frame = body; callers = caller ∷ fs; raising = None })
+                    (λ l. Going (body_items q (EndsCall names through z.targets) items) refl goes_on);
                 words = shares;
               },
             )
@@ -521,7 +450,8 @@ module _ (this : Scene) where
             (λ z. ap (λ o. source.unless_refused now o items
             (source.if_frame_left now (frames_left items) items (source.run_body now (effect_of through) through q z items))) e)
             (λ z ez. record {
-              throws = λ schedule' l m' opened ranked. refused quiet i number proc.s proc.there schedule' l t m' f fs mid [] (words_of_call z) (passed_many z ez)
+              throws = λ schedule' l m' opened ranked. refused quiet i number proc.s proc.there schedule' l t m' f fs mid [] (words_of_call z)
+                  (passed_many z ez)
                   through kind here r (refusal_kept k l t through opened ranked ∙ e);
             })
         by_refusal None e = by_left e (frames_left items) refl
@@ -534,22 +464,23 @@ module _ (this : Scene) where
         → Meet s
     met_call name c items is h found same code =
         let r = h.follows in
+        let by_code = code.invoked in
         let leads = r.3 in
         let rests = scene.narrowed this s h.around.visible r.2 w.own f.locals leads.narrows h.rests in
         let place = place_of now items in
         let by = callee_found program r.2.within name.first name.selectors c found in
         let knows = scene.sees_here this r.2 items f fs rests h.object in
-        met_procedure (Does (tree.Call name)) items is h.stack h.going h.around r.2 r.0 code.mid r.1 c.procedure code.number c.through code.destinations
+        met_procedure (Does (tree.Call name)) items is h.stack h.going h.around r.2 r.0 by_code.mid r.1 c.procedure code.number c.through by_code.destinations
         (passed_actuals (call (frames_left items)) place c.procedure.parameters c.arguments)
         (same ∙ ap (λ q. source.call_of now c q items) code.plain ∙ passes_by c c.through items
         ∙ ap (λ q. with_value now q items (passing c.through c.procedure items)) (actuals_are items c.procedure.parameters c.arguments))
-        leads code.up code.over code.numbered by.owner by.name by.found
-        (λ kind here. through_kind c.through c.procedure.object c.procedure.barrier kind here code.plain by.own) code.calls
-        (scene.evaluates this r.2 r.0 code.mid (actuals_on r.2.names c.procedure.parameters)
+        leads by_code.up by_code.over code.numbered by.owner by.name by.found
+        (λ kind here. through_kind c.through c.procedure.object c.procedure.barrier kind here code.plain by.own) by_code.calls
+        (scene.evaluates this r.2 r.0 by_code.mid (actuals_on r.2.names c.procedure.parameters)
         (λ calls p. passed_actuals calls p c.procedure.parameters c.arguments)
-        items f fs code.computes rests h.object h.depth)
-        code.many code.copies
-        (λ z ez. code.passes (call (frames_left items)) place (view_of i schedule k t m f fs) z (has.functions (frames_left items)).sound knows ez)
+        items f fs by_code.computes rests h.object h.depth)
+        by_code.many by_code.copies
+        (λ z ez. by_code.passes (call (frames_left items)) place (view_of i schedule k t m f fs) z (has.functions (frames_left items)).sound knows ez)
         r.5 h.rests h.object h.depth r.4.1
 
     -- a call that main makes
@@ -577,192 +508,3 @@ module _ (this : Scene) where
 
         given : (z : Actuals) → Gives nothing ≡ Gives z → nothing ≡ z
         given z e = cc
-
-    -- ---- the end of a call
-
-    nat_le_same : (n : ℕ) → nat_le n n ≡ true
-    nat_le_same n = search rules
-
-    take_whole : (xs : List ℤ) → take (length xs) xs ≡ xs
-    take_whole [] = refl
-    take_whole (x ∷ xs) = ap (λ l. x ∷ l) (take_whole xs)
-
-    append_none : (xs : List ℤ) → xs ++ [] ≡ xs
-    append_none [] = refl
-    append_none (x ∷ xs) = ap (λ l. x ∷ l) (append_none xs)
-
-    -- where a body ends, the frame below goes on in this state; an action that the call opened ends
-    abbrev left_by : (opened : Option ℕ) → Words → TaskState → steps.Stepped
-    left_by None m' next = steps.does Quiet m' next.frame next.callers next.raising None
-    left_by (Some o) m' next = steps.does (Ends (steps.is_open i m' o)) m' next.frame next.callers next.raising None
-
-    returns_below : (schedule' : List ScheduleLine) (l : Kernel) (m' : Words) (body c : Frame) (below : List Frame) (stack : List ℤ) (opened : Option ℕ)
-        → steps.returns_to i schedule' l t m' body (c ∷ below) (c ∷ below) (role_of opened) stack
-        ≡ left_by opened m' (record { frame = steps.resumed c stack; callers = below; raising = None })
-    returns_below schedule' l m' body c below stack None = refl
-    returns_below schedule' l m' body c below stack (Some o) = refl
-
-    -- The frame of a body that ends has come to its return: its results stand on the operand stack, each above its address, and are left to the frame below.
-    record IsReturning (opened : Option ℕ) (vs : List Value) (xs : List Target) (items : List Item) : Type 0 where
-      back : ℕ
-      stack : List ℤ
-      n : ℕ
-      spends : Spends (behaviour i schedule) t frames_of (most_steps i) (suc (length fs)) n k (in_frame m (placed f f.place []) fs) k
-          (in_frame m (placed f back stack) fs)
-      low : n + 1 < size_of i f.subprogram + size_of i f.subprogram
-      own : Activation
-      older : List Activation
-      waiting : w.callers ≡ own ∷ older
-      next : TaskState
-      going : next.raising ≡ None
-      acts : (schedule' : List ScheduleLine) (l : Kernel) (m' : Words)
-          → act i schedule' l t (in_frame m' (placed f back stack) fs) ≡ left_by opened m' next
-      copying : IsCopying i program g numbers vs xs items own older next
-
-    returns : (names : List (List ℕ)) (opened : Option ℕ) (xs : List Target) (items : List Item) → (h : IsAtItems (EndsCall names opened xs ∷ items))
-        → IsReturning opened (results_in w.own.locals names) xs items
-    returns names opened xs items h =
-        let r = h.follows in
-        let c = r.1 in
-        let below = r.2 in
-        let outer = r.5 in
-        let ds = r.6 in
-        let end = r.9 in
-        let waits = r.15 in
-        let at = end.at in
-        let back = end.gives.back in
-        let addresses = addresses_of outer.visible.names xs in
-        let up = jumps_up i program g numbers f.place at end.jumps in
-        let on_ = end.gives.up in
-        let x = end.from_inside in
-        let y = end.to_inside in
-        let l = ap length r.13 in
-        let d = h.depth in
-        let many = copy.placed_many outer.visible ds xs r.17 in
-        let same = r.16 in
-        let place = place_of now items in
-        let knows = end.narrows.shows place (view_of i schedule k t m f fs) (scene.sees_here this h.around.visible items f fs h.rests h.object) in
-        let pushed = end.gives.pushes schedule k t m f fs place addresses calm knows (subst (λ q. AreHeld f.locals q) end.held h.rests.held) (many ∙ same) in
-        let vs = results_in w.own.locals names in
-        let stack = copies_on vs addresses [] in
-        let counted = pushed.0 in
-        let targets = targets_many outer.visible.names xs in
-        let frame : Frame = record { subprogram = c.subprogram; place = suc c.place; locals = c.locals; stack = stack; role = c.role } in
-        let next : TaskState = record { frame = frame; callers = below; raising = None } in record {
-          back = back;
-          stack = stack;
-          n = (at - f.place) + (back - at);
-          spends = spends_trans (behaviour i schedule) t frames_of (most_steps i) (back - at) k (in_frame m (placed f back stack) fs)
-              (scene.jumps_spend this f fs f.place at end.jumps) pushed.2;
-          low = omega (arith, x.0, y.1, up, on_);
-          own = r.3;
-          older = r.4;
-          waiting = r.14;
-          next = next;
-          going = refl;
-          acts = λ schedule' l m'.
-              acts quiet i back op.Return end.gives.return schedule' l t m' f fs stack
-              ∙ ap (λ n. steps.returns i schedule' l t m' (placed f back stack) fs n) (sym pushed.1)
-              ∙ ap (λ b. cond b (steps.returns_to i schedule' l t m' (placed f back stack) fs fs f.role (take (length stack) stack))
-              (steps.breaks i schedule' l t m' (placed f back stack) fs)) (nat_le_same (length stack))
-              ∙ ap (λ q. steps.returns_to i schedule' l t m' (placed f back stack) fs fs f.role q) (take_whole stack)
-              ∙ ap (λ q. steps.returns_to i schedule' l t m' (placed f back stack) q q f.role stack) r.13
-              ∙ ap (λ q. steps.returns_to i schedule' l t m' (placed f back stack) (c ∷ below) (c ∷ below) q stack) r.8
-              ∙ returns_below schedule' l m' (placed f back stack) c below stack opened
-              ∙ (λ j. left_by opened m' (record {
-                frame = record { subprogram = c.subprogram; place = following c.place j; locals = c.locals; stack = resting waits.stack stack j; role = c.role };
-                callers = below;
-                raising = None;
-              }));
-          copying = record {
-            around = outer;
-            destinations = ds;
-            to = r.7;
-            placed = r.17;
-            many = omega (arith, counted, many, same, targets);
-            up = r.18;
-            copies = r.20;
-            from_inside = waits.next;
-            to_inside = r.19;
-            follows = r.21;
-            rests = waits.rests;
-            object = waits.object;
-            stack = refl;
-            going = refl;
-            depth = omega (arith, d, l);
-            goes = goes_within i outer.raised c.place (suc c.place) r.7 r.7 r.22 (omega arith) (omega arith);
-            handles = waits.handles;
-          };
-        }
-      where
-        following : (place : ℕ) → place + 1 ≡ suc place
-        following place = omega arith
-
-        resting : {left : List ℤ} → left ≡ [] → (stack : List ℤ) → stack ++ left ≡ stack
-        resting e stack = ap (λ q. stack ++ q) e ∙ append_none stack
-
-        targets_many : (v : Visible) (xs : List Target) → length (addresses_of v xs) ≡ length xs
-        targets_many v [] = refl
-        targets_many v (x ∷ xs) = ap suc (targets_many v xs)
-
-    -- A body ends. If its call has opened an action, the return is still to be taken, which ends the action.
-    pub met_ends : (names : List (List ℕ)) (opened : Option ℕ) (xs : List Target) (items : List Item) → w.work ≡ Goes (EndsCall names opened xs ∷ items)
-        → (h : IsAtItems (EndsCall names opened xs ∷ items)) → Meet s
-    met_ends names None xs items is h =
-        let r = returns names None xs items h in
-        let vs = results_in w.own.locals names in
-        let low = r.low in
-        let after' : source.SourceStepped = record {
-          effect = Quiet;
-          solo = record { memory = store; task = record { work = source.copying vs xs items; own = r.own; callers = r.older } };
-          given = None;
-        } in
-        subst Meet (sym (scene.going_is this s h.stack h.going))
-        (scene.moves_from this (in_frame m (placed f f.place []) fs).task (r.n + 1) (in_frame m (placed f r.back r.stack) fs) after' (left_by None m r.next)
-        (ap (λ q. work_step now q) is ∙ ap (λ q. source.leaves now Quiet q (source.copying vs xs items) None) r.waiting) (r.acts schedule k m)
-        (spends_takes (behaviour i schedule) t frames_of (most_steps i) 1 k (in_frame m (placed f r.back r.stack) fs) r.spends (Last refl))
-        (omega (arith, low), λ some. omega (arith, low))
-        (record { effect = refl; code = copy.copying_stands this vs xs items r.own r.older (after t Quiet k) r.next r.copying; words = shares }))
-    met_ends names (Some o) xs items is h =
-        let r = returns names (Some o) xs items h in
-        let vs = results_in w.own.locals names in
-        let low = r.low in
-        let work = Goes (EndsAction o (Completed vs xs) ∷ items) in
-        let at_return = (in_frame m (placed f r.back r.stack) fs).task in
-        let after' : source.SourceStepped = record {
-          effect = Quiet;
-          solo = record { memory = store; task = record { work = work; own = r.own; callers = r.older } };
-          given = None;
-        } in
-        subst Meet (sym (scene.going_is this s h.stack h.going))
-        (scene.quiet_from this (in_frame m (placed f f.place []) fs).task (r.n + 1) at_return after'
-        (ap (λ q. work_step now q) is ∙ ap (λ q. source.leaves now Quiet q work None) r.waiting) refl refl
-        (spends_takes (behaviour i schedule) t frames_of (most_steps i) 1 k (in_frame m (placed f r.back r.stack) fs) r.spends (Last refl))
-        (omega (arith, low), λ some. omega (arith, low))
-        (λ s' there. subst (λ q. CodeStands i program g numbers k t after'.solo.task q) (sym there)
-        (Closing o (Completed vs xs) items r.next refl (record { ends = λ schedule' l m' opened ranked. r.acts schedule' l m' }) r.copying))
-        (subst (λ q. work_size work < work_size q) (sym is) (omega arith)))
-
-    -- ---- the end of an action
-
-    completed_stands : (done : Completion) (items : List Item) (k' : Kernel) (next : TaskState)
-        → IsCompleted i program g numbers done items w.own w.callers next
-        → CodeStands i program g numbers k' t (record { work = source.completed done items; own = w.own; callers = w.callers }) next
-    completed_stands (Completed vs xs) items k' next h = copy.copying_stands this vs xs items w.own w.callers k' next h
-    completed_stands (Pending x) items k' next h =
-        Raised x items next.frame next.callers refl
-        (record { throws = λ schedule' l m' opened ranked. ap (λ r. steps.does_or_raises i schedule' l t m' next.frame next.callers r) h.0 }) h.1
-
-    -- the step that ends the action, and serves nobody
-    pub met_closing : (o : ℕ) (done : Completion) (items : List Item) (next : TaskState) → w.work ≡ Goes (EndsAction o done ∷ items)
-        → EndsItsAction i program g numbers k t o s next → IsCompleted i program g numbers done items w.own w.callers next → scene.MetFrom this s
-    met_closing o done items next is ends h =
-        let closed : source.SourceStepped = source.works now (Ends (is_open program store o)) (source.completed done items) in
-        scene.moves_from this s 1 (record { memory = m; task = s }) closed
-        (steps.does (Ends (steps.is_open i m o)) m next.frame next.callers next.raising None) (ap (λ q. work_step now q) is) (ends.ends schedule k m refl refl)
-        (Last refl) (omega arith, λ some. omega (arith, some))
-        (record {
-          effect = ap Ends (sym (has.barriers store m o));
-          code = completed_stands done items (after t (Ends (is_open program store o)) k) next h;
-          words = shares;
-        }) s (scene.AtOnce refl)

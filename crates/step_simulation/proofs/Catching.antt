@@ -2,14 +2,13 @@
 use Rattle.std.proofs.Common.{◌≡◌, ℕ, suc, ◌≤◌, ℤ, List, [], ◌∷◌, map, length, Option, Some, None, Bool, true, false, refl, sym, ap, ◌∙◌, subst, arith}
 use Rattle.std.specs.Prelude.{if◌then◌else◌, pos, slice_get}
 use Rattle.std.proofs.lemmas.Option.{none-some, same_Some}
-use Rattle.part_code.specs.handlers.specs.Innermost.{handler_of}
 use Rattle.part_code.specs.image.specs.Sections.{Sections}
-use Rattle.part_code.specs.image.specs.Frames.{Frame, Role, own_object}
+use Rattle.part_code.specs.image.specs.Frames.{Frame, Role}
 use Rattle.part_code.specs.ada_tree.specs.declared.statement.ExceptionChoice.{ExceptionChoice}
 use Rattle.part_code.specs.ada_tree.specs.StatementTree.{HandlerTrees, NoHandlers, MoreHandlers, StmtTrees}
 use Rattle.step_soundness.specs.meaning.specs.Programs.{Program}
 use Rattle.step_soundness.specs.meaning.specs.SourceSteps.{handled_exception, handler_for, some_covers}
-use Rattle.step_soundness.specs.meaning.specs.Works.{Item, Declares, DeclaresParameter, Sequence, Does, DoesMain, Repeats, RepeatsWhile, RepeatsFor, Handles, EndsHandler, EndsCall, Activation}
+use Rattle.step_soundness.specs.meaning.specs.Works.{Item, Declares, DeclaresParameter, Sequence, Does, DoesMain, Repeats, RepeatsWhile, RepeatsFor, Handles, EndsHandler, EndsCall, EndsServed, Activation, Target}
 use Rattle.step_soundness.specs.Objects.{IsException}
 use Rattle.part_code.specs.expr_code.specs.Seeing.{Package}
 use Rattle.part_code.specs.Resting.{AreHeld, Framed, Rests, RestsWith, Shows, held_offset}
@@ -17,7 +16,7 @@ use Rattle.part_code.specs.Handling.{Handling, exception_in}
 use Rattle.part_code.specs.Counting.{in_turn}
 use Rattle.part_code.specs.Statements.{AreHandlers, Numbers, Ways}
 use Rattle.part_code.specs.Jumping.{Here, There}
-use Rattle.step_simulation.specs.Standing.{Around, Catches, CaughtIf, Follows, Inside, IsCaught, LeadsOver, frames_in, in_handler, with_visible}
+use Rattle.step_simulation.specs.Standing.{Around, Catches, CaughtIf, Follows, FollowsIn, Inside, IsCaught, LeadsOver, Note, RaisesBy, frames_in, in_handler, with_visible}
 use Rattle.step_simulation.proofs.Going.{before_ends, before_follows, rest_of}
 
 -- whether a handler has a choice for the exception: it goes to the handler, or on
@@ -29,7 +28,7 @@ by_choice : {P : Type 0} (b : Bool) (inner next : Option ℕ) (from : ℕ) (own 
 by_choice true inner next from own rest found there is taken other = taken there is
 by_choice false inner next from own rest found there is taken other = other there is
 
-module _ (i : Sections) (program : Program) (g : Package) (numbers : Numbers) where
+module _ (i : Sections) (program : Program) (g : Package) (numbers : Numbers) (note : Note) where
   abbrev Setting : Type 0
   Setting = Around i program g numbers
 
@@ -40,10 +39,10 @@ module _ (i : Sections) (program : Program) (g : Package) (numbers : Numbers) wh
   In n place = Inside i program g numbers n place
 
   abbrev Follow : Setting → (n from : ℕ) → List Item → Role → List Frame → List Activation → Type 0
-  Follow a n from items role fs os = Follows i program g numbers a n from items role fs os
+  Follow a n from items role fs os = Follows i program g numbers note a n from items role fs os
 
   abbrev Caught : (x : ℕ) (f : Frame) (fs : List Frame) (own : Activation) (os : List Activation) → List Item → Type 0
-  Caught x f fs own os items = Catches i program g numbers x f fs own os items
+  Caught x f fs own os items = Catches i program g numbers note x f fs own os items
 
   pub shown : (a b : Framed) (own : Activation) (locals : List ℤ) → Shows g a b → Rests g a own locals → Rests g b own locals
   shown a b own locals shows rests = record {
@@ -114,20 +113,18 @@ module _ (i : Sections) (program : Program) (g : Package) (numbers : Numbers) wh
 
   -- ---- what is known of a frame that raises
 
-  pub record IsRaising (a : Setting) (x : ℕ) (f : Frame) (fs : List Frame) (own : Activation) (items : List Item) : Type 0 where
-    pub known : IsException program x
-    pub goes : handler_of i.rows f.place x ≡ a.raised x
-    pub rests : Rests g a.handling own f.locals
-    pub held : AreHeld f.locals a.held
-    pub apart : map held_offset a.held ≡ a.visible.reserved
-    pub object : own_object i f ≡ own.within
-    pub depth : length fs ≡ frames_in items
+  abbrev pub IsRaising : (x : ℕ) (f : Frame) (fs : List Frame) (own : Activation) (os : List Activation) → List Item → Type 0
+  IsRaising x f fs own os items = RaisesBy i program g numbers (FollowsIn i program g numbers note items f.role fs os) x items own f fs
 
   -- what begins behind is dropped: this leaves the same words alone
-  drop_seeing : (a : Setting) (v : Framed) (x : ℕ) (f : Frame) (fs : List Frame) (own : Activation) (i' : Item) (items : List Item)
-      → a.visible.reserved ≡ v.reserved → frames_in (i' ∷ items) ≡ frames_in items
-      → IsRaising a x f fs own (i' ∷ items) → IsRaising (seeing v a) x f fs own items
-  drop_seeing a v x f fs own i' items same ends h = record {
+  drop_seeing : (x : ℕ) (f : Frame) (fs : List Frame) (own : Activation) (os : List Activation) (i' : Item) (items : List Item)
+      → (h : IsRaising x f fs own os (i' ∷ items)) (v : Framed) (from : ℕ) → h.around.visible.reserved ≡ v.reserved → frames_in (i' ∷ items) ≡ frames_in items
+      → Follow (seeing v h.around) f.subprogram from items f.role fs os
+      → IsRaising x f fs own os items
+  drop_seeing x f fs own os i' items h v from same ends follows = record {
+    around = seeing v h.around;
+    from = from;
+    follows = follows;
     known = h.known;
     goes = h.goes;
     rests = h.rests;
@@ -138,15 +135,20 @@ module _ (i : Sections) (program : Program) (g : Package) (numbers : Numbers) wh
   }
 
   -- what is under way is dropped
-  drop_outer : (a outer : Setting) (x : ℕ) (f : Frame) (fs : List Frame) (own : Activation) (i' : Item) (items : List Item)
-      → a.raised x ≡ outer.raised x → Shows g a.handling outer.handling → (AreHeld f.locals a.held → AreHeld f.locals outer.held)
-      → (map held_offset a.held ≡ a.visible.reserved → map held_offset outer.held ≡ outer.visible.reserved)
+  drop_outer : (x : ℕ) (f : Frame) (fs : List Frame) (own : Activation) (os : List Activation) (i' : Item) (items : List Item)
+      → (h : IsRaising x f fs own os (i' ∷ items)) (outer : Setting) (from : ℕ)
+      → h.around.raised x ≡ outer.raised x → Shows g h.around.handling outer.handling → (AreHeld f.locals h.around.held → AreHeld f.locals outer.held)
+      → (map held_offset h.around.held ≡ h.around.visible.reserved → map held_offset outer.held ≡ outer.visible.reserved)
       → frames_in (i' ∷ items) ≡ frames_in items
-      → IsRaising a x f fs own (i' ∷ items) → IsRaising outer x f fs own items
-  drop_outer a outer x f fs own i' items same shows held apart ends h = record {
+      → Follow outer f.subprogram from items f.role fs os
+      → IsRaising x f fs own os items
+  drop_outer x f fs own os i' items h outer from same shows held apart ends follows = record {
+    around = outer;
+    from = from;
+    follows = follows;
     known = h.known;
     goes = h.goes ∙ same;
-    rests = shown a.handling outer.handling own f.locals shows h.rests;
+    rests = shown h.around.handling outer.handling own f.locals shows h.rests;
     held = held h.held;
     apart = apart h.apart;
     object = h.object;
@@ -162,13 +164,12 @@ module _ (i : Sections) (program : Program) (g : Package) (numbers : Numbers) wh
   abbrev pub HasRoom : Type 0
   HasRoom = (v : Framed) (a : Activation) (locals : List ℤ) → Rests g v a locals → v.room ≤ length locals
 
-  caught : HasRoom → (a : Setting) (from at to : ℕ) (outer : Setting) (x : ℕ) (f : Frame) (fs : List Frame) (own : Activation) (os : List Activation)
-      (hs : HandlerTrees)
-      (body : StmtTrees) (items : List Item)
-      → LeadsOver i program g numbers a f.subprogram from at to outer → Follow outer f.subprogram to items f.role fs os
-      → IsRaising a x f fs own (Handles hs ∷ items)
-      → IsTaking outer.visible outer.ways outer.raised (a.raised x) at to body → IsCaught i program g numbers x f fs own os body items
-  caught room a from at to outer x f fs own os hs body items over follows h t =
+  caught : HasRoom → (x : ℕ) (f : Frame) (fs : List Frame) (own : Activation) (os : List Activation) (hs : HandlerTrees) (body : StmtTrees) (items : List Item)
+      → (h : IsRaising x f fs own os (Handles hs ∷ items)) (at to : ℕ) (outer : Setting)
+      → LeadsOver i program g numbers h.around f.subprogram h.from at to outer → Follow outer f.subprogram to items f.role fs os
+      → IsTaking outer.visible outer.ways outer.raised (h.around.raised x) at to body → IsCaught i program g numbers note x f fs own os body items
+  caught room x f fs own os hs body items h at to outer over follows t =
+      let a = h.around in
       let code = t.code.2 in
       let mid = t.code.1 in
       let word = code.word in
@@ -199,7 +200,7 @@ module _ (i : Sections) (program : Program) (g : Package) (numbers : Numbers) wh
           acts = λ schedule k t' m. kept.acts schedule k t' m fs;
           going = record {
             around = around;
-            follows = before_follows i program g numbers body around later f.subprogram (suc t.target) mid
+            follows = before_follows i program g numbers note body around later f.subprogram (suc t.target) mid
                 (EndsHandler x ∷ items) f.role fs os code.statements two start_in
                 mid_in (
                   (λ p view z. over.reaches.0 p view (shows p view z)),
@@ -229,114 +230,144 @@ module _ (i : Sections) (program : Program) (g : Package) (numbers : Numbers) wh
       }
 
   -- ... or none, and then it goes on behind
-  by_handler : HasRoom → (a : Setting) (from at to : ℕ) (outer : Setting) (x : ℕ) (f : Frame) (fs : List Frame) (own : Activation) (os : List Activation)
-      (hs : HandlerTrees) (items : List Item)
-      → LeadsOver i program g numbers a f.subprogram from at to outer → Follow outer f.subprogram to items f.role fs os
-      → AreHandlers i program g numbers outer.visible outer.ways outer.raised a.raised at to hs
-      → IsRaising a x f fs own (Handles hs ∷ items)
+  by_handler : HasRoom → (x : ℕ) (f : Frame) (fs : List Frame) (own : Activation) (os : List Activation) (hs : HandlerTrees) (items : List Item)
+      → (h : IsRaising x f fs own os (Handles hs ∷ items)) (at to : ℕ) (outer : Setting)
+      → LeadsOver i program g numbers h.around f.subprogram h.from at to outer → Follow outer f.subprogram to items f.role fs os
+      → AreHandlers i program g numbers outer.visible outer.ways outer.raised h.around.raised at to hs
       → (o : Option StmtTrees) → handler_for program x hs ≡ o
       → (handler_for program x hs ≡ None → Caught x f fs own os items)
-      → CaughtIf i program g numbers x f fs own os items o (Caught x f fs own os items)
-  by_handler room a from at to outer x f fs own os hs items over follows code h (Some body) found later =
-      caught room a from at to outer x f fs own os hs body items over follows h
-      (taking hs outer.visible outer.ways outer.raised a.raised at to x body code h.known found)
-  by_handler room a from at to outer x f fs own os hs items over follows code h None found later = later found
+      → CaughtIf i program g numbers note x f fs own os items o (Caught x f fs own os items)
+  by_handler room x f fs own os hs items h at to outer over follows code (Some body) found later =
+      caught room x f fs own os hs body items h at to outer over follows
+      (taking hs outer.visible outer.ways outer.raised h.around.raised at to x body code h.known found)
+  by_handler room x f fs own os hs items h at to outer over follows code None found later = later found
 
   -- ---- all items
 
-  pub catches : HasRoom → (items : List Item) (a : Setting) (from x : ℕ) (f : Frame) (fs : List Frame) (own : Activation) (os : List Activation)
-      → Follow a f.subprogram from items f.role fs os → IsRaising a x f fs own items → Caught x f fs own os items
-  catches room [] a from x f fs own os follows h = (h.goes ∙ follows.0.outermost.raised x, follows.2)
-  catches room (Declares d ∷ items) a from x f fs own os follows h =
-      catches room items (seeing follows.3 a) follows.1 x f fs own os follows.7
-      (drop_seeing a follows.3 x f fs own (Declares d) items (follows.4.narrows.reserved ∙ sym follows.5.reserved) refl h)
-  catches room (DeclaresParameter d ∷ items) a from x f fs own os follows h =
-      catches room items (seeing follows.3 a) follows.1 x f fs own os follows.7
-      (drop_seeing a follows.3 x f fs own (DeclaresParameter d) items (follows.4.narrows.reserved ∙ sym follows.5.reserved) refl h)
-  catches room (Sequence body hs ∷ items) a from x f fs own os follows h =
-      catches room items (seeing follows.2 a) follows.1 x f fs own os follows.5
-      (drop_seeing a follows.2 x f fs own (Sequence body hs) items follows.3.narrows.reserved refl h)
-  catches room (Does s ∷ items) a from x f fs own os follows h =
-      catches room items (seeing follows.2 a) follows.1 x f fs own os follows.5 (drop_seeing a follows.2 x f fs own
-      (Does s) items follows.3.narrows.reserved refl h)
-  catches room (DoesMain s ∷ items) a from x f fs own os follows h =
-      catches room items (seeing follows.2 a) follows.1 x f fs own os follows.5
-      (drop_seeing a follows.2 x f fs own (DoesMain s) items follows.3.narrows.reserved refl h)
-  catches room (Handles NoHandlers ∷ items) a from x f fs own os follows h =
-      catches room items a from x f fs own os follows
-      (record { known = h.known; goes = h.goes; rests = h.rests; held = h.held; apart = h.apart; object = h.object; depth = h.depth })
-  catches room (Handles (MoreHandlers choices own_body rest) ∷ items) a from x f fs own os follows h =
+  -- The exception leaves a call, and goes on in the frame below.
+  left : (x : ℕ) (f : Frame) (fs : List Frame) (own : Activation) (os : List Activation) (names : List (List ℕ)) (opened : Option ℕ) (xs : List Target)
+      (items : List Item) (h : IsRaising x f fs own os (EndsCall names opened xs ∷ items)) → IsRaising x h.follows.1 h.follows.2 h.follows.3 h.follows.4 items
+  left x f fs own os names opened xs items h =
+      let r = h.follows in
+      let c = r.1 in
+      let outer = r.5 in
+      let waits = r.15 in
+      let over = r.18 in
+      let l = ap length r.13 in
+      let d = h.depth in record {
+        around = outer;
+        from = r.7;
+        follows = r.21;
+        known = h.known;
+        goes = r.22 c.place x (omega arith) (omega (arith, over));
+        rests = shown outer.visible outer.handling r.3 c.locals waits.handles waits.rests.rests;
+        held = waits.rests.held;
+        apart = waits.rests.apart;
+        object = waits.object;
+        depth = omega (arith, d, l);
+      }
+
+  pub catches : HasRoom → (items : List Item) (x : ℕ) (f : Frame) (fs : List Frame) (own : Activation) (os : List Activation)
+      → IsRaising x f fs own os items → Caught x f fs own os items
+  catches room [] x f fs own os h = (h.goes ∙ h.follows.0.outermost.raised x, h.follows.2)
+  catches room (Declares d ∷ items) x f fs own os h =
+      let r = h.follows in
+      catches room items x f fs own os (drop_seeing x f fs own os (Declares d) items h r.3 r.1 (r.4.narrows.reserved ∙ sym r.5.reserved) refl r.7)
+  catches room (DeclaresParameter d ∷ items) x f fs own os h =
+      let r = h.follows in
+      catches room items x f fs own os (drop_seeing x f fs own os (DeclaresParameter d) items h r.3 r.1 (r.4.narrows.reserved ∙ sym r.5.reserved) refl r.7)
+  catches room (Sequence body hs ∷ items) x f fs own os h =
+      let r = h.follows in
+      catches room items x f fs own os (drop_seeing x f fs own os (Sequence body hs) items h r.2 r.1 r.3.narrows.reserved refl r.5)
+  catches room (Does s ∷ items) x f fs own os h =
+      let r = h.follows in
+      catches room items x f fs own os (drop_seeing x f fs own os (Does s) items h r.2 r.1 r.3.narrows.reserved refl r.5)
+  catches room (DoesMain s ∷ items) x f fs own os h =
+      let r = h.follows in
+      catches room items x f fs own os (drop_seeing x f fs own os (DoesMain s) items h r.2 r.1 r.3.narrows.reserved refl r.5)
+  catches room (Handles NoHandlers ∷ items) x f fs own os h =
+      catches room items x f fs own os (drop_seeing x f fs own os (Handles NoHandlers) items h h.around.visible h.from refl refl h.follows)
+  catches room (Handles (MoreHandlers choices own_body rest) ∷ items) x f fs own os h =
       let hs = MoreHandlers choices own_body rest in
-      let outer = follows.2 in
-      let held : a.held ≡ outer.held = ap (λ q. q.held) follows.3.sequence in
-      by_handler room a from follows.0 follows.1 outer x f fs own os hs items follows.3 follows.5 follows.4 h (handler_for program x hs) refl
-      (λ found. catches room items outer follows.1 x f fs own os follows.5
-      (drop_outer a outer x f fs own (Handles hs) items
-      (passing hs outer.visible outer.ways outer.raised a.raised follows.0 follows.1 x follows.4 h.known found)
-      (subst (λ q. Shows g q outer.handling) (sym (ap (λ q. q.handling) follows.3.sequence)) follows.3.reaches.2)
+      let r = h.follows in
+      let a = h.around in
+      let outer = r.2 in
+      let held : a.held ≡ outer.held = ap (λ q. q.held) r.3.sequence in
+      by_handler room x f fs own os hs items h r.0 r.1 outer r.3 r.5 r.4 (handler_for program x hs) refl
+      (λ found. catches room items x f fs own os
+      (drop_outer x f fs own os (Handles hs) items h outer r.1
+      (passing hs outer.visible outer.ways outer.raised a.raised r.0 r.1 x r.4 h.known found)
+      (subst (λ q. Shows g q outer.handling) (sym (ap (λ q. q.handling) r.3.sequence)) r.3.reaches.2)
       (λ z. subst (λ q. AreHeld f.locals q) held z)
-      (λ z. ap (λ q. map held_offset q) (sym held) ∙ z ∙ follows.3.narrows.reserved) refl h))
-  catches room (EndsHandler y ∷ items) a from x f fs own os follows h =
-      let outer = follows.2 in
-      let held : a.held ≡ exception_in follows.1 y ∷ outer.held = ap (λ q. q.held) follows.3.handler in
-      catches room items outer follows.0 x f fs own os follows.4
-      (drop_outer a outer x f fs own (EndsHandler y) items (ap (λ q. q.raised x) follows.3.handler)
-      (shows_as a.handling outer.handling (ap (λ q. q.handling) follows.3.handler))
+      (λ z. ap (λ q. map held_offset q) (sym held) ∙ z ∙ r.3.narrows.reserved) refl r.5))
+  catches room (EndsHandler y ∷ items) x f fs own os h =
+      let r = h.follows in
+      let a = h.around in
+      let outer = r.2 in
+      let held : a.held ≡ exception_in r.1 y ∷ outer.held = ap (λ q. q.held) r.3.handler in
+      catches room items x f fs own os
+      (drop_outer x f fs own os (EndsHandler y) items h outer r.0 (ap (λ q. q.raised x) r.3.handler)
+      (shows_as a.handling outer.handling (ap (λ q. q.handling) r.3.handler))
       (λ z. (subst (λ q. AreHeld f.locals q) held z).1)
-      (λ z. ap (λ l. rest_of l) (ap (λ q. map held_offset q) (sym held) ∙ z ∙ follows.3.reserved)) refl h)
-  catches room (Repeats body ∷ items) a from x f fs own os follows h =
-      let outer = follows.2 in
-      let held : a.held ≡ outer.held = ap (λ q. q.held) follows.3.loop in
-      catches room items outer follows.1 x f fs own os follows.5
-      (drop_outer a outer x f fs own (Repeats body) items (ap (λ q. q.raised x) follows.3.loop)
-      (shows_as a.handling outer.handling (ap (λ q. q.handling) follows.3.loop))
+      (λ z. ap (λ l. rest_of l) (ap (λ q. map held_offset q) (sym held) ∙ z ∙ r.3.reserved)) refl r.4)
+  catches room (Repeats body ∷ items) x f fs own os h =
+      let r = h.follows in
+      let a = h.around in
+      let outer = r.2 in
+      let held : a.held ≡ outer.held = ap (λ q. q.held) r.3.loop in
+      catches room items x f fs own os
+      (drop_outer x f fs own os (Repeats body) items h outer r.1 (ap (λ q. q.raised x) r.3.loop)
+      (shows_as a.handling outer.handling (ap (λ q. q.handling) r.3.loop))
       (λ z. subst (λ q. AreHeld f.locals q) held z)
-      (λ z. ap (λ q. map held_offset q) (sym held) ∙ z ∙ follows.3.narrows.reserved) refl h)
-  catches room (RepeatsWhile e body ∷ items) a from x f fs own os follows h =
-      let outer = follows.2 in
-      let held : a.held ≡ outer.held = ap (λ q. q.held) follows.3.loop in
-      catches room items outer follows.1 x f fs own os follows.5
-      (drop_outer a outer x f fs own (RepeatsWhile e body) items (ap (λ q. q.raised x) follows.3.loop)
-      (shows_as a.handling outer.handling (ap (λ q. q.handling) follows.3.loop))
+      (λ z. ap (λ q. map held_offset q) (sym held) ∙ z ∙ r.3.narrows.reserved) refl r.5)
+  catches room (RepeatsWhile e body ∷ items) x f fs own os h =
+      let r = h.follows in
+      let a = h.around in
+      let outer = r.2 in
+      let held : a.held ≡ outer.held = ap (λ q. q.held) r.3.loop in
+      catches room items x f fs own os
+      (drop_outer x f fs own os (RepeatsWhile e body) items h outer r.1 (ap (λ q. q.raised x) r.3.loop)
+      (shows_as a.handling outer.handling (ap (λ q. q.handling) r.3.loop))
       (λ z. subst (λ q. AreHeld f.locals q) held z)
-      (λ z. ap (λ q. map held_offset q) (sym held) ∙ z ∙ follows.3.narrows.reserved) refl h)
-  catches room (RepeatsFor parameter reversed now last body ∷ items) a from x f fs own os follows h =
-      let outer = follows.2 in
-      let c = follows.3 in
-      let held : a.held ≡ in_turn c.counter c.limit now last outer.held = ap (λ q. q.held) follows.4.loop in
-      catches room items outer follows.1 x f fs own os follows.6
-      (drop_outer a outer x f fs own (RepeatsFor parameter reversed now last body) items (ap (λ q. q.raised x) follows.4.loop)
-      (shows_as a.handling outer.handling (ap (λ q. q.handling) follows.4.loop))
+      (λ z. ap (λ q. map held_offset q) (sym held) ∙ z ∙ r.3.narrows.reserved) refl r.5)
+  catches room (RepeatsFor parameter reversed now last body ∷ items) x f fs own os h =
+      let r = h.follows in
+      let a = h.around in
+      let outer = r.2 in
+      let c = r.3 in
+      let held : a.held ≡ in_turn c.counter c.limit now last outer.held = ap (λ q. q.held) r.4.loop in
+      catches room items x f fs own os
+      (drop_outer x f fs own os (RepeatsFor parameter reversed now last body) items h outer r.1 (ap (λ q. q.raised x) r.4.loop)
+      (shows_as a.handling outer.handling (ap (λ q. q.handling) r.4.loop))
       (λ z. (subst (λ q. AreHeld f.locals q) held z).1.1)
-      (λ z. ap (λ l. rest_of (rest_of l)) (ap (λ q. map held_offset q) (sym held) ∙ z ∙ follows.4.narrows.reserved ∙ c.reserved)) refl h)
-  catches room (EndsCall names opened xs ∷ items) a from x f fs own os follows h =
-      let c = follows.1 in
-      let below = follows.2 in
-      let outer = follows.5 in
-      let waits = follows.15 in
-      let over = follows.18 in
-      let l = ap length follows.13 in
-      let d = h.depth in (
-        c,
-        below,
-        follows.3,
-        follows.4,
-        follows.8,
-        h.goes ∙ follows.9.outermost.raised x,
-        follows.13,
-        follows.14,
-        catches room items outer follows.7 x c below follows.3 follows.4 follows.21
-            (record {
-              known = h.known;
-              goes = follows.22 c.place x (omega arith) (omega (arith, over));
-              rests = shown outer.visible outer.handling follows.3 c.locals waits.handles waits.rests.rests;
-              held = waits.rests.held;
-              apart = waits.rests.apart;
-              object = waits.object;
-              depth = omega (arith, d, l);
-            }),
+      (λ z. ap (λ l. rest_of (rest_of l)) (ap (λ q. map held_offset q) (sym held) ∙ z ∙ r.4.narrows.reserved ∙ c.reserved)) refl r.6)
+  catches room (EndsCall names None xs ∷ items) x f fs own os h =
+      let r = h.follows in (
+        r.1,
+        r.2,
+        r.3,
+        r.4,
+        r.8,
+        h.goes ∙ r.9.outermost.raised x,
+        r.13,
+        r.14,
+        catches room items x r.1 r.2 r.3 r.4 (left x f fs own os names None xs items h),
       )
-  catches room (i' ∷ items) a from x f fs own os follows h = absurd follows
+  catches room (EndsCall names (Some object) xs ∷ items) x f fs own os h =
+      let r = h.follows in (
+        r.1,
+        r.2,
+        r.3,
+        r.4,
+        r.8,
+        h.goes ∙ r.9.outermost.raised x,
+        r.13,
+        r.14,
+        left x f fs own os names (Some object) xs items h,
+      )
+  catches room (EndsServed object names done ∷ items) x f fs own os h =
+      let r = h.follows in (r.0, r.2, r.3, r.4, r.5, r.6, r.7, h.goes ∙ r.9.outermost.raised x, r.13, r.14, r.15)
+  catches room (i' ∷ items) x f fs own os h = absurd h.follows
 
   -- ---- the exception that a handler holds
 
@@ -355,7 +386,8 @@ module _ (i : Sections) (program : Program) (g : Package) (numbers : Numbers) wh
       handling_here items (seeing follows.2 a) n follows.1 word locals role fs os follows.5 is held
   handling_here (DoesMain s ∷ items) a n from word locals role fs os follows is held =
       handling_here items (seeing follows.2 a) n follows.1 word locals role fs os follows.5 is held
-  handling_here (Handles NoHandlers ∷ items) a n from word locals role fs os follows is held = handling_here items a n from word locals role fs os follows is held
+  handling_here (Handles NoHandlers ∷ items) a n from word locals role fs os follows is held =
+      handling_here items a n from word locals role fs os follows is held
   handling_here (Handles (MoreHandlers choices body rest) ∷ items) a n from word locals role fs os follows is held =
       handling_here items follows.2 n follows.1 word locals role fs os follows.5 (sym (ap (λ q. q.ways.handled) follows.3.sequence) ∙ is)
       (subst (λ q. AreHeld locals q) (ap (λ q. q.held) follows.3.sequence) held)
@@ -373,4 +405,5 @@ module _ (i : Sections) (program : Program) (g : Package) (numbers : Numbers) wh
       handling_here items follows.2 n follows.1 word locals role fs os follows.6 (sym (ap (λ q. q.ways.handled) follows.4.loop) ∙ is)
       (subst (λ q. AreHeld locals q) (ap (λ q. q.held) follows.4.loop) held).1.1
   handling_here (EndsCall names opened xs ∷ items) a n from word locals role fs os follows is held = let none = follows.9.outermost.handled in absurd cc
+  handling_here (EndsServed o names done ∷ items) a n from word locals role fs os follows is held = let none = follows.9.outermost.handled in absurd cc
   handling_here (i' ∷ items) a n from word locals role fs os follows is held = absurd follows

@@ -12,7 +12,7 @@ use Rattle.step_soundness.specs.meaning.specs.MeetingLaws.{spends_takes}
 use Rattle.part_code.specs.image.specs.Sections.{Sections}
 use Rattle.part_code.specs.image.specs.Frames.{Words, Frame, TaskState, Role}
 use Rattle.part_code.specs.image.specs.Steps as steps
-use Rattle.part_code.specs.image.specs.Steps.{act, behaviour, caught, does_operation, removed, unwind}
+use Rattle.part_code.specs.image.specs.Steps.{behaviour}
 use Rattle.part_code.specs.image.specs.declared.instruction.Operation.TheVariants as op
 use Rattle.part_code.specs.ada_tree.specs.Size.{alternatives_size, stmts_size}
 use Rattle.part_code.specs.ada_tree.specs.StatementTree.{Case, AlternativeTrees, NoAlternatives, MoreAlternatives, StmtTrees}
@@ -24,7 +24,7 @@ use Rattle.part_code.specs.types.specs.Places.{Place}
 use Rattle.step_soundness.specs.meaning.specs.Programs.{Program}
 use Rattle.step_soundness.specs.meaning.specs.SameMeaning.{frames_of}
 use Rattle.step_soundness.specs.meaning.specs.SourceSteps as source
-use Rattle.step_soundness.specs.meaning.specs.SourceSteps.{here_of, place_of, program_behaviour, with_value, work_step}
+use Rattle.step_soundness.specs.meaning.specs.SourceSteps.{place_of, work_step}
 use Rattle.step_soundness.specs.meaning.specs.Works.{Item, Does, Goes, Activation, Store, TaskWork}
 use Rattle.part_code.specs.expr_code.specs.Views.{At, in_frame, placed, view_of}
 use Rattle.part_code.specs.expr_code.specs.Coming.{most_steps, on}
@@ -226,7 +226,8 @@ module _ (this : Scene) where
         (omega (arith, x.0, y.1, up, le, up'))
         (ap (λ q. work_step now q) is)
         (subst (λ q. items_size items < work_size q) (sym is) (let c = item_counts (Does (Case place e all)) items in omega (arith, c)))
-        (scene.handled_by this s (seeing r.2 h.around) r.2 r.1 items (source.evaluate now items e) r.0 mid r.5 code.5 rests refl leads.reaches.2 h.object h.depth)
+        (scene.handled_by this s (seeing r.2 h.around) r.2 r.1 items
+        (source.evaluate now items e) r.0 mid r.5 code.5 rests refl leads.reaches.2 h.object h.depth)
         (λ v ev there spends. chosen v ev (source.alternative_for p v all) refl there spends))
       where
         chosen : (v : Value) → source.evaluate now items e ≡ Gives v → (o : Option StmtTrees) → source.alternative_for (place_of now items) v all ≡ o
@@ -265,11 +266,11 @@ module _ (this : Scene) where
             (spends_takes (behaviour i schedule) t frames_of (most_steps i) ((r.1 - mid) + 1) k (in_frame m (placed f start []) fs) spends
             (spends_takes (behaviour i schedule) t frames_of (most_steps i) 1 k (in_frame m (placed f start []) fs) taken.spends (Last refl)))
             (omega (arith, x.0, y.1, up, le, up'))
-            (λ other same. subst (λ q. CodeStands i program g numbers k t (source.goes now all').solo.task q) (sym same)
+            (λ other same. subst (λ q. CodeStands i program g numbers this.note k t (source.goes now all').solo.task q) (sym same)
             (Going all' refl (scene.goes_on this s all' w.own (seeing r.2 h.around) start f.locals
-            (before_follows i program g numbers body h.around r.2 f.subprogram start joint items f.role fs w.callers taken.statements u2 start_in joint_in
-            leads.reaches
-            (earlier i program g numbers items (seeing r.2 h.around) r.2 f.subprogram joint r.1 f.role fs w.callers (There taken.jump u3 Here)
+            (before_follows i program g numbers this.note body h.around r.2 f.subprogram start joint items f.role fs w.callers taken.statements
+            u2 start_in joint_in leads.reaches
+            (earlier i program g numbers this.note items (seeing r.2 h.around) r.2 f.subprogram joint r.1 f.role fs w.callers (There taken.jump u3 Here)
             (narrows_same g r.2) joint_in r.5))
             rests h.object (h.depth ∙ sym (before_ends i program g numbers body items)))))
             (subst (λ q. suc (items_size all') < work_size q) (sym is) (omega (arith, size, total)))

@@ -9,9 +9,8 @@ use Rattle.kernel.specs.Calm.{Calm}
 use Rattle.kernel.specs.Counting.{Done}
 use Rattle.kernel.specs.Laws.{QuietStays}
 use Rattle.part_code.specs.image.specs.Sections.{Sections}
-use Rattle.part_code.specs.image.specs.Frames.{Words, Frame, TaskState, Role}
+use Rattle.part_code.specs.image.specs.Frames.{Words, Frame, TaskState}
 use Rattle.part_code.specs.image.specs.Steps as steps
-use Rattle.part_code.specs.image.specs.Steps.{act}
 use Rattle.part_code.specs.types.specs.declared.entity.Subtype.{Subtype}
 use Rattle.part_code.specs.types.specs.Evaluations.{Gives, raise}
 use Rattle.part_code.specs.types.specs.Evaluating.{passed}
@@ -34,7 +33,7 @@ use Rattle.part_code.specs.Resting.{Framed, StandsFor}
 use Rattle.part_code.specs.Copying.{AreCopies, ArePlaced, address_of, addresses_of, copies_on}
 use Rattle.part_code.specs.declared.call.Destination.{Destination}
 use Rattle.part_code.specs.Statements.{Numbers}
-use Rattle.step_simulation.specs.Standing.{CodeStands, Copying, Going, IsCopying, items_size, work_size}
+use Rattle.step_simulation.specs.Standing.{CodeStands, Copying, Follows, Going, IsCopying, Note, items_size, work_size}
 use Rattle.part_code.proofs.Holding.{held_kept}
 use Rattle.part_code.proofs.Handling.{goes_within}
 use Rattle.step_simulation.proofs.Scenes.{Scene}
@@ -62,6 +61,31 @@ same_within x v a = of_home x.home
     of_home InActivation = refl
     of_home InPackage = refl
     of_home (InObject o) = refl
+
+module _ (i : Sections) (program : Program) (g : Package) (numbers : Numbers) (note : Note) where
+  -- what is still to be copied back is on the operand stack, if there is any
+  pub copying_stands : (vs : List Value) (xs : List Target) (items : List Item) (own : Activation) (os : List Activation) (k : Kernel) (t : ℕ) (s : TaskState)
+      → IsCopying i program g numbers note vs xs items own os s
+      → CodeStands i program g numbers note k t (record { work = source.copying vs xs items; own = own; callers = os }) s
+  copying_stands [] [] items own os k t s h =
+      Going items refl (record {
+        around = h.around;
+        follows = subst (λ q. Follows i program g numbers note h.around s.frame.subprogram q items s.frame.role s.callers os)
+            (sym (ends h.destinations h.placed h.copies)) h.follows;
+        rests = h.rests;
+        object = h.object;
+        stack = h.stack;
+        going = h.going;
+        depth = h.depth;
+      })
+    where
+      ends : (ds : List Destination) → ArePlaced h.around.visible ds [] → AreCopies i program g h.around.visible s.frame.place h.to ds
+          → s.frame.place ≡ h.to
+      ends [] places copies = copies
+      ends (d ∷ ds) places copies = absurd places
+  copying_stands [] (z ∷ xs) items own os k t s h = let e = h.many in absurd (omega (arith, e))
+  copying_stands (v ∷ vs) [] items own os k t s h = let e = h.many in absurd (omega (arith, e))
+  copying_stands (v ∷ vs) (z ∷ xs) items own os k t s h = Copying (v ∷ vs) (z ∷ xs) items refl h
 
 module _ (this : Scene) where
   abbrev quiet : QuietStays
@@ -118,32 +142,6 @@ module _ (this : Scene) where
   abbrev In : ℕ → ℕ → Type 0
   In n place = scene.In this n place
 
-  abbrev Follow : Setting → (n from : ℕ) → List Item → Role → List Frame → List Activation → Type 0
-  Follow a n from items role above waiting = scene.Follow this a n from items role above waiting
-
-  -- what is still to be copied back is on the operand stack, if there is any
-  pub copying_stands : (vs : List Value) (xs : List Target) (items : List Item) (own : Activation) (os : List Activation) (k' : Kernel) (s : TaskState)
-      → IsCopying i program g numbers vs xs items own os s
-      → CodeStands i program g numbers k' t (record { work = source.copying vs xs items; own = own; callers = os }) s
-  copying_stands [] [] items own os k' s h =
-      Going items refl (record {
-        around = h.around;
-        follows = subst (λ q. Follow h.around s.frame.subprogram q items s.frame.role s.callers os) (sym (ends h.destinations h.placed h.copies)) h.follows;
-        rests = h.rests;
-        object = h.object;
-        stack = h.stack;
-        going = h.going;
-        depth = h.depth;
-      })
-    where
-      ends : (ds : List Destination) → ArePlaced h.around.visible ds [] → AreCopies i program g h.around.visible s.frame.place h.to ds
-          → s.frame.place ≡ h.to
-      ends [] places copies = copies
-      ends (d ∷ ds) places copies = absurd places
-  copying_stands [] (z ∷ xs) items own os k' s h = let e = h.many in absurd (omega (arith, e))
-  copying_stands (v ∷ vs) [] items own os k' s h = let e = h.many in absurd (omega (arith, e))
-  copying_stands (v ∷ vs) (z ∷ xs) items own os k' s h = Copying (v ∷ vs) (z ∷ xs) items refl h
-
   module _ (s : TaskState) where
     abbrev f : Frame
     f = s.frame
@@ -161,9 +159,10 @@ module _ (this : Scene) where
     typed (n ∷ ns) v vs x xs d h k e = subst (λ q. has_shape (type_shape program.scope q) v ≡ true) (sym k.0 ∙ ap (λ u. u.type_number) e) h.0
 
     pub met_copies : (vs : List Value) (xs : List Target) (items : List Item) → w.work ≡ Copies vs xs items
-        → IsCopying i program g numbers vs xs items w.own w.callers s → Meet s
+        → IsCopying i program g numbers this.note vs xs items w.own w.callers s → Meet s
     met_copies [] [] items is h =
-        scene.met_still this s (source.goes now items) (ap (λ q. work_step now q) is) refl refl (copying_stands [] [] items w.own w.callers k s h)
+        scene.met_still this s (source.goes now items) (ap (λ q. work_step now q) is) refl refl
+        (copying_stands i program g numbers this.note [] [] items w.own w.callers k t s h)
         (subst (λ q. suc (items_size items) < work_size q) (sym is) (omega arith))
     met_copies [] (x ∷ xs) items is h = let e = h.many in absurd (omega (arith, e))
     met_copies (v ∷ vs) [] items is h = let e = h.many in absurd (omega (arith, e))
@@ -225,7 +224,7 @@ module _ (this : Scene) where
               put.acts ∙ ap (λ q. steps.does Quiet put.words (next q) fs None None) (sym end),
               record {
                 effect = refl;
-                code = copying_stands vs xs items (activation_with x y w.own) w.callers (after t Quiet k)
+                leaves = copying_stands i program g numbers this.note vs xs items (activation_with x y w.own) w.callers (after t Quiet k) t
                     (record { frame = next c.0; callers = fs; raising = None })
                     (record {
                       around = a;

@@ -24,7 +24,7 @@ use Rattle.step_soundness.specs.meaning.specs.MeetingLaws.{spends_takes}
 use Rattle.step_soundness.specs.meaning.specs.Programs.{Program}
 use Rattle.step_soundness.specs.meaning.specs.SameMeaning.{frames_of}
 use Rattle.step_soundness.specs.meaning.specs.SourceSteps as source
-use Rattle.step_soundness.specs.meaning.specs.SourceSteps.{place_of, program_behaviour, with_value, work_step}
+use Rattle.step_soundness.specs.meaning.specs.SourceSteps.{place_of, with_value, work_step}
 use Rattle.step_soundness.specs.meaning.specs.Works.{Item, Does, RepeatsFor, Goes, Activation, Store, TaskWork, frames_left}
 use Rattle.part_code.specs.expr_code.specs.Views.{in_frame, placed}
 use Rattle.part_code.specs.expr_code.specs.Coming.{most_steps}
@@ -148,7 +148,7 @@ module _ (this : Scene) where
         (spends_takes (behaviour i schedule) t frames_of (most_steps i) (n' + 1) k end first
         (spends_takes (behaviour i schedule) t frames_of (most_steps i) 1 k end second (Last refl)))
         low
-        (λ other e. subst (λ q. CodeStands i program g numbers k t (left_with own items).solo.task q) (sym e)
+        (λ other e. subst (λ q. CodeStands i program g numbers this.note k t (left_with own items).solo.task q) (sym e)
         (Going items refl (scene.goes_on this s items own a target locals follows rests object depth)))
         less
 
@@ -186,7 +186,8 @@ module _ (this : Scene) where
         let up = jumps_up i program g numbers f.place r.0 r.3.jumps in
         let p = place_of now items in
         subst Meet (sym (scene.going_is this s h.stack h.going))
-        (scene.met_value this f fs ((r.0 - f.place) + 1) (r.0 + 2) (begin.mid - (r.0 + 2)) begin.mid (begin.stack []) (bounds range (call (frames_left items)) p)
+        (scene.met_value this f fs ((r.0 - f.place) + 1) (r.0 + 2) (begin.mid - (r.0 + 2)) begin.mid (begin.stack [])
+        (bounds range (call (frames_left items)) p)
         items
         (λ b. source.for_range now parameter reversed body items b.first b.last)
         (turn.reaches_head this s r.0 r.0 r.3.jumps c.skip)
@@ -255,7 +256,8 @@ module _ (this : Scene) where
             let total = before_size body loop in
             met_goes_on (((r.0 - f.place) + 1) + (begin.mid - (r.0 + 2))) (c.start - begin.mid) begin.mid c.start (begin.stack [] b) on.locals
             (source.before body loop) (with_parameter parameter.name now' w.own) turn_setting there spends on.spends (few tt)
-            (before_follows i program g numbers body turn_setting c.inner f.subprogram c.start c.back loop f.role fs w.callers r.4.2 u2 start_in back_in
+            (before_follows i program g numbers this.note body turn_setting c.inner f.subprogram c.start c.back loop f.role fs w.callers r.4.2
+            u2 start_in back_in
             (c.shows, (λ q view z. r.3.reaches.1 q view (c.shows q view z)), λ q view z. r.3.reaches.2 q view (c.shows q view z)) (
               r.0,
               r.1,
@@ -402,8 +404,9 @@ module _ (this : Scene) where
             (omega (arith, x.0, y.1, up, u3, u4, u5, u6), λ some. omega (arith, x.0, y.1, up, u3, u4, u5, u6))
             (record {
               effect = refl;
-              code = Going (source.before body loop) refl (scene.goes_on this s (source.before body loop) own' turn_setting c.start on.locals
-                  (before_follows i program g numbers body turn_setting c.inner f.subprogram c.start c.back loop f.role fs w.callers r.5 u2 start_in back_in
+              leaves = Going (source.before body loop) refl (scene.goes_on this s (source.before body loop) own' turn_setting c.start on.locals
+                  (before_follows i program g numbers this.note body turn_setting c.inner f.subprogram c.start c.back loop f.role fs w.callers r.5
+                  u2 start_in back_in
                   (c.shows, (λ q view z. r.4.reaches q view (c.shows q view z)), λ q view z. r.4.handles q view (c.shows q view z)) (
                     r.0,
                     r.1,

@@ -1,10 +1,8 @@
 -- Steps of `delay until`.
-use Rattle.std.proofs.Common.{◌≡◌, ℕ, suc, ◌+◌, ◌-◌, ◌<◌, ℤ, List, [], ◌∷◌, length, Bool, None, true, false, refl, sym, ap, ◌∙◌, subst, arith}
+use Rattle.std.proofs.Common.{◌≡◌, ℕ, suc, ◌+◌, ◌-◌, ◌<◌, List, [], ◌∷◌, Bool, None, true, false, refl, sym, ap, ◌∙◌, subst, arith}
 use Rattle.std.specs.Prelude.{if◌then◌else◌}
-use Rattle.kernel.specs.Effects.{Quiet, Delays, is_inside_any}
-use Rattle.kernel.specs.Counting.{Spends}
+use Rattle.kernel.specs.Effects.{Delays, is_inside_any}
 use Rattle.kernel.specs.RunLaws.{spends_trans}
-use Rattle.part_code.specs.base.specs.Exceptions.{number_of}
 use Rattle.part_code.specs.base.specs.declared.exceptions.PredefinedException.TheVariants.{ProgramError}
 use Rattle.part_code.specs.image.specs.Frames.{Frame, TaskState}
 use Rattle.part_code.specs.image.specs.Steps as steps
@@ -12,18 +10,16 @@ use Rattle.part_code.specs.image.specs.Steps.{behaviour}
 use Rattle.part_code.specs.image.specs.declared.instruction.Operation.TheVariants as op
 use Rattle.part_code.specs.ada_tree.specs.ExpressionTree.{ExprTree}
 use Rattle.part_code.specs.ada_tree.specs.StatementTree.{DelayUntil}
-use Rattle.part_code.specs.types.specs.Evaluations.{Val, Raises, and_then}
+use Rattle.part_code.specs.types.specs.Evaluations.{and_then}
 use Rattle.part_code.specs.types.specs.Evaluating.{value_with}
 use Rattle.part_code.specs.types.specs.Values.{Value, Number, Truth, Array, Record}
-use Rattle.step_soundness.specs.meaning.specs.Meeting.{Last}
 use Rattle.step_soundness.specs.meaning.specs.SameMeaning.{frames_of}
 use Rattle.step_soundness.specs.meaning.specs.SourceSteps as source
 use Rattle.step_soundness.specs.meaning.specs.SourceSteps.{with_value, work_step}
 use Rattle.step_soundness.specs.meaning.specs.Works.{Item, Does, Goes}
-use Rattle.part_code.specs.expr_code.specs.Views.{At, in_frame, placed}
-use Rattle.part_code.specs.expr_code.specs.Coming.{Throws, most_steps, on}
+use Rattle.part_code.specs.expr_code.specs.Views.{in_frame, placed}
+use Rattle.part_code.specs.expr_code.specs.Coming.{most_steps, on}
 use Rattle.part_code.specs.expr_code.proofs.Coming.{acts}
-use Rattle.part_code.specs.expr_code.proofs.Coming as coming
 use Rattle.part_code.proofs.Handling.{goes_within}
 use Rattle.step_simulation.specs.Standing.{Going, items_size, work_size}
 use Rattle.step_simulation.proofs.Going.{jumps_up}
@@ -31,6 +27,7 @@ use Rattle.step_simulation.proofs.Sizes.{item_counts}
 use Rattle.step_simulation.proofs.Scenes.{Scene}
 use Rattle.step_simulation.proofs.Scenes as scene
 use Rattle.step_simulation.proofs.Turning as turn
+use Rattle.step_simulation.proofs.Blocking as block
 
 module _ (this : Scene) (s : TaskState) where
   open this use {quiet, i, program, g, numbers, schedule, k, t, calm, m, shares, w}
@@ -44,16 +41,6 @@ module _ (this : Scene) (s : TaskState) where
   abbrev now : source.Here
   now = scene.now this
 
-  -- inside an action the test raises
-  refuses : is_inside_any k t ≡ true → (at : ℕ) → At i at op.CheckBlocking
-      → Throws i k t (number_of ProgramError) (in_frame m (placed f at []) fs).task (placed f at []) fs
-  refuses inside at here = record {
-    throws = λ schedule' l m' opened ranked.
-        acts quiet i at op.CheckBlocking here schedule' l t m' f fs []
-        ∙ ap (λ b. if b then steps.raises i schedule' l t m' (placed f at []) fs ProgramError else steps.next i schedule' l t m' (placed f at []) fs [])
-        (ap (λ q. elim q [ [] ↦ false | a ∷ outer ↦ true ]) opened ∙ inside);
-  }
-
   -- a test that no action is open, the time, and the delay
   pub met_delay : (place : ℕ) (e : ExprTree) (items : List Item) → w.work ≡ Goes (Does (DelayUntil place e) ∷ items)
       → (h : scene.IsAtItems this s (Does (DelayUntil place e) ∷ items)) → scene.Meet this s
@@ -66,49 +53,16 @@ module _ (this : Scene) (s : TaskState) where
       delay_numbers (Array vs) = refl
       delay_numbers (Record vs) = refl
 
-      -- the test
-      tested : (at : ℕ) → At i at op.CheckBlocking → is_inside_any k t ≡ false
-          → Spends (behaviour i schedule) t frames_of (most_steps i) (suc (length fs)) 1 k (in_frame m (placed f at []) fs) k
-          (in_frame m (placed f (suc at) []) fs)
-      tested at here free =
-          let one : at + 1 ≡ suc at = omega arith in
-          coming.steps quiet i schedule k t m calm (placed f at []) (placed f (suc at) []) fs
-          (acts quiet i at op.CheckBlocking here schedule k t m f fs []
-          ∙ ap (λ b. if b then steps.raises i schedule k t m (placed f at []) fs ProgramError else steps.next i schedule k t m (placed f at []) fs []) free
-          ∙ (λ j. steps.does Quiet m (placed f (one j) []) fs None None))
-
       by_actions : (b : Bool) → is_inside_any k t ≡ b → scene.Meet this s
       by_actions true inside =
           let r = h.follows in
-          let leads = r.3 in
-          let at = r.0 in
           let code = r.4.0 in
           let le = code.1 in
           let end = code.5 in
-          let x = leads.from_inside in
-          let y = leads.to_inside in
-          let up = jumps_up i program g numbers f.place at leads.jumps in
-          let rests = scene.narrowed this s h.around.visible r.2 w.own f.locals leads.narrows h.rests in
-          let around = scene.seeing this r.2 h.around in
-          let value : Val ℤ = Raises (number_of ProgramError) in
-          subst (scene.Meet this) (sym (scene.going_is this s h.stack h.going))
-          (scene.met_value this f fs (at - f.place) at 0 r.1 (λ z. z ∷ []) value items (λ z. source.goes now items)
-          (scene.jumps_spend this f fs f.place at leads.jumps) (
-            (in_frame m (placed f at []) fs).task,
-            at,
-            [],
-            Last refl,
-            omega arith,
-            omega (arith, le, end),
-            refuses inside at code.2,
-          )
-          (omega (arith, x.0, y.1, up, le, end))
+          block.met_inside this s (DelayUntil place e) items is h inside code.2 (omega (arith, le, end)) r.4.1
           (ap (λ q. work_step now q) is
           ∙ ap (λ b. if b then source.raises_predefined now ProgramError items else with_value now (source.evaluate now items e) items
           (source.delay_until now items)) inside)
-          (subst (λ q. items_size items < work_size q) (sym is) (let c = item_counts (Does (DelayUntil place e)) items in omega (arith, c)))
-          (scene.handled_by this s around r.2 r.1 items value at r.1 r.5 r.4.1 rests refl leads.reaches.2 h.object h.depth)
-          (λ z ez next spends. absurd cc))
       by_actions false free =
           let r = h.follows in
           let leads = r.3 in
@@ -127,7 +81,7 @@ module _ (this : Scene) (s : TaskState) where
           subst (scene.Meet this) (sym (scene.going_is this s h.stack h.going))
           (scene.met_comes this f fs ((at - f.place) + 1) (suc at) (mid - suc at) mid (λ z. z ∷ []) value items (λ z. source.works now (Delays z) (Goes items))
           (spends_trans (behaviour i schedule) t frames_of (most_steps i) 1 k (in_frame m (placed f (suc at) []) fs)
-          (scene.jumps_spend this f fs f.place at leads.jumps) (tested at code.2 free))
+          (scene.jumps_spend this f fs f.place at leads.jumps) (block.tested this s at code.2 free))
           (turn.number_comes this s (source.evaluate now items e) (suc at) mid
           (scene.evaluates this r.2 (suc at) mid on (λ calls p. value_with calls p e) items f fs code.3 rests h.object h.depth))
           (omega (arith, x.0, y.1, up, le, end))
@@ -147,7 +101,7 @@ module _ (this : Scene) (s : TaskState) where
                 ∙ (λ j. steps.does (Delays z) m (scene.goes_at this f (next j) f.locals) fs None None),
             record {
               effect = refl;
-              code = Going items refl (scene.goes_on this s items w.own around r.1 f.locals r.5 rests h.object h.depth);
+              leaves = Going items refl (scene.goes_on this s items w.own around r.1 f.locals r.5 rests h.object h.depth);
               words = shares;
             },
           )))

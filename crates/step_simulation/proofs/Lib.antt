@@ -8,7 +8,13 @@ mod Turning
 mod Choosing
 mod Copying
 mod Opening
+mod Entering
 mod Calling
+mod EntryCalls
+mod Returning
 mod Counting
+mod Blocking
 mod Delaying
 mod Matching
+mod UnderNotes
+mod Reaching

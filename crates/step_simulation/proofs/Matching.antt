@@ -7,31 +7,36 @@ use Rattle.kernel.specs.Laws.{QuietStays}
 use Rattle.part_code.specs.image.specs.Sections.{Sections}
 use Rattle.part_code.specs.image.specs.Frames.{Role, Words, Frame, TaskState}
 use Rattle.part_code.specs.image.specs.Steps as steps
-use Rattle.part_code.specs.image.specs.Steps.{act, behaviour, caught, does_operation, removed, unwind}
-use Rattle.part_code.specs.ada_tree.specs.StatementTree.{ObjectTree, DeclarationTree, LocalObject, LocalTask, LocalProtected, StmtTree, Null, Assignment, Exit, Return, Raise, Delay, DelayUntil, If, Case, Loop, Block, Abort, Requeue, Accept, Select, StmtTrees, NoStmts, MoreStmts, ElsifTrees, NoElsifs, MoreElsifs, Forever, While, For, HandlerTrees, NoHandlers}
+use Rattle.part_code.specs.image.specs.Steps.{caught}
+use Rattle.part_code.specs.ada_tree.specs.StatementTree.{LocalObject, LocalTask, LocalProtected, StmtTree, Null, Assignment, Exit, Return, Raise, DelayUntil, If, Case, Loop, Block, Forever, While, For}
 use Rattle.part_code.specs.ada_tree.specs.declared.program.MainStatement.{MainStatement}
 use Rattle.part_code.specs.ada_tree.specs.declared.program.MainStatement.TheVariants as main
-use Rattle.part_code.specs.ada_tree.specs.ExpressionTree.{ArgumentTrees, Arguments, ExprTree, MoreArguments, MoreSelectors, NameTree, NoArguments, NoSelectors, SelectorTrees, Text}
+use Rattle.part_code.specs.ada_tree.specs.ExpressionTree.{Arguments, MoreArguments, MoreSelectors, NameTree, NoArguments, NoSelectors, SelectorTrees, Text}
 use Rattle.part_code.specs.types.specs.Entities.{Put}
 use Rattle.part_code.specs.ada_tree.specs.ExpressionTree as expressions
 use Rattle.part_code.specs.ada_tree.specs.StatementTree as tree
 use Rattle.step_soundness.specs.meaning.specs.Calls.{Callee, callee_by}
-use Rattle.step_soundness.specs.meaning.specs.Programs.{Program}
+use Rattle.step_soundness.specs.meaning.specs.Programs.{Procedure, Program}
+use Rattle.part_code.specs.types.specs.Values.{Value}
 use Rattle.step_soundness.specs.meaning.specs.SourceSteps as source
-use Rattle.step_soundness.specs.meaning.specs.SourceSteps.{here_of, place_of, program_behaviour, with_value, work_step}
-use Rattle.step_soundness.specs.meaning.specs.Works.{Item, Declares, DeclaresParameter, Sequence, Does, DoesMain, Repeats, RepeatsWhile, RepeatsFor, Handles, EndsHandler, EndsCall, Goes, Activation, Store, TaskWork}
+use Rattle.step_soundness.specs.meaning.specs.SourceSteps.{work_step}
+use Rattle.step_soundness.specs.meaning.specs.Works as works
+use Rattle.step_soundness.specs.meaning.specs.Works.{Item, EndsServed, Queued, Target, Declares, DeclaresParameter, Sequence, Does, DoesMain, Repeats, RepeatsWhile, RepeatsFor, Handles, EndsHandler, EndsCall, Goes, Activation, Store, TaskWork}
 use Rattle.step_soundness.specs.Laws.{StepsAreSound}
 use Rattle.part_code.specs.expr_code.specs.Seeing.{Package}
 use Rattle.part_code.specs.Resting.{Framed, StandsFor}
-use Rattle.part_code.specs.Statements.{IsCalleeCode, IsPutCode, Numbers}
-use Rattle.step_simulation.specs.Standing.{Catching, Closing, CodeStands, Copying, Going, IsCatching, Over as Ended, Raised, items_size, work_size}
-use Rattle.step_simulation.specs.Laws.{HasCode, StepsAreMet}
+use Rattle.part_code.specs.Statements.{IsCallCode, IsCalleeCode, IsPutCode, Numbers, OfEntry, OfOwnEntry, OfProcedure}
+use Rattle.step_simulation.specs.Standing.{Awaiting, Catching, Closing, CodeStands, Copying, FollowsIn, Going, IsCatching, Over as Ended, Queueing, Raised, RaisesBy, Throwing, items_size, work_size}
+use Rattle.step_simulation.specs.Laws.{HasCode, KnowsCaller, StepsAreMet}
 use Rattle.step_simulation.proofs.Scenes.{AtOnce, Keeping, Scene}
 use Rattle.step_simulation.proofs.Scenes as scene
 use Rattle.step_simulation.proofs.Turning as turn
 use Rattle.step_simulation.proofs.Choosing as choose
 use Rattle.step_simulation.proofs.Copying as copy
 use Rattle.step_simulation.proofs.Calling as calls
+use Rattle.step_simulation.proofs.Catching.{catches}
+use Rattle.step_simulation.proofs.EntryCalls as entry_calls
+use Rattle.step_simulation.proofs.Returning as returns
 use Rattle.step_simulation.proofs.Counting as count
 use Rattle.step_simulation.proofs.Delaying as delay
 use Rattle.step_simulation.proofs.Raising as raising
@@ -140,9 +145,15 @@ module _ (this : Scene) where
         → (o : Option Callee) → (let r = h.follows in callee_by program r.2.within name.first name.selectors ≡ o)
         → (let r = h.follows in IsCalleeCode i program g numbers r.2 r.0 r.1 name o) → Meet s
     met_called name items is h (Some c) e code =
-        calls.met_call this s name c items is h e
+        by_code code
         (ap (λ q. source.call_or_put now name (callee_by program q name.first name.selectors) items) (within_is items h) ∙ ap
-        (λ q. source.call_or_put now name q items) e) code
+        (λ q. source.call_or_put now name q items) e)
+      where
+        by_code : (let r = h.follows in IsCallCode i program g numbers r.2 r.0 r.1 c)
+            → source.item_step now (Does (tree.Call name)) items ≡ source.call_of now c c.procedure.barrier items → Meet s
+        by_code (OfProcedure call) same = calls.met_call this s name c items is h e same call
+        by_code (OfEntry call) same = entry_calls.met_entry_call this s name c items is h same call
+        by_code (OfOwnEntry call) same = entry_calls.met_own_entry this s name c items is h e (within_is items h) same call
     met_called name items is h None e code =
         by_selectors name.selectors code.1
         (ap (λ q. source.call_or_put now name (callee_by program q name.first name.selectors) items) (within_is items h) ∙ ap
@@ -173,40 +184,58 @@ module _ (this : Scene) where
     met_statement (Block place ds body hs) items is h = sequences.met_block this s place ds body hs items is h
     met_statement other items is h = absurd h.follows.4
 
-    met_going : (all : List Item) → w.work ≡ Goes all → IsAtItems all → Meet s
-    met_going [] is h = scene.met_end this s is h
-    met_going (Declares (LocalObject d) ∷ items) is h = turn.met_declares this s d items is h
-    met_going (Sequence body hs ∷ items) is h = sequences.met_sequence this s body hs items is h
-    met_going (Does st ∷ items) is h = met_statement st items is h
-    met_going (DoesMain st ∷ items) is h = met_main st items is h
-    met_going (Handles hs ∷ items) is h = sequences.met_handles this s hs items is h
-    met_going (EndsHandler x ∷ items) is h = sequences.met_ends_handler this s x items is h
-    met_going (Repeats body ∷ items) is h = turn.met_repeats this s body items is h
-    met_going (RepeatsWhile e body ∷ items) is h = turn.met_repeats_while this s e body items is h
-    met_going (DeclaresParameter p ∷ items) is h = turn.met_parameter this s p items is h
-    met_going (RepeatsFor parameter reversed now' last body ∷ items) is h = count.met_next this s parameter reversed now' last body items is h
-    met_going (EndsCall names opened xs ∷ items) is h = calls.met_ends this s names opened xs items is h
-    met_going (Declares (LocalTask d) ∷ items) is h = absurd h.follows.6
-    met_going (Declares (LocalProtected d) ∷ items) is h = absurd h.follows.6
-    met_going (other ∷ items) is h = absurd h.follows
+    met_going : KnowsCaller k t s → (all : List Item) → w.work ≡ Goes all → IsAtItems all → Meet s
+    met_going knows [] is h = scene.met_end this s is h
+    met_going knows (Declares (LocalObject d) ∷ items) is h = turn.met_declares this s d items is h
+    met_going knows (Sequence body hs ∷ items) is h = sequences.met_sequence this s body hs items is h
+    met_going knows (Does st ∷ items) is h = met_statement st items is h
+    met_going knows (DoesMain st ∷ items) is h = met_main st items is h
+    met_going knows (Handles hs ∷ items) is h = sequences.met_handles this s hs items is h
+    met_going knows (EndsHandler x ∷ items) is h = sequences.met_ends_handler this s x items is h
+    met_going knows (Repeats body ∷ items) is h = turn.met_repeats this s body items is h
+    met_going knows (RepeatsWhile e body ∷ items) is h = turn.met_repeats_while this s e body items is h
+    met_going knows (DeclaresParameter p ∷ items) is h = turn.met_parameter this s p items is h
+    met_going knows (RepeatsFor parameter reversed now' last body ∷ items) is h = count.met_next this s parameter reversed now' last body items is h
+    met_going knows (EndsCall names opened xs ∷ items) is h = returns.met_ends this s names opened xs items is h
+    met_going knows (EndsServed o names done ∷ items) is h = returns.met_ends_served this s knows o names done items is h
+    met_going knows (Declares (LocalTask d) ∷ items) is h = absurd h.follows.6
+    met_going knows (Declares (LocalProtected d) ∷ items) is h = absurd h.follows.6
+    met_going knows (other ∷ items) is h = absurd h.follows
 
   -- the instruction that keeps the exception, and then the step
-  met_catching : (s : TaskState) (items : List Item) → w.work ≡ Goes items → IsCatching i program g numbers items w.own w.callers s → scene.MetFrom this s
-  met_catching s items is h =
+  met_catching : (s : TaskState) → KnowsCaller k t s → (items : List Item) → w.work ≡ Goes items
+      → IsCatching i program g numbers this.note items w.own w.callers s → scene.MetFrom this s
+  met_catching s knows items is h =
       let inside = h.inside in
       let kept : TaskState = record { frame = record s.frame { place = h.place; locals = h.locals; stack = [] }; callers = s.callers; raising = None } in
-      met_going kept items is h.going s (Keeping (h.acts schedule k t m) refl refl refl (omega (arith, inside.0, inside.1)))
+      met_going kept knows items is h.going s (Keeping (h.acts schedule k t m) refl refl refl (omega (arith, inside.0, inside.1)))
 
-  pub met_by : (s : TaskState) → CodeStands i program g numbers k t w s → scene.MetFrom this s
-  met_by s (Going items is h) = met_going s items is h s (AtOnce refl)
-  met_by s (Copying vs xs items is h) = copy.met_copies this s vs xs items is h s (AtOnce refl)
-  met_by s (Catching items is h) = met_catching s items is h
-  met_by s (Raised x items g' gs is throws caught) = raising.met_raised this s x items g' gs is throws caught
-  met_by s (Closing o done items next is ends h) = calls.met_closing this s o done items next is ends h
-  met_by s (Ended o h) = let e = calm.runs.on in absurd cc
+  -- an action has ended with an exception that is still to be raised
+  met_throwing : (s : TaskState) (x : ℕ) (items : List Item) → w.work ≡ works.Raising x items → s.raising ≡ Some x
+      → RaisesBy i program g numbers (FollowsIn i program g numbers this.note items s.frame.role s.callers w.callers) x items w.own s.frame s.callers
+      → scene.MetFrom this s
+  met_throwing s x items is pending h =
+      raising.met_raised this s x items s.frame s.callers is
+      (record { raises = λ schedule' m' closed. ap (λ r. steps.does_or_raises i schedule' k t m' s.frame s.callers r) pending })
+      (catches i program g numbers this.note (scene.has_room this) items x s.frame s.callers w.own w.callers h)
+
+  -- the task that runs waits in no entry call
+  not_waiting : (q : Procedure) (vs : List Value) (xs : List Target) (items : List Item) → w.work ≡ Goes (Queued q vs xs ∷ items) → ⊥
+  not_waiting q vs xs items is = scene.has_meaning this items (ap (λ x. work_step now x) is)
+
+  pub met_by : (s : TaskState) → KnowsCaller k t s → CodeStands i program g numbers this.note k t w s → scene.MetFrom this s
+  met_by s knows (Going items is h) = met_going s knows items is h s (AtOnce refl)
+  met_by s knows (Copying vs xs items is h) = copy.met_copies this s vs xs items is h s (AtOnce refl)
+  met_by s knows (Catching items is h) = met_catching s knows items is h
+  met_by s knows (Raised x items g' gs is here throws caught) = raising.met_raised this s x items g' gs is throws caught
+  met_by s knows (Throwing x items is pending h) = met_throwing s x items is pending h
+  met_by s knows (Closing o done items next is here ends h) = returns.met_closing this s o done items next is ends h
+  met_by s knows (Queueing o q vs xs items is here h) = absurd (not_waiting q vs xs items is)
+  met_by s knows (Awaiting q vs xs items is here h) = absurd (not_waiting q vs xs items is)
+  met_by s knows (Ended o h) = let e = calm.runs.on in absurd cc
 
 pub steps_are_met : QuietStays → StepsAreSound → StepsAreMet
-steps_are_met quiet step_soundness i program g numbers has premises schedule note k t calm store m w s known shares stands =
+steps_are_met quiet step_soundness i program g numbers has premises schedule note k t calm store m w s known knows shares stands =
     met_by (record {
       quiet = quiet;
       step_soundness = step_soundness;
@@ -226,4 +255,4 @@ steps_are_met quiet step_soundness i program g numbers has premises schedule not
       shares = shares;
       w = w;
       known = known;
-    }) s stands
+    }) s knows stands

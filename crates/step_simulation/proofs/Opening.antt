@@ -1,16 +1,16 @@
 -- The frames of calls of procedures, which may open an action: what refuses a call, and the frame of the body.
-use Rattle.std.proofs.Common.{◌≡◌, ℕ, suc, ◌+◌, ◌-◌, ◌<◌, ◌≤◌, ℤ, List, [], ◌∷◌, ◌++◌, length, Option, Some, None, cond, refl, ap, ◌∙◌, arith}
-use Rattle.std.specs.Prelude.{pos, replicate, reverse}
+use Rattle.std.proofs.Common.{◌≡◌, ℕ, suc, ◌+◌, ◌-◌, ◌<◌, ◌≤◌, ℤ, List, [], ◌∷◌, ◌++◌, length, Option, Some, None, Bool, true, false, cond, refl, ap, ◌∙◌, arith}
+use Rattle.std.specs.Prelude.{pos, replicate, reverse, slice_get, ◌||◌, if◌then◌else◌}
 use Rattle.part_code.specs.ada_tree.specs.ExpressionTree.{ExprTree}
 use Rattle.part_code.specs.base.specs.Exceptions.{number_of}
 use Rattle.part_code.specs.base.specs.declared.exceptions.PredefinedException.TheVariants.{ProgramError, StorageError}
 use Rattle.part_code.specs.base.specs.declared.limits.TheConstants.{FRAMES}
 use Rattle.part_code.specs.base.specs.declared.schedule.ScheduleLine.{ScheduleLine}
 use Rattle.kernel.specs.State.{Kernel}
-use Rattle.kernel.specs.Effects.{Effect, Opens, Quiet, Refusal, call_refusal}
+use Rattle.kernel.specs.Effects.{Effect, Opens, Queues, Quiet, Refusal, call_refusal, is_above_ceiling, is_full, is_inside_any}
 use Rattle.kernel.specs.Laws.{QuietStays}
 use Rattle.part_code.specs.image.specs.Sections.{Sections, first_place, object_of}
-use Rattle.part_code.specs.image.specs.Operations.{called}
+use Rattle.part_code.specs.image.specs.Operations.{called, entry_of}
 use Rattle.part_code.specs.image.specs.Frames.{Opened, Words, Frame, new_frame}
 use Rattle.part_code.specs.image.specs.Steps as step
 use Rattle.part_code.specs.image.specs.Steps.{act, does, unwind}
@@ -125,3 +125,70 @@ module _ (quiet : QuietStays) (i : Sections) (n : ℕ) (s : Subprogram) (there :
         → act i schedule k t (in_frame m at_call fs) ≡ unwind i m (number_of ProgramError) at_call fs
     refused None kind here r is = absurd cc
     refused (Some o) kind here r is = refused_object o kind here r is
+
+    -- ---- an entry through its object (RM 9.5.3)
+
+    module _ (o : ℕ) (row : entry_of (slice_get i.objects o) ≡ Some n) (here : At i at (op.EntryCall o)) where
+      abbrev enters_entry : step.Stepped
+      enters_entry = step.enters i schedule k t m at_call fs (Opens o) (Opened o) n s
+
+      abbrev open_or_queue : Bool → step.Stepped
+      open_or_queue b = if b then enters_entry else step.queues i schedule k t m at_call fs o
+
+      entry_is : act i schedule k t (in_frame m at_call fs) ≡ step.entry_call_of i schedule k t m at_call fs o n s
+      entry_is =
+          acts quiet i at (op.EntryCall o) here schedule k t m f fs (reverse args ++ base)
+          ∙ ap (λ q. step.entry_call i schedule k t m at_call fs o q) row
+          ∙ ap (λ q. step.entry_call_at i schedule k t m at_call fs o n q) there
+          ∙ ap (λ b. cond b (step.entry_call_of i schedule k t m at_call fs o n s) (step.breaks i schedule k t m at_call fs))
+          (enough s.parameters args base many)
+
+      -- within an action, or above the ceiling
+      abbrev refused_by : (inside above : Bool) → step.Stepped
+      refused_by inside above =
+          if inside || above then step.raises i schedule k t m at_call fs ProgramError
+          else step.with_frame_left i schedule k t m at_call fs (open_or_queue (step.is_open i m o))
+
+      pub above_ceiling : is_inside_any k t ≡ false → is_above_ceiling k t o ≡ true
+          → act i schedule k t (in_frame m at_call fs) ≡ unwind i m (number_of ProgramError) at_call fs
+      above_ceiling free above = entry_is ∙ (λ j. refused_by (free j) (above j))
+
+      passed : is_inside_any k t ≡ false → is_above_ceiling k t o ≡ false
+          → act i schedule k t (in_frame m at_call fs) ≡ step.with_frame_left i schedule k t m at_call fs (open_or_queue (step.is_open i m o))
+      passed free below = entry_is ∙ (λ j. refused_by (free j) (below j))
+
+      pub no_frame : is_inside_any k t ≡ false → is_above_ceiling k t o ≡ false → FRAMES ≤ suc (length fs)
+          → act i schedule k t (in_frame m at_call fs) ≡ unwind i m (number_of StorageError) at_call fs
+      no_frame free below full =
+          passed free below
+          ∙ ap (λ b. cond b (open_or_queue (step.is_open i m o)) (step.raises i schedule k t m at_call fs StorageError))
+          (is_not_less (length fs + 1) FRAMES (omega (arith, full)))
+
+      by_barrier : is_inside_any k t ≡ false → is_above_ceiling k t o ≡ false → suc (length fs) < FRAMES → (b : Bool) → step.is_open i m o ≡ b
+          → act i schedule k t (in_frame m at_call fs) ≡ open_or_queue b
+      by_barrier free below few b is =
+          passed free below
+          ∙ ap (λ b. cond b (open_or_queue (step.is_open i m o)) (step.raises i schedule k t m at_call fs StorageError))
+          (is_less (length fs + 1) FRAMES (omega (arith, few)))
+          ∙ ap open_or_queue is
+
+      pub opens_entry : is_inside_any k t ≡ false → is_above_ceiling k t o ≡ false → suc (length fs) < FRAMES → step.is_open i m o ≡ true
+          → act i schedule k t (in_frame m at_call fs) ≡ does (Opens o) m (body_frame (Some o) args) (placed f at base ∷ fs) None None
+      opens_entry free below few is =
+          by_barrier free below few true is
+          ∙ (λ j. does (Opens o) m (new_frame i n s (arguments_are s.parameters args base many j) (Opened o))
+          (placed f at (base_is s.parameters args base many j) ∷ fs) None None)
+
+      pub waits_at_entry : is_inside_any k t ≡ false → is_above_ceiling k t o ≡ false → suc (length fs) < FRAMES → step.is_open i m o ≡ false
+          → is_full k o ≡ false
+          → act i schedule k t (in_frame m at_call fs) ≡ does (Queues o) m at_call fs None None
+      waits_at_entry free below few is free_queue =
+          by_barrier free below few false is
+          ∙ ap (λ b. if b then step.raises i schedule k t m at_call fs ProgramError else does (Queues o) m at_call fs None None) free_queue
+
+      pub full_queue : is_inside_any k t ≡ false → is_above_ceiling k t o ≡ false → suc (length fs) < FRAMES → step.is_open i m o ≡ false
+          → is_full k o ≡ true
+          → act i schedule k t (in_frame m at_call fs) ≡ unwind i m (number_of ProgramError) at_call fs
+      full_queue free below few is full =
+          by_barrier free below few false is
+          ∙ ap (λ b. if b then step.raises i schedule k t m at_call fs ProgramError else does (Queues o) m at_call fs None None) full

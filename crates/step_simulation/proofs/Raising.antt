@@ -9,7 +9,7 @@ use Rattle.kernel.specs.Calm.{Calm}
 use Rattle.kernel.specs.Laws.{QuietStays}
 use Rattle.part_code.specs.handlers.specs.Innermost.{handler_of}
 use Rattle.part_code.specs.image.specs.Sections.{Sections}
-use Rattle.part_code.specs.image.specs.Frames.{Inner, Opened, Words, Frame, TaskState}
+use Rattle.part_code.specs.image.specs.Frames.{Inner, Opened, Serving, Words, Frame, TaskState}
 use Rattle.part_code.specs.image.specs.Scalars.{exception_of}
 use Rattle.part_code.specs.image.specs.Steps as steps
 use Rattle.part_code.specs.image.specs.Steps.{act, behaviour, caught, loaded, raises_number, removed, unwind}
@@ -23,16 +23,19 @@ use Rattle.step_soundness.specs.meaning.specs.Programs.{Program}
 use Rattle.step_soundness.specs.meaning.specs.SameMeaning.{frames_of}
 use Rattle.step_soundness.specs.meaning.specs.SourceSteps as source
 use Rattle.step_soundness.specs.meaning.specs.SourceSteps.{before, handler_for, program_behaviour, work_step}
-use Rattle.step_soundness.specs.meaning.specs.Works.{Item, Declares, DeclaresParameter, Sequence, Does, DoesMain, Repeats, RepeatsWhile, RepeatsFor, Handles, EndsHandler, EndsCall, EndsAction, EndsServed, Pending, Queued, Goes, Raising, Activation, Store, Target, TaskWork}
+use Rattle.step_soundness.specs.meaning.specs.Works.{Item, Declares, DeclaresParameter, Sequence, Does, DoesMain, Repeats, RepeatsWhile, RepeatsFor, Handles, EndsHandler, EndsCall, EndsAction, EndsServed, Completion, Pending, Queued, Goes, Raising, Activation, Store, Target, TaskWork}
+use Rattle.step_soundness.specs.meaning.specs.Works as works
+use Rattle.step_soundness.specs.meaning.specs.Calls.{is_open}
+use Rattle.step_soundness.specs.Judged.{IsWorkOf}
 use Rattle.step_soundness.specs.Objects.{IsException}
 use Rattle.part_code.specs.expr_code.specs.Views.{At, in_frame, placed}
-use Rattle.part_code.specs.expr_code.specs.Coming.{Throws, most_steps}
+use Rattle.part_code.specs.expr_code.specs.Coming.{most_steps}
 use Rattle.part_code.specs.expr_code.specs.Seeing.{Package}
 use Rattle.part_code.specs.expr_code.proofs.Coming.{acts}
 use Rattle.part_code.specs.expr_code.proofs.Coming as coming
 use Rattle.part_code.specs.Resting.{StandsFor}
 use Rattle.part_code.specs.Statements.{Numbers}
-use Rattle.step_simulation.specs.Standing.{Catches, Catching, Closing, CaughtIf, CodeStands, Over as Ended, Raised, items_size, relation, work_size}
+use Rattle.step_simulation.specs.Standing.{Catches, Catching, Closing, CaughtIf, CodeStands, Over as Ended, Raised, RaisesNext, items_size, relation, work_size}
 use Rattle.step_simulation.specs.Laws.{HasCode}
 use Rattle.step_simulation.proofs.Catching.{handling_here}
 use Rattle.step_simulation.proofs.Going.{jumps_up}
@@ -102,7 +105,7 @@ module _ (this : Scene) where
   Meet s = scene.Meet this s
 
   abbrev Caught : (x : ℕ) (f : Frame) (fs : List Frame) (own : Activation) (os : List Activation) → List Item → Type 0
-  Caught x f fs own os items = Catches i program g numbers x f fs own os items
+  Caught x f fs own os items = Catches i program g numbers this.note x f fs own os items
 
   -- ---- frames that are removed
 
@@ -120,6 +123,14 @@ module _ (this : Scene) where
       ap (λ q. caught i m' x q f (c ∷ below) (removed i m' x f.role c below (unwind i m' x c below))) none
       ∙ ap (λ r. removed i m' x r c below (unwind i m' x c below)) opened
 
+  -- ... or the body of an entry, for whose caller the exception is
+  hands_back : (x o u : ℕ) (pending : Option ℕ) (f c : Frame) (below : List Frame) (m' : Words) → handler_of i.rows f.place x ≡ None
+      → f.role ≡ Serving o u pending
+      → unwind i m' x f (c ∷ below) ≡ steps.does (Ends (steps.is_open i m' o)) m' c below pending (Some (steps.Raised x))
+  hands_back x o u pending f c below m' none serving =
+      ap (λ q. caught i m' x q f (c ∷ below) (removed i m' x f.role c below (unwind i m' x c below))) none
+      ∙ ap (λ r. removed i m' x r c below (unwind i m' x c below)) serving
+
   lands : (x target : ℕ) (f : Frame) (fs : List Frame) → handler_of i.rows f.place x ≡ Some target
       → unwind i m x f fs ≡ steps.does Quiet m (placed f target (pos x ∷ [])) fs None None
   lands x target f [] there = ap (λ o. caught i m x o f [] (steps.does (Dies x) m (record f { stack = [] }) [] (Some x) None)) there
@@ -134,7 +145,7 @@ module _ (this : Scene) where
   module _ (s : TaskState) (x : ℕ) where
     -- no step of code
     met_still : (y : source.SourceStepped) → work_step now w.work ≡ y → y.effect ≡ Quiet → y.solo.memory ≡ store
-        → CodeStands i program g numbers k t y.solo.task s
+        → CodeStands i program g numbers this.note k t y.solo.task s
         → work_size y.solo.task.work < work_size w.work
         → MetFrom s
     met_still y is e same stands less =
@@ -149,19 +160,19 @@ module _ (this : Scene) where
     met_step y z is there meets =
         moves_by (program_behaviour program schedule) (behaviour i schedule) (relation i program g numbers) frames_of (most_steps i) this.note k t
         (record { memory = store; task = w }) (record { memory = m; task = s })
-        1 (record { memory = m; task = s }) y z is there (Last refl) (omega arith) meets.effect meets.words meets.code
+        1 (record { memory = m; task = s }) y z is there (Last refl) (omega arith) meets.effect meets.words meets.leaves
 
     -- an item is dropped
     met_dropped : (i' : Item) (items : List Item) (f : Frame) (fs : List Frame) → w.work ≡ Raising x (i' ∷ items)
         → work_step now w.work ≡ source.raises now x items
-        → Throws i k t x s f fs → Caught x f fs w.own w.callers items → MetFrom s
+        → RaisesNext i program g numbers k t x s f fs → Caught x f fs w.own w.callers items → MetFrom s
     met_dropped i' items f fs is step throws c =
-        met_still (source.raises now x items) step refl refl (Raised x items f fs refl throws c)
+        met_still (source.raises now x items) step refl refl (Raised x items f fs refl calm.runs.running throws c)
         (subst (λ q. items_size items < work_size q) (sym is) (item_counts i' items))
 
     -- the activation of a call is left, and its frame is removed: at once, or in the step that ends the action which the call has opened
     met_left : (names : List (List ℕ)) (opened : Option ℕ) (xs : List Target) (items : List Item) (f : Frame) (fs : List Frame)
-        → w.work ≡ Raising x (EndsCall names opened xs ∷ items) → Throws i k t x s f fs
+        → w.work ≡ Raising x (EndsCall names opened xs ∷ items) → RaisesNext i program g numbers k t x s f fs
         → Caught x f fs w.own w.callers (EndsCall names opened xs ∷ items) → MetFrom s
     met_left names None xs items f fs is throws c =
         let above = c.0 in
@@ -170,10 +181,9 @@ module _ (this : Scene) where
         met_still after'
         (ap (λ q. work_step now q) is ∙ ap (λ q. source.leaves now Quiet q (Raising x items) None) c.7)
         refl refl
-        (Raised x items above below refl
+        (Raised x items above below refl calm.runs.running
         (record {
-          throws = λ schedule' l m' opened' ranked. throws.throws schedule' l m' opened' ranked ∙ ap (λ q. unwind i m' x f q) c.6
-              ∙ passes x f above below m' c.5 c.4;
+          raises = λ schedule' m' closed. throws.raises schedule' m' closed ∙ ap (λ q. unwind i m' x f q) c.6 ∙ passes x f above below m' c.5 c.4;
         })
         c.8)
         (subst (λ q. items_size items < work_size q) (sym is) (item_counts (EndsCall names None xs) items))
@@ -185,41 +195,64 @@ module _ (this : Scene) where
         met_still after'
         (ap (λ q. work_step now q) is ∙ ap (λ q. source.leaves now Quiet q work None) c.7)
         refl refl
-        (Closing o (Pending x) items (record { frame = above; callers = below; raising = Some x }) refl
+        (Closing o (Pending x) items (record { frame = above; callers = below; raising = Some x }) refl calm.runs.running
         (record {
-          ends = λ schedule' l m' opened' ranked. throws.throws schedule' l m' opened' ranked ∙ ap (λ q. unwind i m' x f q) c.6
-              ∙ closes x o f above below m' c.5 c.4;
+          ends = λ schedule' m' closed. throws.raises schedule' m' closed ∙ ap (λ q. unwind i m' x f q) c.6 ∙ closes x o f above below m' c.5 c.4;
         })
         (refl, c.8))
         (subst (λ q. work_size work < work_size q) (sym is) (omega arith))
 
+    -- the body of an entry is left, and its caller is given the exception
+    met_served : (o : ℕ) (names : List (List ℕ)) (done : Completion) (items : List Item) (f : Frame) (fs : List Frame)
+        → w.work ≡ Raising x (EndsServed o names done ∷ items) → RaisesNext i program g numbers k t x s f fs
+        → Caught x f fs w.own w.callers (EndsServed o names done ∷ items) → MetFrom s
+    met_served o names done items f fs is throws c =
+        let above = c.1 in
+        let below = c.2 in
+        let pending = c.3 in
+        let work = source.completed done items in
+        let task = this.known.task in
+        let sound = subst (λ q. IsWorkOf program None w.own task.scope task.outer task.around q) is task.work in
+        let closed = Ends (is_open program store o) in
+        met_step (source.leaves now closed (c.4 ∷ c.5) work (Some (works.Raised x)))
+        (steps.does (Ends (steps.is_open i m o)) m above below pending (Some (steps.Raised x)))
+        (ap (λ q. work_step now q) is ∙ ap (λ q. source.leaves now closed q work (Some (works.Raised x))) c.9)
+        (throws.raises schedule m (scene.queues_closed this) ∙ ap (λ q. unwind i m x f q) c.8 ∙ hands_back x o c.0 pending f above below m c.7 c.6)
+        (record {
+          effect = ap Ends (sym (has.barriers store m o this.known.store shares));
+          leaves = record { done = done; items = items; work = refl; goes_on = c.10; gives = λ o' u' outer there. (refl, sound.0) };
+          words = shares;
+        })
+
     -- a handler takes it, or not
-    met_handlers : (hs : HandlerTrees) (items : List Item) (f : Frame) (fs : List Frame) → w.work ≡ Raising x (Handles hs ∷ items) → Throws i k t x s f fs
+    met_handlers : (hs : HandlerTrees) (items : List Item) (f : Frame) (fs : List Frame) → w.work ≡ Raising x (Handles hs ∷ items)
+        → RaisesNext i program g numbers k t x s f fs
         → Caught x f fs w.own w.callers (Handles hs ∷ items) → MetFrom s
     met_handlers hs items f fs is throws c = by_handler (handler_for program x hs) refl c
       where
         by_handler : (o : Option StmtTrees) → handler_for program x hs ≡ o
-            → CaughtIf i program g numbers x f fs w.own w.callers items o (Caught x f fs w.own w.callers items) → MetFrom s
+            → CaughtIf i program g numbers this.note x f fs w.own w.callers items o (Caught x f fs w.own w.callers items) → MetFrom s
         by_handler (Some body) found h =
             met_step (source.goes now (before body (EndsHandler x ∷ items))) (steps.does Quiet m (placed f h.target (pos x ∷ [])) fs None None)
             (ap (λ q. work_step now q) is ∙ ap (λ o. source.handled now x o items) found)
-            (throws.throws schedule k m refl refl ∙ lands x h.target f fs h.taken)
+            (throws.raises schedule m (scene.queues_closed this) ∙ lands x h.target f fs h.taken)
             (record {
               effect = refl;
-              code = Catching (before body (EndsHandler x ∷ items)) refl h.catching;
+              leaves = Catching (before body (EndsHandler x ∷ items)) refl h.catching;
               words = shares;
             })
         by_handler None found h =
             met_dropped (Handles hs) items f fs is (ap (λ q. work_step now q) is ∙ ap (λ o. source.handled now x o items) found) throws h
 
     -- nothing is left to do: the exception ends the task
-    met_last : (f : Frame) (fs : List Frame) → w.work ≡ Raising x [] → Throws i k t x s f fs → Caught x f fs w.own w.callers [] → MetFrom s
+    met_last : (f : Frame) (fs : List Frame) → w.work ≡ Raising x [] → RaisesNext i program g numbers k t x s f fs → Caught x f fs w.own w.callers []
+        → MetFrom s
     met_last f fs is throws c =
         met_step (source.works now (Dies x) (Goes [])) (steps.does (Dies x) m (record f { stack = [] }) [] (Some x) None) (ap (λ q. work_step now q) is)
-        (throws.throws schedule k m refl refl ∙ ap (λ q. unwind i m x f q) c.1 ∙ dies x f c.0)
-        (record { effect = refl; code = Ended (kernels.Unhandled x t) refl; words = shares })
+        (throws.raises schedule m (scene.queues_closed this) ∙ ap (λ q. unwind i m x f q) c.1 ∙ dies x f c.0)
+        (record { effect = refl; leaves = Ended (kernels.Unhandled x t) refl; words = shares })
 
-    pub met_raised : (items : List Item) (f : Frame) (fs : List Frame) → w.work ≡ Raising x items → Throws i k t x s f fs
+    pub met_raised : (items : List Item) (f : Frame) (fs : List Frame) → w.work ≡ Raising x items → RaisesNext i program g numbers k t x s f fs
         → Caught x f fs w.own w.callers items → MetFrom s
     met_raised [] f fs is throws c = met_last f fs is throws c
     met_raised (Declares d ∷ items) f fs is throws c = met_dropped (Declares d) items f fs is (ap (λ q. work_step now q) is) throws c
@@ -239,7 +272,7 @@ module _ (this : Scene) where
     met_raised (EndsCall names opened xs ∷ items) f fs is throws c = met_left names opened xs items f fs is throws c
     met_raised (EndsAction o completion ∷ items) f fs is throws c =
         met_dropped (EndsAction o completion) items f fs is (ap (λ q. work_step now q) is) throws c
-    met_raised (EndsServed o names completion ∷ items) f fs is throws c = absurd c
+    met_raised (EndsServed o names completion ∷ items) f fs is throws c = met_served o names completion items f fs is throws c
     met_raised (Queued q vs xs ∷ items) f fs is throws c = met_dropped (Queued q vs xs) items f fs is (ap (λ q. work_step now q) is) throws c
 
   -- ---- statements that raise (RM 11.3)
@@ -319,7 +352,7 @@ module _ (this : Scene) where
         let r = h.follows in
         let code = r.4.0 in
         let around = scene.seeing this r.2 h.around in
-        let held = handling_here i program g numbers items around f.subprogram r.1 code.0 f.locals f.role fs w.callers r.5 code.1 h.rests.held in
+        let held = handling_here i program g numbers this.note items around f.subprogram r.1 code.0 f.locals f.role fs w.callers r.5 code.1 h.rests.held in
         met_throws held.0 place None items is h
         (ap (λ q. work_step now q) is ∙ ap (λ o. source.raise_number now o items) held.1) code.3 code.4
         (acts quiet i r.0 (op.LoadLocal code.0) code.2 schedule k t m f fs []

@@ -3,7 +3,7 @@ use Rattle.std.proofs.Common.{◌≡◌, ℕ, suc, ◌+◌, ◌-◌, ◌<◌, �
 use Rattle.part_code.specs.base.specs.declared.schedule.ScheduleLine.{ScheduleLine}
 use Rattle.part_code.specs.base.specs.declared.limits.TheConstants.{FRAMES}
 use Rattle.kernel.specs.State.{Kernel}
-use Rattle.kernel.specs.Effects.{Quiet, Finishes, after}
+use Rattle.kernel.specs.Effects.{Quiet, Finishes}
 use Rattle.kernel.specs.Worlds.{Solo}
 use Rattle.kernel.specs.Calm.{Calm}
 use Rattle.kernel.specs.Counting.{Spends, Done}
@@ -43,7 +43,7 @@ use Rattle.part_code.specs.Resting.{Framed, HeldWord, IsAddressable, Knows, Narr
 use Rattle.part_code.specs.Handling.{GoesBy}
 use Rattle.part_code.specs.Statements.{Numbers}
 use Rattle.part_code.specs.Jumping.{Here, Jumps, There}
-use Rattle.step_simulation.specs.Standing.{Around, Catches, CodeStands, Follows, Going, Inside, IsGoingOn, LeadsByWays, Note, frames_in, with_visible, Raised, items_size, relation, work_size}
+use Rattle.step_simulation.specs.Standing.{AreQueuesClosed, Around, Catches, CodeStands, Follows, Going, Inside, IsGoingOn, LeadsByWays, LeavesBy, Note, Raised, RaisesNext, frames_in, items_size, relation, with_visible, work_size}
 use Rattle.step_simulation.specs.Laws.{HasCode, IsKnownHere}
 use Rattle.step_simulation.proofs.Going.{Drops, earlier, jumps_up, shows_then, way_back, way_out}
 use Rattle.step_simulation.proofs.Catching.{catches}
@@ -150,7 +150,7 @@ module _ (this : Scene) where
   In n place = Inside i program g numbers n place
 
   abbrev pub Follow : Setting → (n from : ℕ) → List Item → Role → List Frame → List Activation → Type 0
-  Follow a n from items above waiting = Follows i program g numbers a n from items above waiting
+  Follow a n from items above waiting = Follows i program g numbers this.note a n from items above waiting
 
   -- ---- the step of the source is sound
 
@@ -164,6 +164,10 @@ module _ (this : Scene) where
   -- what is raised is an exception
   pub raises_known : (x : ℕ) (items : List Item) → work_step now w.work ≡ source.raises now x items → IsException program x
   raises_known x items is = (step_is (source.raises now x items) is).task.work.0
+
+  -- where the task may call the entry of an object in whose queue a call waits, the barrier is closed
+  pub queues_closed : AreQueuesClosed i program g numbers k t m
+  queues_closed o u queued free below = sym (has.barriers store m o known.store shares) ∙ known.closed o u queued free below
 
   -- no step of a sound task is without meaning
   pub has_meaning : (items : List Item) → work_step now w.work ≡ source.means_nothing now items → ⊥
@@ -192,7 +196,7 @@ module _ (this : Scene) where
       (known.store.functions (place_of now items))
 
   -- a frame has the words of its own that it ought to have
-  has_room : (v : Framed) (a : Activation) (locals : List ℤ) → Rests g v a locals → v.room ≤ length locals
+  pub has_room : (v : Framed) (a : Activation) (locals : List ℤ) → Rests g v a locals → v.room ≤ length locals
   has_room v a locals rests =
       let f : Frame = record { subprogram = 0; place = 0; locals = locals; stack = []; role = Inner } in
       let p : Place = record (place_of now []) { locals = a.locals; within = a.within } in
@@ -268,7 +272,7 @@ module _ (this : Scene) where
   -- what code stands for after a step of the source with this effect
   pub record Meets (x : source.SourceStepped) (y : steps.Stepped) : Type 0 where
     pub effect : y.effect ≡ x.effect
-    pub code : CodeStands i program g numbers (after t x.effect k) t x.solo.task y.solo.task
+    pub leaves : LeavesBy i program g numbers this.note k t x.effect x.solo.task y.solo.task x.given y.given
     pub words : StandsFor program g x.solo.memory y.solo.memory
 
   -- no more steps than a frame may take, and fewer where its subprogram has code
@@ -298,7 +302,7 @@ module _ (this : Scene) where
   pub quiet_from : (s : TaskState) (n : ℕ) (c : TaskState) (x : source.SourceStepped) → work_step now w.work ≡ x → x.effect ≡ Quiet → x.solo.memory ≡ store
       → Takes (behaviour i schedule) t frames_of (most_steps i) (frames_of s) n k (record { memory = m; task = s }) k (record { memory = m; task = c })
       → IsLow s n
-      → ((s' : TaskState) → s' ≡ c → CodeStands i program g numbers k t x.solo.task s')
+      → ((s' : TaskState) → s' ≡ c → CodeStands i program g numbers this.note k t x.solo.task s')
       → work_size x.solo.task.work < work_size w.work
       → Meet s
   quiet_from s n c x is e same all low stands less = λ b from.
@@ -324,7 +328,7 @@ module _ (this : Scene) where
       let l = led b s n c from all low in
       moves_by (program_behaviour program schedule) (behaviour i schedule) (relation i program g numbers) frames_of (most_steps i) this.note k t
       (record { memory = store; task = w }) (record { memory = m; task = b })
-      l.0 c x y is there l.1 l.2 meets.effect meets.words meets.code
+      l.0 c x y is there l.1 l.2 meets.effect meets.words meets.leaves
 
   pub met_quiet_on : (base : List ℤ) (f : Frame) (fs : List Frame) (n : ℕ) (c : TaskState) (x : source.SourceStepped) → work_step now w.work ≡ x
       → x.effect ≡ Quiet
@@ -332,7 +336,7 @@ module _ (this : Scene) where
       → (all : Takes (behaviour i schedule) t frames_of (most_steps i) (suc (length fs)) n k (in_frame m (placed f f.place base) fs) k
       (record { memory = m; task = c }))
       → n < most_steps i (in_frame m f fs).task
-      → ((s : TaskState) → s ≡ c → CodeStands i program g numbers k t x.solo.task s)
+      → ((s : TaskState) → s ≡ c → CodeStands i program g numbers this.note k t x.solo.task s)
       → work_size x.solo.task.work < work_size w.work
       → Meet (in_frame m (placed f f.place base) fs).task
   met_quiet_on base f fs n c x is e same all low stands less =
@@ -341,7 +345,7 @@ module _ (this : Scene) where
   -- wherever in this part of the code the value is raised, there is what takes it
   abbrev pub Handled : {A : Type 0} → Frame → List Frame → Val A → List Item → (from to : ℕ) → Type 0
   Handled f fs v items from to =
-      (x place : ℕ) (left : List ℤ) → IsException program x → v ≡ Raises x → from ≤ place → place < to → Catches i program g numbers x
+      (x place : ℕ) (left : List ℤ) → IsException program x → v ≡ Raises x → from ≤ place → place < to → Catches i program g numbers this.note x
       (placed f place left) fs w.own w.callers items
 
   -- a step of the source that evaluates: what raises is met, and what has no meaning is excluded
@@ -367,8 +371,8 @@ module _ (this : Scene) where
       let f' = placed f place left in
       let raised = source.raises now x items in
       let all = spends_takes (behaviour i schedule) t frames_of (most_steps i) (suc n') k (record { memory = m; task = comes.0 }) first comes.3 in
-      let stands : (s : TaskState) → Throws i k t x s f' fs → CodeStands i program g numbers k t raised.solo.task s =
-      λ s throws. Raised x items f' fs refl throws
+      let stands : (s : TaskState) → Throws i k t x s f' fs → CodeStands i program g numbers this.note k t raised.solo.task s =
+      λ s throws. Raised x items f' fs refl calm.runs.running (record { raises = λ schedule' m' closed. throws.throws schedule' k m' refl refl })
       (handled x place left (raises_known x items is) refl comes.4 comes.5) in
       met_quiet_on base f fs (n + suc n') comes.0 raised is refl refl all (omega (arith, low)) (λ s e. stands s (subst (λ q. Throws i k t x q f' fs)
       (sym e) comes.6)) less
@@ -400,10 +404,26 @@ module _ (this : Scene) where
       → (all : Takes (behaviour i schedule) t frames_of (most_steps i) (suc (length fs)) n k (in_frame m (placed f f.place []) fs) k
       (record { memory = m; task = c }))
       → n < most_steps i (in_frame m f fs).task
-      → ((s : TaskState) → s ≡ c → CodeStands i program g numbers k t x.solo.task s)
+      → ((s : TaskState) → s ≡ c → CodeStands i program g numbers this.note k t x.solo.task s)
       → work_size x.solo.task.work < work_size w.work
       → Meet (in_frame m (placed f f.place []) fs).task
   met_quiet f fs n c x = met_quiet_on [] f fs n c x
+
+  -- the frame has come to an instruction that raises
+  pub met_raises : (f : Frame) (fs : List Frame) (n place : ℕ) (left : List ℤ) (x : ℕ) (items : List Item) → work_step now w.work ≡ source.raises now x items
+      → Spends (behaviour i schedule) t frames_of (most_steps i) (suc (length fs)) n k (in_frame m (placed f f.place []) fs) k
+      (in_frame m (placed f place left) fs)
+      → n < size_of i f.subprogram + size_of i f.subprogram
+      → items_size items < work_size w.work
+      → Catches i program g numbers this.note x (placed f place left) fs w.own w.callers items
+      → RaisesNext i program g numbers k t x (in_frame m (placed f place left) fs).task (placed f place left) fs
+      → Meet (in_frame m (placed f f.place []) fs).task
+  met_raises f fs n place left x items is first low less caught raises =
+      met_quiet f fs (n + 1) (in_frame m (placed f place left) fs).task (source.raises now x items) is refl refl
+      (spends_takes (behaviour i schedule) t frames_of (most_steps i) 1 k (in_frame m (placed f place left) fs) first (Last refl)) (omega (arith, low))
+      (λ s e. Raised x items (placed f place left) fs refl calm.runs.running
+      (subst (λ q. RaisesNext i program g numbers k t x q (placed f place left) fs) (sym e) raises) caught)
+      less
 
   pub met_value : {A : Type 0} (f : Frame) (fs : List Frame) (n from n' to : ℕ) (stack : A → List ℤ) (v : Val A) (items : List Item)
       (go : A → source.SourceStepped)
@@ -434,12 +454,12 @@ module _ (this : Scene) where
 
   -- no step of code, and what is left to do is less
   pub met_still : (s : TaskState) (x : source.SourceStepped) → work_step now w.work ≡ x → x.effect ≡ Quiet → x.solo.memory ≡ store
-      → CodeStands i program g numbers k t x.solo.task s
+      → CodeStands i program g numbers this.note k t x.solo.task s
       → work_size x.solo.task.work < work_size w.work
       → Meet s
   met_still s x is e same stands less =
       quiet_from s 1 s x is e same (Last refl) (omega arith, λ some. omega (arith, some))
-      (λ s' there. subst (λ q. CodeStands i program g numbers k t x.solo.task q) (sym there) stands)
+      (λ s' there. subst (λ q. CodeStands i program g numbers this.note k t x.solo.task q) (sym there) stands)
       less
 
   -- ---- going on
@@ -459,13 +479,13 @@ module _ (this : Scene) where
     fs = s.callers
 
     abbrev pub IsAtItems : List Item → Type 0
-    IsAtItems items = IsGoingOn i program g numbers items w.own w.callers s
+    IsAtItems items = IsGoingOn i program g numbers this.note items w.own w.callers s
 
     -- the same frame goes on elsewhere
     pub goes_on : (items : List Item) (own : Activation) (a : Setting) (place : ℕ) (locals : List ℤ) → Follow a f.subprogram place items f.role fs w.callers
         → RestsWith g a.visible a.held own locals
         → own_object i f ≡ own.within → length fs ≡ frames_in items
-        → IsGoingOn i program g numbers items own w.callers (record { frame = goes_at f place locals; callers = fs; raising = None })
+        → IsGoingOn i program g numbers this.note items own w.callers (record { frame = goes_at f place locals; callers = fs; raising = None })
     goes_on items own a place locals follows rests object depth =
         record {
           around = a;
@@ -499,8 +519,11 @@ module _ (this : Scene) where
         → own_object i f ≡ w.own.within
         → length fs ≡ frames_in items → Handled f fs v items from' to'
     handled_by a now' to items v from' to' follows goes rests same shows object depth = λ x place left known is low high.
-        catches i program g numbers has_room items a to x (placed f place left) fs w.own w.callers follows
+        catches i program g numbers this.note has_room items x (placed f place left) fs w.own w.callers
         (record {
+          around = a;
+          from = to;
+          follows = follows;
           known = known;
           goes = goes place x low high;
           rests = shown now' a.handling w.own f.locals shows rests.rests;
@@ -532,7 +555,7 @@ module _ (this : Scene) where
         → Meets (source.goes now items) (steps.does Quiet m (goes_at f place f.locals) fs None None)
     goes_to items a place follows rests object depth = record {
       effect = refl;
-      code = Going items refl (goes_on items w.own a place f.locals follows rests object depth);
+      leaves = Going items refl (goes_on items w.own a place f.locals follows rests object depth);
       words = shares;
     }
 
@@ -550,7 +573,7 @@ module _ (this : Scene) where
         (λ q. steps.returns_to i schedule k t m (placed f at []) q q f.role []) r.2)
         (record {
           effect = refl;
-          code = Going [] refl (record {
+          leaves = Going [] refl (record {
             around = h.around;
             follows = (
               (record {
@@ -578,7 +601,8 @@ module _ (this : Scene) where
     pub reached : (a : Setting) (from at to : ℕ) (now' : Framed) (items : List Item) → LeadsByWays i program g numbers a f.subprogram from at to now'
         → Follow (seeing now' a) f.subprogram at items f.role fs w.callers
         → Follow (seeing a.visible a) f.subprogram from items f.role fs w.callers
-    reached a from at to now' items leads follows = earlier i program g numbers items (seeing now' a) a.visible f.subprogram from at f.role fs w.callers
+    reached a from at to now' items leads follows =
+        earlier i program g numbers this.note items (seeing now' a) a.visible f.subprogram from at f.role fs w.callers
         leads.jumps leads.narrows leads.from_inside follows
 
     -- nothing but what is left to do changes
@@ -625,7 +649,7 @@ module _ (this : Scene) where
         let leads = r.3 in
         let code = r.4 in
         let e = code.0 in
-        let out = way_out i program g numbers items (seeing r.2 h.around) f.subprogram r.1 e f.role fs w.callers r.5 code.1 in
+        let out = way_out i program g numbers this.note items (seeing r.2 h.around) f.subprogram r.1 e f.role fs w.callers r.5 code.1 in
         let x = leads.from_inside in
         let y = leads.to_inside in
         let up = jumps_up i program g numbers f.place r.0 leads.jumps in
@@ -644,7 +668,7 @@ module _ (this : Scene) where
         let leads = r.3 in
         let code = r.4 in
         let e = code.0 in
-        let out = way_back i program g numbers items (seeing r.2 h.around) f.subprogram r.1 e f.role fs w.callers r.5 code.1 in
+        let out = way_back i program g numbers this.note items (seeing r.2 h.around) f.subprogram r.1 e f.role fs w.callers r.5 code.1 in
         let x = leads.from_inside in
         let y = leads.to_inside in
         let up = jumps_up i program g numbers f.place r.0 leads.jumps in

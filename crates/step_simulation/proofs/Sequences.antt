@@ -74,7 +74,8 @@ module _ (this : Scene) where
         behind NoHandlers r = (h.around, r, h.rests)
         behind (MoreHandlers choices body rest) r = (
           seeing h.around.visible r.2,
-          earlier i program g numbers items r.2 h.around.visible f.subprogram f.place r.1 f.role fs w.callers r.3.jumps r.3.narrows r.3.from_inside r.5,
+          earlier i program g numbers this.note items r.2 h.around.visible f.subprogram f.place r.1 f.role fs w.callers r.3.jumps r.3.narrows
+              r.3.from_inside r.5,
           subst (λ q. RestsWith g h.around.visible q w.own f.locals) (ap (λ q. q.held) r.3.sequence) h.rests,
         )
 
@@ -87,7 +88,7 @@ module _ (this : Scene) where
         scene.met_items this s (source.goes now items) items (ap (λ q. work_step now q) is) (subst (λ q. suc (items_size items) < work_size q) (sym is)
         (omega arith))
         h.stack h.going (seeing outer.visible outer)
-        (earlier i program g numbers items outer outer.visible f.subprogram f.place r.0 f.role fs w.callers last.jumps
+        (earlier i program g numbers this.note items outer outer.visible f.subprogram f.place r.0 f.role fs w.callers last.jumps
         (narrows_same g outer.visible) last.from_inside r.4)
         (record {
           rests = scene.shown this s h.around.visible outer.visible w.own f.locals last.shows h.rests.rests;
@@ -105,7 +106,7 @@ module _ (this : Scene) where
       seeing now' a,
       refl,
       refl,
-      before_follows i program g numbers body a now' f.subprogram at to (Handles NoHandlers ∷ items) f.role fs w.callers code le x y reach rest,
+      before_follows i program g numbers this.note body a now' f.subprogram at to (Handles NoHandlers ∷ items) f.role fs w.callers code le x y reach rest,
     )
     begins body (MoreHandlers choices own others) items a now' at to code le x y reach rest =
         let mid = code.0 in
@@ -117,7 +118,7 @@ module _ (this : Scene) where
           b,
           refl,
           refl,
-          before_follows i program g numbers body b now' f.subprogram at mid (Handles
+          before_follows i program g numbers this.note body b now' f.subprogram at mid (Handles
               (MoreHandlers choices own others) ∷ items) f.role fs w.callers code.4 one x mid_in
               (reach.0, reach.1, (narrows_same g now').shows) (
                 suc mid,
@@ -153,7 +154,7 @@ module _ (this : Scene) where
         scene.met_items this s (source.goes now all) all (ap (λ q. work_step now q) is)
         (subst (λ q. suc (items_size all) < work_size q) (sym is) (omega (arith, e))) h.stack h.going
         (seeing h.around.visible b)
-        (earlier i program g numbers all b h.around.visible f.subprogram f.place r.0 f.role fs w.callers leads.jumps
+        (earlier i program g numbers this.note all b h.around.visible f.subprogram f.place r.0 f.role fs w.callers leads.jumps
         (subst (λ q. NarrowsFrame g h.around.visible q) (sym inner.1) leads.narrows) x inner.3)
         (subst (λ q. RestsWith g h.around.visible q w.own f.locals) (sym inner.2) h.rests) h.object
         (h.depth ∙ sym (before_ends i program g numbers body (Handles hs ∷ items)))
@@ -178,7 +179,8 @@ module _ (this : Scene) where
         (subst (λ q. suc (items_size (map Declares ds ++ all)) < work_size q) (sym is) (omega (arith, e))) h.stack h.going
         (seeing h.around.visible h.around)
         (scene.reached this s h.around f.place r.0 r.1 r.2 (map Declares ds ++ all) leads
-        (declares_follow i program g numbers ds h.around r.2 code.1 f.subprogram r.0 code.0 all f.role fs w.callers code.4 code.6 one at_in mid_in leads.reaches
+        (declares_follow i program g numbers this.note ds h.around r.2 code.1 f.subprogram r.0 code.0 all f.role fs w.callers code.4 code.6
+        one at_in mid_in leads.reaches
         (λ nar. (
           code.0,
           r.1,
@@ -196,6 +198,6 @@ module _ (this : Scene) where
             to_inside = y;
           }),
           code.5,
-          earlier i program g numbers items (seeing r.2 h.around) code.1 f.subprogram r.1 r.1 f.role fs w.callers Here nar y r.5,
+          earlier i program g numbers this.note items (seeing r.2 h.around) code.1 f.subprogram r.1 r.1 f.role fs w.callers Here nar y r.5,
         ))))
         h.rests h.object (h.depth ∙ sym (declares_end i program g numbers ds all))

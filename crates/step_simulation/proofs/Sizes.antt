@@ -2,10 +2,9 @@
 use Rattle.std.proofs.Common.{◌≡◌, ◌+◌, ◌<◌, ◌≤◌, List, [], ◌∷◌, map, arith}
 use Rattle.std.specs.Prelude.{◌++◌, ◌*◌}
 use Rattle.part_code.specs.ada_tree.specs.Size.{declaration_size, stmt_size, stmts_size, total}
-use Rattle.part_code.specs.ada_tree.specs.StatementTree.{ObjectTree, DeclarationTree, LocalObject, LocalTask, LocalProtected, StmtTree, Null, Assignment, Exit, Return, Raise, Delay, DelayUntil, If, Case, Loop, Block, Abort, Requeue, Accept, Select, StmtTrees, NoStmts, MoreStmts, ElsifTrees, NoElsifs, MoreElsifs, Forever, While, HandlerTrees, NoHandlers}
+use Rattle.part_code.specs.ada_tree.specs.StatementTree.{DeclarationTree, LocalObject, LocalTask, LocalProtected, StmtTree, Null, Assignment, Exit, Return, Raise, Delay, DelayUntil, If, Case, Loop, Block, Abort, Requeue, Accept, Select, StmtTrees, NoStmts, MoreStmts}
 use Rattle.part_code.specs.ada_tree.specs.StatementTree as tree
 use Rattle.step_soundness.specs.meaning.specs.SourceSteps as source
-use Rattle.step_soundness.specs.meaning.specs.SourceSteps.{here_of, place_of, program_behaviour, with_value, work_step}
 use Rattle.step_soundness.specs.meaning.specs.Works.{Item, Declares, DeclaresParameter, Sequence, Does, DoesMain, Repeats, RepeatsWhile, RepeatsFor, Handles, EndsHandler, EndsCall, EndsAction, EndsServed, Queued}
 use Rattle.step_simulation.specs.Standing.{items_size}
 

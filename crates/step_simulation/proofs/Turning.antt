@@ -11,28 +11,28 @@ use Rattle.kernel.specs.RunLaws.{spends_trans}
 use Rattle.part_code.specs.image.specs.Sections.{Sections}
 use Rattle.part_code.specs.image.specs.Frames.{Words, Frame, TaskState, Role, own_object}
 use Rattle.part_code.specs.image.specs.Steps as steps
-use Rattle.part_code.specs.image.specs.Steps.{act, behaviour, caught, does_operation, removed, unwind}
+use Rattle.part_code.specs.image.specs.Steps.{act, behaviour, does_operation}
 use Rattle.part_code.specs.image.specs.declared.instruction.Operation.{Operation}
 use Rattle.part_code.specs.image.specs.declared.instruction.Operation.TheVariants as op
-use Rattle.part_code.specs.ada_tree.specs.StatementTree.{ObjectTree, DeclarationTree, LocalObject, LocalTask, LocalProtected, StmtTree, Null, Assignment, Exit, Return, Raise, Delay, DelayUntil, If, Case, Loop, Block, Abort, Requeue, Accept, Select, StmtTrees, NoStmts, MoreStmts, ElsifTrees, NoElsifs, MoreElsifs, Forever, While, HandlerTrees, NoHandlers}
+use Rattle.part_code.specs.ada_tree.specs.StatementTree.{ObjectTree, LocalObject, Assignment, Exit, If, Loop, StmtTrees, ElsifTrees, NoElsifs, MoreElsifs, Forever, While}
 use Rattle.part_code.specs.types.specs.Evaluations.{Val, Gives, Raises, Meaningless, and_then}
 use Rattle.part_code.specs.types.specs.Evaluating.{Calls, call, passed, truth_of, value_with}
 use Rattle.part_code.specs.types.specs.Shapes.{initial, word_of}
 use Rattle.part_code.specs.types.specs.Values.{Value, Number, Truth, Array, Record}
-use Rattle.part_code.specs.ada_tree.specs.ExpressionTree.{ArgumentTrees, Arguments, ExprTree, MoreArguments, MoreSelectors, NameTree, NoArguments, NoSelectors, SelectorTrees, Text}
+use Rattle.part_code.specs.ada_tree.specs.ExpressionTree.{Arguments, ExprTree, MoreArguments, MoreSelectors, NameTree, NoArguments, NoSelectors, Text}
 use Rattle.part_code.specs.ada_tree.specs.ExpressionTree as expressions
 use Rattle.part_code.specs.ada_tree.specs.StatementTree as tree
 use Rattle.part_code.specs.types.specs.Places.{Place}
 use Rattle.step_soundness.specs.meaning.specs.Programs.{Parameter, Program}
-use Rattle.step_soundness.specs.meaning.specs.Targets.{activation_with, store_with, stored_in, target}
+use Rattle.step_soundness.specs.meaning.specs.Targets.{activation_with, store_with, target}
 use Rattle.step_soundness.specs.meaning.specs.SameMeaning.{frames_of}
 use Rattle.step_soundness.specs.meaning.specs.SourceSteps as source
-use Rattle.step_soundness.specs.meaning.specs.SourceSteps.{here_of, place_of, program_behaviour, with_value, work_step}
-use Rattle.step_soundness.specs.meaning.specs.Works.{Item, Declares, DeclaresParameter, Does, Repeats, RepeatsWhile, Goes, Activation, Home, InActivation, InObject, InPackage, Store, Target, TaskWork, frames_left}
+use Rattle.step_soundness.specs.meaning.specs.SourceSteps.{place_of, with_value, work_step}
+use Rattle.step_soundness.specs.meaning.specs.Works.{Item, Declares, DeclaresParameter, Does, Repeats, RepeatsWhile, Goes, Activation, Store, Target, TaskWork, frames_left}
 use Rattle.part_code.specs.expr_code.specs.Views.{At, in_frame, placed}
 use Rattle.part_code.specs.expr_code.specs.Coming.{Comes, most_steps, on, size_of}
 use Rattle.part_code.specs.expr_code.specs.Seeing.{Package}
-use Rattle.part_code.specs.expr_code.proofs.Coming.{acts, after_first}
+use Rattle.part_code.specs.expr_code.proofs.Coming.{acts}
 use Rattle.part_code.specs.expr_code.proofs.Coming as coming
 use Rattle.part_code.specs.Resting.{Framed, HeldWord, RestsWith, Shows, StandsFor}
 use Rattle.part_code.proofs.Holding.{held_kept}
@@ -209,7 +209,7 @@ module _ (this : Scene) where
         let mid = code.1 in
         let le = code.3 in
         let end = code.6 in
-        let out = way_out i program g numbers items (seeing r.2 h.around) f.subprogram r.1 target f.role fs w.callers r.5 code.2 in
+        let out = way_out i program g numbers this.note items (seeing r.2 h.around) f.subprogram r.1 target f.role fs w.callers r.5 code.2 in
         let x = leads.from_inside in
         let y = leads.to_inside in
         let up = jumps_up i program g numbers f.place r.0 leads.jumps in
@@ -225,7 +225,8 @@ module _ (this : Scene) where
         (scene.goes_to this s (source.behind_loop items) out.outer target out.follows
         (scene.way_rests this s h.around out.outer r.2 h.around.behind h.rests leads.narrows leads.reaches.0 out.visible out.drops) h.object
         (h.depth ∙ sym out.ends))
-        (scene.goes_to this s items (seeing r.2 h.around) (mid + 1) (subst (λ q. Follow (seeing r.2 h.around) f.subprogram q items f.role fs w.callers) next r.5)
+        (scene.goes_to this s items (seeing r.2 h.around) (mid + 1)
+        (subst (λ q. Follow (seeing r.2 h.around) f.subprogram q items f.role fs w.callers) next r.5)
         rests h.object h.depth)
 
     -- the parts of an `if` behind its first statements
@@ -235,7 +236,8 @@ module _ (this : Scene) where
         → In f.subprogram from → In f.subprogram to → ReachesWays i program g numbers a now'
         → Follow (seeing now' a) f.subprogram to items f.role fs w.callers
         → Follow (seeing now' a) f.subprogram from (source.otherwise place elsifs others items) f.role fs w.callers
-    otherwise_follows place NoElsifs others a now' from to items code le x y reach rest = before_follows i program g numbers others a now' f.subprogram from
+    otherwise_follows place NoElsifs others a now' from to items code le x y reach rest =
+        before_follows i program g numbers this.note others a now' f.subprogram from
         to items f.role fs w.callers code le x y reach rest
     otherwise_follows place (MoreElsifs e body more) others a now' from to items code le x y reach rest =
         (from, to, now', (record { jumps = Here; narrows = narrows_same g now'; reaches = reach; from_inside = x; up = le; to_inside = y }), code, rest)
@@ -278,10 +280,11 @@ module _ (this : Scene) where
         (otherwise_follows place elsifs others h.around r.2 (suc joint) r.1 items code.9 above else_in y leads.reaches r.5) rests h.object
         (h.depth ∙ sym (otherwise_ends place elsifs others items)))
         (scene.goes_to this s (source.before body items) a (mid + 1)
-        (before_follows i program g numbers body h.around r.2 f.subprogram (mid + 1) joint items f.role fs w.callers
+        (before_follows i program g numbers this.note body h.around r.2 f.subprogram (mid + 1) joint items f.role fs w.callers
         (subst (λ q. AreStatements i program g numbers r.2 h.around.ways h.around.raised q joint body) one code.7) (omega (arith, between)) then_in joint_in
         leads.reaches
-        (earlier i program g numbers items a r.2 f.subprogram joint r.1 f.role fs w.callers (There code.8 above Here) (narrows_same g r.2) joint_in r.5)) rests
+        (earlier i program g numbers this.note items a r.2 f.subprogram joint r.1 f.role fs w.callers (There code.8 above Here)
+        (narrows_same g r.2) joint_in r.5)) rests
         h.object
         (h.depth ∙ sym (before_ends i program g numbers body items)))
 
@@ -311,7 +314,8 @@ module _ (this : Scene) where
         (ap (λ q. work_step now q) is) h.stack h.going
         leads.jumps x (omega (arith, x.0, up), omega (arith, y.1, le, end)) code.2 refl
         (scene.goes_to this s all inner (at + 2)
-        (before_follows i program g numbers body inner r.2 f.subprogram (at + 2) back (Repeats body ∷ items) f.role fs w.callers code.4 le turn_in back_in
+        (before_follows i program g numbers this.note body inner r.2 f.subprogram (at + 2) back
+        (Repeats body ∷ items) f.role fs w.callers code.4 le turn_in back_in
         ((narrows_same g r.2).shows, leads.reaches.1, leads.reaches.2) (
           at,
           r.1,
@@ -364,7 +368,8 @@ module _ (this : Scene) where
         (ap (λ q. work_step now q) is) h.stack h.going
         leads.jumps x (omega (arith, x.0, up), omega (arith, y.1, there)) leads.jump refl
         (scene.goes_to this s all inner (head + 2)
-        (before_follows i program g numbers body inner outer.visible f.subprogram (head + 2) last (Repeats body ∷ items) f.role fs w.callers code.4 le turn_in
+        (before_follows i program g numbers this.note body inner outer.visible f.subprogram (head + 2) last
+        (Repeats body ∷ items) f.role fs w.callers code.4 le turn_in
         back_in ((narrows_same g outer.visible).shows, leads.reaches, leads.handles) (
           head,
           r.1,
@@ -421,10 +426,11 @@ module _ (this : Scene) where
         (ap (λ q. work_step now q) is ∙ same)
         (subst (λ q. items_size items < work_size q) (sym is) (let c = item_counts i' items in omega (arith, c)))
         (scene.handled_by this s outer outer.visible to items (source.condition now items e) (head + 2) mid rest code.11 rests refl handles object depth) first
-        (scene.evaluates this outer.visible (head + 2) mid on (λ calls p. value_with calls p e) items f fs code.6 rests object depth) low code.7 (on_zero mid to)
+        (scene.evaluates this outer.visible (head + 2) mid on (λ calls p. value_with calls p e) items f fs code.6 rests object depth) low code.7
+        (on_zero mid to)
         (scene.goes_to this s items outer to rest rests object depth)
         (scene.goes_to this s all loop (mid + 1)
-        (before_follows i program g numbers body loop outer.visible f.subprogram (mid + 1) back (RepeatsWhile e body ∷ items) f.role fs w.callers
+        (before_follows i program g numbers this.note body loop outer.visible f.subprogram (mid + 1) back (RepeatsWhile e body ∷ items) f.role fs w.callers
         (subst (λ q. AreStatements i program g numbers outer.visible (within_loop (head + 1) outer.ways) outer.raised q back body) one code.8)
         (omega (arith, between))
         turn_in back_in ((narrows_same g outer.visible).shows, reaches, handles) (
@@ -529,9 +535,10 @@ module _ (this : Scene) where
           put.acts,
           record {
             effect = refl;
-            code = Going items refl
+            leaves = Going items refl
                 (scene.goes_on this s items own' (seeing later a) (suc mid) put.locals
-                (earlier i program g numbers items (seeing later a) later f.subprogram (suc mid) to f.role fs w.callers jumps (narrows_same g later) inside rest)
+                (earlier i program g numbers this.note items (seeing later a) later f.subprogram (suc mid) to f.role fs w.callers jumps
+                (narrows_same g later) inside rest)
                 kept object depth);
             words = put.shared;
           },
@@ -752,7 +759,7 @@ module _ (this : Scene) where
               (λ j. steps.does (Says (named j) z) m (goes_at f (next j) f.locals) fs None None),
           record {
             effect = refl;
-            code = Going items refl (scene.goes_on this s items w.own (seeing r.2 h.around) r.1 f.locals r.5 rests h.object h.depth);
+            leaves = Going items refl (scene.goes_on this s items w.own (seeing r.2 h.around) r.1 f.locals r.5 rests h.object h.depth);
             words = shares;
           },
         )))

@@ -1,31 +1,36 @@
 -- Which frames of code stand for which work of a task.
-use Rattle.std.specs.Prelude.{◌≡◌, ◌≤◌, ℕ, suc, ◌+◌, ◌*◌, ℤ, pos, List, [], ◌∷◌, length, Option, Some, None, ◌<◌}
+use Rattle.std.specs.Prelude.{◌≡◌, ◌≢◌, ◌≤◌, ℕ, suc, ◌+◌, ◌*◌, ℤ, pos, Bool, true, false, List, [], ◌∷◌, length, map, reverse, Option, Some, None, ◌<◌}
 use Rattle.part_code.specs.ada_tree.specs.Size.{declaration_size, stmt_size, stmts_size}
 use Rattle.part_code.specs.ada_tree.specs.StatementTree.{NoHandlers, MoreHandlers, StmtTrees}
 use Rattle.part_code.specs.base.specs.declared.schedule.ScheduleLine.{ScheduleLine}
 use Rattle.part_code.specs.handlers.specs.Innermost.{handler_of}
-use Rattle.kernel.specs.State.{Kernel, Outcome}
-use Rattle.kernel.specs.Effects.{Ends, Quiet, after}
+use Rattle.kernel.specs.State.{Action, Kernel, Outcome, Serves}
+use Rattle.kernel.specs.Effects.{Effect, Ends, Queues, Quiet, after, is_above_ceiling, is_inside_any}
 use Rattle.part_code.specs.image.specs.Sections.{Sections, first_place}
 use Rattle.part_code.specs.image.specs.Operations.{called, results_of}
-use Rattle.part_code.specs.image.specs.Frames.{Inner, Opened, Role, Frame, TaskState, Words, own_object}
+use Rattle.part_code.specs.image.specs.Frames.{Inner, Opened, Serving, Role, Frame, TaskState, Words, own_object}
 use Rattle.part_code.specs.image.specs.Steps as steps
 use Rattle.part_code.specs.image.specs.declared.instruction.Operation.TheVariants as op
 use Rattle.part_code.specs.types.specs.Values.{Value}
 use Rattle.step_soundness.specs.meaning.specs.Meeting.{Relation}
-use Rattle.step_soundness.specs.meaning.specs.Programs.{Program}
-use Rattle.step_soundness.specs.meaning.specs.Works.{Item, Declares, DeclaresParameter, Sequence, Does, DoesMain, Repeats, RepeatsWhile, RepeatsFor, Handles, EndsHandler, EndsCall, EndsAction, EndsServed, Completion, Completed, Pending, Work, Goes, Copies, Raising, Activation, GivenToCaller, Store, Target, TaskWork, ends_of_calls}
-use Rattle.step_soundness.specs.meaning.specs.SourceSteps.{before, handler_for}
+use Rattle.step_soundness.specs.meaning.specs.Programs.{Parameter, Procedure, Program}
+use Rattle.step_soundness.specs.meaning.specs.Calls.{results}
+use Rattle.step_soundness.specs.meaning.specs.Works.{Item, Declares, DeclaresParameter, Sequence, Does, DoesMain, Repeats, RepeatsWhile, RepeatsFor, Handles, EndsHandler, EndsCall, EndsAction, EndsServed, Queued, Completion, Completed, Pending, Work, Goes, Copies, Raising, Activation, GivenToCaller, Store, Target, TaskWork, ends_of_calls}
+use Rattle.step_soundness.specs.meaning.specs.Works as works
+use Rattle.step_soundness.specs.meaning.specs.SourceSteps.{before, completed, handler_for}
+use Rattle.step_soundness.specs.Fitting.{taken_types}
+use Rattle.step_soundness.specs.Objects.{AreOf, IsException}
 use Rattle.part_code.specs.expr_code.specs.Views.{At, placed}
-use Rattle.part_code.specs.expr_code.specs.Coming.{Throws, size_of}
+use Rattle.part_code.specs.expr_code.specs.Coming.{size_of}
+use Rattle.part_code.specs.expr_code.specs.Computing.{ArePassed}
 use Rattle.part_code.specs.expr_code.specs.Seeing.{Package}
-use Rattle.part_code.specs.Resting.{Framed, HeldWord, NarrowsFrame, RestsWith, Shows, StandsFor}
+use Rattle.part_code.specs.Resting.{AreHeld, Framed, HeldWord, NarrowsFrame, Rests, RestsWith, Shows, StandsFor, held_offset}
 use Rattle.part_code.specs.Handling.{GoesBy, Handling, exception_in}
-use Rattle.part_code.specs.Copying.{AreCopies, ArePlaced, GivesBack, addresses_of, copies_on, held_at}
+use Rattle.part_code.specs.Copying.{AreCopies, ArePlaced, GivesBack, addresses_of, copies_on, held_at, passed_words}
 use Rattle.part_code.specs.declared.call.Destination.{Destination}
 use Rattle.part_code.specs.Counting.{IsCounted, in_turn}
 use Rattle.part_code.specs.Jumping.{Jumps}
-use Rattle.part_code.specs.Statements.{AreHandlers, AreStatements, IsDeclared, IsForever, IsMainStatementCode, IsParameterDeclared, IsSequence, IsStatement, IsWhile, Numbers, Ways, within_handler, within_loop}
+use Rattle.part_code.specs.Statements.{AreHandlers, AreStatements, IsDeclared, IsForever, IsMainStatementCode, IsParameterDeclared, IsSequence, IsStatement, IsWhile, Numbers, Ways, shapes_of, within_handler, within_loop}
 
 -- ---- what is left to do, as a size that falls where no code is run
 
@@ -57,6 +62,11 @@ role_of (Some o) = Opened o
 -- the addresses that each task has passed in the entry call in which it waits
 abbrev pub Note : Type 0
 Note = ℕ → List ℕ
+
+-- what a call passes stands on the operand stack, or was taken from it
+abbrev pub stack_at_call : (passed : Bool) → List Parameter → List Value → (addresses : List ℕ) → List ℤ
+stack_at_call true ps vs addresses = reverse (passed_words ps vs addresses)
+stack_at_call false ps vs addresses = []
 
 module _ (i : Sections) (program : Program) (g : Package) (numbers : Numbers) where
   -- places of the subprogram's code
@@ -205,73 +215,9 @@ module _ (i : Sections) (program : Program) (g : Package) (numbers : Numbers) wh
     pub next : Inside c.subprogram (suc c.place)
     pub handles : Shows g outer.visible outer.handling
 
-  -- The code at a place of the subprogram goes on with the items, in a frame with this role, above these frames and activations.
-  abbrev pub Follows : Around → (n from : ℕ) → List Item → Role → List Frame → List Activation → Type 0
-  Follows a n from [] role fs os =
-      LeadsOut a n from × ((ret : ℕ) → a.ways.return ≡ Some ret → (a.visible.reserved ≡ a.ending.reserved) × LeadsOut a n ret) × (fs ≡ [])
-  Follows a n from (Declares d ∷ items) role fs os =
-      (at : ℕ) × (to : ℕ) × (now : Framed) × (later : Framed) × LeadsByWays a n from at to now × NarrowsFrame g later now
-      × IsDeclared i program g numbers now at to later d
-      × Follows (with_visible later a) n to items role fs os
-      × GoesBy i a.raised at to
-  Follows a n from (DeclaresParameter f ∷ items) role fs os =
-      (at : ℕ) × (to : ℕ) × (now : Framed) × (later : Framed) × LeadsInto a.visible n from at to now × NarrowsFrame g later now
-      × IsParameterDeclared i program g numbers now at to later f
-      × Follows (with_visible later a) n to items role fs os
-  Follows a n from (Sequence body hs ∷ items) role fs os =
-      (at : ℕ) × (to : ℕ) × (now : Framed) × LeadsByWays a n from at to now
-      × IsSequence i program g numbers now a.ways a.raised at to body hs
-      × Follows (with_visible now a) n to items role fs os
-  Follows a n from (Does s ∷ items) role fs os =
-      (at : ℕ) × (to : ℕ) × (now : Framed) × LeadsByWays a n from at to now
-      × IsStatement i program g numbers now a.ways a.raised at to s
-      × Follows (with_visible now a) n to items role fs os
-  Follows a n from (DoesMain s ∷ items) role fs os =
-      (at : ℕ) × (to : ℕ) × (now : Framed) × LeadsByWays a n from at to now
-      × IsMainStatementCode i program g numbers at to s
-      × Follows (with_visible now a) n to items role fs os
-      × GoesBy i a.raised at to
-  Follows a n from (Handles NoHandlers ∷ items) role fs os = Follows a n from items role fs os
-  Follows a n from (Handles (MoreHandlers choices body rest) ∷ items) role fs os =
-      (at : ℕ) × (to : ℕ) × (outer : Around) × LeadsOver a n from at to outer
-      × AreHandlers i program g numbers outer.visible outer.ways outer.raised a.raised at to (MoreHandlers choices body rest)
-      × Follows outer n to items role fs os
-  Follows a n from (EndsHandler x ∷ items) role fs os =
-      (to : ℕ) × (word : ℕ) × (outer : Around) × LeadsBehind a n from to word x outer × Follows outer n to items role fs os
-  Follows a n from (Repeats body ∷ items) role fs os =
-      (head : ℕ) × (to : ℕ) × (outer : Around) × LeadsBack a n from head to outer
-      × IsForever i program g numbers head to (λ exit x y. AreStatements i program g numbers outer.visible (within_loop exit outer.ways) outer.raised x y body)
-      × Follows outer n to items role fs os
-  Follows a n from (RepeatsWhile e body ∷ items) role fs os =
-      (head : ℕ) × (to : ℕ) × (outer : Around) × LeadsBack a n from head to outer
-      × IsWhile i program g numbers outer.visible outer.raised head to e
-      (λ exit x y. AreStatements i program g numbers outer.visible (within_loop exit outer.ways) outer.raised x y body)
-      × Follows outer n to items role fs os
-  Follows a n from (RepeatsFor parameter reversed now last body ∷ items) role fs os =
-      (head : ℕ) × (to : ℕ) × (outer : Around) × (c : IsCounted i g outer.visible head to parameter reversed)
-      × LeadsNext a n from head to c.back c.counter c.limit now last c.inner outer
-      × AreStatements i program g numbers c.inner (within_loop (head + 1) outer.ways) outer.raised c.start c.back body
-      × Follows outer n to items role fs os
-      × GoesBy i outer.raised c.back to
-  Follows a n from (EndsCall names opened xs ∷ items) role fs os =
-      (ret : ℕ) × (c : Frame) × (below : List Frame) × (o : Activation) × (older : List Activation) × (outer : Around) × (ds : List Destination) × (to : ℕ)
-      × (role ≡ role_of opened)
-      × LeadsEnd a n from a.visible names (addresses_of outer.visible.names xs)
-      × (a.ways.return ≡ Some ret) × (a.visible.reserved ≡ a.ending.reserved)
-      × LeadsEnd a n ret a.ending names (addresses_of outer.visible.names xs)
-      × (fs ≡ c ∷ below) × (os ≡ o ∷ older) × WaitsFor outer c o
-      × (length ds ≡ length names) × ArePlaced outer.visible ds xs
-      × (suc c.place ≤ to) × Inside c.subprogram to × AreCopies i program g outer.visible (suc c.place) to ds
-      × Follows outer c.subprogram to items c.role below older
-      × GoesBy i outer.raised c.place to
-  Follows a n from (i ∷ items) role fs os = ⊥
-
   -- from which places of which subprogram code goes on with what is left to do, around these names
   abbrev pub Places : Type 1
   Places = Around → (n from : ℕ) → Type 0
-
-  abbrev pub FollowsIn : List Item → Role → List Frame → List Activation → Places
-  FollowsIn items role fs os = λ a n from. Follows a n from items role fs os
 
   -- The frame goes on with the items at its place.
   pub record GoesOnBy (goes_on : Places) (items : List Item) (own : Activation) (s : TaskState) : Type 0 where
@@ -282,9 +228,6 @@ module _ (i : Sections) (program : Program) (g : Package) (numbers : Numbers) wh
     pub stack : s.frame.stack ≡ []
     pub going : s.raising ≡ None
     pub depth : length s.callers ≡ frames_in items
-
-  abbrev pub IsGoingOn : List Item → (own : Activation) → List Activation → TaskState → Type 0
-  IsGoingOn items own os s = GoesOnBy (FollowsIn items s.frame.role s.callers os) items own s
 
   -- The results of a call stand on the operand stack, each above its address; the code stores them, and goes on with the items.
   pub record CopiesBy (goes_on : Places) (vs : List Value) (xs : List Target) (items : List Item) (own : Activation) (s : TaskState) : Type 0 where
@@ -306,75 +249,267 @@ module _ (i : Sections) (program : Program) (g : Package) (numbers : Numbers) wh
     pub goes : GoesBy i around.raised s.frame.place to
     pub handles : Shows g around.visible around.handling
 
-  abbrev pub IsCopying : List Value → List Target → List Item → (own : Activation) → List Activation → TaskState → Type 0
-  IsCopying vs xs items own os s = CopiesBy (FollowsIn items s.frame.role s.callers os) vs xs items own s
+  -- The exception goes on in the frame, as around these names, from which code goes on with the items.
+  pub record RaisesBy (goes_on : Places) (x : ℕ) (items : List Item) (own : Activation) (f : Frame) (fs : List Frame) : Type 0 where
+    pub around : Around
+    pub from : ℕ
+    pub follows : goes_on around f.subprogram from
+    pub known : IsException program x
+    pub goes : handler_of i.rows f.place x ≡ around.raised x
+    pub rests : Rests g around.handling own f.locals
+    pub held : AreHeld f.locals around.held
+    pub apart : map held_offset around.held ≡ around.visible.reserved
+    pub object : own_object i f ≡ own.within
+    pub depth : length fs ≡ frames_in items
 
-  -- The frame has come to a handler with the exception on its operand stack; its next instruction keeps it, and then the code goes on with the items.
-  pub record IsCatching (items : List Item) (own : Activation) (os : List Activation) (s : TaskState) : Type 0 where
-    pub inside : Inside s.frame.subprogram s.frame.place
-    pub place : ℕ
-    pub locals : List ℤ
-    pub acts : (schedule : List ScheduleLine) (k : Kernel) (t : ℕ) (m : Words)
-        → steps.act i schedule k t (record { memory = m; task = s })
-        ≡ steps.does Quiet m (record s.frame { place = place; locals = locals; stack = [] }) s.callers None None
-    pub going : IsGoingOn items own os (record { frame = record s.frame { place = place; locals = locals; stack = [] }; callers = s.callers; raising = None })
+  -- What a state stands for once an action has ended: the results are copied back, or the exception goes on in the frame.
+  abbrev pub CompletesBy : Places → Completion → List Item → (own : Activation) → TaskState → Type 0
+  CompletesBy goes_on (Completed vs xs) items own s = CopiesBy goes_on vs xs items own s
+  CompletesBy goes_on (Pending x) items own s = (s.raising ≡ Some x) × RaisesBy goes_on x items own s.frame s.callers
 
-  -- The exception goes on in the frame at a handler, which keeps it there and has these statements.
-  pub record IsCaught (x : ℕ) (f : Frame) (fs : List Frame) (own : Activation) (os : List Activation) (body : StmtTrees) (items : List Item) : Type 0 where
-    pub target : ℕ
-    pub taken : handler_of i.rows f.place x ≡ Some target
-    pub catching : IsCatching (before body (EndsHandler x ∷ items)) own os (record { frame = placed f target (pos x ∷ []); callers = fs; raising = None })
+  -- where task t has no action open, and may call the entry of an object in whose queue a call waits, the barrier is closed (RM 9.5.3)
+  abbrev pub AreQueuesClosed : Kernel → (t : ℕ) → Words → Type 0
+  AreQueuesClosed k t m = (o u : ℕ) → k.queued o ≡ Some u → is_inside_any k t ≡ false → is_above_ceiling k t o ≡ false → steps.is_open i m o ≡ false
 
-  abbrev pub CaughtIf : (x : ℕ) (f : Frame) (fs : List Frame) (own : Activation) (os : List Activation) (items : List Item) → Option StmtTrees →
-      (other : Type 0)
-      → Type 0
-  CaughtIf x f fs own os items (Some body) other = IsCaught x f fs own os body items
-  CaughtIf x f fs own os items None other = other
+  -- the next step of task t raises the exception from this frame on, whatever the words are
+  pub record RaisesNext (k : Kernel) (t x : ℕ) (s : TaskState) (f : Frame) (fs : List Frame) : Type 0 where
+    pub raises : (schedule : List ScheduleLine) (m : Words) → AreQueuesClosed k t m
+        → steps.act i schedule k t (record { memory = m; task = s }) ≡ steps.unwind i m x f fs
 
-  -- Where the exception goes on that is raised in the frame, above these frames and activations: at the first handler for it, or it ends the task.
-  abbrev pub Catches : (x : ℕ) (f : Frame) (fs : List Frame) (own : Activation) (os : List Activation) → List Item → Type 0
-  Catches x f fs own os [] = (handler_of i.rows f.place x ≡ None) × (fs ≡ [])
-  Catches x f fs own os (Handles hs ∷ items) = CaughtIf x f fs own os items (handler_for program x hs) (Catches x f fs own os items)
-  Catches x f fs own os (EndsCall names opened xs ∷ items) =
-      (c : Frame) × (below : List Frame) × (o : Activation) × (older : List Activation)
-      × (f.role ≡ role_of opened) × (handler_of i.rows f.place x ≡ None) × (fs ≡ c ∷ below) × (os ≡ o ∷ older)
-      × Catches x c below o older items
-  Catches x f fs own os (EndsServed o names completion ∷ items) = ⊥
-  Catches x f fs own os (i ∷ items) = Catches x f fs own os items
-
-  -- Once the action has ended that a call opened: the results are copied back, or the exception goes on in the frame that called.
-  abbrev pub IsCompleted : Completion → List Item → (own : Activation) → List Activation → TaskState → Type 0
-  IsCompleted (Completed vs xs) items own os s = IsCopying vs xs items own os s
-  IsCompleted (Pending x) items own os s = (s.raising ≡ Some x) × Catches x s.frame s.callers own os items
-
-  -- The next step of task t ends the action of this object, whatever the words are, and leaves this state: in each kernel in which the task has the same
-  -- actions open, and priorities and ceilings are the same.
+  -- the next step of task t ends the action of this object, whatever the words are, and leaves this state
   pub record EndsItsAction (k : Kernel) (t o : ℕ) (s next : TaskState) : Type 0 where
-    pub ends : (schedule : List ScheduleLine) (l : Kernel) (m : Words) → l.actions t ≡ k.actions t → l.partition ≡ k.partition
-        → steps.act i schedule l t (record { memory = m; task = s })
+    pub ends : (schedule : List ScheduleLine) (m : Words) → AreQueuesClosed k t m
+        → steps.act i schedule k t (record { memory = m; task = s })
         ≡ steps.does (Ends (steps.is_open i m o)) m next.frame next.callers next.raising None
 
-  -- what the state of task t stands for in a kernel
-  pub data CodeStands (k : Kernel) (t : ℕ) (w : TaskWork) (s : TaskState) : Type 0 where
-    Going : (items : List Item) → w.work ≡ Goes items → IsGoingOn items w.own w.callers s → CodeStands k t w s
-    Copying : (vs : List Value) (xs : List Target) (items : List Item) → w.work ≡ Copies vs xs items → IsCopying vs xs items w.own w.callers s
-        → CodeStands k t w s
-    Catching : (items : List Item) → w.work ≡ Goes items → IsCatching items w.own w.callers s → CodeStands k t w s
-    Raised : (x : ℕ) (items : List Item) (f : Frame) (fs : List Frame) → w.work ≡ Raising x items → Throws i k t x s f fs
-        → Catches x f fs w.own w.callers items
-        → CodeStands k t w s
-    -- the body of a call has ended that opened an action, or an exception has left it: its frame is still there, until the action ends
-    Closing : (o : ℕ) (done : Completion) (items : List Item) (next : TaskState) → w.work ≡ Goes (EndsAction o done ∷ items) → EndsItsAction k t o s next
-        → IsCompleted done items w.own w.callers next
-        → CodeStands k t w s
-    Over : (o : Outcome) → k.outcome ≡ Some o → CodeStands k t w s
+  -- the same is given to a served caller whose targets have these addresses: results, each above its address, or an exception
+  abbrev pub GivesSame : (addresses : List ℕ) → Option GivenToCaller → Option steps.Given → Type 0
+  GivesSame addresses (Some (works.Results vs)) (Some (steps.Results words)) = (length vs ≡ length addresses) × (words ≡ copies_on vs addresses [])
+  GivesSame addresses (Some (works.Raised x)) (Some (steps.Raised y)) = (x ≡ y) × IsException program x
+  GivesSame addresses p q = ⊥
 
-  -- Words stand for variables and components, and frames for the work of each task; after its step the frames stand for what it has still to do, in the kernel
-  -- behind the effect. That work breaks no rule is said nowhere here: it is so in each world of the program's runs.
+  -- ---- under a note
+
+  module _ (note : Note) where
+    -- The code at a place of the subprogram goes on with the items, in a frame with this role, above these frames and activations.
+    abbrev pub Follows : Around → (n from : ℕ) → List Item → Role → List Frame → List Activation → Type 0
+    Follows a n from [] role fs os =
+        LeadsOut a n from × ((ret : ℕ) → a.ways.return ≡ Some ret → (a.visible.reserved ≡ a.ending.reserved) × LeadsOut a n ret) × (fs ≡ [])
+    Follows a n from (Declares d ∷ items) role fs os =
+        (at : ℕ) × (to : ℕ) × (now : Framed) × (later : Framed) × LeadsByWays a n from at to now × NarrowsFrame g later now
+        × IsDeclared i program g numbers now at to later d
+        × Follows (with_visible later a) n to items role fs os
+        × GoesBy i a.raised at to
+    Follows a n from (DeclaresParameter f ∷ items) role fs os =
+        (at : ℕ) × (to : ℕ) × (now : Framed) × (later : Framed) × LeadsInto a.visible n from at to now × NarrowsFrame g later now
+        × IsParameterDeclared i program g numbers now at to later f
+        × Follows (with_visible later a) n to items role fs os
+    Follows a n from (Sequence body hs ∷ items) role fs os =
+        (at : ℕ) × (to : ℕ) × (now : Framed) × LeadsByWays a n from at to now
+        × IsSequence i program g numbers now a.ways a.raised at to body hs
+        × Follows (with_visible now a) n to items role fs os
+    Follows a n from (Does s ∷ items) role fs os =
+        (at : ℕ) × (to : ℕ) × (now : Framed) × LeadsByWays a n from at to now
+        × IsStatement i program g numbers now a.ways a.raised at to s
+        × Follows (with_visible now a) n to items role fs os
+    Follows a n from (DoesMain s ∷ items) role fs os =
+        (at : ℕ) × (to : ℕ) × (now : Framed) × LeadsByWays a n from at to now
+        × IsMainStatementCode i program g numbers at to s
+        × Follows (with_visible now a) n to items role fs os
+        × GoesBy i a.raised at to
+    Follows a n from (Handles NoHandlers ∷ items) role fs os = Follows a n from items role fs os
+    Follows a n from (Handles (MoreHandlers choices body rest) ∷ items) role fs os =
+        (at : ℕ) × (to : ℕ) × (outer : Around) × LeadsOver a n from at to outer
+        × AreHandlers i program g numbers outer.visible outer.ways outer.raised a.raised at to (MoreHandlers choices body rest)
+        × Follows outer n to items role fs os
+    Follows a n from (EndsHandler x ∷ items) role fs os =
+        (to : ℕ) × (word : ℕ) × (outer : Around) × LeadsBehind a n from to word x outer × Follows outer n to items role fs os
+    Follows a n from (Repeats body ∷ items) role fs os =
+        (head : ℕ) × (to : ℕ) × (outer : Around) × LeadsBack a n from head to outer
+        × IsForever i program g numbers head to
+        (λ exit x y. AreStatements i program g numbers outer.visible (within_loop exit outer.ways) outer.raised x y body)
+        × Follows outer n to items role fs os
+    Follows a n from (RepeatsWhile e body ∷ items) role fs os =
+        (head : ℕ) × (to : ℕ) × (outer : Around) × LeadsBack a n from head to outer
+        × IsWhile i program g numbers outer.visible outer.raised head to e
+        (λ exit x y. AreStatements i program g numbers outer.visible (within_loop exit outer.ways) outer.raised x y body)
+        × Follows outer n to items role fs os
+    Follows a n from (RepeatsFor parameter reversed now last body ∷ items) role fs os =
+        (head : ℕ) × (to : ℕ) × (outer : Around) × (c : IsCounted i g outer.visible head to parameter reversed)
+        × LeadsNext a n from head to c.back c.counter c.limit now last c.inner outer
+        × AreStatements i program g numbers c.inner (within_loop (head + 1) outer.ways) outer.raised c.start c.back body
+        × Follows outer n to items role fs os
+        × GoesBy i outer.raised c.back to
+    Follows a n from (EndsCall names opened xs ∷ items) role fs os =
+        (ret : ℕ) × (c : Frame) × (below : List Frame) × (o : Activation) × (older : List Activation) × (outer : Around) × (ds : List Destination) × (to : ℕ)
+        × (role ≡ role_of opened)
+        × LeadsEnd a n from a.visible names (addresses_of outer.visible.names xs)
+        × (a.ways.return ≡ Some ret) × (a.visible.reserved ≡ a.ending.reserved)
+        × LeadsEnd a n ret a.ending names (addresses_of outer.visible.names xs)
+        × (fs ≡ c ∷ below) × (os ≡ o ∷ older) × WaitsFor outer c o
+        × (length ds ≡ length names) × ArePlaced outer.visible ds xs
+        × (suc c.place ≤ to) × Inside c.subprogram to × AreCopies i program g outer.visible (suc c.place) to ds
+        × Follows outer c.subprogram to items c.role below older
+        × GoesBy i outer.raised c.place to
+    -- the body is run for task u; behind its end the frame below goes on with what was still to do, where an exception may be pending
+    Follows a n from (EndsServed o names done ∷ items) role fs os =
+        (u : ℕ) × (ret : ℕ) × (c : Frame) × (below : List Frame) × (pending : Option ℕ) × (own : Activation) × (older : List Activation)
+        × (role ≡ Serving o u pending)
+        × (length (note u) ≡ length names)
+        × LeadsEnd a n from a.visible names (note u)
+        × (a.ways.return ≡ Some ret) × (a.visible.reserved ≡ a.ending.reserved)
+        × LeadsEnd a n ret a.ending names (note u)
+        × (fs ≡ c ∷ below) × (os ≡ own ∷ older)
+        × CompletesBy (λ b m at. Follows b m at items c.role below older) done items own (record { frame = c; callers = below; raising = pending })
+    Follows a n from (i ∷ items) role fs os = ⊥
+
+    abbrev pub FollowsIn : List Item → Role → List Frame → List Activation → Places
+    FollowsIn items role fs os = λ a n from. Follows a n from items role fs os
+
+    abbrev pub IsGoingOn : List Item → (own : Activation) → List Activation → TaskState → Type 0
+    IsGoingOn items own os s = GoesOnBy (FollowsIn items s.frame.role s.callers os) items own s
+
+    abbrev pub IsCopying : List Value → List Target → List Item → (own : Activation) → List Activation → TaskState → Type 0
+    IsCopying vs xs items own os s = CopiesBy (FollowsIn items s.frame.role s.callers os) vs xs items own s
+
+    -- The frame has come to a handler with the exception on its operand stack; its next instruction keeps it, and then the code goes on with the items.
+    pub record IsCatching (items : List Item) (own : Activation) (os : List Activation) (s : TaskState) : Type 0 where
+      pub inside : Inside s.frame.subprogram s.frame.place
+      pub place : ℕ
+      pub locals : List ℤ
+      pub acts : (schedule : List ScheduleLine) (k : Kernel) (t : ℕ) (m : Words)
+          → steps.act i schedule k t (record { memory = m; task = s })
+          ≡ steps.does Quiet m (record s.frame { place = place; locals = locals; stack = [] }) s.callers None None
+      pub going : IsGoingOn items own os (record { frame = record s.frame { place = place; locals = locals; stack = [] }; callers = s.callers; raising = None })
+
+    -- The exception goes on in the frame at a handler, which keeps it there and has these statements.
+    pub record IsCaught (x : ℕ) (f : Frame) (fs : List Frame) (own : Activation) (os : List Activation) (body : StmtTrees) (items : List Item) : Type 0 where
+      pub target : ℕ
+      pub taken : handler_of i.rows f.place x ≡ Some target
+      pub catching : IsCatching (before body (EndsHandler x ∷ items)) own os (record { frame = placed f target (pos x ∷ []); callers = fs; raising = None })
+
+    abbrev pub CaughtIf : (x : ℕ) (f : Frame) (fs : List Frame) (own : Activation) (os : List Activation) (items : List Item) → Option StmtTrees →
+        (other : Type 0)
+        → Type 0
+    CaughtIf x f fs own os items (Some body) other = IsCaught x f fs own os body items
+    CaughtIf x f fs own os items None other = other
+
+    -- Where the exception goes on that is raised in the frame, above these frames and activations: at the first handler for it, or it ends the task.
+    abbrev pub Catches : (x : ℕ) (f : Frame) (fs : List Frame) (own : Activation) (os : List Activation) → List Item → Type 0
+    Catches x f fs own os [] = (handler_of i.rows f.place x ≡ None) × (fs ≡ [])
+    Catches x f fs own os (Handles hs ∷ items) = CaughtIf x f fs own os items (handler_for program x hs) (Catches x f fs own os items)
+    Catches x f fs own os (EndsCall names None xs ∷ items) =
+        (c : Frame) × (below : List Frame) × (o : Activation) × (older : List Activation)
+        × (f.role ≡ Inner) × (handler_of i.rows f.place x ≡ None) × (fs ≡ c ∷ below) × (os ≡ o ∷ older)
+        × Catches x c below o older items
+    -- the action that the call has opened ends first
+    Catches x f fs own os (EndsCall names (Some object) xs ∷ items) =
+        (c : Frame) × (below : List Frame) × (o : Activation) × (older : List Activation)
+        × (f.role ≡ Opened object) × (handler_of i.rows f.place x ≡ None) × (fs ≡ c ∷ below) × (os ≡ o ∷ older)
+        × RaisesBy (FollowsIn items c.role below older) x items o c below
+    -- the exception is the served caller's
+    Catches x f fs own os (EndsServed object names done ∷ items) =
+        (u : ℕ) × (c : Frame) × (below : List Frame) × (pending : Option ℕ) × (o : Activation) × (older : List Activation)
+        × (f.role ≡ Serving object u pending) × (handler_of i.rows f.place x ≡ None) × (fs ≡ c ∷ below) × (os ≡ o ∷ older)
+        × CompletesBy (FollowsIn items c.role below older) done items o (record { frame = c; callers = below; raising = pending })
+    Catches x f fs own os (i ∷ items) = Catches x f fs own os items
+
+    abbrev pub IsCompleted : Completion → List Item → (own : Activation) → List Activation → TaskState → Type 0
+    IsCompleted done items own os s = CompletesBy (FollowsIn items s.frame.role s.callers os) done items own s
+
+    -- ---- entry calls (RM 9.5.3)
+
+    -- The frame stands at its call of this entry with these values of its parameters: behind the call the code copies back to the targets, which have these
+    -- addresses, and goes on with the items.
+    pub record IsAtCall (q : Procedure) (vs : List Value) (xs : List Target) (addresses : List ℕ) (passed : Bool) (items : List Item) (own : Activation)
+        (os : List Activation) (s : TaskState) : Type 0 where
+      pub around : Around
+      pub destinations : List Destination
+      pub to : ℕ
+      pub shaped : ArePassed (shapes_of i program g numbers q) vs
+      pub typed : AreOf program.scope (taken_types q.parameters) vs
+      pub addressed : addresses ≡ addresses_of around.visible.names xs
+      pub placed : ArePlaced around.visible destinations xs
+      pub many : length destinations ≡ length (results q.parameters)
+      pub over : suc s.frame.place ≤ to
+      pub copies : AreCopies i program g around.visible (suc s.frame.place) to destinations
+      pub here : Inside s.frame.subprogram s.frame.place
+      pub next : Inside s.frame.subprogram (suc s.frame.place)
+      pub to_inside : Inside s.frame.subprogram to
+      pub follows : FollowsIn items s.frame.role s.callers os around s.frame.subprogram to
+      pub rests : RestsWith g around.visible around.held own s.frame.locals
+      pub object : own_object i s.frame ≡ own.within
+      pub stack : s.frame.stack ≡ stack_at_call passed q.parameters vs addresses
+      pub going : s.raising ≡ None
+      pub depth : length s.callers ≡ frames_in items
+      pub goes : GoesBy i around.raised s.frame.place to
+      pub handles : Shows g around.visible around.handling
+
+    -- ---- tasks
+
+    -- what the state of task t stands for in a kernel
+    pub data CodeStands (k : Kernel) (t : ℕ) (w : TaskWork) (s : TaskState) : Type 0 where
+      Going : (items : List Item) → w.work ≡ Goes items → IsGoingOn items w.own w.callers s → CodeStands k t w s
+      Copying : (vs : List Value) (xs : List Target) (items : List Item) → w.work ≡ Copies vs xs items → IsCopying vs xs items w.own w.callers s
+          → CodeStands k t w s
+      Catching : (items : List Item) → w.work ≡ Goes items → IsCatching items w.own w.callers s → CodeStands k t w s
+      -- the next step of the task, which runs, raises the exception
+      Raised : (x : ℕ) (items : List Item) (f : Frame) (fs : List Frame) → w.work ≡ Raising x items → k.running ≡ Some t → RaisesNext k t x s f fs
+          → Catches x f fs w.own w.callers items
+          → CodeStands k t w s
+      -- an action has ended, and the exception is still to be raised: others may run before
+      Throwing : (x : ℕ) (items : List Item) → w.work ≡ Raising x items → s.raising ≡ Some x
+          → RaisesBy (FollowsIn items s.frame.role s.callers w.callers) x items w.own s.frame s.callers
+          → CodeStands k t w s
+      -- the body of a call has ended that opened an action, or an exception has left it: its frame is still there, until the task, which runs, ends the action
+      Closing : (o : ℕ) (done : Completion) (items : List Item) (next : TaskState) → w.work ≡ Goes (EndsAction o done ∷ items) → k.running ≡ Some t
+          → EndsItsAction k t o s next
+          → IsCompleted done items w.own w.callers next
+          → CodeStands k t w s
+      -- the call waits in the queue of the object; or another task runs the entry's body for it
+      Queueing : (o : ℕ) (q : Procedure) (vs : List Value) (xs : List Target) (items : List Item) → w.work ≡ Goes (Queued q vs xs ∷ items)
+          → k.queued o ≡ Some t
+          → IsAtCall q vs xs (note t) true items w.own w.callers s
+          → CodeStands k t w s
+      Awaiting : (q : Procedure) (vs : List Value) (xs : List Target) (items : List Item) → w.work ≡ Goes (Queued q vs xs ∷ items)
+          → ((o : ℕ) → k.queued o ≢ Some t)
+          → IsAtCall q vs xs (note t) false items w.own w.callers s
+          → CodeStands k t w s
+      Over : (o : Outcome) → k.outcome ≡ Some o → CodeStands k t w s
+
+    -- ---- right behind a step
+
+    -- The task has ended an action, and has not yet served a caller: what it has still to do, and what it gives to the caller for whom it ran the body.
+    pub record HasEnded (k : Kernel) (t : ℕ) (w : TaskWork) (s : TaskState) (p : Option GivenToCaller) (q : Option steps.Given) : Type 0 where
+      pub done : Completion
+      pub items : List Item
+      pub work : w.work ≡ completed done items
+      pub goes_on : IsCompleted done items w.own w.callers s
+      pub gives : (o u : ℕ) (outer : List Action) → k.actions t ≡ Serves o u ∷ outer → GivesSame (note u) p q
+
+    -- The task waits in the queue, in which there was no call before; the targets have addresses that no note tells yet.
+    pub record HasQueued (k : Kernel) (o : ℕ) (w : TaskWork) (s : TaskState) : Type 0 where
+      pub free : k.queued o ≡ None
+      pub q : Procedure
+      pub vs : List Value
+      pub xs : List Target
+      pub addresses : List ℕ
+      pub items : List Item
+      pub work : w.work ≡ Goes (Queued q vs xs ∷ items)
+      pub at_call : IsAtCall q vs xs addresses true items w.own w.callers s
+
+    -- what the state of task t stands for right behind its step with this effect, in kernel k before it
+    abbrev pub LeavesBy : Kernel → (t : ℕ) → Effect → TaskWork → TaskState → Option GivenToCaller → Option steps.Given → Type 0
+    LeavesBy k t (Ends is_open) w s p q = HasEnded k t w s p q
+    LeavesBy k t (Queues o) w s p q = HasQueued k o w s
+    LeavesBy k t e w s p q = CodeStands (after t e k) t w s
+
+  -- Words stand for variables and components, and frames for the work of each task, under a note; after its step the frames stand for what it has still to do.
+  -- That work breaks no rule is said nowhere here: it is so in each world of the program's runs.
   abbrev pub relation : Relation Note Store TaskWork GivenToCaller Words TaskState steps.Given
   relation = record {
     shares = StandsFor program g;
-    stands = λ note k t w s. CodeStands k t w s;
-    leaves = λ note k t e w s p q. CodeStands (after t e k) t w s;
+    stands = λ note k t w s. CodeStands note k t w s;
+    leaves = λ note k t e w s p q. LeavesBy note k t e w s p q;
     size = λ w. work_size w.work;
   }
