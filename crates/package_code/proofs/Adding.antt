@@ -17,6 +17,7 @@ use Rattle.type_rules.specs.SubtypeNames.{end_rule, subtype_of}
 use Rattle.declaring.specs.BodyNames.{formals_scope}
 use Rattle.declaring.specs.LocalRules.{fixed_locals_faults, locals_faults, locals_scope}
 use Rattle.program_soundness.specs.stmt_rules.specs.declared.around.Around.{Around}
+use Rattle.program_soundness.specs.stmt_rules.specs.declared.around.BodyKind.{BodyKind}
 use Rattle.program_soundness.specs.stmt_rules.specs.declared.around.BodyKind.TheVariants as kind
 use Rattle.program_soundness.specs.stmt_rules.specs.SimpleRules.{result_wanted}
 use Rattle.program_soundness.specs.stmt_rules.specs.StatementRules.{handlers_faults, in_body, sequence_faults, stmts_faults}
@@ -74,8 +75,27 @@ value_unbroken s a (MoreStmts (Return place None) NoStmts) value h k = cc
 value_unbroken s a (MoreStmts (Return place None) (MoreStmts y rest)) value h k = cc
 value_unbroken s a body value h k = cc
 
--- ---- what its rules say of a body, where these names are visible in front of it, and these in front of its parameters
+-- ---- what its rules say of a body
 
+-- where these names are visible behind its parameters
+pub run_legal : (s : Scope) (k : BodyKind) (b : BodyTree) → body_faults s k b ≡ [] → IsLegalRun s b.declarations b.statements b.handlers
+run_legal s k b unbroken_ = record {
+  declared = front_empty (locals_faults s b.declarations) _ unbroken_;
+  statements = record { around = in_body k; unbroken = front_empty (stmts_faults later (in_body k) b.statements) (handlers_faults later (in_body k) b.handlers) rest };
+  handled = record {
+    around = in_body k;
+    before = [];
+    unbroken = back_empty (stmts_faults later (in_body k) b.statements) (handlers_faults later (in_body k) b.handlers) rest;
+  };
+}
+  where
+    later : Scope
+    later = locals_scope s b.declarations
+
+    rest : sequence_faults later (in_body k) b.statements b.handlers ≡ []
+    rest = back_empty (locals_faults s b.declarations) _ unbroken_
+
+-- where these names are visible in front of it, and these in front of its parameters
 module _ (whole before behind : Scope) (d : SubprogramTree) (b : BodyTree) (head : head_faults before d b ≡ [])
     (unbroken_ : body_faults (formals_scope behind d.formals) (kind_of before d.result) b ≡ [])
     (told : (r : Identifier) → d.result ≡ Some r → (u : Subtype) × (subtype_of before r ≡ Some u) × (subtype_of whole r ≡ Some u)) where
@@ -88,25 +108,13 @@ module _ (whole before behind : Scope) (d : SubprogramTree) (b : BodyTree) (head
   abbrev around : Around
   around = in_body (kind_of before d.result)
 
-  declared : locals_faults inner b.declarations ≡ []
-  declared = front_empty (locals_faults inner b.declarations) _ unbroken_
+  pub legal_run : IsLegalRun inner b.declarations b.statements b.handlers
+  legal_run = run_legal inner (kind_of before d.result) b unbroken_
 
   statements : stmts_faults later around b.statements ≡ []
   statements =
       front_empty (stmts_faults later around b.statements) (handlers_faults later around b.handlers)
       (back_empty (locals_faults inner b.declarations) _ unbroken_)
-
-  handled : handlers_faults later around b.handlers ≡ []
-  handled =
-      back_empty (stmts_faults later around b.statements) (handlers_faults later around b.handlers)
-      (back_empty (locals_faults inner b.declarations) _ unbroken_)
-
-  pub legal_run : IsLegalRun inner b.declarations b.statements b.handlers
-  legal_run = record {
-    declared = declared;
-    statements = record { around = around; unbroken = statements };
-    handled = record { around = around; before = []; unbroken = handled };
-  }
 
   -- ---- nor does the value of a function
 

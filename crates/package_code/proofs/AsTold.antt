@@ -1,6 +1,6 @@
 -- The walk over a package goes as its text tells: what is visible, labels, the number of rows, the bound on instructions; why it stops is a reason to refuse the program.
-use Rattle.std.proofs.Common.{◌≡◌, ℕ, suc, ◌+◌, ◌≤◌, List, [], ◌∷◌, length, map, take, inl, inr, Option, None, Some, true, false, refl, sym, ap, ◌∙◌, subst, arith, length-append}
-use Rattle.std.specs.Prelude.{if◌then◌else◌, is_some, slice_get}
+use Rattle.std.proofs.Common.{◌≡◌, ℕ, suc, ◌+◌, ◌≤◌, List, [], ◌∷◌, length, map, take, inl, inr, Option, None, Some, true, refl, sym, ap, ◌∙◌, subst, arith, length-append}
+use Rattle.std.specs.Prelude.{is_some, slice_get}
 use Rattle.ada_tree.specs.declared.expression.Identifier.{Identifier}
 use Rattle.ada_tree.specs.StatementTree.{SubprogramTree}
 use Rattle.ada_tree.specs.ProgramTree.{BodyItemTree, BodyTree, ItemTree, OfItem, ProgramTree, SubprogramBody, TaskBody}
@@ -20,10 +20,10 @@ use Rattle.expr_code.specs.declared.refusal.Refusal.TheVariants as refusal
 use Rattle.expr_code.specs.declared.visible.Visible.{Visible}
 use Rattle.step_simulation.specs.part_code.specs.Bounds.{main_bound, procedure_bound}
 use Rattle.step_simulation.specs.part_code.specs.Emitting.{HasEntries}
-use Rattle.step_simulation.specs.part_code.specs.Needs.{HasManyLabels, IsNeeding, Needs, beyond}
+use Rattle.step_simulation.specs.part_code.specs.Needs.{HasManyLabels, IsNeeding, Needs}
 use Rattle.stmt_code.specs.declared.draft.Draft.{Draft}
 use Rattle.step_simulation.specs.part_code.proofs.Within.{Within, needing_refused, within_then}
-use Rattle.package_code.specs.Bodies.{Coded, coded_at, is_entry_body, number_in, of_subprogram}
+use Rattle.package_code.specs.Bodies.{Coded, coded_at, number_in, of_subprogram}
 use Rattle.package_code.specs.Counts.{bound_of, bounds_from}
 use Rattle.package_code.specs.Directory.{IsDirectory, HasEntriesSoFar, TellsNext, operations_told}
 use Rattle.package_code.specs.Refusing.{RefusesCode, body_needs, coded_labels, coded_rows, item_needs, items_labels, items_needs, items_rows, program_bound, program_labels, program_needs, seen_at, seen_by, seen_with, subprogram_labels, subprogram_needs, subprogram_rows}
@@ -215,12 +215,7 @@ module _ (t : ProgramTree) where
     needs_there : Within (body_needs t c) (items_needs t 0 all)
     needs_there = within_then (body_needs t c) (item_needs t place item) (items_needs t 0 all) (needs_by t place item k c is) (item_within place item at)
 
-    -- code isn't made of an entry's
-    pub entry_refused : is_entry_body c.kind ≡ true → RefusesCode t refusal.Outside
-    entry_refused entry =
-        inl (needs_there.outside (ap (λ b. (if b then beyond else subprogram_needs t (seen_by t c) (program_of t).exceptions c.head c.body).outside) entry))
-
-    module _ (v : Visible) (draft : Draft) (why : Refusal) (no_entry : is_entry_body c.kind ≡ false)
+    module _ (v : Visible) (draft : Draft) (why : Refusal)
         (few : here draft.code ≤ total (bounds_from t 0 (take place all)) + total (map bound_of (take k (coded_at t place item))))
         (labels : draft.labels ≡ coded_labels (items_labels [] (take place all)) (take k (coded_at t place item)))
         (exceptions : draft.exceptions.items ≡ (program_of t).exceptions) (seen : v ≡ seen_by t c) where
@@ -248,9 +243,7 @@ module _ (t : ProgramTree) where
       by_reason : RefusesBody t (seen_by t c) draft c.head c.body why → RefusesCode t why
       by_reason (inl n) =
           needs_refused (here draft.code + bound_of c) (here draft.code + bound_of c) (body_needs t c) why (omega arith) needs_there bounded
-          (subst (λ x. IsNeeding (here draft.code + bound_of c) x why)
-          (ap (λ b. if b then beyond else subprogram_needs t (seen_by t c) (program_of t).exceptions c.head c.body) (sym no_entry))
-          (subst (λ l. IsNeeding (here draft.code + bound_of c) (subprogram_needs t (seen_by t c) l c.head c.body) why) exceptions n))
+          (subst (λ l. IsNeeding (here draft.code + bound_of c) (subprogram_needs t (seen_by t c) l c.head c.body) why) exceptions n)
       by_reason (inr h) =
           inr (many_more (subprogram_labels draft.labels c.head c.body) (program_labels t) why
           (subst (λ l. length (subprogram_labels l c.head c.body) ≤ length (program_labels t)) (sym labels) labels_less) h)
@@ -262,12 +255,12 @@ module _ (t : ProgramTree) where
   -- the first body of an item
   pub body_refused : (old : Walk) (item : BodyItemTree) (c : Coded) (v : Visible) (draft : Draft) (why : Refusal) → IsAsTold t old
       → old.draft.exceptions.items ≡ (program_of t).exceptions
-      → slice_get all old.place ≡ Some item → slice_get (coded_at t old.place item) 0 ≡ Some c → is_entry_body c.kind ≡ false
+      → slice_get all old.place ≡ Some item → slice_get (coded_at t old.place item) 0 ≡ Some c
       → v ≡ seen_by t c → draft ≡ old.draft
       → RefusesBody t v draft c.head c.body why → RefusesCode t why
-  body_refused old item c v draft why told exceptions at is no_entry seen same =
+  body_refused old item c v draft why told exceptions at is seen same =
       let none = none_taken (coded_at t old.place item) in
-      coded_refused old.place item 0 c at is v draft why no_entry
+      coded_refused old.place item 0 c at is v draft why
       (let few = told.few in
       let code = ap (λ (z : Draft). here z.code) same in
       let more = ap (λ l. total (map bound_of l)) none in

@@ -1,6 +1,6 @@
--- What stands in front of the parameters of a body, whosever it is: names that mean what they stand for, with places that are laid out, so that its frames can be
--- made.
-use Rattle.std.proofs.Common.{◌≡◌, ℕ, suc, List, [], ◌∷◌, ◌++◌, inl, inr, map, true, Option, Some, None, refl, sym, ap, ◌∙◌, subst}
+-- What stands in front of the parameters of a body, whosever it is: names that mean what they stand for, with places that are laid out, so that its frames can
+-- be made.
+use Rattle.std.proofs.Common.{◌≡◌, ◌⊎◌, ℕ, suc, List, [], ◌∷◌, ◌++◌, inl, inr, map, true, Option, Some, None, refl, sym, ap, ◌∙◌, subst}
 use Rattle.std.specs.Prelude.{slice_get}
 use Rattle.ada_tree.specs.declared.expression.Identifier.{Identifier}
 use Rattle.ada_tree.specs.declared.declaration.Formal.{Formal}
@@ -18,7 +18,7 @@ use Rattle.expr_soundness.specs.expr_rules.proofs.TypedLaw.{back_empty, front_em
 use Rattle.type_rules.specs.SubtypeNames.{end_rule, named_entity, subtype_faults, subtype_of}
 use Rattle.declaring.specs.BodyNames.{formals_scope}
 use Rattle.type_rules.specs.ProfileRules.{formal_and, formal_faults, formal_parameters, formals_faults, function_faults, has_wrong_formal, profile_faults, result_faults, subprogram_scope}
-use Rattle.legality.specs.BodyRules.{head_faults, own_name_faults, subprogram_body_faults}
+use Rattle.legality.specs.BodyRules.{head_faults, subprogram_body_faults}
 use Rattle.program_soundness.specs.checking.specs.ProgramRules.{IsLegal}
 use Rattle.ravenscar.specs.ProgramRules.{IsRestricted}
 use Rattle.expr_soundness.specs.Agreeing.{Agrees}
@@ -35,7 +35,7 @@ use Rattle.program_soundness.specs.step_soundness.specs.Objects.{IsOf, first_sto
 use Rattle.program_soundness.specs.BodyLaws.{FrontsFit, IsSoundMemory, NamesAreKnown, PremisesHold}
 use Rattle.program_soundness.specs.Fronts.{declared_in, front, start_in}
 use Rattle.program_soundness.proofs.Beginning.{keeps_same, keeps_with}
-use Rattle.program_soundness.proofs.FormalTrees.{new_formals, text_formals, unseen_first, unseen_own}
+use Rattle.program_soundness.proofs.FormalTrees.{AllUnseen, new_formals, text_formals, unseen_first, unseen_own}
 use Rattle.program_soundness.proofs.WiderScopes.{number_stands, stands, with_all}
 use Rattle.program_soundness.proofs.Formals.{AreNew, all_named}
 use Rattle.program_soundness.proofs.Listing.{Has}
@@ -44,6 +44,7 @@ use Rattle.program_soundness.proofs.Trees.{tree_package}
 use Rattle.program_soundness.proofs.Walked.{legal_at, scope_next}
 use Rattle.program_soundness.proofs.Whole.{IsPackage, kept, legal_subtype}
 use Rattle.expr_code.specs.Seeing.{NamesProfile, Package, external_of, subprogram_of}
+use Rattle.step_simulation.specs.part_code.specs.EntryNames.{entry_behind}
 use Rattle.step_simulation.specs.part_code.specs.Layout.{EndsBelow, IsLaidOut}
 use Rattle.step_simulation.specs.part_code.specs.Resting.{Framed}
 use Rattle.step_simulation.specs.part_code.proofs.Initials.{shape_there}
@@ -52,15 +53,22 @@ use Rattle.package_code.proofs.NewParameters.{AreCopiedIn, all_copied_in, either
 
 -- ---- what is visible in front of the parameters of a body
 
--- These names are visible there: what is visible in front of the whole body, and the subprogram's own name. The body breaks no rule. Where no activation has
--- objects each name means what it stands for, in a body that belongs to this protected object or to none.
+-- behind what is visible in front of the whole body, the subprogram's own name is; the body breaks no rule
+abbrev pub IsBehindName : (before s : Scope) → SubprogramTree → BodyTree → Type 0
+IsBehindName before s d b = (subprogram_scope before d ≡ s) × (subprogram_body_faults before d b ≡ [])
+
+-- ... or nothing more, and the formals break none: in front of the body of an entry, whose name is visible by its declaration alone
+abbrev pub IsAtEntry : (before s : Scope) → SubprogramTree → Type 0
+IsAtEntry before s d = (before ≡ s) × (d.result ≡ None) × (formals_faults before [] d.formals ≡ [])
+
+-- These names are visible there. Where no activation has objects each name means what it stands for, in a body that belongs to this protected object or to
+-- none.
 pub record IsBodyFront (t : ProgramTree) (owner : Option ℕ) (s : Scope) (d : SubprogramTree) (b : BodyTree) : Type 0 where
   pub before : Scope
-  pub is : subprogram_scope before d ≡ s
+  pub own : IsBehindName before s d b ⊎ IsAtEntry before s d
   pub front : SoundScope before
   pub same : (name : Identifier) (u : Subtype) → subtype_of before name ≡ Some u → subtype_of (program_of t).scope name ≡ Some u
   pub sound : SoundScope s
-  pub legal : subprogram_body_faults before d b ≡ []
   pub fits : (m : Store) → IsSoundMemory (program_of t) m → (p : Place)
       → FitsScope (program_of t) s (inside (program_of t) m (record { within = owner; locals = [] }) p)
 
@@ -71,35 +79,37 @@ module _ (scopes : ScopesAreSound) (t : ProgramTree) (owner : Option ℕ) (s : S
   abbrev before : Scope
   before = f.before
 
-  abbrev behind : Scope
-  behind = subprogram_scope before d
-
-  sound_behind : SoundScope behind
-  sound_behind = subst SoundScope (sym f.is) f.sound
-
-  keeps_behind : Keeps before behind
-  keeps_behind = keeps_with before d.name.name _
-
-  head : head_faults before d b ≡ []
-  head = front_empty (head_faults before d b) _ (front_empty _ (end_rule d.name b.end_name) f.legal)
-
   legal_profile : profile_faults before d ≡ []
-  legal_profile = front_empty (profile_faults before d) _ (front_empty _ _ (front_empty _ _ head))
+  legal_profile = elim f.own [
+    | inl y ↦ front_empty (profile_faults before d) _
+        (front_empty _ _ (front_empty _ _ (front_empty (head_faults before d b) _ (front_empty _ (end_rule d.name b.end_name) y.1))))
+    | inr y ↦ subst (λ o. formals_faults before [] d.formals ++ result_faults before o ++ function_faults before d.name d.formals o ≡ []) (sym y.1)
+        (ap (λ l. l ++ [] ++ []) y.2)
+  ]
 
   legal_formals : formals_faults before [] d.formals ≡ []
   legal_formals = front_empty _ _ (front_empty _ _ legal_profile)
 
-  own_legal : own_name_faults d.name d.formals ≡ []
-  own_legal = back_empty (profile_faults before d) _ (front_empty _ _ (front_empty _ _ head))
-
   doubt : (name : List ℕ) → stands before name ≡ Some Doubtful → ⊥
   doubt name h = let x = number_stands before name Doubtful h in f.front.each x.0 Doubtful x.2
 
+  keeps_own : Keeps before s
+  keeps_own = elim f.own [
+    | inl y ↦ subst (Keeps before) y.0 (keeps_with before d.name.name _)
+    | inr y ↦ subst (Keeps before) y.0 (keeps_same before)
+  ]
+
+  unseen : AllUnseen s d.formals
+  unseen = elim f.own [
+    | inl y ↦ (let head = front_empty (head_faults before d b) _ (front_empty _ (end_rule d.name b.end_name) y.1) in
+        subst (λ u. AllUnseen u d.formals) y.0
+        (unseen_own before d.name _ d.formals (back_empty (profile_faults before d) _ (front_empty _ _ (front_empty _ _ head)))
+        (unseen_first before [] d.formals legal_formals)))
+    | inr y ↦ subst (λ u. AllUnseen u d.formals) y.0 (unseen_first before [] d.formals legal_formals)
+  ]
+
   pub parameters_new : AreNew s (map (parameter whole) d.formals)
-  parameters_new =
-      subst (λ u. AreNew u (map (parameter whole) d.formals)) f.is
-      (new_formals scopes whole before behind sound_behind keeps_behind doubt f.same [] d.formals legal_formals
-      (unseen_own before d.name _ d.formals own_legal (unseen_first before [] d.formals legal_formals)))
+  parameters_new = new_formals scopes whole before s f.sound keeps_own doubt f.same [] d.formals legal_formals unseen
 
   -- a function's are copied in
   pub formals_in : (r : Identifier) → d.result ≡ Some r → AreCopiedIn d.formals
@@ -110,13 +120,8 @@ module _ (scopes : ScopesAreSound) (t : ProgramTree) (owner : Option ℕ) (s : S
 
   -- ---- the scope of the body, as its text is judged
 
-  keeps_own : Keeps before s
-  keeps_own = subst (Keeps before) f.is keeps_behind
-
   pub formals_text : formals_scope s d.formals ≡ with_all s (all_named (map (parameter whole) d.formals))
-  formals_text =
-      subst (λ u. formals_scope u d.formals ≡ with_all u (all_named (map (parameter whole) d.formals))) f.is
-      (text_formals scopes whole before behind sound_behind keeps_behind doubt f.same [] d.formals behind (keeps_same behind) legal_formals)
+  formals_text = text_formals scopes whole before s f.sound keeps_own doubt f.same [] d.formals s (keeps_same s) legal_formals
 
   known_subtype : (earlier fs : List Formal) (x : Formal) → formals_faults before earlier fs ≡ [] → Has fs x → subtype_faults before x.subtype ≡ []
   known_subtype earlier [] x h has = absurd has
@@ -189,11 +194,10 @@ module _ (known : NamesAreKnown) (premises : PremisesHold) (fronts : FrontsFit) 
       let names = known t legal restricted in
       record {
         before = front t place;
-        is = sym (scope_next start all place (SubprogramBody d b) at);
+        own = inl (sym (scope_next start all place (SubprogramBody d b) at), legal_at start all place (SubprogramBody d b) at w.list.legal);
         front = names.fronts place;
         same = λ name u h. subtype_kept (front t place) program.scope (kept program start all w place) name u h;
         sound = names.fronts (suc place);
-        legal = legal_at start all place (SubprogramBody d b) at w.list.legal;
         fits = λ m memory p. fronts t m legal restricted memory (suc place) p;
       }
 
@@ -209,11 +213,15 @@ pub record IsEntrance (t : ProgramTree) (g : Package) (owner : Option ℕ) (v : 
       → NamesProfile v.names.scope name profile
       → profile.result ≡ None
       → g.subprograms q.object q.name ≡ Some number
-  -- ... and so has one that is called through the name of its object
+  -- ... and so has one that is called through the name of its object, and is no entry
   pub externals : (name operation : List ℕ) (q : Procedure) (o : ProtectedObject) (number : ℕ) → external_of v.names name operation ≡ Some number
       → stands (program_of t).scope name ≡ Some (Protected o)
       → procedure_among (program_of t).procedures (Some o.number) operation ≡ Some q
-      → g.subprograms q.object q.name ≡ Some number
+      → (g.subprograms q.object q.name ≡ Some number) × (q.barrier ≡ None)
+  -- an entry is called through its name by the object's number
+  pub entries : (name operation : List ℕ) (o : ProtectedObject) (number : ℕ) → entry_behind v.names.scope name operation ≡ Some number
+      → stands (program_of t).scope name ≡ Some (Protected o)
+      → o.number ≡ number
   pub laid : IsLaidOut g v
   -- no word of the frame is an object's
   pub ends : EndsBelow v 0

@@ -20,15 +20,11 @@ use Rattle.package_code.specs.Refusing.{bodies_needs, body_needs, coded_labels, 
 -- ---- of one item
 
 -- each body of an object belongs to it
-one_inside : (o : ℕ) (s : Scope) (components : List RecordComponent) (i : ProtectedItemTree) → (of_operation o s components i).owner ≡ Some o
-one_inside o s components (OperationBody d b) = refl
-one_inside o s components (EntryBody d barrier b) = refl
-
 operations_inside : (o : ℕ) (s : Scope) (components : List RecordComponent) (items : List ProtectedItemTree) (k : ℕ) (c : Coded)
     → slice_get (operations_of o s components items) k ≡ Some c → c.owner ≡ Some o
 operations_inside o s components [] k c is = cc
 operations_inside o s components (i ∷ items) zero c is =
-    ap (λ e. e.owner) (sym (same_some (of_operation o s components i) c is)) ∙ one_inside o s components i
+    ap (λ e. e.owner) (sym (same_some (of_operation o s components i) c is))
 operations_inside o s components (i ∷ items) (suc k) c is = operations_inside o (protected_item_scope s i) components items k c is
 
 pub bodies_inside : (o : ℕ) (s : Scope) (visible : Option ℕ) (items : List ProtectedItemTree) (k : ℕ) (c : Coded)
@@ -316,15 +312,11 @@ bounds_are t place (x ∷ items) =
 abbrev pub name_of : Coded → BodyName
 name_of c = record { owner = c.owner; name = c.head.name.name }
 
-one_named : (o : ℕ) (s : Scope) (components : List RecordComponent) (i : ProtectedItemTree) → operation_name o i ≡ name_of (of_operation o s components i)
-one_named o s components (OperationBody d b) = refl
-one_named o s components (EntryBody d barrier b) = refl
-
 operations_named : (o : ℕ) (s : Scope) (components : List RecordComponent) (items : List ProtectedItemTree)
     → operation_names o items ≡ map name_of (operations_of o s components items)
 operations_named o s components [] = refl
 operations_named o s components (i ∷ items) =
-    λ j. one_named o s components i j ∷ operations_named o (protected_item_scope s i) components items j
+    ap (λ l. operation_name o i ∷ l) (operations_named o (protected_item_scope s i) components items)
 
 object_named : (o : ℕ) (s : Scope) (visible : Option ℕ) (items : List ProtectedItemTree)
     → operation_names o items ≡ map name_of (object_bodies o s visible items)

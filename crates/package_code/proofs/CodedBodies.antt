@@ -74,8 +74,10 @@ module _ (laws : LawsOfNames) (t : ProgramTree) (legal : IsLegal t) (restricted 
       pub gives : GivesBack i program g middle (results ps) number stop
       pub within : suc gives.back ≤ s.end_
 
-    pub procedure_coded : s.kind ≡ procedure_kind owner None → DoesBody → IsProcedureCode i program g numbers procedure number
-    procedure_coded kind does = record {
+    -- that of an entry has a barrier
+    pub procedure_coded : (barrier : Option ExprTree) → s.kind ≡ procedure_kind owner barrier → DoesBody
+        → IsProcedureCode i program g numbers (record procedure { barrier = barrier }) number
+    procedure_coded barrier kind does = record {
       s = s;
       there = there;
       kind = kind;

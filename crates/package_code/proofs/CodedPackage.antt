@@ -10,6 +10,7 @@ use Rattle.ada_tree.specs.StatementTree.{EntryTree, SubprogramTree}
 use Rattle.ada_tree.specs.ProgramTree.{BodyItemTree, BodyTree, EntryBody, OperationBody, ProgramTree, ProtectedBody, ProtectedItemTree, SubprogramBody}
 use Rattle.image.specs.Sections.{Sections}
 use Rattle.image.specs.Frames.{Words}
+use Rattle.image.specs.Operations as code
 use Rattle.image.specs.Steps as steps
 use Rattle.types.specs.Evaluating.{entered}
 use Rattle.types.specs.Places.{Function, Place, function_of, is_of}
@@ -20,7 +21,9 @@ use Rattle.expr_soundness.specs.meaning.specs.Calls.{is_open, procedure_among}
 use Rattle.expr_soundness.specs.meaning.specs.Works.{Store}
 use Rattle.expr_soundness.specs.meaning.specs.Programs.{Procedure, Program, exceptions_among, package_items, program_of, returned}
 use Rattle.program_soundness.specs.Fronts.{declared_in, start_in}
-use Rattle.program_soundness.proofs.Callables.{Bodied, FoundFunction, FoundProcedure, InObject, InPackage, bodies_among, body_place, found_function, found_procedure, function_by, functions_are, operation_body, procedure_by, procedures_are, subprogram_body}
+use Rattle.program_soundness.specs.step_soundness.specs.Fitting.{entry_of}
+use Rattle.program_soundness.specs.step_soundness.specs.Holding.{IsSoundStore}
+use Rattle.program_soundness.proofs.Callables.{Bodied, FoundFunction, FoundProcedure, InObject, InPackage, bodies_among, body_place, found_entry, found_function, found_procedure, function_by, functions_are, operation_body, procedure_by, procedures_are, subprogram_body}
 use Rattle.program_soundness.proofs.Listing.{Has}
 use Rattle.program_soundness.proofs.ObjectBodies as bodies
 use Rattle.program_soundness.proofs.Whole.{IsPackage}
@@ -28,12 +31,12 @@ use Rattle.expr_code.specs.Computing.{IsFunctionCode}
 use Rattle.expr_code.specs.Seeing.{IsCoded, Package, SeesPackage, library_of, outside}
 use Rattle.expr_code.specs.Views.{View}
 use Rattle.expr_code.proofs.Calling.{functions_answer}
-use Rattle.step_simulation.specs.Laws.{HasCode}
+use Rattle.step_simulation.specs.Laws.{HasCode, HasEntry}
+use Rattle.step_simulation.specs.part_code.specs.Resting.{StandsFor}
 use Rattle.step_simulation.specs.part_code.specs.Statements.{HasProcedures, IsProcedureCode, Numbers}
 use Rattle.package_code.specs.Package.{IsPackageOf}
 use Rattle.package_code.proofs.InFront.{LawsOfNames, known, whole}
 use Rattle.package_code.proofs.OperationBodies.{object}
-use Rattle.package_code.proofs.Unbarred.{IsProcedureOf, procedure_unit}
 
 -- the predefined exceptions are the first ones
 four_first : (xs : List (List ℕ)) → 4 ≤ length (predefined ++ xs)
@@ -97,23 +100,23 @@ module _ (laws : LawsOfNames) (t : ProgramTree) (legal : IsLegal t) (restricted 
   StandsAt owner d b = IsOfPackageAt owner d b ⊎ IsOperation owner (OperationBody d b)
 
   -- the body that is one of these
-  record IsUnit (u : Bodied) (d : SubprogramTree) (b : BodyTree) : Type 0 where
-    owner : Option ℕ
-    is : u ≡ subprogram_body owner d b
-    stands : StandsAt owner d b
+  pub record IsUnit (u : Bodied) (d : SubprogramTree) (b : BodyTree) : Type 0 where
+    pub owner : Option ℕ
+    pub is : u ≡ subprogram_body owner d b
+    pub stands : StandsAt owner d b
 
-  record IsEntryUnit (u : Bodied) : Type 0 where
-    owner : Option ℕ
-    d : EntryTree
-    barrier : ExprTree
-    b : BodyTree
-    is : u ≡ operation_body owner (EntryBody d barrier b)
-    stands : IsOperation owner (EntryBody d barrier b)
+  pub record IsEntryUnit (u : Bodied) : Type 0 where
+    pub owner : Option ℕ
+    pub d : EntryTree
+    pub barrier : ExprTree
+    pub b : BodyTree
+    pub is : u ≡ operation_body owner (EntryBody d barrier b)
+    pub stands : IsOperation owner (EntryBody d barrier b)
 
-  abbrev IsOne : Bodied → Type 0
+  abbrev pub IsOne : Bodied → Type 0
   IsOne u = ((d : SubprogramTree) × (b : BodyTree) × IsUnit u d b) ⊎ IsEntryUnit u
 
-  unit_stands : (u : Bodied) → Has (bodies_among program.scope all) u → IsOne u
+  pub unit_stands : (u : Bodied) → Has (bodies_among program.scope all) u → IsOne u
   unit_stands u has = by_case (body_place program.scope all u has)
     where
       by_item : (q : InObject program.scope all u) (i : ProtectedItemTree) → slice_get q.items q.index ≡ Some i
@@ -197,28 +200,8 @@ module _ (laws : LawsOfNames) (t : ProgramTree) (legal : IsLegal t) (restricted 
           by_stands (inr o) = absurd (let bad = ap (λ z. is_of z None) (sym o.owned ∙ ap (λ u. u.owner) (sym y.is)) ∙ x.owned in cc)
       by_unit (inr e) = absurd (let bad = ap (λ z. is_of z None) (sym e.stands.owned ∙ ap (λ u. u.owner) (sym e.is)) ∙ x.owned in cc)
 
-  -- no procedure has a barrier, where no entry has a body
-  module _ (none : (owner : Option ℕ) (d : EntryTree) (barrier : ExprTree) (b : BodyTree) → IsOperation owner (EntryBody d barrier b) → ⊥) where
-    bare_one : (q : Procedure) (u : Bodied) → q ≡ procedure_by program.scope u → IsOne u → q.barrier ≡ None
-    bare_one q u is (inl y) = ap (λ z. z.barrier) (is ∙ ap (procedure_by program.scope) y.2.is)
-    bare_one q u is (inr e) = absurd (none e.owner e.d e.barrier e.b e.stands)
-
-    pub bare_procedures : (q : Procedure) → Has program.procedures q → q.barrier ≡ None
-    bare_procedures q among =
-        let x =
-        procedure_unit program.scope (bodies_among program.scope all) q
-        (subst (λ l. Has l q) (w.procedures ∙ procedures_are program.scope all) among) in
-        bare_one q x.unit_ x.is (unit_stands x.unit_ x.has)
-
-    pub bare_found : (owner : Option ℕ) (name : List ℕ) (q : Procedure) → procedure_among program.procedures owner name ≡ Some q → q.barrier ≡ None
-    bare_found owner name q found =
-        let x =
-        found_procedure program.scope (bodies_among program.scope all) owner name q
-        (ap (λ l. procedure_among l owner name) (sym (w.procedures ∙ procedures_are program.scope all)) ∙ found) in
-        bare_one q x.unit_ x.is (unit_stands x.unit_ x.has)
-
   module _ (i : Sections) (g : Package) (of_program : IsPackageOf t i g) (numbers : Numbers) where
-    -- what methods show of the bodies that have a number, each where it stands; no entry has one
+    -- what methods show of the bodies that have a number, each where it stands
     pub record HasBodies : Type 1 where
       pub procedures : (owner : Option ℕ) (d : SubprogramTree) (b : BodyTree) → StandsAt owner d b → d.result ≡ None → (number : ℕ)
           → numbers (procedure_by program.scope (subprogram_body owner d b)) ≡ Some number
@@ -227,7 +210,14 @@ module _ (laws : LawsOfNames) (t : ProgramTree) (legal : IsLegal t) (restricted 
           → (value : ExprTree) → returned b.statements ≡ Some value → (number : ℕ) → g.subprograms owner d.name.name ≡ Some number
           → IsFunctionCode i (library_of g) (function_by program.scope (subprogram_body owner d b) r value) number
       pub entries : (owner : Option ℕ) (d : EntryTree) (barrier : ExprTree) (b : BodyTree) → IsOperation owner (EntryBody d barrier b) → (number : ℕ)
-          → numbers (procedure_by program.scope (operation_body owner (EntryBody d barrier b))) ≡ Some number → ⊥
+          → numbers (procedure_by program.scope (operation_body owner (EntryBody d barrier b))) ≡ Some number
+          → IsProcedureCode i program g numbers (procedure_by program.scope (operation_body owner (EntryBody d barrier b))) number
+
+    -- the number of the entry's body is that in the row of its object
+    pub record IsInRow (o : ℕ) (q : Procedure) : Type 0 where
+      pub number : ℕ
+      pub row : code.entry_of (slice_get i.objects o) ≡ Some number
+      pub numbered : numbers q ≡ Some number
 
     module _ (has : HasBodies) where
       procedure_coded : (q : Procedure) (u : Bodied) → Has (bodies_among program.scope all) u → u.result ≡ None → q ≡ procedure_by program.scope u
@@ -242,8 +232,9 @@ module _ (laws : LawsOfNames) (t : ProgramTree) (legal : IsLegal t) (restricted 
               subst (λ z. IsProcedureCode i program g numbers z number) (sym same)
               (has.procedures y.owner x.0 x.1 y.stands (ap (λ z. z.result) (sym y.is) ∙ none) number (ap numbers (sym same) ∙ n))
           by_unit (inr e) =
-              let same = is ∙ ap (procedure_by program.scope) e.is in
-              absurd (has.entries e.owner e.d e.barrier e.b e.stands number (ap numbers (sym same) ∙ n))
+              let same : q ≡ procedure_by program.scope (operation_body e.owner (EntryBody e.d e.barrier e.b)) = is ∙ ap (procedure_by program.scope) e.is in
+              subst (λ z. IsProcedureCode i program g numbers z number) (sym same)
+              (has.entries e.owner e.d e.barrier e.b e.stands number (ap numbers (sym same) ∙ n))
 
       procedures_coded : HasProcedures i program g numbers
       procedures_coded owner name q number found n =
@@ -271,14 +262,26 @@ module _ (laws : LawsOfNames) (t : ProgramTree) (legal : IsLegal t) (restricted 
               ((λ j. g.subprograms (((ap (λ h. h.object) (sym same)) j)) ((ap (λ h. h.name) (sym same)) j)) ∙ coded.numbered))
           by_unit (inr e) = absurd (let bad = sym x.some ∙ ap (λ u. u.result) e.is in cc)
 
+      -- where the row of each object names the number of its entry
+      entries_coded : (rows : (o : ℕ) (q : Procedure) → entry_of program.procedures o ≡ Some q → IsInRow o q) (o : ℕ) (q : Procedure)
+          → entry_of program.procedures o ≡ Some q → HasEntry i program g numbers o q
+      entries_coded rows o q found =
+          let r = rows o q found in
+          let x =
+          found_entry program.scope (bodies_among program.scope all) o q (ap (λ l. entry_of l o) (sym (w.procedures ∙ procedures_are program.scope all)) ∙ found) in
+          record { number = r.number; row = r.row; code = procedure_coded q x.unit_ x.has x.none x.is r.number r.numbered }
+
       pub ada_linkd : QuietStays → ViewsOn → ViewsBack → i.exceptions ≡ program.exceptions
-          → ((m : Store) (words : Words) (o : ℕ) → is_open program m o ≡ steps.is_open i words o) → HasCode i program g numbers
-      ada_linkd quiet views back exceptions barriers = record {
+          → ((o : ℕ) (q : Procedure) → entry_of program.procedures o ≡ Some q → IsInRow o q)
+          → ((m : Store) (words : Words) (o : ℕ) → IsSoundStore program m → StandsFor program g m words → is_open program m o ≡ steps.is_open i words o)
+          → HasCode i program g numbers
+      ada_linkd quiet views back exceptions rows barriers = record {
         exceptions = exceptions;
         predefined = four_first (exceptions_among (package_items t.package_));
         functions = functions_answer quiet views back i (library_of g) functions_coded
             (λ left p sound. (known laws t legal restricted).typed.answered p sound left) (λ p view sees. sees.task)
             (shows_opened (known laws t legal restricted).kept g);
         procedures = procedures_coded;
+        entries = entries_coded rows;
         barriers = barriers;
       }

@@ -1,8 +1,7 @@
 -- Protected objects one behind another: their rows, and where their components stand, as the text tells it.
 use Rattle.std.proofs.Common.{◌≡◌, ℕ, ℤ, zero, suc, ◌+◌, ◌<◌, List, [], ◌∷◌, ◌++◌, append-nil, append_assoc, drop, get_or, length, length-append, map, take, Bool, true, false, ◌&&◌, ◌||◌, Option, Some, None, refl, sym, ap, ◌∙◌, subst, arith}
-use Rattle.std.specs.Prelude.{bytes_eq, if◌then◌else◌, nat_eq, option_map, nat_le, slice_get, ⊤}
+use Rattle.std.specs.Prelude.{bytes_eq, if◌then◌else◌, nat_eq, option_map, nat_le, slice_get}
 use Rattle.std.proofs.lemmas.List.{map-append}
-use Rattle.base.specs.declared.limits.TheConstants.{WORDS}
 use Rattle.ada_tree.specs.declared.declaration.Item.{Item}
 use Rattle.ada_tree.specs.declared.declaration.ProtectedComponent.{ProtectedComponent}
 use Rattle.ada_tree.specs.declared.program.BodyItem.{BodyItem}
@@ -10,7 +9,6 @@ use Rattle.ada_tree.specs.StatementTree.{ProtectedComponentTree, ProtectedTree, 
 use Rattle.ada_tree.specs.ProgramTree.{BodyItemTree, ItemTree, OfException, OfObject, OfProtected, OfSubprogram, OfTask, OfType, ProgramTree, body_item_tree, item_tree}
 use Rattle.image.specs.declared.instruction.Region.TheVariants as regions
 use Rattle.types.specs.declared.entity.Subtype.{Subtype}
-use Rattle.types.specs.Layouts.{total}
 use Rattle.types.specs.Places.{Object, or_else}
 use Rattle.types.specs.Scopes.{Scope}
 use Rattle.types.specs.Shapes.{value_words}
@@ -22,7 +20,7 @@ use Rattle.expr_code.specs.declared.refusal.Refusal.TheVariants as refusal
 use Rattle.expr_code.specs.declared.visible.Slot.{Slot}
 use Rattle.step_simulation.specs.part_code.proofs.Lists.{mapped_next}
 use Rattle.package_code.specs.Directory.{component_told}
-use Rattle.package_code.specs.Objects.{AddsObjects, RefusesComponent, RefusesComponents, RefusesObjects, component_slots, lack_objects, object_row, object_rows, object_words, slots_of, have_words, objects_have_words}
+use Rattle.package_code.specs.Objects.{AddsObjects, RefusesComponent, RefusesComponents, RefusesObjects, component_slots, lack_objects, bare_object, bare_objects, object_words, slots_of, have_words, objects_have_words}
 use Rattle.package_code.specs.Owners.{in_object}
 use Rattle.package_code.specs.Package.{first_words_of, place_among}
 use Rattle.package_code.specs.Refusing.{is_outside_variable, lack_components, slot_in}
@@ -70,32 +68,32 @@ one_more : (n : ℕ) → n + 0 ≡ n
 one_more n = omega arith
 
 slots_both : (s : Scope) (o : ℕ) (xs ys : List ItemTree)
-    → component_slots s o (xs ++ ys) ≡ component_slots s o xs ++ component_slots s (o + length (object_rows s xs)) ys
+    → component_slots s o (xs ++ ys) ≡ component_slots s o xs ++ component_slots s (o + length (bare_objects s xs)) ys
 slots_both s o [] ys = ap (λ n. component_slots s n ys) (sym (one_more o))
 slots_both s o (OfProtected d ∷ xs) ys =
-    let e : suc o + length (object_rows s xs) ≡ o + suc (length (object_rows s xs)) = omega arith in
+    let e : suc o + length (bare_objects s xs) ≡ o + suc (length (bare_objects s xs)) = omega arith in
     ap (λ l. slots_of o 0 (map (component s) d.components) ++ l) (slots_both s (suc o) xs ys
     ∙ ap (λ n. component_slots s (suc o) xs ++ component_slots s n ys) e)
     ∙ sym (append_assoc (slots_of o 0 (map (component s) d.components)) (component_slots s (suc o) xs)
-    (component_slots s (o + suc (length (object_rows s xs))) ys))
+    (component_slots s (o + suc (length (bare_objects s xs))) ys))
 slots_both s o (OfType d ∷ xs) ys = slots_both s o xs ys
 slots_both s o (OfObject d ∷ xs) ys = slots_both s o xs ys
 slots_both s o (OfException name ∷ xs) ys = slots_both s o xs ys
 slots_both s o (OfSubprogram d ∷ xs) ys = slots_both s o xs ys
 slots_both s o (OfTask d ∷ xs) ys = slots_both s o xs ys
 
-all_rows : (s : Scope) (xs ys : List ItemTree) → object_rows s (xs ++ ys) ≡ object_rows s xs ++ object_rows s ys
-all_rows s [] ys = refl
-all_rows s (OfProtected d ∷ xs) ys = ap (λ l. object_row s d ∷ l) (all_rows s xs ys)
-all_rows s (OfType d ∷ xs) ys = all_rows s xs ys
-all_rows s (OfObject d ∷ xs) ys = all_rows s xs ys
-all_rows s (OfException name ∷ xs) ys = all_rows s xs ys
-all_rows s (OfSubprogram d ∷ xs) ys = all_rows s xs ys
-all_rows s (OfTask d ∷ xs) ys = all_rows s xs ys
+bare_both : (s : Scope) (xs ys : List ItemTree) → bare_objects s (xs ++ ys) ≡ bare_objects s xs ++ bare_objects s ys
+bare_both s [] ys = refl
+bare_both s (OfProtected d ∷ xs) ys = ap (λ l. bare_object s d ∷ l) (bare_both s xs ys)
+bare_both s (OfType d ∷ xs) ys = bare_both s xs ys
+bare_both s (OfObject d ∷ xs) ys = bare_both s xs ys
+bare_both s (OfException name ∷ xs) ys = bare_both s xs ys
+bare_both s (OfSubprogram d ∷ xs) ys = bare_both s xs ys
+bare_both s (OfTask d ∷ xs) ys = bare_both s xs ys
 
 -- nothing was added, and one part behind another
 pub adds_none : (s : Scope) (a : ProtectedObjects) → AddsObjects s a [] a
-adds_none s a = record { rows = sym (append-nil a.rows.items); components = sym (append-nil a.components.items); made = refl }
+adds_none s a = record { declared = sym (append-nil a.declared.items); components = sym (append-nil a.components.items); made = refl }
 
 made_both : (s : Scope) (xs ys : List ItemTree) → objects_have_words s xs ≡ true → objects_have_words s ys ≡ true → objects_have_words s (xs ++ ys) ≡ true
 made_both s [] ys h k = k
@@ -110,18 +108,18 @@ made_both s (OfTask d ∷ xs) ys h k = made_both s xs ys h k
 
 pub adds_both : (s : Scope) (a b c : ProtectedObjects) (xs ys : List ItemTree) → AddsObjects s a xs b → AddsObjects s b ys c → AddsObjects s a (xs ++ ys) c
 adds_both s a b c xs ys one two = record {
-  rows = two.rows ∙ ap (λ l. l ++ object_rows s ys) one.rows ∙ append_assoc a.rows.items (object_rows s xs) (object_rows s ys)
-      ∙ ap (λ l. a.rows.items ++ l) (sym (all_rows s xs ys));
+  declared = two.declared ∙ ap (λ l. l ++ bare_objects s ys) one.declared ∙ append_assoc a.declared.items (bare_objects s xs) (bare_objects s ys)
+      ∙ ap (λ l. a.declared.items ++ l) (sym (bare_both s xs ys));
   components = two.components
       ∙ (λ j. one.components j ++ component_slots s (many j) ys)
-      ∙ append_assoc a.components.items (component_slots s (length a.rows.items) xs)
-      (component_slots s (length a.rows.items + length (object_rows s xs)) ys)
-      ∙ ap (λ l. a.components.items ++ l) (sym (slots_both s (length a.rows.items) xs ys));
+      ∙ append_assoc a.components.items (component_slots s (length a.declared.items) xs)
+      (component_slots s (length a.declared.items + length (bare_objects s xs)) ys)
+      ∙ ap (λ l. a.components.items ++ l) (sym (slots_both s (length a.declared.items) xs ys));
   made = made_both s xs ys one.made two.made;
 }
   where
-    many : length b.rows.items ≡ length a.rows.items + length (object_rows s xs)
-    many = ap length one.rows ∙ length-append a.rows.items (object_rows s xs)
+    many : length b.declared.items ≡ length a.declared.items + length (bare_objects s xs)
+    many = ap length one.declared ∙ length-append a.declared.items (bare_objects s xs)
 
 -- one declaration more
 pub objects_next : (s : Scope) (a b c : ProtectedObjects) (all : List Item) (n : ℕ) (x : Item) → n < length all → x ≡ get_or all n x

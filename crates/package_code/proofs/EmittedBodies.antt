@@ -1,6 +1,7 @@
 -- Bodies whose code methods have added are those of a program's procedures and functions, in each image that holds the code.
-use Rattle.std.proofs.Common.{◌≡◌, ℕ, ℤ, suc, ◌≤◌, List, [], ◌∷◌, map, Option, Some, None, refl, sym, ap, ◌∙◌, subst, arith}
+use Rattle.std.proofs.Common.{◌≡◌, ℕ, ℤ, ◌≤◌, List, [], ◌∷◌, map, Option, Some, refl, sym, ap, ◌∙◌, subst, arith}
 use Rattle.image_laws.specs.kernel.specs.Laws.{QuietStays}
+use Rattle.ada_tree.specs.ExpressionTree.{ExprTree}
 use Rattle.ada_tree.specs.StatementTree.{SubprogramTree}
 use Rattle.ada_tree.specs.ProgramTree.{BodyTree, ProgramTree}
 use Rattle.image.specs.Operations.{called, results_of}
@@ -15,7 +16,7 @@ use Rattle.types.specs.Shapes.{initial, initial_of, shape_of, value_words}
 use Rattle.program_soundness.specs.checking.specs.ProgramRules.{IsLegal}
 use Rattle.ravenscar.specs.ProgramRules.{IsRestricted}
 use Rattle.expr_soundness.specs.SoundScopes.{IsKnown}
-use Rattle.expr_soundness.specs.meaning.specs.Calls.{procedure_here, results, procedure_among}
+use Rattle.expr_soundness.specs.meaning.specs.Calls.{procedure_here, results}
 use Rattle.expr_soundness.specs.meaning.specs.Programs.{Procedure, Program, parameter, program_of}
 use Rattle.program_soundness.specs.step_soundness.specs.Fitting.{IsFound}
 use Rattle.program_soundness.proofs.Callables.{procedure_by, subprogram_body}
@@ -47,7 +48,7 @@ use Rattle.package_code.proofs.EmittedParts.{AreShown, back_words, given_placed,
 use Rattle.package_code.proofs.InFront.{LawsOfNames, known}
 use Rattle.package_code.proofs.EmittedFrames.{IsPlaced, agreed, behind, ends_at, entries, finds_behind, fresh_names, in_front_of, middle, names_are, outs_at, parameters, reserved, reserved_below, shown, texts, told, turn, word_is}
 use Rattle.package_code.proofs.MadeFrames.{HasFrames, procedure_frames, widths_behind}
-use Rattle.package_code.proofs.Reordered.{externals_back, numbers_back, profile_back, room_stays, reserved_stays, within_stays}
+use Rattle.package_code.proofs.Reordered.{entries_back, externals_back, numbers_back, profile_back, room_stays, reserved_stays, within_stays}
 
 -- ---- procedures
 
@@ -57,10 +58,9 @@ module _ (laws : LawsOfNames) (quiet : QuietStays) (shaped : InitialValuesHaveSh
     (adds : AddsProcedure seen old d.formals b sizes new)
     (number : ℕ) (s : Subprogram) (there : called i number ≡ Some s) (first_is : first_place i number ≡ here old.code) (end_is : s.end_ ≡ here new.code)
     (parameters_are : s.parameters ≡ sizes.passed) (results_are : results_of (called i number) ≡ sizes.results) (locals_are : s.locals ≡ sizes.locals)
-    (kind_is : s.kind ≡ procedure_kind owner None) (holds : Holds i (here old.code) new.code) (labels : HasLabels i new.labels)
+    (barrier : Option ExprTree) (kind_is : s.kind ≡ procedure_kind owner barrier) (holds : Holds i (here old.code) new.code) (labels : HasLabels i new.labels)
     (handled : IsHandled i (program_of t) (record old { code = adds.initial; words = adds.framed }) adds.run adds.runs.rows unhandled)
-    (numbered : (q : Procedure) (n : ℕ) → g.subprograms q.object q.name ≡ Some n → numbers q ≡ Some n)
-    (unbarred : (object : Option ℕ) (name : List ℕ) (q : Procedure) → procedure_among (program_of t).procedures object name ≡ Some q → q.barrier ≡ None) where
+    (numbered : (q : Procedure) (n : ℕ) → g.subprograms q.object q.name ≡ Some n → numbers q ≡ Some n) where
   abbrev program : Program
   program = program_of t
 
@@ -130,14 +130,18 @@ module _ (laws : LawsOfNames) (quiet : QuietStays) (shaped : InitialValuesHaveSh
               (profile_back xs v last added (entries laws shaped t legal restricted g owner d b x before)
               (fresh_names laws shaped t legal restricted g owner d b x before) name profile named)
               none);
-          externals = λ name operation n o q told is found. (
-            numbered q n
-                (before.externals name operation q o n
-                (externals_back xs v last added (entries laws shaped t legal restricted g owner d b x before)
-                (fresh_names laws shaped t legal restricted g owner d b x before) name operation n told)
-                is found),
-            unbarred (Some o.number) operation q found,
-          );
+          externals = λ name operation n o q told is found.
+              let y =
+              before.externals name operation q o n
+              (externals_back xs v last added (entries laws shaped t legal restricted g owner d b x before)
+              (fresh_names laws shaped t legal restricted g owner d b x before) name operation n told)
+              is found in
+              (numbered q n y.0, y.1);
+          entries = λ name operation n o told is.
+              before.entries name operation o n
+              (entries_back xs v last added (entries laws shaped t legal restricted g owner d b x before)
+              (fresh_names laws shaped t legal restricted g owner d b x before) name operation n told)
+              is;
           scope = sym of_program.scope;
           place = a.place;
           here = a.here;
@@ -236,7 +240,7 @@ module _ (laws : LawsOfNames) (quiet : QuietStays) (shaped : InitialValuesHaveSh
             let l = adds.locals in
             omega (arith, r, l, locals_are)
 
-    pub procedure_emitted : IsProcedureCode i program g numbers (procedure_by program.scope (subprogram_body owner d b)) number
+    pub procedure_emitted : IsProcedureCode i program g numbers (record (procedure_by program.scope (subprogram_body owner d b)) { barrier = barrier }) number
     procedure_emitted =
         procedure_coded laws t legal restricted i well_formed g of_program numbers owner d b v before number s there refl last xs passed frames
-        (parameters_are ∙ adds.passed ∙ sym ending) kind_is does
+        (parameters_are ∙ adds.passed ∙ sym ending) barrier kind_is does

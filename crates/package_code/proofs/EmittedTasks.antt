@@ -1,5 +1,5 @@
 -- The body of a task whose code a method has added begins with the work of the task, in each image that holds the code.
-use Rattle.std.proofs.Common.{◌≡◌, ℕ, suc, ◌+◌, ◌≤◌, List, [], ◌∷◌, ◌++◌, map, Option, None, Some, true, refl, sym, ap, ◌∙◌, subst, arith, append-nil}
+use Rattle.std.proofs.Common.{◌≡◌, ℕ, suc, ◌+◌, ◌≤◌, List, [], ◌∷◌, ◌++◌, map, None, Some, true, refl, sym, ap, ◌∙◌, subst, arith, append-nil}
 use Rattle.std.specs.Prelude.{pos, replicate}
 use Rattle.ada_tree.specs.ProgramTree.{BodyTree, ProgramTree}
 use Rattle.image.specs.Operations.{called, results_of}
@@ -14,7 +14,6 @@ use Rattle.types.specs.Statics.{static_place}
 use Rattle.expr_soundness.specs.Agreeing.{Agrees}
 use Rattle.program_soundness.specs.checking.specs.ProgramRules.{IsLegal}
 use Rattle.ravenscar.specs.ProgramRules.{IsRestricted}
-use Rattle.expr_soundness.specs.meaning.specs.Calls.{procedure_here, procedure_among}
 use Rattle.expr_soundness.specs.meaning.specs.Programs.{OfBody, Procedure, Program, program_of}
 use Rattle.expr_soundness.specs.meaning.specs.Source.{duty_items}
 use Rattle.expr_soundness.specs.meaning.specs.Works.{Sequence}
@@ -35,14 +34,14 @@ use Rattle.step_simulation.specs.part_code.specs.Layout.{EndsBelow}
 use Rattle.step_simulation.specs.part_code.specs.Resting.{Framed, RestsWith}
 use Rattle.step_simulation.specs.part_code.specs.Statements.{IsRun, Numbers}
 use Rattle.step_simulation.specs.part_code.specs.declared.formals.PlacedFormal.{PlacedFormal}
-use Rattle.step_simulation.specs.Standing.{Around, Follows, Inside, LeadsOut, with_visible}
+use Rattle.step_simulation.specs.Standing.{Around, Follows, Inside, LeadsOut, Note, with_visible}
 use Rattle.step_simulation.proofs.Going.{declares_follow, narrows_same}
 use Rattle.stmt_code.specs.Subprograms.{AddsProcedure, fresh}
 use Rattle.stmt_code.specs.declared.draft.Draft.{Draft}
 use Rattle.stmt_code.specs.declared.subprogram.SubprogramWords.{SubprogramWords}
 use Rattle.package_code.specs.Package.{IsInFront, IsPackageOf}
 use Rattle.package_code.proofs.InFront.{LawsOfNames, bare_rests, few_locals, front_ends, front_laid, front_serves, memory}
-use Rattle.package_code.proofs.PackageFronts.{front_externals, here_named}
+use Rattle.package_code.proofs.PackageFronts.{front_entries, front_externals, here_named}
 
 -- ---- code that runs a body and returns begins with its work
 
@@ -84,8 +83,8 @@ module _ (i : Sections) (program : Program) (g : Package) (numbers : Numbers) (v
     to_inside = all_in stop (let up = runs.up in let over = runs.over in omega (arith, up, over)) (omega arith);
   }
 
-  pub task_follows : Follows i program g numbers around_task number (first_place i number) (duty_items (OfBody b)) Inner [] []
-  task_follows =
+  pub task_follows : (note : Note) → Follows i program g numbers note around_task number (first_place i number) (duty_items (OfBody b)) Inner [] []
+  task_follows note =
       let up = runs.up in
       let over = runs.over in
       let first_in = all_in (first_place i number) (omega arith) (omega (arith, up, over)) in
@@ -93,7 +92,7 @@ module _ (i : Sections) (program : Program) (g : Package) (numbers : Numbers) (v
       let way_in = all_in (runs.mid + 1) (omega (arith, up)) (omega (arith, over)) in
       let stop_in = all_in stop (omega (arith, up, over)) (omega arith) in
       let shown = (narrows_same g v).shows in
-      declares_follow i program g numbers b.declarations around_task v runs.later number (first_place i number) runs.mid
+      declares_follow i program g numbers note b.declarations around_task v runs.later number (first_place i number) runs.mid
       (Sequence b.statements b.handlers ∷ []) Inner [] [] runs.declared runs.uncovered up first_in mid_in (shown, shown, shown)
       (λ nar. (
         runs.mid + 2,
@@ -148,8 +147,7 @@ module _ (laws : LawsOfNames) (t : ProgramTree) (legal : IsLegal t) (restricted 
     (first_is : first_place i number ≡ here old.code) (end_is : s.end_ ≡ here new.code) (results_are : s.results ≡ sizes.results)
     (locals_are : s.locals ≡ sizes.locals) (holds : Holds i (here old.code) new.code) (labels : HasLabels i new.labels)
     (handled : IsHandled i (program_of t) (record old { code = adds.initial; words = adds.framed }) adds.run adds.runs.rows unhandled)
-    (numbered : (q : Procedure) (n : ℕ) → g.subprograms q.object q.name ≡ Some n → numbers q ≡ Some n)
-    (unbarred : (object : Option ℕ) (name : List ℕ) (q : Procedure) → procedure_among (program_of t).procedures object name ≡ Some q → q.barrier ≡ None) where
+    (numbered : (q : Procedure) (n : ℕ) → g.subprograms q.object q.name ≡ Some n → numbers q ≡ Some n) where
   abbrev program : Program
   program = program_of t
 
@@ -166,10 +164,10 @@ module _ (laws : LawsOfNames) (t : ProgramTree) (legal : IsLegal t) (restricted 
       finds = (front_serves laws t legal restricted v (suc place) before.scope).finds;
       numbered = λ name q n profile found told named none.
           let x = here_named program name q found in numbered q n ((λ j. g.subprograms (x.0 j) (x.1 j)) ∙ before.calls name n told);
-      externals = λ name operation n o q told is found. (
-        numbered q n (front_externals laws t legal restricted i g of_program v (suc place) before name operation q o n told is found),
-        unbarred (Some o.number) operation q found,
-      );
+      externals = λ name operation n o q told is found.
+          let y = front_externals laws t legal restricted i g of_program v (suc place) before name operation q o n told is found in
+          (numbered q n y.0, y.1);
+      entries = λ name operation n o told is. front_entries laws t legal restricted i g of_program v (suc place) before name operation o n told is;
       scope = sym of_program.scope;
       place = outside;
       here = refl;
@@ -219,7 +217,7 @@ module _ (laws : LawsOfNames) (t : ProgramTree) (legal : IsLegal t) (restricted 
         (let l = adds.locals in omega (arith, l, locals_are)) unhandled handled refl)
 
     pub task_begins : (around : Around i program g numbers)
-        × Follows i program g numbers around number (first_place i number) (duty_items (OfBody b)) Inner [] []
+        × ((note : Note) → Follows i program g numbers note around number (first_place i number) (duty_items (OfBody b)) Inner [] [])
         × RestsWith g around.visible around.held (record { within = None; locals = [] }) (replicate s.locals (pos 0))
     task_begins = (
       around_task i program g numbers v b number s there none (here adds.run.code) runs return within,

@@ -6,6 +6,7 @@ pub mod BodyFronts
 mod PackageFronts
 pub mod ObjectNumbers
 pub mod Offered
+pub mod BareOperations
 pub mod OperationBodies
 pub mod ObjectFronts
 mod HeldParameters
@@ -16,8 +17,9 @@ mod Building
 mod BodyFrames
 mod MadeFrames
 mod CodedBodies
-mod Unbarred
 pub mod CodedPackage
+pub mod EntryRows
+mod Barred
 mod LinkedMain
 pub mod Coded
 pub mod TaskNames
@@ -25,6 +27,7 @@ pub mod TaskRows
 pub mod TasksAdded
 pub mod ObjectRows
 mod OperationEntries
+mod EntrySearch
 mod EmittedTasks
 mod EmittedFormals
 mod EmittedParts

@@ -18,7 +18,7 @@ use Rattle.step_simulation.specs.part_code.specs.Handling.{GoesBy, unhandled}
 use Rattle.step_simulation.specs.part_code.specs.Jumping.{Here}
 use Rattle.step_simulation.specs.part_code.specs.Resting.{Framed, RestsWith, Shows}
 use Rattle.step_simulation.specs.part_code.specs.Statements.{IsMainStatementCode, Numbers}
-use Rattle.step_simulation.specs.Standing.{Around, Follows, Inside}
+use Rattle.step_simulation.specs.Standing.{Around, Follows, Inside, Note}
 use Rattle.step_simulation.specs.part_code.proofs.Handling.{goes_within}
 use Rattle.package_code.specs.Linked.{IsLinkedTask}
 
@@ -73,8 +73,8 @@ module _ (t : ProgramTree) (i : Sections) (g : Package) (numbers : Numbers) (v :
       let up = does.up in
       (low, omega (arith, low, high, within, up, ended))
 
-  ends_here : Follows i program g numbers around does.number does.stop [] Inner [] []
-  ends_here = (
+  ends_here : (note : Note) → Follows i program g numbers note around does.number does.stop [] Inner [] []
+  ends_here note = (
     record {
       at = does.stop;
       jumps = Here;
@@ -88,10 +88,10 @@ module _ (t : ProgramTree) (i : Sections) (g : Package) (numbers : Numbers) (v :
     refl,
   )
 
-  main_follows : (all : List MainStatement) (from : ℕ) → AreMain i program g numbers from does.stop all → In from
-      → Follows i program g numbers around does.number from (map DoesStatement all) Inner [] []
-  main_follows [] from code x = subst (λ q. Follows i program g numbers around does.number q [] Inner [] []) (sym code) ends_here
-  main_follows (s ∷ rest) from code x =
+  main_follows : (note : Note) (all : List MainStatement) (from : ℕ) → AreMain i program g numbers from does.stop all → In from
+      → Follows i program g numbers note around does.number from (map DoesStatement all) Inner [] []
+  main_follows note [] from code x = subst (λ q. Follows i program g numbers note around does.number q [] Inner [] []) (sym code) (ends_here note)
+  main_follows note (s ∷ rest) from code x =
       let le = code.1 in
       let up = code.2 in
       let mid_in = all_in code.0 (omega (arith, x.0, le)) (omega (arith, up)) in (
@@ -107,7 +107,7 @@ module _ (t : ProgramTree) (i : Sections) (g : Package) (numbers : Numbers) (v :
           to_inside = mid_in;
         },
         code.3,
-        main_follows rest code.0 code.4 mid_in,
+        main_follows note rest code.0 code.4 mid_in,
         goes_within i unhandled (first_place i does.number) from code.0 does.stop does.uncovered x.0 up,
       )
 
@@ -121,9 +121,9 @@ module _ (t : ProgramTree) (i : Sections) (g : Package) (numbers : Numbers) (v :
     there = ap (called i) number ∙ does.there;
     object = does.object;
     around = around;
-    begins = subst (λ n. Follows i program g numbers around n (first_place i n) (duty_items x.duty) Inner [] []) (sym number)
-        (subst (λ d. Follows i program g numbers around does.number (first_place i does.number) (duty_items d) Inner [] []) (sym duty)
-        (main_follows t.main.statements (first_place i does.number) does.statements
+    begins = λ note. subst (λ n. Follows i program g numbers note around n (first_place i n) (duty_items x.duty) Inner [] []) (sym number)
+        (subst (λ d. Follows i program g numbers note around does.number (first_place i does.number) (duty_items d) Inner [] []) (sym duty)
+        (main_follows note t.main.statements (first_place i does.number) does.statements
         (all_in (first_place i does.number) (omega arith) (let up = does.up in omega (arith, up)))));
     rests = rests;
   }

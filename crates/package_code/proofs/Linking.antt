@@ -1,5 +1,5 @@
 -- A well-formed image that was put together from an accepted program has the program's code, and so its meaning.
-use Rattle.std.proofs.Common.{◌≡◌, ℕ, zero, suc, ◌+◌, ◌≤◌, List, [], ◌∷◌, ◌++◌, length, map, inl, inr, Option, None, Some, refl, sym, ap, ◌∙◌, subst, arith, append-nil, append_assoc, take_all, ◌⊎◌}
+use Rattle.std.proofs.Common.{◌≡◌, ℕ, zero, suc, ◌+◌, ◌<◌, ◌≤◌, List, [], ◌∷◌, ◌++◌, length, map, inl, inr, Option, None, Some, refl, sym, ap, ◌∙◌, subst, arith, append-nil, append_assoc, take_all, ◌⊎◌}
 use Rattle.std.specs.Prelude.{pos, replicate, slice_get}
 use Rattle.std.proofs.lemmas.List.Elements.{All-nil, All-weaker}
 use Rattle.std.proofs.lemmas.Option.{slice_get_within}
@@ -12,8 +12,7 @@ use Rattle.ada_tree.specs.StatementTree.{EntryTree, SubprogramTree}
 use Rattle.ada_tree.specs.ProgramTree.{BodyItemTree, BodyTree, EntryBody, OperationBody, ProgramTree, ProtectedBody, ProtectedItemTree, SubprogramBody, TaskBody}
 use Rattle.image_laws.specs.handlers.specs.declared.rows.Row.{Row}
 use Rattle.image.specs.Code.{ceiling_of as ceiling_row_of, initial_words_of}
-use Rattle.image.specs.ObjectTable.{ObjectRow}
-use Rattle.image.specs.Operations.{called, entry_of, results_of}
+use Rattle.image.specs.Operations.{called, entry_of as code_entry_of, results_of}
 use Rattle.image.specs.Rules.{IsWellFormed}
 use Rattle.image.specs.Frames.{Inner}
 use Rattle.image.specs.Sections.{Sections, first_place}
@@ -29,11 +28,12 @@ use Rattle.expr_soundness.specs.meaning.specs.Calls.{procedure_among, procedure_
 use Rattle.expr_soundness.specs.meaning.specs.Programs.{OfBody, OfMain, Procedure, Program, Task, items_among, main_task, package_bodies, package_items, program_of, returned, tasks_among}
 use Rattle.expr_soundness.specs.meaning.specs.Source.{duty_items, initial_work, task_items}
 use Rattle.expr_soundness.specs.meaning.specs.Works.{DoesMain as DoesStatement, Store, TaskWork}
+use Rattle.program_soundness.specs.step_soundness.specs.Fitting.{entry_of}
 use Rattle.program_soundness.specs.step_soundness.specs.Holding.{IsSoundTask}
 use Rattle.program_soundness.specs.step_soundness.specs.Judged.{IsReady, Judged}
 use Rattle.program_soundness.specs.step_soundness.specs.Objects.{first_store}
 use Rattle.program_soundness.specs.Fronts.{declared_in, front, start_in}
-use Rattle.program_soundness.proofs.Callables.{function_by, procedure_by, subprogram_body}
+use Rattle.program_soundness.proofs.Callables.{function_by, operation_body, procedure_by, subprogram_body}
 use Rattle.program_soundness.proofs.Listing.{Has, front_at, has_either, or_else_some, same_some}
 use Rattle.program_soundness.proofs.Trees.{tasks_are}
 use Rattle.program_soundness.proofs.Whole.{IsPackage}
@@ -55,12 +55,13 @@ use Rattle.stmt_code.specs.declared.draft.Draft.{Draft}
 use Rattle.stmt_code.specs.declared.subprogram.SubprogramWords.{SubprogramWords}
 use Rattle.package_code.specs.LinkLaws.{LinkedKeepsCount, LinkedMeansTheSame}
 use Rattle.package_code.specs.Linked.{AreLinkedTasks, IsLinkedProgram, IsLinkedTask}
-use Rattle.package_code.specs.Objects.{object_rows}
+use Rattle.package_code.specs.Objects.{bare_objects, object_rows, service_of}
 use Rattle.package_code.specs.Package.{IsInFront, IsInOrder, IsPackageOf, first_objects}
 use Rattle.package_code.proofs.BodyFronts.{IsEntrance}
 use Rattle.package_code.proofs.NamedExceptions.{exceptions_are_named}
-use Rattle.package_code.proofs.CodedPackage.{HasBodies, IsOperation, StandsAt, ada_linkd, bare_procedures, bare_found}
-use Rattle.package_code.proofs.Unbarred.{no_barriers}
+use Rattle.package_code.proofs.CodedPackage.{HasBodies, IsInRow, IsOperation, StandsAt, ada_linkd}
+use Rattle.package_code.proofs.EntryRows.{element, entry_body, entry_number, row_is}
+use Rattle.package_code.proofs.Barred.{barriers_agree}
 use Rattle.package_code.proofs.EmittedBodies.{procedure_emitted}
 use Rattle.package_code.proofs.EmittedFunctions.{function_emitted}
 use Rattle.package_code.proofs.EmittedMain.{AreMainCalls, main_emitted, main_returns, main_within}
@@ -72,15 +73,16 @@ use Rattle.package_code.proofs.LinkedMain.{DoesMain, linked_main}
 use Rattle.package_code.proofs.Coded.{body_at, from_many}
 use Rattle.package_code.proofs.Numbered.{bodies_numbered}
 use Rattle.package_code.proofs.ObjectFronts.{object_entrance}
-use Rattle.package_code.proofs.ObjectNumbers.{ceiling_row, many_rows, row_entries, row_words}
+use Rattle.package_code.proofs.ObjectNumbers.{ceiling_row, many_rows, row_words}
 use Rattle.package_code.proofs.Offered.{procedure_named}
-use Rattle.package_code.proofs.OperationBodies.{code_of, coded, has_number, object}
+use Rattle.package_code.proofs.OperationsAdded.{number_is}
+use Rattle.package_code.proofs.OperationBodies.{code_of, coded, has_number, object, object_few}
 use Rattle.package_code.proofs.PackageFronts.{package_entrance}
 use Rattle.package_code.proofs.Placed.{items_are}
 use Rattle.package_code.proofs.TaskRows.{HasTaskBody, task_found}
 use Rattle.package_code.specs.Directory.{AreTold, number_told, slot_told}
 use Rattle.package_code.specs.Laws.{SectionsMeanTheSame}
-use Rattle.package_code.specs.Bodies.{Coded, bodies_among, bodies_before, bodies_of, coded_at, number_in, of_subprogram, of_task, operation_kind, own_name}
+use Rattle.package_code.specs.Bodies.{Coded, bodies_among, bodies_before, bodies_of, coded_at, number_in, of_subprogram, of_task, operation_kind, own_body, own_head, own_name}
 use Rattle.package_code.specs.Program.{HasProgram}
 use Rattle.package_code.specs.Tasks.{HasDuty, HasTask, HaveTasks}
 use Rattle.package_code.specs.Walking.{AddsSubprogram, AddsValueFunction, HasBody, LieInFront, begins_at, row_of}
@@ -189,7 +191,7 @@ module _ (t : ProgramTree) (i : Sections) (h : HasProgram t i) where
     components = h.told.components;
     words = h.plain_words ∙ h.are.words;
     object_words = λ object.
-        ap (λ l. initial_words_of (slice_get l object)) h.objects ∙ row_words program.scope (package_items t.package_) object;
+        ap (λ l. initial_words_of (slice_get l object)) h.objects ∙ row_words t program.scope (package_items t.package_) object;
   }
 
   pub in_front : (s : Scope) (owner : Option ℕ) (v : Framed) → v.names.scope ≡ s → v.within ≡ owner → AreTold program.scope h.directory owner v.names
@@ -311,14 +313,6 @@ module _ (t : ProgramTree) (i : Sections) (h : HasProgram t i) where
           ∙ h.told.operations (object laws.scopes laws.names laws.premises t legal restricted x.place x.name x.items x.end_name x.at).number (own_name u)
           ∙ has_number laws.scopes laws.names laws.premises t legal restricted x.place x.name x.items x.end_name x.at x.k u x.there
 
-    -- no code is made of an entry's body
-    no_entry_code : (owner : Option ℕ) (d : EntryTree) (barrier : ExprTree) (b : BodyTree) → IsOperation laws t legal restricted owner (EntryBody d barrier b) → ⊥
-    no_entry_code owner d barrier b x =
-        (let body = body_there (operation_number owner (EntryBody d barrier b) x) (operation_code owner (EntryBody d barrier b) x)
-        (operation_is owner (EntryBody d barrier b) x) in
-        let bad = body.no_entry in
-        cc)
-
     -- ---- a body of a subprogram, whosever it is, with what is visible in front of its parameters
 
     module _ (number : ℕ) (c : Coded) (is : slice_get (bodies_of t) number ≡ Some c)
@@ -341,14 +335,14 @@ module _ (t : ProgramTree) (i : Sections) (h : HasProgram t i) where
       labels : HasLabels i body.new.labels
       labels = labels_there number c body
 
-      procedure_there : c.head.result ≡ None → c.kind ≡ procedure_kind c.owner None
-          → IsProcedureCode i program g numbers (procedure_by program.scope (subprogram_body c.owner c.head c.body)) number
-      procedure_there none kind =
+      -- that of an entry has a barrier
+      procedure_there : (barrier : Option ExprTree) → c.head.result ≡ None → c.kind ≡ procedure_kind c.owner barrier
+          → IsProcedureCode i program g numbers (record (procedure_by program.scope (subprogram_body c.owner c.head c.body)) { barrier = barrier }) number
+      procedure_there barrier none kind =
           let adds = as_procedure t c.head c.body body.seen body.old body.words body.new body.adds none in
           procedure_emitted laws quiet shaped t legal restricted i well_formed g of_program numbers c.owner c.head c.body body.seen body.old body.new body.words
-          adds number row there first refl refl (ap results_of there) refl kind holds labels
+          adds number row there first refl refl (ap results_of there) refl barrier kind holds labels
           (handled_there number c body (exceptions_are_named laws.premises t legal restricted) adds) (λ q n told. told)
-          (bare_found laws t legal restricted no_entry_code)
           (entrance _ (in_front c.front c.owner _ body.scope refl body.told))
 
       function_there : (r : Identifier) → c.head.result ≡ Some r → (value : ExprTree) → returned c.body.statements ≡ Some value
@@ -381,11 +375,11 @@ module _ (t : ProgramTree) (i : Sections) (h : HasProgram t i) where
       package_enters : (v : Framed) → IsInFront (front t (suc place)) g None v → IsEntrance t g None v d b
       package_enters v before = package_entrance laws t legal restricted i g of_program place d b at v before
 
-    module _ (owner : Option ℕ) (d : SubprogramTree) (b : BodyTree) (x : IsOperation laws t legal restricted owner (OperationBody d b)) where
-      operation_enters : (v : Framed) → IsInFront (operation_code owner (OperationBody d b) x).front g (operation_code owner (OperationBody d b) x).owner v
-          → IsEntrance t g (operation_code owner (OperationBody d b) x).owner v d b
+    module _ (owner : Option ℕ) (u : ProtectedItemTree) (x : IsOperation laws t legal restricted owner u) where
+      operation_enters : (v : Framed) → IsInFront (operation_code owner u x).front g (operation_code owner u x).owner v
+          → IsEntrance t g (operation_code owner u x).owner v (own_head u) (own_body u)
       operation_enters v before =
-          object_entrance laws t legal restricted x.place x.name x.items x.end_name x.at x.k d b x.there i g ordered of_program h.told.operations v before
+          object_entrance laws t legal restricted x.place x.name x.items x.end_name x.at x.k u x.there i g ordered of_program h.told.operations v before
 
     procedure_code : (owner : Option ℕ) (d : SubprogramTree) (b : BodyTree) → StandsAt laws t legal restricted owner d b → d.result ≡ None → (n : ℕ)
         → numbers (procedure_by program.scope (subprogram_body owner d b)) ≡ Some n
@@ -399,18 +393,32 @@ module _ (t : ProgramTree) (i : Sections) (h : HasProgram t i) where
         (ap (λ o. number_told program.scope h.directory o d.name.name) (sym p.0) ∙ told) in
         subst (λ o. IsProcedureCode i program g numbers (procedure_by program.scope (subprogram_body o d b)) n) (sym p.0)
         (subst (IsProcedureCode i program g numbers (procedure_by program.scope (subprogram_body None d b))) same
-        (procedure_there number (own_code place d b p.2) is enters none refl))
+        (procedure_there number (own_code place d b p.2) is enters None none refl))
     procedure_code owner d b (inr x) none n told =
         let number = operation_number owner (OperationBody d b) x in
         let is = operation_is owner (OperationBody d b) x in
-        let enters = operation_enters owner d b x in
+        let enters = operation_enters owner (OperationBody d b) x in
         let same = same_some number n (sym (operation_numbered owner (OperationBody d b) x) ∙ told) in
         subst (λ o. IsProcedureCode i program g numbers (procedure_by program.scope (subprogram_body o d b)) n) (sym x.owned)
         (subst
         (IsProcedureCode i program g numbers
         (procedure_by program.scope (subprogram_body (operation_code owner (OperationBody d b) x).owner d b))) same
-        (procedure_there number (operation_code owner (OperationBody d b) x) is enters none
+        (procedure_there number (operation_code owner (OperationBody d b) x) is enters None none
         (ap (operation_kind (object laws.scopes laws.names laws.premises t legal restricted x.place x.name x.items x.end_name x.at).number) none)))
+
+    -- an entry's is that of its procedure
+    entry_code : (owner : Option ℕ) (d : EntryTree) (barrier : ExprTree) (b : BodyTree)
+        → IsOperation laws t legal restricted owner (EntryBody d barrier b) → (n : ℕ)
+        → numbers (procedure_by program.scope (operation_body owner (EntryBody d barrier b))) ≡ Some n
+        → IsProcedureCode i program g numbers (procedure_by program.scope (operation_body owner (EntryBody d barrier b))) n
+    entry_code owner d barrier b x n told =
+        let u : ProtectedItemTree = EntryBody d barrier b in
+        let number = operation_number owner u x in
+        let same = same_some number n (sym (operation_numbered owner u x) ∙ told) in
+        subst (λ o. IsProcedureCode i program g numbers (procedure_by program.scope (operation_body o u)) n) (sym x.owned)
+        (subst
+        (IsProcedureCode i program g numbers (procedure_by program.scope (operation_body (operation_code owner u x).owner u))) same
+        (procedure_there number (operation_code owner u x) (operation_is owner u x) (operation_enters owner u x) (Some barrier) refl refl))
 
     function_code : (owner : Option ℕ) (d : SubprogramTree) (b : BodyTree) → StandsAt laws t legal restricted owner d b → (r : Identifier) → d.result ≡ Some r
         → (value : ExprTree) → returned b.statements ≡ Some value → (n : ℕ) → g.subprograms owner d.name.name ≡ Some n
@@ -428,7 +436,7 @@ module _ (t : ProgramTree) (i : Sections) (h : HasProgram t i) where
     function_code owner d b (inr x) r some value returns n told =
         let number = operation_number owner (OperationBody d b) x in
         let is = operation_is owner (OperationBody d b) x in
-        let enters = operation_enters owner d b x in
+        let enters = operation_enters owner (OperationBody d b) x in
         let same = same_some number n (sym (operation_numbered owner (OperationBody d b) x) ∙ told) in
         subst (λ o. IsFunctionCode i (library_of g) (function_by program.scope (subprogram_body o d b) r value) n) (sym x.owned)
         (subst
@@ -441,13 +449,48 @@ module _ (t : ProgramTree) (i : Sections) (h : HasProgram t i) where
     bodies = record {
       procedures = procedure_code;
       functions = function_code;
-      entries = λ owner d barrier b x n told. no_entry_code owner d barrier b x;
+      entries = entry_code;
     }
 
+    -- ---- the rows of objects
+
+    abbrev all_items : List BodyItemTree
+    all_items = declared_in t.package_
+
+    abbrev start : Scope
+    start = start_in t.package_
+
+    w : IsPackage program start all_items
+    w = whole laws t legal restricted
+
+    items : package_items t.package_ ≡ items_among all_items
+    items = items_are t.package_
+
+    many_objects : length i.objects ≡ program.objects
+    many_objects = ap length h.objects ∙ ap (λ l. length (object_rows t 0 (bare_objects program.scope l))) items ∙ many_rows program start all_items w t
+
+    -- that of an entry's object names the number of its body
+    rows_there : (o : ℕ) (q : Procedure) → entry_of program.procedures o ≡ Some q → IsInRow laws t legal restricted i g of_program numbers o q
+    rows_there o q found =
+        let y = entry_body laws t legal restricted o q found in
+        let few = object_few laws.scopes laws.names laws.premises t legal restricted y.place y.name y.items y.end_name y.at in
+        let mine = number_is laws.scopes laws.names laws.premises t legal restricted y.place y.name y.items y.end_name y.at in
+        let count = many_objects in
+        let number = y.number in
+        let less : o < length i.objects = omega (arith, few, mine, count, number) in
+        let r = element i.objects o less in
+        let x = row_is t i.objects h.objects o r.0 r.1 in
+        let told = entry_number laws t legal restricted o q y in
+        record {
+          number = bodies_before t y.place + y.k;
+          row = ap code_entry_of r.1 ∙ ap (λ z. z.entry) x.1 ∙ ap (λ e. (service_of t o e).entry) found ∙ told;
+          numbered = (λ j. number_told program.scope h.directory (y.is j).object (y.is j).name) ∙ h.told.operations o y.d.name.name
+              ∙ ap (λ z. number_in t (Some o) z.name) (sym y.is) ∙ told;
+        }
+
     code : HasCode i program g numbers
-    code = ada_linkd laws t legal restricted i g of_program numbers bodies quiet views back (h.exceptions ∙ h.are.exceptions)
-        (no_barriers program i program.scope (package_items t.package_)
-        (bare_procedures laws t legal restricted no_entry_code) h.objects)
+    code = ada_linkd laws t legal restricted i g of_program numbers bodies quiet views back (h.exceptions ∙ h.are.exceptions) rows_there
+        (λ m words o store stands. barriers_agree laws t legal restricted i h.objects many_objects g ordered of_program m words store stands o)
 
     -- ---- main
 
@@ -509,7 +552,7 @@ module _ (t : ProgramTree) (i : Sections) (h : HasProgram t i) where
         let r = task_begins laws t legal restricted i well_formed g of_program numbers f.place f.body body.seen body.old body.new body.words body.adds
         n s called_so (begins_there n c body) refl refl refl (holds_there n c body) (labels_there n c body)
         (handled_there n c body (exceptions_are_named laws.premises t legal restricted) body.adds)
-        (λ q n told. told) (bare_found laws t legal restricted no_entry_code) (in_front (front t (suc f.place)) None _ body.scope refl body.told) in
+        (λ q n told. told) (in_front (front t (suc f.place)) None _ body.scope refl body.told) in
         record {
           name = has.name;
           priority = has.priority;
@@ -517,8 +560,8 @@ module _ (t : ProgramTree) (i : Sections) (h : HasProgram t i) where
           there = ap (called i) same ∙ called_so;
           object = refl;
           around = r.0;
-          begins = subst (λ m. Follows i program g numbers r.0 m (first_place i m) (duty_items x.duty) Inner [] []) (sym same)
-              (subst (λ d. Follows i program g numbers r.0 n (first_place i n) (duty_items d) Inner [] []) (sym f.duty) r.1);
+          begins = λ note. subst (λ m. Follows i program g numbers note r.0 m (first_place i m) (duty_items x.duty) Inner [] []) (sym same)
+              (subst (λ d. Follows i program g numbers note r.0 n (first_place i n) (duty_items d) Inner [] []) (sym f.duty) (r.1 note));
           rests = r.2;
         }
 
@@ -549,29 +592,13 @@ module _ (t : ProgramTree) (i : Sections) (h : HasProgram t i) where
     linked_tasks [] (line ∷ table) among has = absurd has
     linked_tasks (x ∷ xs) [] among has = absurd has
 
-    abbrev all_items : List BodyItemTree
-    all_items = declared_in t.package_
-
-    abbrev start : Scope
-    start = start_in t.package_
-
-    w : IsPackage program start all_items
-    w = whole laws t legal restricted
-
-    items : package_items t.package_ ≡ items_among all_items
-    items = items_are t.package_
-
-    no_entry : (o : ℕ) (r : Option ObjectRow) → slice_get i.objects o ≡ r → entry_of r ≡ None
-    no_entry o (Some row) is = row_entries program.scope (package_items t.package_) o row (ap (λ l. slice_get l o) (sym h.objects) ∙ is)
-    no_entry o None is = refl
-
     pub sections_linked : ImagesHaveSize → IsLinkedProgram t i g numbers
     sections_linked sizes = record {
       exceptions = h.exceptions ∙ h.are.exceptions;
-      objects = ap length h.objects ∙ ap (λ l. length (object_rows program.scope l)) items ∙ many_rows program start all_items w;
-      ceilings = λ o. ceiling_row program start all_items w o
-          ∙ sym (ap (λ l. ceiling_row_of (slice_get l o)) h.objects ∙ ap (λ l. ceiling_row_of (slice_get (object_rows program.scope l) o)) items);
-      entries = λ o. no_entry o (slice_get i.objects o) refl;
+      objects = many_objects;
+      ceilings = λ o. ceiling_row program start all_items w t o
+          ∙ sym (ap (λ l. ceiling_row_of (slice_get l o)) h.objects
+          ∙ ap (λ l. ceiling_row_of (slice_get (object_rows t 0 (bare_objects program.scope l)) o)) items);
       tasks = linked_tasks program.tasks i.tasks (λ x among. among) h.tasks;
       code = code;
       words = first_words laws t legal restricted i g of_program sizes well_formed;

@@ -1,10 +1,9 @@
 -- What is visible in front of the parameters of a protected object's operation: its names mean what they stand for, and the words of components and of the
 -- package's variables have their places (RM 9.4, 9.5.1).
-use Rattle.std.proofs.Common.{◌≡◌, ◌≢◌, ◌⊎◌, inl, inr, ℕ, suc, ◌+◌, ◌≤◌, ℤ, List, [], ◌∷◌, ◌++◌, cond, map, take, length, Option, Some, None, Bool, true, false, refl, sym, ap, ◌∙◌, subst}
+use Rattle.std.proofs.Common.{◌≡◌, ◌≢◌, ◌⊎◌, inl, inr, ℕ, ◌+◌, List, [], ◌∷◌, cond, Option, Some, None, Bool, true, false, refl, sym, ap, ◌∙◌, subst}
 use Rattle.std.specs.Prelude.{bytes_eq, if◌then◌else◌, is_some, option_map, slice_get}
 use Rattle.ada_tree.specs.declared.expression.Identifier.{Identifier}
-use Rattle.ada_tree.specs.StatementTree.{SubprogramTree}
-use Rattle.ada_tree.specs.ProgramTree.{BodyItemTree, BodyTree, OperationBody, EntryBody, ProgramTree, ProtectedBody, ProtectedItemTree}
+use Rattle.ada_tree.specs.ProgramTree.{BodyItemTree, OperationBody, EntryBody, ProgramTree, ProtectedBody, ProtectedItemTree}
 use Rattle.image.specs.Sections.{Sections}
 use Rattle.image.specs.declared.instruction.Region.TheVariants as regions
 use Rattle.types.specs.declared.entity.RecordComponent.{RecordComponent}
@@ -15,15 +14,20 @@ use Rattle.types.specs.Entities.{Entity, Operation, Profile, Protected, Protecte
 use Rattle.types.specs.Entities as entity
 use Rattle.types.specs.Layouts.{words_of}
 use Rattle.types.specs.Places.{Function, Object, Place, function_of, object_of, or_else}
-use Rattle.types.specs.Scopes.{Scope, entity_at, number_of, offering, protected_at, protected_of}
-use Rattle.declaring.specs.BodyNames.{component_role, components_scope}
-use Rattle.legality.specs.ProtectedBodyRules.{protected_item_faults}
-use Rattle.type_rules.specs.ProfileRules.{subprogram_scope}
-use Rattle.type_rules.specs.SubtypeNames.{subtype_of}
+use Rattle.types.specs.Scopes.{Scope, offering}
+use Rattle.declaring.specs.BodyNames.{component_role, components_scope, formals_scope}
+use Rattle.program_soundness.specs.stmt_rules.specs.declared.around.BodyKind.TheVariants as kinds
+use Rattle.program_soundness.specs.stmt_rules.specs.SimpleRules.{condition_faults}
+use Rattle.legality.specs.BodyRules.{body_faults}
+use Rattle.legality.specs.ProtectedBodyRules.{entry_rule, protected_item_faults}
+use Rattle.type_rules.specs.ProfileRules.{formals_faults}
+use Rattle.type_rules.specs.SubtypeNames.{end_rule, subtype_of}
 use Rattle.program_soundness.specs.checking.specs.ProgramRules.{IsLegal}
 use Rattle.ravenscar.specs.ProgramRules.{IsRestricted}
 use Rattle.expr_soundness.specs.Agreeing.{Agrees}
 use Rattle.expr_soundness.specs.Answers.{FunctionsAreSound}
+use Rattle.expr_soundness.specs.SoundScopes.{SoundScope}
+use Rattle.expr_soundness.specs.expr_rules.proofs.TypedLaw.{back_empty, front_empty}
 use Rattle.expr_soundness.proofs.Goods.{object_known}
 use Rattle.expr_soundness.proofs.Positions.{entity_number}
 use Rattle.expr_soundness.specs.meaning.specs.Calls.{procedure_among, procedure_here}
@@ -44,22 +48,24 @@ use Rattle.program_soundness.proofs.ObjectCalls.{function_inside, outside_functi
 use Rattle.program_soundness.proofs.ObjectFits as fits
 use Rattle.program_soundness.proofs.ObjectTrees.{components_named}
 use Rattle.program_soundness.proofs.OfObjects as operations
+use Rattle.program_soundness.proofs.Same.{SameTypes}
 use Rattle.program_soundness.proofs.Whole.{variable_entity}
 use Rattle.program_soundness.proofs.WiderScopes.{found_in, number_stands, stands, stands_number}
-use Rattle.expr_code.specs.Seeing.{AreSuited, HasObjects, NamesProfile, Package, external_of, object_named, slot_of, subprogram_of, subtype_among}
+use Rattle.expr_code.specs.Seeing.{AreSuited, HasObjects, NamesProfile, Package, object_named, slot_of, subprogram_of, subtype_among}
 use Rattle.expr_code.specs.declared.visible.Slot.{Slot}
-use Rattle.step_simulation.specs.part_code.specs.Layout.{AreApart, AreFree, EndsBelow, IsLaid, IsLaidOut, NamesObject}
+use Rattle.step_simulation.specs.part_code.specs.Layout.{AreApart, EndsBelow, IsLaidOut, NamesObject}
 use Rattle.step_simulation.specs.part_code.specs.Resting.{Framed}
 use Rattle.step_simulation.specs.part_code.proofs.Names.{is_told}
 use Rattle.stmt_code.proofs.EnteringObjects.{IsOfObject, IsPlacedIn, rests_object}
-use Rattle.package_code.specs.Bodies.{bodies_before, number_in, of_operation, own_name}
-use Rattle.package_code.specs.Owners.{in_object, told_inside, told_slot}
+use Rattle.package_code.specs.Bodies.{bodies_before, number_in, operation_front, own_body, own_head, own_name}
+use Rattle.package_code.specs.Owners.{in_object}
 use Rattle.package_code.specs.Package.{IsInFront, IsInOrder, IsPackageOf, place_among}
-use Rattle.package_code.proofs.BodyFronts.{IsBodyFront, IsEntrance, body_words}
+use Rattle.package_code.proofs.BodyFronts.{IsAtEntry, IsBehindName, IsBodyFront, IsEntrance, body_words}
 use Rattle.package_code.proofs.InFront.{LawsOfNames, kept_behind, known, memory, names, whole}
 use Rattle.package_code.proofs.InOrder.{has_place, stands_there}
 use Rattle.package_code.proofs.OperationsAdded as added
-use Rattle.package_code.proofs.Offered.{object_entity, offered, offered_number, procedure_named}
+use Rattle.package_code.proofs.BareOperations.{bare_operation}
+use Rattle.package_code.proofs.Offered.{entry_number, object_entity, offered, offered_number, procedure_named}
 use Rattle.package_code.proofs.OperationBodies as own
 
 -- ---- entities
@@ -97,12 +103,12 @@ named_unit : (i : ProtectedItemTree) → own_name i ≡ bodies.unit_name i
 named_unit (OperationBody d b) = refl
 named_unit (EntryBody d barrier b) = refl
 
--- ---- an operation
+-- ---- an operation or an entry
 
 module _ (laws : LawsOfNames) (t : ProgramTree) (legal : IsLegal t) (restricted : IsRestricted t)
     (place : ℕ) (name : Identifier) (items : List ProtectedItemTree) (end_name : Identifier)
     (at : slice_get (declared_in t.package_) place ≡ Some (ProtectedBody name items end_name))
-    (k : ℕ) (d : SubprogramTree) (b : BodyTree) (there : slice_get items k ≡ Some (OperationBody d b)) where
+    (k : ℕ) (unit_ : ProtectedItemTree) (there : slice_get items k ≡ Some unit_) where
   abbrev program : Program
   program = program_of t
 
@@ -116,7 +122,7 @@ module _ (laws : LawsOfNames) (t : ProgramTree) (legal : IsLegal t) (restricted 
   object = own.object laws.scopes laws.names laws.premises t legal restricted place name items end_name at
 
   abbrev pub is_function : Bool
-  is_function = is_some d.result
+  is_function = is_some (own_head unit_).result
 
   abbrev earlier : Scope
   earlier = own.earlier laws.scopes laws.names laws.premises t legal restricted place name items end_name at k
@@ -126,7 +132,7 @@ module _ (laws : LawsOfNames) (t : ProgramTree) (legal : IsLegal t) (restricted 
   outer = components_scope earlier is_function object.components
 
   abbrev pub seen : Scope
-  seen = (of_operation object.number earlier object.components (OperationBody d b)).front
+  seen = operation_front earlier object.components unit_
 
   -- ---- names come from the front, from the object's operations or from its components
 
@@ -149,45 +155,82 @@ module _ (laws : LawsOfNames) (t : ProgramTree) (legal : IsLegal t) (restricted 
     pub inners : bodies.InnerSound program start all (whole laws t legal restricted) place name items end_name at
     inners = added.inners laws.scopes laws.names laws.premises t legal restricted place name items end_name at
 
-    abbrev behind : Scope
-    behind =
-        operations.behind program start all (whole laws t legal restricted) (known laws t legal restricted) laws.scopes m sound offers
-        (names laws t legal restricted).fronts place name items end_name at own_items sounds inners k d b there
+    -- in front of the whole body, as the laws of such bodies say it
+    abbrev at_ : Scope
+    at_ = bodies.at_ program start all (whole laws t legal restricted) place name items end_name at k
 
-    same_seen : seen ≡ behind
+    same_seen : seen ≡ operation_front at_ object.components unit_
     same_seen =
-        ap (λ u. subprogram_scope (components_scope u is_function object.components) d)
+        ap (λ z. operation_front z object.components unit_)
         (added.same_scope laws.scopes laws.names laws.premises t legal restricted place name items end_name at k)
 
-    pub came_seen : (x : List ℕ) (e : Entity) → stands seen x ≡ Some e → Came x e
-    came_seen x e h =
+    came_by : (x : ProtectedItemTree) → slice_get items k ≡ Some x → (n : List ℕ) (e : Entity) → stands (operation_front at_ object.components x) n ≡ Some e
+        → fits.CameTo program start all (whole laws t legal restricted) (known laws t legal restricted) laws.scopes m sound offers
+        (names laws t legal restricted).fronts place name items end_name at own_items (is_some (own_head x).result) n e
+    came_by (OperationBody d b) is n e h =
         operations.came program start all (whole laws t legal restricted) (known laws t legal restricted) laws.scopes m sound offers
-        (names laws t legal restricted).fronts place name items end_name at own_items sounds inners k d b there x e
-        (ap (λ u. stands u x) (sym same_seen) ∙ h)
+        (names laws t legal restricted).fronts place name items end_name at own_items sounds inners k d b is n e h
+    came_by (EntryBody d barrier b) is n e h =
+        fits.came_seen program start all (whole laws t legal restricted) (known laws t legal restricted) laws.scopes m sound offers
+        (names laws t legal restricted).fronts place name items end_name at own_items sounds k (EntryBody d barrier b) is false n e h
+
+    pub came_seen : (x : List ℕ) (e : Entity) → stands seen x ≡ Some e → Came x e
+    came_seen x e h = came_by unit_ there x e (ap (λ z. stands z x) (sym same_seen) ∙ h)
+
+    types_by : (x : ProtectedItemTree) → slice_get items k ≡ Some x
+        → SameTypes (bodies.hidden program start all (whole laws t legal restricted) place name items end_name at) (operation_front at_ object.components x)
+    types_by (OperationBody d b) is =
+        operations.types program start all (whole laws t legal restricted) (known laws t legal restricted) laws.scopes m sound offers
+        (names laws t legal restricted).fronts place name items end_name at own_items sounds inners k d b is
+    types_by (EntryBody d barrier b) is =
+        fits.seen_types program start all (whole laws t legal restricted) (known laws t legal restricted) laws.scopes m sound offers
+        (names laws t legal restricted).fronts place name items end_name at own_items k false
+
+    sound_by : (x : ProtectedItemTree) → slice_get items k ≡ Some x → SoundScope (operation_front at_ object.components x)
+    sound_by (OperationBody d b) is = inners k d b is
+    sound_by (EntryBody d barrier b) is = sounds k (EntryBody d barrier b) is false
 
     seen_fits : (p : Place) → FitsScope program seen (inside program m (record { within = Some object.number; locals = [] }) p)
     seen_fits p =
-        subst (λ u. FitsScope program u (inside program m (record { within = Some object.number; locals = [] }) p)) (sym same_seen)
+        subst (λ z. FitsScope program z (inside program m (record { within = Some object.number; locals = [] }) p)) (sym same_seen)
         (fits.object_fits program start all (whole laws t legal restricted) (known laws t legal restricted) laws.scopes m sound offers
-        (names laws t legal restricted).fronts place name items end_name at own_items is_function behind (inners k d b there)
-        (operations.types program start all (whole laws t legal restricted) (known laws t legal restricted) laws.scopes m sound offers
-        (names laws t legal restricted).fronts place name items end_name at own_items sounds inners k d b there)
-        (operations.came program start all (whole laws t legal restricted) (known laws t legal restricted) laws.scopes m sound offers
-        (names laws t legal restricted).fronts place name items end_name at own_items sounds inners k d b there) p)
+        (names laws t legal restricted).fronts place name items end_name at own_items is_function (operation_front at_ object.components unit_)
+        (sound_by unit_ there) (types_by unit_ there) (came_by unit_ there) p)
 
-  pub operation_front : IsBodyFront t (Some object.number) seen d b
-  operation_front = record {
+  -- no rule is broken there
+  abbrev IsOwnFront : ProtectedItemTree → Type 0
+  IsOwnFront x =
+      let before = components_scope earlier (is_some (own_head x).result) object.components in
+      let behind = operation_front earlier object.components x in
+      IsBehindName before behind (own_head x) (own_body x) ⊎ IsAtEntry before behind (own_head x)
+
+  own_front : (x : ProtectedItemTree) → slice_get items k ≡ Some x → IsOwnFront x
+  own_front x is = by_item x (subst (λ z. protected_item_faults z object.components x ≡ [])
+      (sym (added.same_scope laws.scopes laws.names laws.premises t legal restricted place name items end_name at k))
+      (bodies.item_legal program start all (whole laws t legal restricted) place name items end_name at k x is))
+    where
+      by_item : (y : ProtectedItemTree) → protected_item_faults earlier object.components y ≡ [] → IsOwnFront y
+      by_item (OperationBody d b) legal_ = inl (refl, legal_)
+      by_item (EntryBody d barrier b) legal_ =
+          let u : Scope = components_scope earlier false object.components in
+          inr (
+            refl,
+            refl,
+            back_empty (entry_rule u d.name) (formals_faults u [] d.formals)
+                (front_empty _ (condition_faults (formals_scope u d.formals) barrier)
+                (front_empty _ (body_faults (formals_scope u d.formals) kinds.Entry b) (front_empty _ (end_rule d.name b.end_name) legal_))),
+          )
+
+  pub operation_is_front : IsBodyFront t (Some object.number) seen (own_head unit_) (own_body unit_)
+  operation_is_front = record {
     before = outer;
-    is = refl;
-    front =
-        (added.known_object laws.scopes laws.names laws.premises t legal restricted place name items end_name at).seen k (OperationBody d b) there is_function;
-    same = λ x u h. bodies.types_seen program start all (whole laws t legal restricted) place name items end_name at k is_function x u
-        (subst (λ z. subtype_of (components_scope z is_function object.components) x ≡ Some u)
+    own = own_front unit_ there;
+    front = (added.known_object laws.scopes laws.names laws.premises t legal restricted place name items end_name at).seen k unit_ there is_function;
+    same = λ x z h. bodies.types_seen program start all (whole laws t legal restricted) place name items end_name at k is_function x z
+        (subst (λ y. subtype_of (components_scope y is_function object.components) x ≡ Some z)
         (added.same_scope laws.scopes laws.names laws.premises t legal restricted place name items end_name at k) h);
-    sound = (added.known_object laws.scopes laws.names laws.premises t legal restricted place name items end_name at).own k d b there;
-    legal = subst (λ z. protected_item_faults z object.components (OperationBody d b) ≡ [])
-        (sym (added.same_scope laws.scopes laws.names laws.premises t legal restricted place name items end_name at k))
-        (bodies.item_legal program start all (whole laws t legal restricted) place name items end_name at k (OperationBody d b) there);
+    sound = subst SoundScope (sym (same_seen (first_store program) (memory laws t legal restricted)))
+        (sound_by (first_store program) (memory laws t legal restricted) unit_ there);
     fits = seen_fits;
   }
 
@@ -208,10 +251,10 @@ module _ (laws : LawsOfNames) (t : ProgramTree) (legal : IsLegal t) (restricted 
     CameHere x e = Came (first_store program) first_sound x e
 
     pub came : (x : List ℕ) (e : Entity) → stands s x ≡ Some e → CameHere x e
-    came x e h = came_seen (first_store program) first_sound x e (ap (λ u. stands u x) (sym before.scope) ∙ h)
+    came x e h = came_seen (first_store program) first_sound x e (ap (λ z. stands z x) (sym before.scope) ∙ h)
 
-    pub front_here : IsBodyFront t (Some object.number) s d b
-    front_here = subst (λ u. IsBodyFront t (Some object.number) u d b) (sym before.scope) operation_front
+    pub front_here : IsBodyFront t (Some object.number) s (own_head unit_) (own_body unit_)
+    front_here = subst (λ z. IsBodyFront t (Some object.number) z (own_head unit_) (own_body unit_)) (sym before.scope) operation_is_front
 
     -- ---- components and their places
 
@@ -373,7 +416,7 @@ module _ (laws : LawsOfNames) (t : ProgramTree) (legal : IsLegal t) (restricted 
     suited_words : (x : List ℕ) (r : Role) (u : Subtype) → NamesObject s x r u → words_of g.scope u ≡ words_of s u
     suited_words x r u n =
         ap (λ z. words_of z u) of_program.scope
-        ∙ body_words laws.scopes t (Some object.number) s d b front_here first_sound u
+        ∙ body_words laws.scopes t (Some object.number) s (own_head unit_) (own_body unit_) front_here first_sound u
         (object_known s r u (front_here.sound.each n.number (entity.Object r u) n.stands))
 
     one_subtype : (x : List ℕ) (q r : Role) (u w : Subtype) → NamesObject s x q u → NamesObject s x r w → w ≡ u
@@ -646,21 +689,24 @@ module _ (laws : LawsOfNames) (t : ProgramTree) (legal : IsLegal t) (restricted 
       calls = calls_own;
       outer = calls_outer;
       externals = λ x operation number o q told named found.
-          let there = ap (λ u. stands u x) (sym of_program.scope) ∙ object_entity g.scope x o named in
+          let there = ap (λ z. stands z x) (sym of_program.scope) ∙ object_entity g.scope x o named in
           offered program start all (whole laws t legal restricted) g of_program.scope v.names before.operations x operation number o q told
           (object_alike x o there) there found;
     }
 
-    pub object_entrance : IsEntrance t g (Some object.number) v d b
+    pub object_entrance : IsEntrance t g (Some object.number) v (own_head unit_) (own_body unit_)
     object_entrance = record {
       front = front_here;
       within = before.within;
       procedures = procedure_numbered;
       externals = λ x operation q o number told is found.
           let y = procedure_named program.procedures (Some o.number) operation q found in
-          (λ j. g.subprograms (y.0 j) (y.1 j))
-          ∙ offered_number program start all (whole laws t legal restricted) g of_program.scope v.names before.operations x operation number o told
-          (object_alike x o is) is;
+          let offer = offered_number program start all (whole laws t legal restricted) g of_program.scope v.names before.operations x operation number o told
+          (object_alike x o is) is in (
+            (λ j. g.subprograms (y.0 j) (y.1 j)) ∙ offer.numbered,
+            bare_operation laws t legal restricted o x operation (g.subprograms (Some o.number)) number q is offer found,
+          );
+      entries = λ x operation o number told is. entry_number (object_named v.names.scope x) o operation number (object_alike x o is) told;
       laid = object_laid;
       ends = object_ends;
       begins = rests_object g object.number v front_of_object;

@@ -1,21 +1,20 @@
 -- The protected objects that are visible behind a package stand in the order of their declarations, each at its number, and so do their rows (RM 9.4, D.3).
 use Rattle.std.proofs.Common.{◌≡◌, ℕ, zero, suc, ◌+◌, ◌⊎◌, inl, inr, ◌≤◌, List, [], ◌∷◌, ◌++◌, append-nil, append_assoc, length, map, cond, Bool, true, false, Option, Some, None, refl, sym, ap, ◌∙◌, subst, arith}
-use Rattle.std.specs.Prelude.{bytes_eq, if◌then◌else◌, nat_eq, nat_le, slice_get, ⊤}
+use Rattle.std.specs.Prelude.{ℤ, bytes_eq, if◌then◌else◌, nat_eq, nat_le, option_map, slice_get, ⊤}
 use Rattle.std.proofs.lemmas.Bool.{and_parts, eqb-true, eq-eqb, leb-true}
 use Rattle.std.specs.List.{sum_by}
 use Rattle.std.proofs.lemmas.List.{length-append}
 use Rattle.std.proofs.lemmas.List.Sums.{sum_by-cons}
 use Rattle.ada_tree.specs.StatementTree.{ProtectedTree}
-use Rattle.ada_tree.specs.ProgramTree.{BodyItemTree, ItemTree, OfException, OfItem, OfObject, OfProtected, OfSubprogram, OfTask, OfType, ProtectedBody, SubprogramBody, TaskBody}
+use Rattle.ada_tree.specs.ProgramTree.{BodyItemTree, ItemTree, OfException, OfItem, OfObject, OfProtected, OfSubprogram, OfTask, OfType, ProgramTree, ProtectedBody, SubprogramBody, TaskBody}
 use Rattle.base.specs.declared.limits.TheConstants.{TASK_PRIORITY}
 use Rattle.image.specs.Code as sections
 use Rattle.image.specs.ObjectTable.{ObjectRow}
-use Rattle.image.specs.declared.objects.Barrier.TheVariants as barriers
 use Rattle.types.specs.declared.entity.RecordComponent.{RecordComponent}
 use Rattle.types.specs.Entities.{Doubtful, Entity, Operation, Protected, ProtectedObject}
 use Rattle.types.specs.Places.{Object, ceiling_of, ceiling_or, object_of}
 use Rattle.types.specs.Shapes.{value_words}
-use Rattle.types.specs.Scopes.{Named, Scope, entity_at, entity_of, is_visible, one_if_protected, protected_count, protected_of, with_name}
+use Rattle.types.specs.Scopes.{Named, Scope, entity_at, is_visible, one_if_protected, protected_count, protected_of, with_name}
 use Rattle.declaring.specs.PackageNames.{body_item_scope, body_items_scope}
 use Rattle.declaring.specs.ProtectedRules.{default_ceiling, object_components, object_operations, object_with, protected_entity}
 use Rattle.declaring.specs.TaskRules.{priority_of}
@@ -23,10 +22,11 @@ use Rattle.expr_soundness.specs.meaning.specs.Programs.{Program, component, comp
 use Rattle.program_soundness.specs.Fronts.{scope_at}
 use Rattle.program_soundness.proofs.Listing.{same_some}
 use Rattle.program_soundness.proofs.Parted.{CountsNext, counts_item, item_objects}
-use Rattle.program_soundness.proofs.Walked.{declared_one, declares, item_new, legal_at, one_of, scope_next}
+use Rattle.program_soundness.proofs.Walked.{declared_one, item_new, legal_at, scope_next}
 use Rattle.program_soundness.proofs.Whole.{IsPackage, item_stands, no_doubt}
 use Rattle.program_soundness.proofs.WiderScopes.{bytes_same, number_stands, stands, unseen_none}
-use Rattle.package_code.specs.Objects.{ceiling_named, have_words, objects_have_words, object_row, object_rows, object_words}
+use Rattle.package_code.specs.BareObjects.{BareObject}
+use Rattle.package_code.specs.Objects.{bare_object, bare_objects, have_words, objects_have_words, object_row, object_rows, object_words}
 use Rattle.package_code.specs.Owners.{one_protected, protected_objects}
 use Rattle.package_code.specs.Package.{first_words_of}
 use Rattle.package_code.proofs.Declared.{among_both}
@@ -91,14 +91,14 @@ trees_both (OfException name ∷ xs) ys = trees_both xs ys
 trees_both (OfSubprogram d ∷ xs) ys = trees_both xs ys
 trees_both (OfTask d ∷ xs) ys = trees_both xs ys
 
-pub rows_of : (s : Scope) (items : List ItemTree) → object_rows s items ≡ map (object_row s) (trees_among items)
-rows_of s [] = refl
-rows_of s (OfProtected d ∷ xs) = ap (λ l. object_row s d ∷ l) (rows_of s xs)
-rows_of s (OfType d ∷ xs) = rows_of s xs
-rows_of s (OfObject d ∷ xs) = rows_of s xs
-rows_of s (OfException name ∷ xs) = rows_of s xs
-rows_of s (OfSubprogram d ∷ xs) = rows_of s xs
-rows_of s (OfTask d ∷ xs) = rows_of s xs
+pub bare_of : (s : Scope) (items : List ItemTree) → bare_objects s items ≡ map (bare_object s) (trees_among items)
+bare_of s [] = refl
+bare_of s (OfProtected d ∷ xs) = ap (λ l. bare_object s d ∷ l) (bare_of s xs)
+bare_of s (OfType d ∷ xs) = bare_of s xs
+bare_of s (OfObject d ∷ xs) = bare_of s xs
+bare_of s (OfException name ∷ xs) = bare_of s xs
+bare_of s (OfSubprogram d ∷ xs) = bare_of s xs
+bare_of s (OfTask d ∷ xs) = bare_of s xs
 
 abbrev pub components_in : Scope → ProtectedTree → List Object
 components_in s d = map (component s) d.components
@@ -112,18 +112,51 @@ components_of s (OfException name ∷ xs) = components_of s xs
 components_of s (OfSubprogram d ∷ xs) = components_of s xs
 components_of s (OfTask d ∷ xs) = components_of s xs
 
--- the words of the row at a number are those of the components of the object with the number
-pub row_words : (s : Scope) (items : List ItemTree) (n : ℕ)
-    → sections.initial_words_of (slice_get (object_rows s items) n) ≡ first_words_of (objects_or_none (slice_get (components_among s items) n))
-row_words s items n =
-    ap (λ l. sections.initial_words_of (slice_get l n)) (rows_of s items) ∙ among (trees_among items) n
-    ∙ ap (λ l. first_words_of (objects_or_none (slice_get l n))) (sym (components_of s items))
-  where
-    among : (ds : List ProtectedTree) (k : ℕ)
-        → sections.initial_words_of (slice_get (map (object_row s) ds) k) ≡ first_words_of (objects_or_none (slice_get (map (components_in s) ds) k))
-    among [] k = refl
-    among (d ∷ ds) zero = refl
-    among (d ∷ ds) (suc k) = among ds k
+-- ---- their rows
+
+abbrev bare_ceiling : Option BareObject → ℕ
+bare_ceiling (Some x) = x.ceiling
+bare_ceiling None = 0
+
+abbrev bare_words : Option BareObject → List ℤ
+bare_words (Some x) = x.words
+bare_words None = []
+
+module _ (t : ProgramTree) where
+  -- what a row has of its object
+  pub row_there : (from : ℕ) (xs : List BareObject) (n : ℕ) → slice_get (object_rows t from xs) n ≡ option_map (object_row t (from + n)) (slice_get xs n)
+  row_there from [] n = refl
+  row_there from (x ∷ xs) zero = (let none : from ≡ from + 0 = omega arith in ap (λ o. Some (object_row t o x)) none)
+  row_there from (x ∷ xs) (suc n) =
+      (let next : suc from + n ≡ from + suc n = omega arith in
+      row_there (suc from) xs n ∙ ap (λ o. option_map (object_row t o) (slice_get xs n)) next)
+
+  pub many_of : (from : ℕ) (xs : List BareObject) → length (object_rows t from xs) ≡ length xs
+  many_of from [] = refl
+  many_of from (x ∷ xs) = ap suc (many_of (suc from) xs)
+
+  ceiling_at : (from : ℕ) (xs : List BareObject) (n : ℕ) → sections.ceiling_of (slice_get (object_rows t from xs) n) ≡ bare_ceiling (slice_get xs n)
+  ceiling_at from [] n = refl
+  ceiling_at from (x ∷ xs) zero = refl
+  ceiling_at from (x ∷ xs) (suc n) = ceiling_at (suc from) xs n
+
+  words_at : (from : ℕ) (xs : List BareObject) (n : ℕ) → sections.initial_words_of (slice_get (object_rows t from xs) n) ≡ bare_words (slice_get xs n)
+  words_at from [] n = refl
+  words_at from (x ∷ xs) zero = refl
+  words_at from (x ∷ xs) (suc n) = words_at (suc from) xs n
+
+  -- the words of the row at a number are those of the components of the object with the number
+  pub row_words : (s : Scope) (items : List ItemTree) (n : ℕ)
+      → sections.initial_words_of (slice_get (object_rows t 0 (bare_objects s items)) n) ≡ first_words_of (objects_or_none (slice_get (components_among s items) n))
+  row_words s items n =
+      words_at 0 (bare_objects s items) n ∙ ap (λ l. bare_words (slice_get l n)) (bare_of s items) ∙ among (trees_among items) n
+      ∙ ap (λ l. first_words_of (objects_or_none (slice_get l n))) (sym (components_of s items))
+    where
+      among : (ds : List ProtectedTree) (k : ℕ)
+          → bare_words (slice_get (map (bare_object s) ds) k) ≡ first_words_of (objects_or_none (slice_get (map (components_in s) ds) k))
+      among [] k = refl
+      among (d ∷ ds) zero = refl
+      among (d ∷ ds) (suc k) = among ds k
 
 -- each component has a word at least, where all have
 parts_wide : (xs : List Object) (name : List ℕ) (x : Object) → have_words xs ≡ true → object_of xs name ≡ Some x → 1 ≤ length (value_words x.value)
@@ -151,35 +184,18 @@ components_wide s (OfSubprogram d ∷ items) o name x h found = components_wide 
 components_wide s (OfTask d ∷ items) o name x h found = components_wide s items o name x h found
 
 -- the words of all rows are those of all components
-pub rows_words : (s : Scope) (items : List ItemTree) → sum_by (λ o. length o.words) (object_rows s items) ≡ object_words s items
-rows_words s [] = refl
-rows_words s (OfProtected d ∷ xs) =
-    let first = sum_by-cons (λ (o : ObjectRow). length o.words) (object_row s d) (object_rows s xs) in
-    let rest = rows_words s xs in
+pub rows_words : (t : ProgramTree) (from : ℕ) (s : Scope) (items : List ItemTree)
+    → sum_by (λ o. length o.words) (object_rows t from (bare_objects s items)) ≡ object_words s items
+rows_words t from s [] = refl
+rows_words t from s (OfProtected d ∷ xs) =
+    let first = sum_by-cons (λ (o : ObjectRow). length o.words) (object_row t from (bare_object s d)) (object_rows t (suc from) (bare_objects s xs)) in
+    let rest = rows_words t (suc from) s xs in
     omega (arith, first, rest)
-rows_words s (OfType d ∷ xs) = rows_words s xs
-rows_words s (OfObject d ∷ xs) = rows_words s xs
-rows_words s (OfException name ∷ xs) = rows_words s xs
-rows_words s (OfSubprogram d ∷ xs) = rows_words s xs
-rows_words s (OfTask d ∷ xs) = rows_words s xs
-
--- no row has an entry
-pub row_entries : (s : Scope) (items : List ItemTree) (n : ℕ) (row : ObjectRow) → slice_get (object_rows s items) n ≡ Some row → row.entry ≡ None
-row_entries s items n row at = among (trees_among items) n (ap (λ l. slice_get l n) (sym (rows_of s items)) ∙ at)
-  where
-    among : (ds : List ProtectedTree) (k : ℕ) → slice_get (map (object_row s) ds) k ≡ Some row → row.entry ≡ None
-    among [] k h = cc
-    among (d ∷ ds) zero h = ap (λ r. r.entry) (sym (same_some (object_row s d) row h))
-    among (d ∷ ds) (suc k) h = among ds k h
-
--- ... and none opens by a component
-pub row_barriers : (s : Scope) (items : List ItemTree) (n : ℕ) (row : ObjectRow) → slice_get (object_rows s items) n ≡ Some row → row.barrier ≡ barriers.Closed
-row_barriers s items n row at = among (trees_among items) n (ap (λ l. slice_get l n) (sym (rows_of s items)) ∙ at)
-  where
-    among : (ds : List ProtectedTree) (k : ℕ) → slice_get (map (object_row s) ds) k ≡ Some row → row.barrier ≡ barriers.Closed
-    among [] k h = cc
-    among (d ∷ ds) zero h = ap (λ r. r.barrier) (sym (same_some (object_row s d) row h))
-    among (d ∷ ds) (suc k) h = among ds k h
+rows_words t from s (OfType d ∷ xs) = rows_words t from s xs
+rows_words t from s (OfObject d ∷ xs) = rows_words t from s xs
+rows_words t from s (OfException name ∷ xs) = rows_words t from s xs
+rows_words t from s (OfSubprogram d ∷ xs) = rows_words t from s xs
+rows_words t from s (OfTask d ∷ xs) = rows_words t from s xs
 
 -- Each is what its name stands for behind the package, and they are numbered from this one on.
 abbrev pub AreDeclared : (whole : Scope) → (from : ℕ) → List ProtectedTree → List ProtectedObject → Type 0
@@ -218,7 +234,7 @@ module _ (whole : Scope) where
 
   -- the ceiling of the one with a number is that of the row there
   ceilings_among : (from : ℕ) (ds : List ProtectedTree) (os : List ProtectedObject) → AreDeclared whole from ds os → (n k : ℕ) → n ≡ from + k
-      → ceiling_among n os ≡ sections.ceiling_of (slice_get (map (object_row whole) ds) k)
+      → ceiling_among n os ≡ bare_ceiling (slice_get (map (bare_object whole) ds) k)
   ceilings_among from [] [] h n k is = refl
   ceilings_among from (d ∷ ds) (o ∷ os) h n zero is =
       let same : o.number ≡ n = h.1 ∙ omega (arith, is) in
@@ -228,8 +244,8 @@ module _ (whole : Scope) where
       by_test (nat_eq o.number n) refl (ceilings_among (suc from) ds os h.2 n k (omega (arith, is)))
     where
       by_test : (b : Bool) → nat_eq o.number n ≡ b
-          → ceiling_among n os ≡ sections.ceiling_of (slice_get (map (object_row whole) ds) k)
-          → (if b then o.ceiling else ceiling_among n os) ≡ sections.ceiling_of (slice_get (map (object_row whole) ds) k)
+          → ceiling_among n os ≡ bare_ceiling (slice_get (map (bare_object whole) ds) k)
+          → (if b then o.ceiling else ceiling_among n os) ≡ bare_ceiling (slice_get (map (bare_object whole) ds) k)
       by_test true e later = absurd (let same = eqb-true o.number n e in let first = h.1 in omega (arith, same, first, is))
       by_test false e later = later
   ceilings_among from [] (o ∷ os) h n k is = absurd h
@@ -425,16 +441,18 @@ module _ (program : Program) (s : Scope) (all : List BodyItemTree) (w : IsPackag
   ceiling_is name o h =
       ceiling_listed whole o.number ∙ own_ceiling whole 0 declared objects all_declared o.number o.number (omega arith) o (at_number name o h)
 
-  pub ceiling_row : (n : ℕ) → ceiling_of whole n ≡ sections.ceiling_of (slice_get (object_rows whole (items_among all)) n)
-  ceiling_row n =
+  pub ceiling_row : (t : ProgramTree) (n : ℕ)
+      → ceiling_of whole n ≡ sections.ceiling_of (slice_get (object_rows t 0 (bare_objects whole (items_among all))) n)
+  ceiling_row t n =
       ceiling_listed whole n ∙ ceilings_among whole 0 declared objects all_declared n n (omega arith)
-      ∙ ap (λ l. sections.ceiling_of (slice_get l n)) (sym (rows_of whole (items_among all)))
+      ∙ ap (λ l. bare_ceiling (slice_get l n)) (sym (bare_of whole (items_among all))) ∙ sym (ceiling_at t 0 (bare_objects whole (items_among all)) n)
 
   -- as many rows as objects
-  pub many_rows : length (object_rows whole (items_among all)) ≡ protected_count whole
-  many_rows =
-      ap length (rows_of whole (items_among all)) ∙ mapped declared ∙ as_many whole 0 declared objects all_declared ∙ objects_counted whole
+  pub many_rows : (t : ProgramTree) → length (object_rows t 0 (bare_objects whole (items_among all))) ≡ protected_count whole
+  many_rows t =
+      many_of t 0 (bare_objects whole (items_among all)) ∙ ap length (bare_of whole (items_among all)) ∙ mapped declared
+      ∙ as_many whole 0 declared objects all_declared ∙ objects_counted whole
     where
-      mapped : (ds : List ProtectedTree) → length (map (object_row whole) ds) ≡ length ds
+      mapped : (ds : List ProtectedTree) → length (map (bare_object whole) ds) ≡ length ds
       mapped [] = refl
       mapped (d ∷ ds) = ap suc (mapped ds)

@@ -1,22 +1,25 @@
 -- The bodies of a protected object's operations: each has its place among those with code, and a number by its name; what has a number stands there (RM 9.4).
-use Rattle.std.proofs.Common.{◌≡◌, ◌<◌, ◌⊎◌, inl, inr, ℕ, zero, suc, ◌+◌, ◌∷◌, [], List, take, Option, Some, None, refl, sym, ap, ◌∙◌, subst}
+use Rattle.std.proofs.Common.{◌≡◌, ◌<◌, ◌⊎◌, inl, inr, ℕ, zero, suc, ◌+◌, ◌∷◌, [], List, arith, length, take, take_all, Some, sym, ap, ◌∙◌}
 use Rattle.std.specs.Prelude.{option_map, slice_get}
+use Rattle.std.proofs.lemmas.Option.{slice_get_within}
 use Rattle.ada_tree.specs.declared.expression.Identifier.{Identifier}
-use Rattle.ada_tree.specs.ProgramTree.{BodyItemTree, EntryBody, OperationBody, ProgramTree, ProtectedBody, ProtectedItemTree}
+use Rattle.ada_tree.specs.ProgramTree.{BodyItemTree, ProgramTree, ProtectedBody, ProtectedItemTree}
 use Rattle.types.specs.declared.entity.RecordComponent.{RecordComponent}
 use Rattle.types.specs.Entities.{ProtectedObject}
-use Rattle.types.specs.Scopes.{Scope, protected_of}
+use Rattle.types.specs.Scopes.{Scope, protected_count, protected_of}
+use Rattle.declaring.specs.PackageNames.{body_items_scope}
 use Rattle.legality.specs.ProtectedBodyRules.{protected_item_scope, protected_items_scope}
 use Rattle.program_soundness.specs.checking.specs.ProgramRules.{IsLegal}
 use Rattle.ravenscar.specs.ProgramRules.{IsRestricted}
 use Rattle.expr_soundness.specs.Laws.{ScopesAreSound}
-use Rattle.expr_soundness.specs.meaning.specs.Programs.{Program, program_of}
+use Rattle.expr_soundness.specs.meaning.specs.Programs.{program_of}
 use Rattle.program_soundness.specs.BodyLaws.{NamesAreKnown, PremisesHold}
-use Rattle.program_soundness.specs.Fronts.{declared_in, front, start_in}
+use Rattle.program_soundness.specs.Fronts.{declared_in, front, scope_at, start_in}
 use Rattle.program_soundness.proofs.Listing.{same_some}
 use Rattle.program_soundness.proofs.ObjectBodies as bodies
-use Rattle.program_soundness.proofs.ObjectItems.{order}
-use Rattle.package_code.specs.Bodies.{Coded, bodies_before, bodies_of, coded_at, components_or_none, number_in, object_bodies, object_number, of_operation, operations_of, or_zero, own_name}
+use Rattle.program_soundness.proofs.Moved.{grows_at}
+use Rattle.program_soundness.proofs.ObjectItems.{further_by, order}
+use Rattle.package_code.specs.Bodies.{Coded, bodies_before, coded_at, components_or_none, number_in, object_bodies, object_number, of_operation, operations_of, or_zero, own_name}
 use Rattle.package_code.proofs.Coded.{body_of}
 use Rattle.package_code.proofs.Numbered.{bodies_numbered, number_of_body}
 use Rattle.package_code.proofs.OperationsAdded as added
@@ -29,14 +32,6 @@ pub at_operation : (o : ℕ) (s : Scope) (components : List RecordComponent) (it
 at_operation o s components [] k i h = cc
 at_operation o s components (x ∷ items) zero i h = ap (λ y. Some (of_operation o s components y)) (same_some x i h)
 at_operation o s components (x ∷ items) (suc k) i h = at_operation o (protected_item_scope s x) components items k i h
-
-pub owner_is : (o : ℕ) (s : Scope) (components : List RecordComponent) (i : ProtectedItemTree) → (of_operation o s components i).owner ≡ Some o
-owner_is o s components (OperationBody d b) = refl
-owner_is o s components (EntryBody d barrier b) = refl
-
-pub name_is : (o : ℕ) (s : Scope) (components : List RecordComponent) (i : ProtectedItemTree) → (of_operation o s components i).head.name.name ≡ own_name i
-name_is o s components (OperationBody d b) = refl
-name_is o s components (EntryBody d barrier b) = refl
 
 module _ (scopes : ScopesAreSound) (known : NamesAreKnown) (premises : PremisesHold) (t : ProgramTree) (legal : IsLegal t) (restricted : IsRestricted t)
     (place : ℕ) (name : Identifier) (items : List ProtectedItemTree) (end_name : Identifier)
@@ -53,6 +48,22 @@ module _ (scopes : ScopesAreSound) (known : NamesAreKnown) (premises : PremisesH
 
   number_is : object_number (program_of t).scope name ≡ object.number
   number_is = added.number_is scopes known premises t legal restricted place name items end_name at
+
+  -- it is one of those that the program has
+  pub object_few : object_number (program_of t).scope name < (program_of t).objects
+  object_few =
+      let start : Scope = start_in t.package_ in
+      let all : List BodyItemTree = declared_in t.package_ in
+      let w = added.w scopes known premises t legal restricted in
+      let x = bodies.declared_at (program_of t) start all w place name items end_name at in
+      let counted = bodies.counted_behind (program_of t) start all w name.name object x in
+      let inside = slice_get_within all x.place _ x.at in
+      let m = further_by x.place (length all) inside in
+      let grown = grows_at start all (suc x.place) m.0 in
+      let last = ap (λ k. protected_count (scope_at start all k)) m.1 in
+      let whole_is = ap (λ l. protected_count (body_items_scope start l)) (take_all (length all) all (omega arith)) ∙ ap protected_count w.scope in
+      let number = number_is in
+      omega (arith, number, counted, grown, last, whole_is)
 
   -- the code of an operation or entry
   abbrev pub code_of : (k : ℕ) → ProtectedItemTree → Coded
@@ -75,9 +86,7 @@ module _ (scopes : ScopesAreSound) (known : NamesAreKnown) (premises : PremisesH
   -- its name has its number
   pub has_number : (k : ℕ) (i : ProtectedItemTree) → slice_get items k ≡ Some i
       → number_in t (Some object.number) (own_name i) ≡ Some (bodies_before t place + k)
-  has_number k i there =
-      (λ j. number_in t ((sym (owner_is object.number (earlier k) object.components i)) j) ((sym (name_is object.number (earlier k) object.components i)) j))
-      ∙ (bodies_numbered scopes known premises t legal restricted place item_at k (code_of k i) at (coded k i there)).0
+  has_number k i there = (bodies_numbered scopes known premises t legal restricted place item_at k (code_of k i) at (coded k i there)).0
 
   -- what has a number stands there
   pub of_number : (own : List ℕ) (n : ℕ) → number_in t (Some object.number) own ≡ Some n
@@ -94,11 +103,7 @@ module _ (scopes : ScopesAreSound) (known : NamesAreKnown) (premises : PremisesH
         f.k,
         x.item,
         ap (λ l. slice_get l f.k) (sym (ap items_of item)) ∙ x.there,
-        sym (ap (λ c. c.head.name.name) x.is
-            ∙ name_is (object_number (program_of t).scope x.name)
-            (protected_items_scope (added.begun scopes known premises t legal restricted f.place x.name x.items x.end_name x.at) (take f.k x.items))
-            (added.obj scopes known premises t legal restricted f.place x.name x.items x.end_name x.at).components x.item)
-            ∙ b.named,
+        sym (ap (λ c. c.head.name.name) x.is) ∙ b.named,
       )
     where
       one_place : (p : ℕ) (other : Identifier) (others : List ProtectedItemTree) (end_other : Identifier)

@@ -1,10 +1,11 @@
 -- The bodies of the operations of protected objects in an accepted program: where each stands, what methods ask that add its code, and that no two of one object
 -- have one name (RM 9.4, 9.5.1).
-use Rattle.std.proofs.Common.{◌≡◌, ◌<◌, ℕ, zero, suc, ◌+◌, List, [], ◌∷◌, ◌++◌, ◌⊎◌, inl, inr, Bool, length, map, take, true, false, Option, Some, None, refl, sym, ap, ◌∙◌, subst, arith}
+use Rattle.std.proofs.Common.{◌≡◌, ◌<◌, ℕ, zero, suc, ◌+◌, List, [], ◌∷◌, ◌++◌, ◌⊎◌, inl, inr, length, map, take, false, Option, Some, None, refl, sym, ap, ◌∙◌, subst}
 use Rattle.std.specs.Prelude.{is_some, option_map, slice_get}
 use Rattle.std.proofs.lemmas.List.{length-map, take-map}
 use Rattle.ada_tree.specs.declared.expression.Identifier.{Identifier}
-use Rattle.ada_tree.specs.StatementTree.{SubprogramTree}
+use Rattle.ada_tree.specs.ExpressionTree.{ExprTree}
+use Rattle.ada_tree.specs.StatementTree.{EntryTree, SubprogramTree}
 use Rattle.ada_tree.specs.ProgramTree.{BodyItemTree, BodyTree, EntryBody, OperationBody, ProgramTree, ProtectedBody, ProtectedItemTree}
 use Rattle.types.specs.declared.entity.RecordComponent.{RecordComponent}
 use Rattle.types.specs.declared.entity.Subtype.{Subtype}
@@ -13,11 +14,13 @@ use Rattle.types.specs.Scopes.{Scope, entity_at, number_of, protected_of}
 use Rattle.expr_soundness.specs.expr_rules.proofs.TypedLaw.{back_empty, front_empty}
 use Rattle.type_rules.specs.ProfileRules.{formals_faults, profile_faults, result_faults, subprogram_scope}
 use Rattle.type_rules.specs.SubtypeNames.{end_rule, named_entity, subtype_faults, subtype_of}
-use Rattle.declaring.specs.BodyNames.{components_scope, formals_scope, object_body_scope}
+use Rattle.declaring.specs.BodyNames.{components_scope, formals_scope}
 use Rattle.declaring.specs.PackageNames.{body_items_scope}
 use Rattle.legality.specs.BodyRules.{body_faults, head_faults, kind_of, own_name_faults}
-use Rattle.legality.specs.ProtectedBodyRules.{components_at, operation_sees, protected_item_scope, protected_items_scope}
+use Rattle.legality.specs.ProtectedBodyRules.{components_at, entry_rule, operation_sees, protected_item_scope, protected_items_scope}
 use Rattle.program_soundness.specs.legality.specs.MatchingRules as matching
+use Rattle.program_soundness.specs.stmt_rules.specs.declared.around.BodyKind.TheVariants as kinds
+use Rattle.program_soundness.specs.stmt_rules.specs.SimpleRules.{condition_faults}
 use Rattle.program_soundness.specs.checking.specs.ProgramRules.{IsLegal}
 use Rattle.ravenscar.specs.ProgramRules.{IsRestricted}
 use Rattle.expr_soundness.specs.meaning.specs.Programs.{Parameter, Program, parameter, program_of}
@@ -36,9 +39,9 @@ use Rattle.program_soundness.proofs.OneList.{is_object_body}
 use Rattle.program_soundness.proofs.Trees.{tree_package}
 use Rattle.program_soundness.proofs.Whole.{IsPackage, legal_subtype}
 use Rattle.program_soundness.proofs.WiderScopes.{equal_bytes, stands, with_all}
-use Rattle.package_code.specs.Bodies.{Coded, coded_at, components_or_none, is_entry_body, object_bodies, object_number, of_operation, operations_of, or_zero, own_name}
+use Rattle.package_code.specs.Bodies.{Coded, coded_at, components_or_none, object_bodies, object_number, of_operation, operations_of, or_zero, own_name}
 use Rattle.package_code.specs.Laws.{BodiesMayBeAdded, MayBeAdded}
-use Rattle.package_code.proofs.Adding.{all_longer, body_added, fit, known_result, legal_run, task_added}
+use Rattle.package_code.proofs.Adding.{all_longer, body_added, fit, known_result, legal_run, run_legal, task_added}
 use Rattle.package_code.proofs.Coded.{coded_by}
 
 -- ---- where the body of an operation stands
@@ -216,15 +219,64 @@ module _ (scopes : ScopesAreSound) (known : NamesAreKnown) (premises : PremisesH
       operation_added =
           subst (λ u. MayBeAdded t (subprogram_scope (components_scope u (is_some e.result) obj.components) e) e b) (sym (same_scope j)) added
 
-    pub inside_added : (j : ℕ) (c : Coded) → slice_get (coded_at t k (ProtectedBody nm items end_name)) j ≡ Some c → is_entry_body c.kind ≡ false
-        → MayBeAdded t c.front c.head c.body
-    inside_added j c is no_entry = let x = inside_coded j c is in by_item x.0 x.1 c x.2 no_entry
+    -- ---- the body of an entry
+
+    module _ (j : ℕ) (e : EntryTree) (barrier : ExprTree) (b : BodyTree) (h : slice_get items j ≡ Some (EntryBody e barrier b)) where
+      abbrev within : Scope
+      within = components_scope (scope_at begun (map as_item items) j) false obj.components
+
+      abbrev passed : List Parameter
+      passed = map (parameter program.scope) e.formals
+
+      sound_within : SoundScope within
+      sound_within = sounds j (EntryBody e barrier b) h false
+
+      entry_rules : entry_rule within e.name ++ formals_faults within [] e.formals ++ condition_faults (formals_scope within e.formals) barrier
+          ++ body_faults (formals_scope within e.formals) kinds.Entry b ≡ []
+      entry_rules = front_empty _ (end_rule e.name b.end_name) (bodies.item_legal program start all w k nm items end_name at j (EntryBody e barrier b) h)
+
+      entry_formals : formals_faults within [] e.formals ≡ []
+      entry_formals =
+          back_empty (entry_rule within e.name) (formals_faults within [] e.formals)
+          (front_empty _ (condition_faults (formals_scope within e.formals) barrier) (front_empty _ _ entry_rules))
+
+      doubt_within : (name : List ℕ) → stands within name ≡ Some Doubtful → ⊥
+      doubt_within name = bodies.doubt_seen program start all w k nm items end_name at sounds j (EntryBody e barrier b) h false name
+
+      new_within : AreNew within passed
+      new_within =
+          new_formals scopes program.scope within within sound_within (keeps_same within) doubt_within
+          (bodies.types_seen program start all w k nm items end_name at j false) [] e.formals entry_formals (unseen_first within [] e.formals entry_formals)
+
+      text_within : formals_scope within e.formals ≡ with_all within (all_named passed)
+      text_within =
+          text_formals scopes program.scope within within sound_within (keeps_same within) doubt_within
+          (bodies.types_seen program start all w k nm items end_name at j false) [] e.formals within (keeps_same within) entry_formals
+
+      entry_added : MayBeAdded t within (record { place = e.place; name = e.name; formals = e.formals; result = None }) b
+      entry_added = record {
+        front = sound_within;
+        sound = subst SoundScope (sym text_within) (sound_all scopes within passed sound_within new_within);
+        new_names = ap length text_within ∙ all_longer within passed new_within ∙ ap (λ n. length within + n) (length-map e.formals (parameter program.scope));
+        legal = run_legal (formals_scope within e.formals) kinds.Entry b (back_empty _ (body_faults (formals_scope within e.formals) kinds.Entry b) entry_rules);
+        fit = λ r value some is. (let none : None ≡ Some r = some in cc);
+        result = λ r some. (let none : None ≡ Some r = some in cc);
+      }
+
+      pub entry_body_added : MayBeAdded t (components_scope (protected_items_scope begun (take j items)) false obj.components)
+          (record { place = e.place; name = e.name; formals = e.formals; result = None }) b
+      entry_body_added =
+          subst (λ u. MayBeAdded t (components_scope u false obj.components) (record { place = e.place; name = e.name; formals = e.formals; result = None }) b)
+          (sym (same_scope j)) entry_added
+
+    pub inside_added : (j : ℕ) (c : Coded) → slice_get (coded_at t k (ProtectedBody nm items end_name)) j ≡ Some c → MayBeAdded t c.front c.head c.body
+    inside_added j c is = let x = inside_coded j c is in by_item x.0 x.1 c x.2
       where
         by_item : (i : ProtectedItemTree) → slice_get items j ≡ Some i → (z : Coded)
-            → z ≡ of_operation (object_number program.scope nm) (protected_items_scope begun (take j items)) obj.components i → is_entry_body z.kind ≡ false
+            → z ≡ of_operation (object_number program.scope nm) (protected_items_scope begun (take j items)) obj.components i
             → MayBeAdded t z.front z.head z.body
-        by_item (OperationBody e b) h z same none = subst (λ y. MayBeAdded t y.front y.head y.body) (sym same) (operation_added j e b h)
-        by_item (EntryBody e barrier b) h z same none = absurd (let bad = sym (ap (λ y. is_entry_body y.kind) same) ∙ none in cc)
+        by_item (OperationBody e b) h z same = subst (λ y. MayBeAdded t y.front y.head y.body) (sym same) (operation_added j e b h)
+        by_item (EntryBody e barrier b) h z same = subst (λ y. MayBeAdded t y.front y.head y.body) (sym same) (entry_body_added j e barrier b h)
 
   -- ---- bodies of one object
 
@@ -311,9 +363,8 @@ module _ (scopes : ScopesAreSound) (known : NamesAreKnown) (premises : PremisesH
           (same, by_operations (subst (λ l. slice_get l i ≡ Some x.item) items x.there) (order i j))
 
 pub bodies_added : ScopesAreSound → NamesAreKnown → PremisesHold → BodiesMayBeAdded
-bodies_added scopes known premises t legal restricted place x k c at is no_entry =
-    coded_by t place (λ y n e. slice_get (declared_in t.package_) place ≡ Some y → is_entry_body e.kind ≡ false → MayBeAdded t e.front e.head e.body)
-    (λ d b there none. body_added scopes known premises t legal restricted place d b there)
-    (λ name b there none. task_added scopes known premises t legal restricted place name b there)
-    (λ name items end_name n e here there none. inside_added scopes known premises t legal restricted place name items end_name there n e here none) x k c is
-    at no_entry
+bodies_added scopes known premises t legal restricted place x k c at is =
+    coded_by t place (λ y n e. slice_get (declared_in t.package_) place ≡ Some y → MayBeAdded t e.front e.head e.body)
+    (λ d b there. body_added scopes known premises t legal restricted place d b there)
+    (λ name b there. task_added scopes known premises t legal restricted place name b there)
+    (λ name items end_name n e here there. inside_added scopes known premises t legal restricted place name items end_name there n e here) x k c is at

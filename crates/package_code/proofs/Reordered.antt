@@ -19,6 +19,7 @@ use Rattle.program_soundness.proofs.Same.{SameTypes, types_then, types_turned, t
 use Rattle.expr_code.specs.Seeing.{NamesProfile, Package, external_of, number_behind, object_named, slot_of, subprogram_of, told_of}
 use Rattle.expr_code.specs.declared.visible.Slot.{Slot}
 use Rattle.expr_code.specs.declared.visible.Visible.{Visible}
+use Rattle.step_simulation.specs.part_code.specs.EntryNames.{entry_among, entry_behind}
 use Rattle.step_simulation.specs.part_code.specs.Resting.{Framed, NarrowsFrame}
 use Rattle.step_simulation.specs.part_code.proofs.Names.{same_name, told_again, told_more, told_of_more}
 use Rattle.step_simulation.specs.part_code.specs.Formals.{AddsEach, AddsParameter, Placed, parameter_at}
@@ -282,6 +283,21 @@ externals_back xs v w h entries new name operation n = by_object (object_named w
           | inl there ↦ ap (λ z. number_behind v.names.operations z operation) (object_stands v.names.scope name ∙ ap protected_of there)
               ∙ ap (λ all. number_behind all (Some q) operation) (sym (operations_stay xs v w h))
               ∙ told
+          | inr k ↦ absurd (let bad = k.is in cc)
+        ]
+
+-- ... and so is the number by which an entry is called
+pub entries_back : (xs : List Placed) (v w : Framed) → AddsEach v xs w → HasEntries v → AreNew v.names.scope (parameters_at xs) → (name operation : List ℕ)
+    (n : ℕ) → entry_behind w.names.scope name operation ≡ Some n → entry_behind v.names.scope name operation ≡ Some n
+entries_back xs v w h entries new name operation n = by_object (object_named w.names.scope name) refl
+  where
+    by_object : (o : Option ProtectedObject) → object_named w.names.scope name ≡ o → entry_among o operation ≡ Some n
+        → entry_behind v.names.scope name operation ≡ Some n
+    by_object None e told = cc
+    by_object (Some q) e told =
+        elim (all_came (λ u other y. stands u.names.scope other ≡ Some y) formal_entity names_added xs v w h entries new name (entity.Protected q)
+        (object_entity w.names.scope name q e)) [
+          | inl there ↦ ap (λ z. entry_among z operation) (object_stands v.names.scope name ∙ ap protected_of there) ∙ told
           | inr k ↦ absurd (let bad = k.is in cc)
         ]
 

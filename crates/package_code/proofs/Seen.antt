@@ -1,6 +1,6 @@
 -- What is visible in front of each declaration and body of a package is told by the text alone, as names become visible one by one.
 use Rattle.std.proofs.Common.{◌≡◌, ℕ, zero, suc, ◌+◌, ◌≤◌, List, [], ◌∷◌, ◌++◌, append-nil, append_assoc, length, map, take, ◌⊎◌, inl, inr, Option, Some, None, refl, sym, ap, ◌∙◌, subst, arith, length-append}
-use Rattle.std.specs.Prelude.{cond, replicate, slice_get}
+use Rattle.std.specs.Prelude.{cond, if◌then◌else◌, replicate, slice_get}
 use Rattle.ada_tree.specs.ProgramTree.{BodyItemTree, OfItem, PackageTree, ProgramTree, ProtectedBody, SubprogramBody, TaskBody}
 use Rattle.types.specs.Entities.{Entity, Operation, ProtectedObject}
 use Rattle.types.specs.Places.{or_else}
@@ -16,7 +16,7 @@ use Rattle.expr_code.specs.Seeing.{told_of}
 use Rattle.expr_code.specs.declared.visible.Visible.{Visible}
 use Rattle.package_code.specs.Directory.{IsDirectory, IsUnseen, TellsMore, TellsNext, number_told, operations_told}
 use Rattle.package_code.specs.Bodies.{number_in}
-use Rattle.package_code.specs.Owners.{offered_names, protected_objects, told_behind_objects}
+use Rattle.package_code.specs.Owners.{protected_objects, told_behind_objects, told_operation}
 use Rattle.package_code.specs.Refusing.{operation_numbers, seen_at, slot_in, told_behind}
 use Rattle.package_code.specs.declared.directory.Directory.{Directory}
 use Rattle.package_code.proofs.Told.{Grows, item_grows, subprogram_grows}
@@ -47,9 +47,9 @@ objects_same : {X : Type 0} (f g : Option ℕ → List ℕ → Option X) (object
 objects_same f g [] same = refl
 objects_same f g (p ∷ objects) same = λ j. each p.operations j ∷ objects_same f g objects same j
   where
-    each : (os : List Operation) → map (f (Some p.number)) (offered_names os) ≡ map (g (Some p.number)) (offered_names os)
+    each : (os : List Operation) → map (told_operation (f (Some p.number))) os ≡ map (told_operation (g (Some p.number))) os
     each [] = refl
-    each (q ∷ os) = λ j. same p.number q.name j ∷ each os j
+    each (q ∷ os) = λ j. (if q.is_entry then None else same p.number q.name j) ∷ each os j
 
 -- the directory tells their numbers
 pub operations_are : (t : ProgramTree) (d : Directory) → IsDirectory t d → operations_told (program_of t).scope d ≡ operation_numbers t

@@ -4,7 +4,7 @@ use Rattle.std.specs.Prelude.{bytes_eq, if◌then◌else◌, is_some, slice_get}
 use Rattle.std.proofs.lemmas.List.{length-map}
 use Rattle.ada_tree.specs.declared.expression.Identifier.{Identifier}
 use Rattle.ada_tree.specs.StatementTree.{SubprogramTree}
-use Rattle.ada_tree.specs.ProgramTree.{ProgramTree, ProtectedBody, ProtectedItemTree}
+use Rattle.ada_tree.specs.ProgramTree.{EntryBody, OperationBody, ProgramTree, ProtectedBody, ProtectedItemTree}
 use Rattle.types.specs.declared.entity.RecordComponent.{RecordComponent}
 use Rattle.types.specs.Entities.{Entity, Operation}
 use Rattle.types.specs.Places.{or_else}
@@ -12,7 +12,7 @@ use Rattle.types.specs.Scopes.{Named, Scope, changed_at, number_of, offering, op
 use Rattle.type_rules.specs.ProfileRules.{profile_entity, subprogram_scope}
 use Rattle.declaring.specs.BodyNames.{components_scope, object_body_scope, operations_scope}
 use Rattle.declaring.specs.Laws.{ObjectBodiesEnd}
-use Rattle.legality.specs.ProtectedBodyRules.{protected_items_scope}
+use Rattle.legality.specs.ProtectedBodyRules.{protected_item_scope, protected_items_scope}
 use Rattle.program_soundness.specs.checking.specs.ProgramRules.{IsLegal}
 use Rattle.ravenscar.specs.ProgramRules.{IsRestricted}
 use Rattle.expr_soundness.specs.Laws.{ScopesAreSound}
@@ -29,11 +29,11 @@ use Rattle.expr_code.specs.Seeing.{told_of}
 use Rattle.expr_code.specs.declared.visible.Slot.{Slot}
 use Rattle.expr_code.specs.declared.visible.Visible.{Visible}
 use Rattle.step_simulation.specs.part_code.specs.Emitting.{HasEntries}
-use Rattle.package_code.specs.Bodies.{number_in, object_number}
-use Rattle.package_code.specs.Directory.{AreTold, IsDirectory, number_told, operations_told, seen_inside, slot_told, told_each}
+use Rattle.package_code.specs.Bodies.{number_in, object_number, operation_front}
+use Rattle.package_code.specs.Directory.{AreTold, IsDirectory, number_told, seen_inside, slot_told, told_each}
 use Rattle.package_code.specs.Owners.{component_names, offered_names, told_inside, told_slot}
 use Rattle.package_code.specs.Refusing.{operation_numbers, seen_at, seen_with, slot_in, told_behind}
-use Rattle.package_code.specs.Walking.{first_visible, operation_visible, with_components, with_own_name}
+use Rattle.package_code.specs.Walking.{behind_operation, first_visible, operation_visible, with_components, with_own_name}
 use Rattle.package_code.specs.declared.directory.Directory.{Directory}
 use Rattle.package_code.proofs.Coded.{body_of}
 use Rattle.package_code.proofs.Numbered.{bodies_numbered, number_of_body}
@@ -75,15 +75,17 @@ abbrev own_named : Scope → SubprogramTree → Named
 own_named u d = record { name = d.name.name; entity = profile_entity (own_profile u d) }
 
 -- the names in front of the parameters of an operation are those in front of its body, and more
-operation_grows : (u : Scope) (f : Bool) (cs : List RecordComponent) (d : SubprogramTree)
-    → (more : Scope) × (subprogram_scope (components_scope u f cs) d ≡ u ++ more)
-operation_grows u f cs d =
+operation_grows : (u : Scope) (cs : List RecordComponent) (i : ProtectedItemTree) → (more : Scope) × (operation_front u cs i ≡ u ++ more)
+operation_grows u cs (OperationBody d b) =
+    let f = is_some d.result in
     let beside : Scope = components_scope u f cs in
     let xs : List Named = components_named f cs ++ own_named beside d ∷ [] in (
       added u xs,
       ap (λ s. with_all s (own_named beside d ∷ [])) (components_all u f cs) ∙ sym (with_both u (components_named f cs) (own_named beside d ∷ []))
           ∙ with_added u xs,
     )
+operation_grows u cs (EntryBody d barrier b) =
+    (added u (components_named false cs), components_all u false cs ∙ with_added u (components_named false cs))
 
 first_names : (s more : Scope) → take (length s) (s ++ more) ≡ s
 first_names [] [] = refl
@@ -138,11 +140,15 @@ module _ {X : Type 0} (tell : List ℕ → Option X) where
       each_long tell (components_scope u b cs) (own_named (components_scope u b cs) d ∷ [])
       (told_each tell (components_scope u b cs) all (component_names cs)) (components_long u b cs all long)
 
-pub operation_entries : (whole : Scope) (directory : Directory) (o : ℕ) (cs : List RecordComponent) (d : SubprogramTree) (v : Visible) → HasEntries v
-    → HasEntries (operation_visible whole directory o cs d v)
-operation_entries whole directory o cs d v h = record {
+pub operation_entries : (whole : Scope) (directory : Directory) (o : ℕ) (cs : List RecordComponent) (i : ProtectedItemTree) (v : Visible) → HasEntries v
+    → HasEntries (operation_visible whole directory o cs i v)
+operation_entries whole directory o cs (OperationBody d b) v h = record {
   slots = operation_long (told_slot (slot_told whole directory) (number_told whole directory) (Some o)) v.scope (is_some d.result) cs d v.slots h.slots;
   subprograms = operation_long (told_inside (number_told whole directory) (Some o)) v.scope (is_some d.result) cs d v.subprograms h.subprograms;
+}
+operation_entries whole directory o cs (EntryBody d barrier b) v h = record {
+  slots = components_long (told_slot (slot_told whole directory) (number_told whole directory) (Some o)) v.scope false cs v.slots h.slots;
+  subprograms = components_long (told_inside (number_told whole directory) (Some o)) v.scope false cs v.subprograms h.subprograms;
 }
 
 -- ---- entries by two tellings that are the same
@@ -272,11 +278,12 @@ module _ (scopes : ScopesAreSound) (known : NamesAreKnown) (premises : PremisesH
         omega (arith, e, up)
 
     -- in front of the parameters of an operation
-    pub operation_seen : (u : Scope) (cs : List RecordComponent) (d : SubprogramTree) → first ≤ length u
-        → operation_visible whole directory o cs d (seen u) ≡ seen (subprogram_scope (components_scope u (is_some d.result) cs) d)
-    operation_seen u cs d up =
+    pub operation_seen : (u : Scope) (cs : List RecordComponent) (i : ProtectedItemTree) → first ≤ length u
+        → operation_visible whole directory o cs i (seen u) ≡ seen (operation_front u cs i)
+    operation_seen u cs (OperationBody d b) up =
         ap (with_own_name whole directory o d) (components_seen u (is_some d.result) cs up)
         ∙ own_seen (components_scope u (is_some d.result) cs) d (grown_up u (is_some d.result) cs up)
+    operation_seen u cs (EntryBody d barrier b) up = components_seen u false cs up
 
     first_seen : (u more : Scope) → first ≤ length u → first_visible (length u) (seen (u ++ more)) ≡ seen u
     first_seen u more up =
@@ -288,12 +295,16 @@ module _ (scopes : ScopesAreSound) (known : NamesAreKnown) (premises : PremisesH
         }
 
     -- behind it
-    pub behind_seen : (u : Scope) (cs : List RecordComponent) (d : SubprogramTree) → first ≤ length u
-        → with_own_name whole directory o d (first_visible (length u) (operation_visible whole directory o cs d (seen u))) ≡ seen (subprogram_scope u d)
-    behind_seen u cs d up =
-        let grown = operation_grows u (is_some d.result) cs d in
-        ap (λ v. with_own_name whole directory o d (first_visible (length u) v)) (operation_seen u cs d up ∙ ap seen grown.1)
-        ∙ ap (with_own_name whole directory o d) (first_seen u grown.0 up) ∙ own_seen u d up
+    pub behind_seen : (u : Scope) (cs : List RecordComponent) (i : ProtectedItemTree) → first ≤ length u
+        → behind_operation whole directory o i (first_visible (length u) (operation_visible whole directory o cs i (seen u))) ≡ seen (protected_item_scope u i)
+    behind_seen u cs i up =
+        let grown = operation_grows u cs i in
+        ap (λ v. behind_operation whole directory o i (first_visible (length u) v)) (operation_seen u cs i up ∙ ap seen grown.1)
+        ∙ ap (behind_operation whole directory o i) (first_seen u grown.0 up) ∙ behind_there i
+      where
+        behind_there : (x : ProtectedItemTree) → behind_operation whole directory o x (seen u) ≡ seen (protected_item_scope u x)
+        behind_there (OperationBody d b) = own_seen u d up
+        behind_there (EntryBody d barrier b) = refl
 
     -- what is told of them is told by the directory
     pub told_seen : (u : Scope) → AreTold whole directory (Some o) (seen u)

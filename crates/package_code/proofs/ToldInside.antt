@@ -1,5 +1,5 @@
 -- Entries of names that become visible one after another in the body of a protected object: one for each new name, as the text tells it.
-use Rattle.std.proofs.Common.{◌≡◌, ℕ, zero, suc, ◌+◌, ◌<◌, ◌≤◌, List, [], ◌∷◌, ◌++◌, append-nil, append_assoc, drop, length, length-append, map, take, cond, Bool, true, false, inl, inr, Option, Some, None, refl, sym, ap, ◌∙◌, subst, arith}
+use Rattle.std.proofs.Common.{◌≡◌, ℕ, zero, suc, ◌+◌, ◌<◌, ◌≤◌, List, [], ◌∷◌, ◌++◌, append-nil, append_assoc, drop, length, length-append, map, take, cond, Bool, true, false, inl, inr, Option, Some, None, refl, sym, ap, ◌∙◌, arith}
 use Rattle.std.specs.Prelude.{bytes_eq, is_some, nat_eq, slice_get}
 use Rattle.std.proofs.lemmas.List.{length-map, map-append}
 use Rattle.std.proofs.lemmas.Option.{slice_get_within}
@@ -13,7 +13,7 @@ use Rattle.expr_code.specs.Entries.{entry_at}
 use Rattle.expr_code.specs.Seeing.{told_of}
 use Rattle.expr_code.specs.declared.visible.Visible.{Visible}
 use Rattle.package_code.specs.Directory.{entry_if, is_next, number_told, seen_inside, slot_told, told_each}
-use Rattle.package_code.specs.Owners.{objects_at, offered_names, one_protected, protected_objects, told_behind_objects, told_inside, told_slot}
+use Rattle.package_code.specs.Owners.{objects_at, one_protected, protected_objects, told_behind_objects, told_inside, told_operation, told_slot}
 use Rattle.package_code.specs.Refusing.{told_behind}
 use Rattle.package_code.specs.declared.directory.Directory.{Directory}
 use Rattle.package_code.proofs.Reordered.{longer}
@@ -214,4 +214,4 @@ pub objects_told : {X : Type 0} (tell : (owner : Option ℕ) → (name : List �
     ≡ told_behind_objects tell (objects_at s n) ++ told_behind_objects tell (protected_objects (drop (n + 1) s))
 objects_told tell s n =
     ap (told_behind_objects tell) (objects_left s n)
-    ∙ map-append (λ (o : ProtectedObject). map (tell (Some o.number)) (offered_names o.operations)) (objects_at s n) (protected_objects (drop (n + 1) s))
+    ∙ map-append (λ (o : ProtectedObject). map (told_operation (tell (Some o.number))) o.operations) (objects_at s n) (protected_objects (drop (n + 1) s))

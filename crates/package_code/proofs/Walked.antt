@@ -1,5 +1,5 @@
 -- How far a walk over a package is: in front of it, behind a declaration, and behind a body, with the rows of handlers that it has.
-use Rattle.std.proofs.Common.{◌≡◌, ℕ, zero, suc, ◌+◌, ◌<◌, ◌≤◌, List, [], ◌∷◌, ◌++◌, length, ◌⊎◌, inl, inr, Option, None, Some, false, refl, sym, ap, ◌∙◌, subst, arith, append-nil, append_assoc, length-append}
+use Rattle.std.proofs.Common.{◌≡◌, ℕ, zero, suc, ◌+◌, ◌<◌, ◌≤◌, List, [], ◌∷◌, ◌++◌, length, ◌⊎◌, inl, inr, Option, None, Some, refl, sym, ap, ◌∙◌, subst, arith, append-nil, append_assoc, length-append}
 use Rattle.std.proofs.lemmas.List.Elements.{All-append, All-nil, All-weaker}
 use Rattle.std.proofs.lemmas.Option.{slice_get_within}
 use Rattle.std.specs.Prelude.{is_none, slice_get}
@@ -26,7 +26,7 @@ use Rattle.step_simulation.specs.part_code.specs.Rows.{LiesWithin}
 use Rattle.stmt_code.specs.Subprograms.{KeepsRules, fresh}
 use Rattle.stmt_code.specs.declared.draft.Draft.{Draft}
 use Rattle.stmt_code.proofs.RowsAdded.{rows_kept, rows_then}
-use Rattle.package_code.specs.Bodies.{Coded, bodies_among, bodies_before, bodies_of, coded_at, is_entry_body, of_subprogram, of_task}
+use Rattle.package_code.specs.Bodies.{Coded, bodies_among, bodies_before, bodies_of, coded_at, of_subprogram, of_task}
 use Rattle.package_code.specs.Directory.{AreTold, TellsNext, operations_told}
 use Rattle.package_code.specs.Laws.{MayBeAdded}
 use Rattle.package_code.specs.Walking.{AddsBody, AddsSubprogram, BeginsWalk, HasBody, HasRows, IsDraftKept, IsWalked, LieInFront, LiesInOne, begins_at, row_of}
@@ -186,7 +186,6 @@ module _ (t : ProgramTree) (directory : Directory) where
   moved old new number c more kept subprograms has =
       let within = slice_get_within old.subprograms.items number (row_of c.kind has.words (here has.new.code)) has.there in
       record {
-        no_entry = has.no_entry;
         seen = has.seen;
         scope = has.scope;
         told = has.told;
@@ -237,7 +236,7 @@ module _ (t : ProgramTree) (directory : Directory) where
   -- one body more, whose code was added where its names are visible
   module _ (old mid after : Walk) (place k : ℕ) (item : BodyItemTree) (c : Coded) (has : HaveCode old) (at : slice_get all place ≡ Some item)
       (is : slice_get (coded_at t place item) k ≡ Some c) (many : length old.subprograms.items ≡ bodies_before t place + k)
-      (no_entry : is_entry_body c.kind ≡ false) (scope : mid.visible.scope ≡ c.front) (told : AreTold whole directory c.owner mid.visible)
+      (scope : mid.visible.scope ≡ c.front) (told : AreTold whole directory c.owner mid.visible)
       (draft : mid.draft ≡ old.draft) (subprograms : mid.subprograms ≡ old.subprograms) (adds : AddsBody t directory c mid after) where
     abbrev row : Subprogram
     row = row_of c.kind adds.words (here after.draft.code)
@@ -256,7 +255,6 @@ module _ (t : ProgramTree) (directory : Directory) where
 
     this : HasBody t directory (length old.subprograms.items) c after
     this = record {
-      no_entry = no_entry;
       seen = mid.visible;
       scope = scope;
       told = told;
@@ -323,20 +321,20 @@ module _ (t : ProgramTree) (directory : Directory) where
 
   -- behind a body of no object, the only one of its item, whose code was added where its name is visible
   pub body_next : (old mid after new : Walk) (item : BodyItemTree) (c : Coded) → IsWalked t directory old
-      → slice_get all old.place ≡ Some item → coded_at t old.place item ≡ c ∷ [] → c.owner ≡ None → is_entry_body c.kind ≡ false
+      → slice_get all old.place ≡ Some item → coded_at t old.place item ≡ c ∷ [] → c.owner ≡ None
       → c.front ≡ front t (suc old.place)
       → mid.draft ≡ old.draft → mid.subprograms ≡ old.subprograms → mid.visible.scope ≡ front t (suc old.place) → AreTold whole directory None mid.visible
       → AddsBody t directory c mid after
       → new.place ≡ old.place + 1 → new.draft ≡ after.draft → new.subprograms ≡ after.subprograms → new.visible ≡ after.visible
       → IsWalked t directory new
-  body_next old mid after new item c walked at alone outside no_entry own draft subprograms scope told adds place new_draft new_subprograms new_visible =
+  body_next old mid after new item c walked at alone outside own draft subprograms scope told adds place new_draft new_subprograms new_visible =
       record {
         scope = ap (λ v. v.scope) seen ∙ scope ∙ ap (front t) (sym next);
         told = subst (AreTold whole directory None) (sym seen) told;
         bodies = code.bodies;
         end = code.end;
         many = ap (λ l. length l.items) new_subprograms
-            ∙ many_more old mid after old.place 0 item c (walked_code old walked) at is count no_entry (scope ∙ sym own) told_there draft subprograms adds
+            ∙ many_more old mid after old.place 0 item c (walked_code old walked) at is count (scope ∙ sym own) told_there draft subprograms adds
             ∙ sym (ap (bodies_before t) next ∙ more_before old.place item at
             ∙ ap (λ n. bodies_before t old.place + n) (sym (coded_many t old.place item) ∙ ap length alone));
         exceptions = code.exceptions;
@@ -361,7 +359,7 @@ module _ (t : ProgramTree) (directory : Directory) where
       code : HaveCode new
       code =
           code_kept after new new_draft new_subprograms
-          (code_more old mid after old.place 0 item c (walked_code old walked) at is count no_entry (scope ∙ sym own) told_there draft subprograms adds)
+          (code_more old mid after old.place 0 item c (walked_code old walked) at is count (scope ∙ sym own) told_there draft subprograms adds)
 
   -- behind what code does there
   pub declared_goes : (old new : Walk) (i : ItemTree) (scope told_in : Scope) (name : Identifier) (later : Visible) → IsWalked t directory old
@@ -402,7 +400,7 @@ module _ (t : ProgramTree) (directory : Directory) where
         → new.place ≡ old.place + 1 → new.draft ≡ after.draft → new.subprograms ≡ after.subprograms → new.visible ≡ after.visible
         → IsWalked t directory new
     body_goes mid after new visible draft subprograms adds place new_draft new_subprograms new_visible =
-        body_next old mid after new (SubprogramBody d b) (of_subprogram (front t (suc old.place)) d b) walked at refl refl refl refl draft subprograms
+        body_next old mid after new (SubprogramBody d b) (of_subprogram (front t (suc old.place)) d b) walked at refl refl refl draft subprograms
         (ap (λ v. v.scope) visible ∙ scope_there)
         (subst (AreTold whole directory None) (sym visible)
         (told_next whole directory old.visible seen later d.name.name walked.told refl refl refl
@@ -423,5 +421,5 @@ module _ (t : ProgramTree) (directory : Directory) where
         → new.place ≡ old.place + 1 → new.draft ≡ after.draft → new.subprograms ≡ after.subprograms → new.visible ≡ after.visible
         → IsWalked t directory new
     task_goes after new adds place new_draft new_subprograms new_visible =
-        body_next old old after new (TaskBody name b) (of_task (front t (suc old.place)) name b) walked at refl refl refl refl refl refl task_scope walked.told
+        body_next old old after new (TaskBody name b) (of_task (front t (suc old.place)) name b) walked at refl refl refl refl refl task_scope walked.told
         (subst (λ s. AddsBody t directory (of_task s name b) old after) task_scope adds) place new_draft new_subprograms new_visible

@@ -1,50 +1,44 @@
 -- How far a walk is in the body of a protected object: where it is entered, behind one operation more, and behind all of them.
-use Rattle.std.proofs.Common.{◌≡◌, ℕ, zero, suc, ◌+◌, ◌≤◌, List, [], ◌∷◌, ◌++◌, append_assoc, ◌<◌, length, length-append, map, take, take_all, Option, Some, None, Bool, false, refl, sym, ap, ◌∙◌, subst, arith}
-use Rattle.std.specs.Prelude.{is_some, option_map, slice_get}
+use Rattle.std.proofs.Common.{◌≡◌, ℕ, zero, suc, ◌+◌, ◌≤◌, List, [], ◌∷◌, ◌++◌, ◌<◌, length, length-append, map, take, take_all, Option, Some, None, refl, sym, ap, ◌∙◌, subst, arith}
+use Rattle.std.specs.Prelude.{slice_get}
 use Rattle.std.proofs.lemmas.List.{length-map}
 use Rattle.std.proofs.lemmas.Option.{slice_get_within}
 use Rattle.ada_tree.specs.declared.expression.Identifier.{Identifier}
-use Rattle.ada_tree.specs.ExpressionTree.{ExprTree}
 use Rattle.ada_tree.specs.declared.program.Package.{Package}
-use Rattle.ada_tree.specs.StatementTree.{EntryTree, SubprogramTree, optional_tree}
-use Rattle.ada_tree.specs.ProgramTree.{BodyItemTree, BodyTree, EntryBody, OfItem, OperationBody, ProgramTree, ProtectedBody, ProtectedItemTree, body_item_tree, item_tree, package_tree}
+use Rattle.ada_tree.specs.StatementTree.{optional_tree}
+use Rattle.ada_tree.specs.ProgramTree.{BodyItemTree, EntryBody, OfItem, OperationBody, ProgramTree, ProtectedBody, ProtectedItemTree, body_item_tree, item_tree, package_tree}
 use Rattle.types.specs.declared.entity.RecordComponent.{RecordComponent}
 use Rattle.types.specs.Entities.{Operation}
 use Rattle.types.specs.Layouts.{total}
-use Rattle.types.specs.Scopes.{Scope, number_of, operations_or, protected_at, protected_count, with_operations}
-use Rattle.type_rules.specs.ProfileRules.{subprogram_scope}
-use Rattle.declaring.specs.BodyNames.{components_scope, object_body_scope}
+use Rattle.types.specs.Scopes.{Scope, number_of, operations_or, protected_at, with_operations}
+use Rattle.declaring.specs.BodyNames.{object_body_scope}
 use Rattle.declaring.specs.Laws.{ObjectBodiesEnd}
-use Rattle.declaring.specs.PackageNames.{body_items_scope}
 use Rattle.legality.specs.ProtectedBodyRules.{components_at, protected_item_scope, protected_items_scope}
 use Rattle.program_soundness.specs.checking.specs.ProgramRules.{IsLegal}
 use Rattle.ravenscar.specs.ProgramRules.{IsRestricted}
 use Rattle.expr_soundness.specs.Laws.{ScopesAreSound}
 use Rattle.expr_soundness.specs.meaning.specs.Programs.{program_of}
 use Rattle.program_soundness.specs.BodyLaws.{NamesAreKnown, PremisesHold}
-use Rattle.program_soundness.specs.Fronts.{declared_in, front, scope_at, start_in}
+use Rattle.program_soundness.specs.Fronts.{declared_in, front, start_in}
 use Rattle.program_soundness.proofs.Listing.{same_some}
-use Rattle.program_soundness.proofs.Moved.{grows_at}
 use Rattle.program_soundness.proofs.ObjectBodies as bodies
-use Rattle.program_soundness.proofs.ObjectItems.{further_by}
 use Rattle.program_soundness.proofs.Walked.{scope_next}
 use Rattle.expr_code.specs.Code.{here}
 use Rattle.expr_code.specs.declared.refusal.Refusal.{Refusal}
-use Rattle.expr_code.specs.declared.refusal.Refusal.TheVariants as refusal
 use Rattle.expr_code.specs.declared.visible.Slot.{Slot}
 use Rattle.expr_code.specs.declared.visible.Visible.{Visible}
 use Rattle.step_simulation.specs.part_code.specs.Bounds.{procedure_bound}
 use Rattle.stmt_code.specs.declared.draft.Draft.{Draft}
-use Rattle.package_code.specs.Bodies.{Coded, bodies_among, bodies_before, coded_at, is_entry_body, object_bodies, object_number, of_operation, operation_kind, operations_of, components_or_none}
+use Rattle.package_code.specs.Bodies.{Coded, bodies_before, coded_at, object_bodies, object_number, of_operation, operation_front, operations_of, own_body, own_head, own_name, components_or_none}
 use Rattle.package_code.specs.Counts.{bound_of, bounds_from}
 use Rattle.package_code.specs.Directory.{AreTold, IsDirectory, number_told, seen_inside}
-use Rattle.package_code.specs.Owners.{component_names, offered_names}
+use Rattle.package_code.specs.Owners.{offered_names}
 use Rattle.package_code.specs.Laws.{BodiesAreNumbered, BodiesMayBeAdded, MayBeAdded}
-use Rattle.package_code.specs.Refusing.{RefusesCode, coded_labels, coded_rows, items_labels, items_rows, operation_numbers, seen_at, seen_by, seen_with, subprogram_labels, subprogram_rows}
-use Rattle.package_code.specs.Walking.{AddsBody, AddsOperation, IsAsTold, IsWalked, IsInObjectBody, RefusesBody, first_visible, operation_visible, with_components, with_own_name}
+use Rattle.package_code.specs.Refusing.{RefusesCode, coded_labels, coded_rows, items_labels, items_rows, seen_at, seen_by, seen_with, subprogram_labels, subprogram_rows}
+use Rattle.package_code.specs.Walking.{AddsBody, AddsOperation, IsAsTold, IsWalked, IsInObjectBody, RefusesBody, behind_operation, first_visible, operation_visible}
 use Rattle.package_code.specs.declared.directory.Directory.{Directory}
 use Rattle.package_code.specs.declared.walk.Walk.{Walk}
-use Rattle.package_code.proofs.AsTold.{coded_refused, entry_refused}
+use Rattle.package_code.proofs.AsTold.{coded_refused}
 use Rattle.package_code.proofs.OperationsAdded as added
 use Rattle.package_code.proofs.Coded.{among_next, coded_many, labelled_by, rows_by}
 use Rattle.package_code.proofs.Counted.{adds_few}
@@ -55,33 +49,11 @@ use Rattle.package_code.proofs.Walked.{HaveCode, code_kept, code_more, many_more
 
 -- ---- what becomes visible as the code goes
 
--- in front of an operation's parameters
-pub operation_there : (whole told_in : Scope) (directory : Directory) (o inside : ℕ) (components : List RecordComponent) (d : SubprogramTree)
-    (is_function : Bool) (v one two : Visible) (s u : Scope) → told_in ≡ whole → inside ≡ o → is_function ≡ is_some d.result → s ≡ components_scope v.scope is_function components
-    → one ≡ seen_inside told_in directory inside (record v { scope = s }) (component_names components) → u ≡ subprogram_scope one.scope d
-    → two ≡ seen_inside told_in directory inside (record one { scope = u }) (d.name.name ∷ [])
-    → two ≡ operation_visible whole directory o components d v
-operation_there whole told_in directory o inside components d is_function v one two s u told_is inside_is function_is s_is one_is u_is two_is =
-    let parts : one ≡ with_components whole directory o (is_some d.result) components v =
-    one_is
-    ∙ (λ j. seen_inside (told_is j) directory (inside_is j)
-    (record v { scope = (s_is ∙ ap (λ b. components_scope v.scope b components) function_is) j }) (component_names components)) in
-    two_is ∙ (λ j. seen_inside (told_is j) directory (inside_is j) (record one { scope = u_is j }) (d.name.name ∷ []))
-    ∙ ap (with_own_name whole directory o d) parts
-
--- ... and behind its body
-pub behind_there : (whole told_in : Scope) (directory : Directory) (o inside : ℕ) (components : List RecordComponent) (d : SubprogramTree) (len : ℕ)
-    (v two last : Visible) (s u : Scope) (slots : List (Option Slot)) (subprograms : List (Option ℕ))
-    → told_in ≡ whole → inside ≡ o → len ≡ length v.scope → two ≡ operation_visible whole directory o components d v
-    → s ≡ take len two.scope → slots ≡ take len two.slots → subprograms ≡ take len two.subprograms → u ≡ subprogram_scope s d
-    → last ≡ seen_inside told_in directory inside (record two { scope = u; slots = slots; subprograms = subprograms }) (d.name.name ∷ [])
-    → last ≡ with_own_name whole directory o d (first_visible (length v.scope) (operation_visible whole directory o components d v))
-behind_there whole told_in directory o inside components d len v two last s u slots subprograms told_is inside_is long two_is s_is slots_are subprograms_are u_is
-    last_is =
-    last_is
-    ∙ (λ j. seen_inside (told_is j) directory (inside_is j)
-    (record two { scope = (u_is ∙ ap (λ z. subprogram_scope z d) s_is) j; slots = slots_are j; subprograms = subprograms_are j }) (d.name.name ∷ []))
-    ∙ (λ j. with_own_name whole directory o d (first_visible (long j) (two_is j)))
+-- the names in front of the parameters of an operation or entry, where this is visible
+pub front_there : (whole : Scope) (directory : Directory) (o : ℕ) (components : List RecordComponent) (i : ProtectedItemTree) (v : Visible)
+    → (operation_visible whole directory o components i v).scope ≡ operation_front v.scope components i
+front_there whole directory o components (OperationBody d b) v = refl
+front_there whole directory o components (EntryBody d barrier b) v = refl
 
 -- ---- operations one behind another
 
@@ -98,10 +70,6 @@ items_next : (s : Scope) (items : List ProtectedItemTree) (k : ℕ) (i : Protect
 items_next s [] k i at = cc
 items_next s (x ∷ items) zero i at = ap (protected_items_scope (protected_item_scope s x)) (none_taken items) ∙ ap (protected_item_scope s) (same_some x i at)
 items_next s (x ∷ items) (suc k) i at = items_next (protected_item_scope s x) items k i at
-
-no_entry_kind : (o : ℕ) (r : Option Identifier) → is_entry_body (operation_kind o r) ≡ false
-no_entry_kind o None = refl
-no_entry_kind o (Some r) = refl
 
 up_there : (n : ℕ) (s : Scope) (items : List ProtectedItemTree) → n ≤ length s → n ≤ length (protected_items_scope s items)
 up_there n s items up =
@@ -239,41 +207,37 @@ module _ (scopes : ScopesAreSound) (known : NamesAreKnown) (premises : PremisesH
     pub coded_there : (i : ProtectedItemTree) → slice_get items k ≡ Some i → slice_get (coded_at t old.place h.item) k ≡ Some (of_operation o u components i)
     coded_there i at = ap (λ l. slice_get l k) h.coded ∙ operations_get o s components items k i at
 
-    pub entry_there : (d : EntryTree) (barrier : ExprTree) (b : BodyTree) → slice_get items k ≡ Some (EntryBody d barrier b) → RefusesCode t refusal.Outside
-    entry_there d barrier b at =
-        entry_refused t old.place h.item k (of_operation o u components (EntryBody d barrier b)) h.at (coded_there (EntryBody d barrier b) at) refl
-
-    module _ (d : SubprogramTree) (b : BodyTree) (at : slice_get items k ≡ Some (OperationBody d b)) where
+    module _ (i : ProtectedItemTree) (at : slice_get items k ≡ Some i) where
       abbrev c : Coded
-      c = of_operation o u components (OperationBody d b)
+      c = of_operation o u components i
 
-      pub seen_operation : operation_visible whole directory o components d old.visible ≡ seen_by t c
+      pub seen_operation : operation_visible whole directory o components i old.visible ≡ seen_by t c
       seen_operation =
-          ap (operation_visible whole directory o components d) h.seen
-          ∙ operation_seen scopes known premises t legal restricted directory is_directory o u components d up
+          ap (operation_visible whole directory o components i) h.seen
+          ∙ operation_seen scopes known premises t legal restricted directory is_directory o u components i up
 
       -- what the code asks
-      pub operation_may : BodiesMayBeAdded → MayBeAdded t (of_operation o old.visible.scope components (OperationBody d b)).front d b
+      pub operation_may : BodiesMayBeAdded → MayBeAdded t (operation_front old.visible.scope components i) (own_head i) (own_body i)
       operation_may may =
-          subst (λ z. MayBeAdded t (of_operation o z components (OperationBody d b)).front d b) (sym scope_is)
-          (may t legal restricted old.place h.item k c h.at (coded_there (OperationBody d b) at) (no_entry_kind o d.result))
+          subst (λ z. MayBeAdded t (operation_front z components i) (own_head i) (own_body i)) (sym scope_is)
+          (may t legal restricted old.place h.item k c h.at (coded_there i at))
 
-      pub operation_number_is : BodiesAreNumbered → number_told whole directory (Some o) d.name.name ≡ Some (length old.subprograms.items)
+      pub operation_number_is : BodiesAreNumbered → number_told whole directory (Some o) (own_name i) ≡ Some (length old.subprograms.items)
       operation_number_is numbered =
-          is_directory.operations o d.name.name
-          ∙ (numbered t legal restricted old.place h.item k c h.at (coded_there (OperationBody d b) at)).0 ∙ ap Some (sym h.many)
+          is_directory.operations o (own_name i)
+          ∙ (numbered t legal restricted old.place h.item k c h.at (coded_there i at)).0 ∙ ap Some (sym h.many)
 
       -- why it isn't made
       pub operation_refused : (why : Refusal)
-          → RefusesBody t (operation_visible whole directory o components d old.visible) old.draft d b why → RefusesCode t why
+          → RefusesBody t (operation_visible whole directory o components i old.visible) old.draft (own_head i) (own_body i) why → RefusesCode t why
       operation_refused why r =
-          coded_refused t old.place h.item k c h.at (coded_there (OperationBody d b) at) (operation_visible whole directory o components d old.visible) old.draft
-          why (no_entry_kind o d.result) h.few h.labels h.exceptions seen_operation r
+          coded_refused t old.place h.item k c h.at (coded_there i at) (operation_visible whole directory o components i old.visible) old.draft
+          why h.few h.labels h.exceptions seen_operation r
 
       abbrev mid : Walk
-      mid = record old { visible = operation_visible whole directory o components d old.visible }
+      mid = record old { visible = operation_visible whole directory o components i old.visible }
 
-      pub within_next : (new : Walk) → AddsOperation t directory o components d b old new → IsInObjectBody t directory o s components items (suc k) new
+      pub within_next : (new : Walk) → AddsOperation t directory o components i old new → IsInObjectBody t directory o s components items (suc k) new
       within_next new a = record {
         item = h.item;
         at = ap (slice_get all) a.place ∙ h.at;
@@ -285,30 +249,27 @@ module _ (scopes : ScopesAreSound) (known : NamesAreKnown) (premises : PremisesH
         bodies = code.bodies;
         end = code.end;
         many = ap (λ l. length l.items) a.subprograms
-            ∙ many_more t directory old mid a.after old.place k h.item c code_within h.at is h.many no_entry front_is told_there refl refl adds
+            ∙ many_more t directory old mid a.after old.place k h.item c code_within h.at is h.many front_is told_there refl refl adds
             ∙ ap (λ p. bodies_before t p + suc k) (sym a.place);
         exceptions = code.exceptions;
         rows = code.rows;
         few = (let before = h.few in
-            let own = adds_few t d b mid.visible old.draft a.adds.words a.after.draft a.adds.adds in
-            let bound = ap (λ z. procedure_bound z d.formals b) front_is in
+            let own = adds_few t (own_head i) (own_body i) mid.visible old.draft a.adds.words a.after.draft a.adds.adds in
+            let bound = ap (λ z. procedure_bound z (own_head i).formals (own_body i)) front_is in
             let more = bounds_more_there (coded_at t old.place h.item) k c is in
             let same = ap (λ (z : Draft). here z.code) a.draft in
             let there = ap (λ p. total (bounds_from t 0 (take p all)) + total (map bound_of (take (suc k) (coded_at t p h.item)))) a.place in
             omega (arith, before, own, bound, more, same, there));
-        labels = ap (λ (z : Draft). z.labels) a.draft ∙ a.told.labels ∙ ap (λ l. subprogram_labels l d b) h.labels
+        labels = ap (λ (z : Draft). z.labels) a.draft ∙ a.told.labels ∙ ap (λ l. subprogram_labels l (own_head i) (own_body i)) h.labels
             ∙ sym (labels_more (items_labels [] (take old.place all)) (coded_at t old.place h.item) k c is)
             ∙ ap (λ p. coded_labels (items_labels [] (take p all)) (take (suc k) (coded_at t p h.item))) (sym a.place);
-        choices = ap (λ (z : Draft). length z.rows.items) a.draft ∙ a.told.rows ∙ ap (λ n. subprogram_rows n d b) h.choices
+        choices = ap (λ (z : Draft). length z.rows.items) a.draft ∙ a.told.rows ∙ ap (λ n. subprogram_rows n (own_head i) (own_body i)) h.choices
             ∙ sym (rows_more (items_rows 0 (take old.place all)) (coded_at t old.place h.item) k c is)
             ∙ ap (λ p. coded_rows (items_rows 0 (take p all)) (take (suc k) (coded_at t p h.item))) (sym a.place);
       }
         where
           is : slice_get (coded_at t old.place h.item) k ≡ Some c
-          is = coded_there (OperationBody d b) at
-
-          no_entry : is_entry_body c.kind ≡ false
-          no_entry = no_entry_kind o d.result
+          is = coded_there i at
 
           front_is : mid.visible.scope ≡ c.front
           front_is = ap (λ (v : Visible). v.scope) seen_operation
@@ -319,20 +280,20 @@ module _ (scopes : ScopesAreSound) (known : NamesAreKnown) (premises : PremisesH
               (told_seen scopes known premises t legal restricted directory is_directory o c.front)
 
           adds : AddsBody t directory c mid a.after
-          adds = subst (λ z. AddsBody t directory (of_operation o z components (OperationBody d b)) mid a.after) scope_is a.adds
+          adds = subst (λ z. AddsBody t directory (of_operation o z components i) mid a.after) scope_is a.adds
 
           code : HaveCode t directory new
           code =
               code_kept t directory a.after new a.draft a.subprograms
-              (code_more t directory old mid a.after old.place k h.item c code_within h.at is h.many no_entry front_is told_there refl refl adds)
+              (code_more t directory old mid a.after old.place k h.item c code_within h.at is h.many front_is told_there refl refl adds)
 
           seen_so : new.visible ≡ seen_with t (Some o) (protected_items_scope s (take (suc k) items))
           seen_so =
               a.visible
-              ∙ ap (λ (v : Visible). with_own_name whole directory o d
-              (first_visible (length v.scope) (operation_visible whole directory o components d v))) h.seen
-              ∙ behind_seen scopes known premises t legal restricted directory is_directory o u components d up
-              ∙ ap (seen_with t (Some o)) (sym (items_next s items k (OperationBody d b) at))
+              ∙ ap (λ (v : Visible). behind_operation whole directory o i
+              (first_visible (length v.scope) (operation_visible whole directory o components i v))) h.seen
+              ∙ behind_seen scopes known premises t legal restricted directory is_directory o u components i up
+              ∙ ap (seen_with t (Some o)) (sym (items_next s items k i at))
 
   -- ---- behind all of them
 
@@ -441,20 +402,3 @@ module _ (scopes : ScopesAreSound) (known : NamesAreKnown) (premises : PremisesH
       let w = added.w scopes known premises t legal restricted in
       let n = bodies.named_n (program_of t) (start_in t.package_) all w old.place name items end_name at in
       let bad = sym (ap (λ s. number_of s name.name) walked.scope ∙ n.1) ∙ none in cc
-
-  -- the object of a body is one of those that the program has
-  pub object_few : (place : ℕ) (name : Identifier) (items : List ProtectedItemTree) (end_name : Identifier)
-      → slice_get (declared_in t.package_) place ≡ Some (ProtectedBody name items end_name) → object_number whole name < (program_of t).objects
-  object_few place name items end_name at =
-      let w = added.w scopes known premises t legal restricted in
-      let number = added.number_is scopes known premises t legal restricted place name items end_name at in
-      let x = bodies.declared_at (program_of t) (start_in t.package_) all w place name items end_name at in
-      let obj = added.obj scopes known premises t legal restricted place name items end_name at in
-      let counted = bodies.counted_behind (program_of t) (start_in t.package_) all w name.name obj x in
-      let inside = slice_get_within all x.place _ x.at in
-      let m = further_by x.place (length all) inside in
-      let grown = grows_at (start_in t.package_) all (suc x.place) m.0 in
-      let last = ap (λ k. protected_count (scope_at (start_in t.package_) all k)) m.1 in
-      let whole_is =
-      ap (λ l. protected_count (body_items_scope (start_in t.package_) l)) (take_all (length all) all (omega arith)) ∙ ap protected_count w.scope in
-      omega (arith, number, counted, grown, last, whole_is)

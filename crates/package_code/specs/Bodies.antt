@@ -1,6 +1,6 @@
 -- The bodies of a program that have code of their own, in the order of the text: those of its subprograms and tasks, and of the operations and entries of its
 -- protected objects; their numbers, and what is visible in front of the parameters of each (RM 6.3, 9.1, 9.4).
-use Rattle.std.specs.Prelude.{ℕ, suc, Bool, true, false, ◌&&◌, List, [], ◌∷◌, ◌++◌, Option, Some, None, bytes_eq, take, length, if◌then◌else◌, ◌+◌}
+use Rattle.std.specs.Prelude.{ℕ, suc, false, ◌&&◌, List, [], ◌∷◌, ◌++◌, Option, Some, None, bytes_eq, take, length, if◌then◌else◌, ◌+◌}
 use Rattle.ada_tree.specs.declared.expression.Identifier.{Identifier}
 use Rattle.ada_tree.specs.StatementTree.{SubprogramTree}
 use Rattle.ada_tree.specs.ProgramTree.{BodyItemTree, BodyTree, EntryBody, OfItem, OperationBody, ProgramTree, ProtectedBody, ProtectedItemTree, SubprogramBody, TaskBody}
@@ -30,9 +30,13 @@ pub record BodyName : Type 0 where
 abbrev pub object_number : Scope → Identifier → ℕ
 object_number s name = or_zero (object_numbered s name)
 
+-- the head of an operation; an entry gives back what its parameters do, as a procedure
+abbrev pub own_head : ProtectedItemTree → SubprogramTree
+own_head (OperationBody d b) = d
+own_head (EntryBody d barrier b) = record { place = d.place; name = d.name; formals = d.formals; result = None }
+
 abbrev pub own_name : ProtectedItemTree → List ℕ
-own_name (OperationBody d b) = d.name.name
-own_name (EntryBody d barrier b) = d.name.name
+own_name i = (own_head i).name.name
 
 abbrev pub operation_name : (object : ℕ) → ProtectedItemTree → BodyName
 operation_name o i = record { owner = Some o; name = own_name i }
@@ -97,26 +101,25 @@ abbrev pub operation_kind : (object : ℕ) → (result : Option Identifier) → 
 operation_kind o None = kinds.ProtectedProcedure o
 operation_kind o (Some r) = kinds.ProtectedFunction o
 
--- an operation of an object, in front of whose parameters these names are visible
-abbrev pub of_object : (object : ℕ) → Scope → SubprogramTree → BodyTree → Coded
-of_object o s d b = record { owner = Some o; head = d; body = b; kind = operation_kind o d.result; front = s }
+abbrev pub own_body : ProtectedItemTree → BodyTree
+own_body (OperationBody d b) = b
+own_body (EntryBody d barrier b) = b
+
+abbrev pub own_kind : (object : ℕ) → ProtectedItemTree → Kind
+own_kind o (OperationBody d b) = operation_kind o d.result
+own_kind o (EntryBody d barrier b) = kinds.EntryBody o
+
+-- an operation or entry of an object, in front of whose parameters these names are visible
+abbrev pub of_object : (object : ℕ) → Scope → ProtectedItemTree → Coded
+of_object o s i = record { owner = Some o; head = own_head i; body = own_body i; kind = own_kind o i; front = s }
 
 -- An operation of an object sees its components, a function as constants, and its own name behind them; an entry's name is visible by its declaration alone.
-abbrev pub of_operation : (object : ℕ) → Scope → List RecordComponent → ProtectedItemTree → Coded
-of_operation o s components (OperationBody d b) = of_object o (subprogram_scope (operation_sees s components d) d) d b
-of_operation o s components (EntryBody d barrier b) =
-    record {
-      owner = Some o;
-      head = record { place = d.place; name = d.name; formals = d.formals; result = None };
-      body = b;
-      kind = kinds.EntryBody o;
-      front = components_scope s false components;
-    }
+abbrev pub operation_front : Scope → List RecordComponent → ProtectedItemTree → Scope
+operation_front s components (OperationBody d b) = subprogram_scope (operation_sees s components d) d
+operation_front s components (EntryBody d barrier b) = components_scope s false components
 
--- it is the body of an entry
-abbrev pub is_entry_body : Kind → Bool
-is_entry_body (kinds.EntryBody o) = true
-is_entry_body kind = false
+abbrev pub of_operation : (object : ℕ) → Scope → List RecordComponent → ProtectedItemTree → Coded
+of_operation o s components i = of_object o (operation_front s components i) i
 
 -- those of an object with these components, where these names are visible in front of the first
 abbrev pub operations_of : (object : ℕ) → Scope → List RecordComponent → List ProtectedItemTree → List Coded

@@ -21,7 +21,7 @@ use Rattle.expr_code.specs.Emitting.{IsFit}
 use Rattle.stmt_code.specs.Emitting.{IsLegalRun}
 use Rattle.step_simulation.specs.part_code.specs.Needs.{are_unknown}
 use Rattle.stmt_code.specs.Subprograms.{CallsProcedures}
-use Rattle.package_code.specs.Bodies.{Coded, bodies_among, bodies_before, coded_at, is_entry_body, number_in}
+use Rattle.package_code.specs.Bodies.{Coded, bodies_among, bodies_before, coded_at, number_in}
 use Rattle.package_code.specs.Counts.{instructions_bound}
 use Rattle.package_code.specs.Globals.{refuses_items}
 use Rattle.package_code.specs.Program.{HasProgram, KeepsTables}
@@ -42,10 +42,10 @@ pub record MayBeAdded (t : ProgramTree) (s : Scope) (d : SubprogramTree) (b : Bo
       → IsFit (formals_scope s d.formals) (subtype_named (program_of t).scope r) value
   pub result : (r : Identifier) → d.result ≡ Some r → is_some (subtype_of (program_of t).scope r) ≡ true
 
--- that is so of each body of an accepted program, of a subprogram, a task, or a protected object's operation
+-- that is so of each body of an accepted program, of a subprogram, a task, or a protected object's operation or entry
 abbrev pub BodiesMayBeAdded : Type 0
 BodiesMayBeAdded = (t : ProgramTree) → IsLegal t → IsRestricted t → (place : ℕ) (item : BodyItemTree) (k : ℕ) (c : Coded)
-    → slice_get (declared_in t.package_) place ≡ Some item → slice_get (coded_at t place item) k ≡ Some c → is_entry_body c.kind ≡ false
+    → slice_get (declared_in t.package_) place ≡ Some item → slice_get (coded_at t place item) k ≡ Some c
     → MayBeAdded t c.front c.head c.body
 
 -- main calls procedures of the package without parameters

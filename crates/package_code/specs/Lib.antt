@@ -7,6 +7,7 @@ pub mod Refusing
 pub mod Globals
 pub mod Directory
 pub mod Walking
+pub mod BareObjects
 pub mod Objects
 pub mod Tasks
 pub mod Program

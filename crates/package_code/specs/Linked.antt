@@ -1,9 +1,9 @@
--- What it is that an image has the code of a program whose protected objects have no entries (docs/CODEGEN.md).
+-- What it is that an image has the code of a program (docs/CODEGEN.md).
 use Rattle.std.specs.Prelude.{◌≡◌, ℕ, pos, List, [], ◌∷◌, length, None, Some, replicate, slice_get, ⊤}
 use Rattle.ada_tree.specs.ProgramTree.{ProgramTree}
 use Rattle.image.specs.Code.{initial_words}
 use Rattle.image.specs.Code as sections
-use Rattle.image.specs.Operations.{called, entry_of}
+use Rattle.image.specs.Operations.{called}
 use Rattle.image.specs.Frames.{Inner}
 use Rattle.image.specs.Sections.{Sections, first_place, object_of}
 use Rattle.image.specs.declared.subprograms.Subprogram.{Subprogram}
@@ -14,7 +14,7 @@ use Rattle.expr_soundness.specs.meaning.specs.Source.{duty_items}
 use Rattle.program_soundness.specs.step_soundness.specs.Objects.{first_store}
 use Rattle.expr_code.specs.Seeing.{Package}
 use Rattle.step_simulation.specs.Laws.{HasCode}
-use Rattle.step_simulation.specs.Standing.{Around, Follows}
+use Rattle.step_simulation.specs.Standing.{Around, Follows, Note}
 use Rattle.step_simulation.specs.part_code.specs.Resting.{RestsWith, StandsFor}
 use Rattle.step_simulation.specs.part_code.specs.Statements.{Numbers}
 
@@ -27,7 +27,7 @@ pub record IsLinkedTask (program : Program) (i : Sections) (g : Package) (number
   pub there : called i row.subprogram ≡ Some s
   pub object : object_of s.kind ≡ None
   pub around : Around i program g numbers
-  pub begins : Follows i program g numbers around row.subprogram (first_place i row.subprogram) (duty_items task.duty) Inner [] []
+  pub begins : (note : Note) → Follows i program g numbers note around row.subprogram (first_place i row.subprogram) (duty_items task.duty) Inner [] []
   pub rests : RestsWith g around.visible around.held (record { within = None; locals = [] }) (replicate s.locals (pos 0))
 
 -- as many rows as tasks, in the same order, each that of its task
@@ -39,10 +39,9 @@ AreLinkedTasks program i g numbers tasks rest = ⊥
 
 pub record IsLinkedProgram (p : ProgramTree) (i : Sections) (g : Package) (numbers : Numbers) : Type 0 where
   pub exceptions : i.exceptions ≡ (program_of p).exceptions
-  -- the protected objects, each at its number; no row has an entry
+  -- the protected objects, each at its number
   pub objects : length i.objects ≡ (program_of p).objects
   pub ceilings : (o : ℕ) → ceiling_of (program_of p).scope o ≡ sections.ceiling_of (slice_get i.objects o)
-  pub entries : (o : ℕ) → entry_of (slice_get i.objects o) ≡ None
   -- the tasks, main last
   pub tasks : AreLinkedTasks (program_of p) i g numbers (program_of p).tasks i.tasks
   -- procedures and functions, and the first words of variables

@@ -1,43 +1,95 @@
--- The rows of a program's protected objects in the image's table (RM 9.4, D.3): in the order of their declarations, and so each at its number.
-use Rattle.std.specs.Prelude.{◌≡◌, ◌<◌, ◌+◌, ◌&&◌, ◌||◌, nat_le, ℕ, suc, Bool, true, false, List, [], ◌∷◌, ◌++◌, length, map, Some, None, ⊤}
+-- The rows of a program's protected objects in the image's table (RM 9.4, 9.5.2, D.3): in the order of their declarations, and so each at its number.
+use Rattle.std.specs.Prelude.{◌≡◌, ◌<◌, ◌+◌, ◌&&◌, ◌||◌, if◌then◌else◌, nat_le, ℕ, suc, Bool, true, false, List, [], ◌∷◌, ◌++◌, length, map, Option, Some, None, ⊤}
 use Rattle.base.specs.declared.limits.TheConstants.{WORDS}
 use Rattle.ada_tree.specs.declared.expression.Identifier.{Identifier}
+use Rattle.ada_tree.specs.ExpressionTree.{ExprTree, bare_name}
 use Rattle.ada_tree.specs.StatementTree.{ProtectedComponentTree, ProtectedTree}
 use Rattle.ada_tree.specs.ProgramTree.{ItemTree, OfProtected, ProgramTree}
 use Rattle.image.specs.ObjectTable.{ObjectRow}
 use Rattle.image.specs.declared.instruction.Region.TheVariants as regions
+use Rattle.image.specs.declared.objects.Barrier.{Barrier}
 use Rattle.image.specs.declared.objects.Barrier.TheVariants as barriers
+use Rattle.types.specs.declared.statics.StaticForm.{StaticForm}
+use Rattle.types.specs.declared.statics.StaticForm.TheVariants.{Static}
+use Rattle.types.specs.Evaluations.{Val}
 use Rattle.types.specs.Layouts.{total}
 use Rattle.types.specs.Places.{Object}
 use Rattle.types.specs.Scopes.{Scope, protected_of}
 use Rattle.types.specs.Shapes.{value_words}
+use Rattle.types.specs.Statics.{static_form, static_value}
+use Rattle.types.specs.Values.{Value}
 use Rattle.type_rules.specs.SubtypeNames.{named_entity}
-use Rattle.expr_soundness.specs.meaning.specs.Programs.{component, components_among, package_items, program_of}
+use Rattle.expr_soundness.specs.meaning.specs.Calls.{is_true}
+use Rattle.expr_soundness.specs.meaning.specs.Programs.{Procedure, component, components_among, package_items, program_of}
+use Rattle.program_soundness.specs.step_soundness.specs.Fitting.{entry_of}
 use Rattle.expr_code.specs.declared.refusal.Refusal.{Refusal}
 use Rattle.expr_code.specs.declared.refusal.Refusal.TheVariants as refusal
+use Rattle.expr_code.specs.declared.visible.Slot.{Slot}
+use Rattle.package_code.specs.BareObjects.{BareObject}
+use Rattle.package_code.specs.Bodies.{number_in}
 use Rattle.package_code.specs.Package.{first_words_of}
-use Rattle.package_code.specs.Refusing.{lack_components}
+use Rattle.package_code.specs.Refusing.{lack_components, slot_in}
 use Rattle.package_code.specs.declared.components.ComponentSlot.{ComponentSlot}
+use Rattle.package_code.specs.declared.services.Service.{Service}
 use Rattle.package_code.specs.declared.objects.ProtectedObjects.{ProtectedObjects}
 
 -- the ceiling of the protected object of this name
 abbrev pub ceiling_named : Scope → Identifier → ℕ
 ceiling_named s name = elim (protected_of (named_entity s name)) [ Some p ↦ p.ceiling | None ↦ 0 ]
 
--- Its words are those of the initial values of its components, one behind the other. What its entry runs, and what opens it, is not told by its declaration: it
--- has none, until code is made of its body.
-abbrev pub object_row : Scope → ProtectedTree → ObjectRow
-object_row s d =
-    record { ceiling = ceiling_named s d.name; entry = None; barrier = barriers.Closed; words = first_words_of (map (component s) d.components) }
+-- its words are those of the initial values of its components, one behind the other
+abbrev pub bare_object : Scope → ProtectedTree → BareObject
+bare_object s d = record { ceiling = ceiling_named s d.name; words = first_words_of (map (component s) d.components) }
 
--- a row of each that is declared among these, where all names of the package are visible
-abbrev pub object_rows : Scope → List ItemTree → List ObjectRow
-object_rows s [] = []
-object_rows s (OfProtected d ∷ rest) = object_row s d ∷ object_rows s rest
-object_rows s (d ∷ rest) = object_rows s rest
+-- of each that is declared among these, where all names of the package are visible
+abbrev pub bare_objects : Scope → List ItemTree → List BareObject
+bare_objects s [] = []
+bare_objects s (OfProtected d ∷ rest) = bare_object s d ∷ bare_objects s rest
+bare_objects s (d ∷ rest) = bare_objects s rest
+
+-- ---- entries
+
+-- where the component of this object stands that a barrier names, if it names one
+abbrev pub barrier_slot : ProgramTree → (object : ℕ) → Option Identifier → Option Slot
+barrier_slot t o (Some name) = slot_in t (Some o) name.name
+barrier_slot t o None = None
+
+-- a barrier is static, and True
+abbrev pub is_static_truth : StaticForm → Val Value → Bool
+is_static_truth Static v = is_true v
+is_static_truth form v = false
+
+-- what opens an entry with this barrier (RM 9.5.2): the word of the component that it names, or else what it always is
+abbrev pub barrier_by : Scope → Option Slot → ExprTree → Barrier
+barrier_by s (Some slot) e = barriers.Word slot.offset
+barrier_by s None e = if is_static_truth (static_form s e) (static_value s e) then barriers.Open else barriers.Closed
+
+abbrev pub barrier_row : ProgramTree → (object : ℕ) → Option ExprTree → Barrier
+barrier_row t o (Some e) = barrier_by (program_of t).scope (barrier_slot t o (bare_name e)) e
+barrier_row t o None = barriers.Closed
+
+-- what is run for a call of the object's entry, and what opens it: the number of the entry's body, and its barrier
+abbrev pub service_of : ProgramTree → (object : ℕ) → (entry : Option Procedure) → Service
+service_of t o (Some q) = record { entry = number_in t (Some o) q.name; barrier = barrier_row t o q.barrier }
+service_of t o None = record { entry = None; barrier = barriers.Closed }
+
+-- ---- rows
+
+-- of the object with this number
+abbrev pub object_row : ProgramTree → (object : ℕ) → BareObject → ObjectRow
+object_row t o x =
+    let service = service_of t o (entry_of (program_of t).procedures o) in
+    record { ceiling = x.ceiling; entry = service.entry; barrier = service.barrier; words = x.words }
+
+-- of objects, the first of which has this number
+abbrev pub object_rows : ProgramTree → (object : ℕ) → List BareObject → List ObjectRow
+object_rows t o [] = []
+object_rows t o (x ∷ xs) = object_row t o x ∷ object_rows t (suc o) xs
 
 abbrev pub HaveObjects : ProgramTree → List ObjectRow → Type 0
-HaveObjects t rows = rows ≡ object_rows (program_of t).scope (package_items t.package_)
+HaveObjects t rows = rows ≡ object_rows t 0 (bare_objects (program_of t).scope (package_items t.package_))
+
+-- ---- components
 
 -- where components of this object stand, one behind another: the first of them behind so many words
 abbrev pub slots_of : (object offset : ℕ) → List Object → List ComponentSlot
@@ -64,8 +116,8 @@ objects_have_words s (d ∷ rest) = objects_have_words s rest
 
 -- what these declarations tell of protected objects was added
 pub record AddsObjects (s : Scope) (old : ProtectedObjects) (items : List ItemTree) (new : ProtectedObjects) : Type 0 where
-  pub rows : new.rows.items ≡ old.rows.items ++ object_rows s items
-  pub components : new.components.items ≡ old.components.items ++ component_slots s (length old.rows.items) items
+  pub declared : new.declared.items ≡ old.declared.items ++ bare_objects s items
+  pub components : new.components.items ≡ old.components.items ++ component_slots s (length old.declared.items) items
   pub made : objects_have_words s items ≡ true
 
 -- ---- refusals

@@ -43,6 +43,10 @@ offered_names os = map (λ (o : Operation). o.name) os
 abbrev pub component_names : List RecordComponent → List (List ℕ)
 component_names cs = map (λ (c : RecordComponent). c.name) cs
 
--- what is told of the operations of each of these objects, in the order of its declaration
+-- what is told of an operation by its name; of an entry, which is called by the number of its object, nothing
+abbrev pub told_operation : {X : Type 0} → ((name : List ℕ) → Option X) → Operation → Option X
+told_operation tell o = if o.is_entry then None else tell o.name
+
+-- ... of the operations of each of these objects, in the order of its declaration
 abbrev pub told_behind_objects : {X : Type 0} → ((owner : Option ℕ) → (name : List ℕ) → Option X) → List ProtectedObject → List (List (Option X))
-told_behind_objects tell objects = map (λ (o : ProtectedObject). map (tell (Some o.number)) (offered_names o.operations)) objects
+told_behind_objects tell objects = map (λ (o : ProtectedObject). map (told_operation (tell (Some o.number))) o.operations) objects

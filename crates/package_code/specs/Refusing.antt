@@ -1,5 +1,5 @@
 -- When an accepted program is refused, by its text alone: memory was refused, it has what no code is made of yet, or it passes a limit of images.
-use Rattle.std.specs.Prelude.{◌≡◌, ℕ, zero, suc, ◌+◌, ◌<◌, Bool, true, false, ◌||◌, ◌&&◌, not, nat_eq, List, [], ◌∷◌, length, map, Option, Some, None, is_none, option_map, ◌⊎◌, if◌then◌else◌}
+use Rattle.std.specs.Prelude.{◌≡◌, ℕ, zero, suc, ◌+◌, ◌<◌, Bool, true, false, ◌||◌, ◌&&◌, not, nat_eq, List, [], ◌∷◌, length, map, Option, Some, None, is_none, option_map, ◌⊎◌}
 use Rattle.std.specs.List.{list_all}
 use Rattle.base.specs.Names.{is_label, is_name}
 use Rattle.base.specs.declared.limits.TheConstants.{EXCEPTIONS, OBJECTS, ROWS, SUBPROGRAMS, TASKS, WORDS}
@@ -23,7 +23,7 @@ use Rattle.step_simulation.specs.part_code.specs.Bounds.{main_bound}
 use Rattle.step_simulation.specs.part_code.specs.Needs.{HasManyLabels, IsNeeding, Needs, beyond, beyond_if, both, lacks_word, nothing}
 use Rattle.step_simulation.specs.part_code.specs.Rows.{body_rows}
 use Rattle.stmt_code.specs.WholeRefusals.{body_labels, function_needs, procedure_needs}
-use Rattle.package_code.specs.Bodies.{Coded, bodies_among, coded_at, is_entry_body, number_in, of_subprogram, of_task}
+use Rattle.package_code.specs.Bodies.{Coded, bodies_among, coded_at, number_in, of_subprogram, of_task}
 use Rattle.package_code.specs.Counts.{bounds_from}
 use Rattle.package_code.specs.Owners.{in_object, protected_objects, told_behind_objects, told_inside, told_slot}
 use Rattle.package_code.specs.Package.{first_words_of, place_among}
@@ -101,9 +101,9 @@ subprogram_needs t v exceptions d b =
       | Some r ↦ function_if_any v d.formals (subtype_named (program_of t).scope r) (returned b.statements)
     ]
 
--- of entries no code is made yet
+-- that of an entry's body is that of a procedure's
 abbrev pub body_needs : ProgramTree → Coded → Needs
-body_needs t c = if is_entry_body c.kind then beyond else subprogram_needs t (seen_by t c) (program_of t).exceptions c.head c.body
+body_needs t c = subprogram_needs t (seen_by t c) (program_of t).exceptions c.head c.body
 
 abbrev pub bodies_needs : ProgramTree → List Coded → Needs
 bodies_needs t [] = nothing

@@ -4,7 +4,7 @@ use Rattle.std.specs.List.{All}
 use Rattle.ada_tree.specs.declared.expression.Identifier.{Identifier}
 use Rattle.ada_tree.specs.ExpressionTree.{ExprTree}
 use Rattle.ada_tree.specs.StatementTree.{SubprogramTree}
-use Rattle.ada_tree.specs.ProgramTree.{BodyItemTree, BodyTree, OperationBody, ProgramTree, ProtectedBody, ProtectedItemTree}
+use Rattle.ada_tree.specs.ProgramTree.{BodyItemTree, BodyTree, EntryBody, OperationBody, ProgramTree, ProtectedBody, ProtectedItemTree}
 use Rattle.image_laws.specs.handlers.specs.declared.rows.Row.{Row}
 use Rattle.image.specs.Sections.{end_of}
 use Rattle.image.specs.declared.subprograms.Kind.{Kind}
@@ -28,7 +28,7 @@ use Rattle.step_simulation.specs.part_code.specs.Rows.{LiesWithin}
 use Rattle.stmt_code.specs.Subprograms.{AddsFunction, AddsProcedure, IsCalledFunction, IsCalledProcedure, KeepsRules}
 use Rattle.stmt_code.specs.declared.draft.Draft.{Draft}
 use Rattle.stmt_code.specs.declared.subprogram.SubprogramWords.{SubprogramWords}
-use Rattle.package_code.specs.Bodies.{Coded, bodies_before, bodies_of, coded_at, is_entry_body, of_operation, operations_of}
+use Rattle.package_code.specs.Bodies.{Coded, bodies_before, bodies_of, coded_at, of_operation, operations_of, own_body, own_head}
 use Rattle.package_code.specs.Counts.{bound_of, bounds_from}
 use Rattle.package_code.specs.Directory.{AreTold, IsUnseen, number_told, seen_inside}
 use Rattle.package_code.specs.Owners.{component_names}
@@ -105,25 +105,31 @@ with_components whole directory o is_function components v =
 abbrev pub with_own_name : (whole : Scope) → Directory → (o : ℕ) → SubprogramTree → Visible → Visible
 with_own_name whole directory o d v = seen_inside whole directory o (record v { scope = subprogram_scope v.scope d }) (d.name.name ∷ [])
 
--- in front of the parameters of an operation, where these names are visible in front of its body
-abbrev pub operation_visible : (whole : Scope) → Directory → (o : ℕ) → List RecordComponent → SubprogramTree → Visible → Visible
-operation_visible whole directory o components d v =
+-- in front of the parameters of an operation, where these names are visible in front of its body; an entry's own name is visible by its declaration alone
+abbrev pub operation_visible : (whole : Scope) → Directory → (o : ℕ) → List RecordComponent → ProtectedItemTree → Visible → Visible
+operation_visible whole directory o components (OperationBody d b) v =
     with_own_name whole directory o d (with_components whole directory o (is_some d.result) components v)
+operation_visible whole directory o components (EntryBody d barrier b) v = with_components whole directory o false components v
+
+-- ... and behind its body
+abbrev pub behind_operation : (whole : Scope) → Directory → (o : ℕ) → ProtectedItemTree → Visible → Visible
+behind_operation whole directory o (OperationBody d b) v = with_own_name whole directory o d v
+behind_operation whole directory o (EntryBody d barrier b) v = v
 
 -- the first names
 abbrev pub first_visible : (many : ℕ) → Visible → Visible
 first_visible many v = record v { scope = take many v.scope; slots = take many v.slots; subprograms = take many v.subprograms }
 
--- The body of an operation of this object was added. Behind it its name is visible, and no component.
-pub record AddsOperation (t : ProgramTree) (directory : Directory) (o : ℕ) (components : List RecordComponent) (d : SubprogramTree) (b : BodyTree)
-    (old new : Walk) : Type 0 where
+-- The body of an operation or entry of this object was added. Behind it the names are visible that were so in front of it, and that of an operation.
+pub record AddsOperation (t : ProgramTree) (directory : Directory) (o : ℕ) (components : List RecordComponent) (i : ProtectedItemTree) (old new : Walk)
+    : Type 0 where
   pub after : Walk
-  pub adds : AddsBody t directory (of_operation o old.visible.scope components (OperationBody d b))
-      (record old { visible = operation_visible (program_of t).scope directory o components d old.visible }) after
-  pub told : AddsAsTold old.draft d b after.draft
+  pub adds : AddsBody t directory (of_operation o old.visible.scope components i)
+      (record old { visible = operation_visible (program_of t).scope directory o components i old.visible }) after
+  pub told : AddsAsTold old.draft (own_head i) (own_body i) after.draft
   pub visible : new.visible
-      ≡ with_own_name (program_of t).scope directory o d
-      (first_visible (length old.visible.scope) (operation_visible (program_of t).scope directory o components d old.visible))
+      ≡ behind_operation (program_of t).scope directory o i
+      (first_visible (length old.visible.scope) (operation_visible (program_of t).scope directory o components i old.visible))
   pub draft : new.draft ≡ after.draft
   pub subprograms : new.subprograms ≡ after.subprograms
   pub place : new.place ≡ old.place
@@ -149,10 +155,8 @@ pub record IsDraftKept (old new : Draft) : Type 0 where
 abbrev pub LieInFront : (place : ℕ) → List Row → Type 0
 LieInFront place rows = All (λ q. q.end_ ≤ place) rows
 
--- The body of this number has its code, and its subprogram; the rows in front of its own lie in front of its code. It is no entry's: no code is made of these
--- yet.
+-- The body of this number has its code, and its subprogram; the rows in front of its own lie in front of its code.
 pub record HasBody (t : ProgramTree) (directory : Directory) (number : ℕ) (c : Coded) (w : Walk) : Type 0 where
-  pub no_entry : is_entry_body c.kind ≡ false
   pub seen : Visible
   pub scope : seen.scope ≡ c.front
   pub told : AreTold (program_of t).scope directory c.owner seen

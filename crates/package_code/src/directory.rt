@@ -9,7 +9,7 @@ ghost use Rattle.package_code.specs.Bodies.{bodies_among};
 ghost use Rattle.types.specs.Entities.{operation_value};
 ghost use Rattle.types.specs.Scopes.{number_of};
 ghost use Rattle.package_code.specs.Directory.{HaveBodyNumbers, HasManyBodies, HasEntriesSoFar, IsUnseen, TellsNext, entries_among, entry_if, first_told, is_next, number_told, numbered_item, numbered_with, operation_told, operations_told, seen_inside, slot_told};
-ghost use Rattle.package_code.specs.Owners.{component_names, objects_at, offered_names, told_behind_objects, told_inside, told_slot};
+ghost use Rattle.package_code.specs.Owners.{component_names, objects_at, offered_names, told_behind_objects, told_inside, told_operation, told_slot};
 
 use crate::components::{ComponentSlot, component_slot};
 use crate::operations::{OperationNumber, number_operations, operation_number};
@@ -210,19 +210,30 @@ impl Directory {
         })
     }
 
-    // The numbers of the bodies of this object's operations, in the order of their declarations.
+    // The number of the body of this object's operation; of an entry none is told.
+    fn number_offered(&self, object: usize, operation: &Operation) -> Option<u16>
+        ensures { result ≡ told_operation (operation_told self.now.operations.items object) (operation_value operation.now) }
+    {
+        if operation.is_entry {
+            None
+        } else {
+            operation_number(&self.operations, object, &operation.name)
+        }
+    }
+
+    // ... of all of them, in the order of their declarations.
     fn numbers_of(
         &self,
         alloc: Global,
         object: usize,
         operations: &[Operation],
     ) -> Result<Entries<u16>, Refusal>
-        ensures numbers { IfOk result (λ numbers. numbers ≡ map (operation_told self.now.operations.items object) (offered_names (map operation_value operations.now))) }
+        ensures numbers { IfOk result (λ numbers. numbers ≡ map (told_operation (operation_told self.now.operations.items object)) (map operation_value operations.now)) }
         ensures refused { IfErr result (λ why. IsRefused 0 0 false why) }
     {
         let mut numbers = Entries::new(alloc);
         for operation in operations {
-            numbers.push(operation_number(&self.operations, object, &operation.name))?;
+            numbers.push(self.number_offered(object, operation))?;
         }
         Ok(numbers)
     }

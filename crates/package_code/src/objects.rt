@@ -1,26 +1,65 @@
-//! What a program's protected objects have in an image: their rows, in the order of their declarations, and the places of their components (RM 9.4, D.3).
+//! What the declarations of a program's protected objects tell: ceilings and first words, in their order, and the places of components (RM 9.4, D.3).
 ghost use Rattle.std.specs.Prelude.{◌≡◌, ◌∷◌, ◌++◌, [], Some, length, map, true, IfErr, IfOk, OnOk};
 ghost use Rattle.ada_tree.specs.StatementTree.{optional_tree, protected_component_tree, protected_tree};
 ghost use Rattle.ada_tree.specs.ProgramTree.{OfProtected, body_item_tree, item_tree, package_tree};
 ghost use Rattle.expr_soundness.specs.meaning.specs.Programs.{component, items_among, package_items};
 ghost use Rattle.expr_soundness.specs.SoundScopes.{SoundScope};
-ghost use Rattle.package_code.specs.Objects.{AddsObjects, RefusesComponent, RefusesComponents, RefusesObjects, ceiling_named, component_slots, have_words, object_rows, objects_have_words, slots_of};
+ghost use Rattle.package_code.specs.Objects.{AddsObjects, RefusesComponent, RefusesComponents, RefusesObjects, bare_object, bare_objects, ceiling_named, component_slots, have_words, objects_have_words, slots_of};
 ghost use Rattle.package_code.specs.Package.{first_words_of};
 
 use crate::components::ComponentSlot;
 use crate::initial::push_initial;
 use ada_tree::{BodyItem, Identifier, Item, Package, ProtectedComponent, ProtectedDeclaration};
 use expr_code::{Refusal, Slot};
-use image::{Barrier, Object, Region};
+use image::Region;
 use std::alloc::Global;
+use std::marker::Model;
 use type_rules::{named_entity, subtype_of};
 use types::{Entity, Scope};
+
+/// What the declaration of a protected object tells of its row in the table of an image; what its entry runs, its body tells.
+#[derive(Drop)]
+pub struct DeclaredObject {
+    ceiling: u8,
+    words: Vec<i64>,
+}
+
+impl Model for DeclaredObject {
+    ghost use Rattle.package_code.specs.BareObjects.{BareObject};
+
+    ghost Value = { BareObject };
+
+    ghost view = { λ o. record { ceiling = o.ceiling; words = o.words.items } };
+}
+
+impl DeclaredObject {
+    /// An object with this ceiling priority (RM D.3), and these words of its components' initial values.
+    pub fn new(ceiling: u8, words: Vec<i64>) -> DeclaredObject
+        ensures { result ≡ record { ceiling = ceiling; words = words.items } }
+    {
+        DeclaredObject { ceiling, words }
+    }
+
+    /// Its ceiling priority.
+    pub fn ceiling(&self) -> u8
+        ensures { result ≡ self.now.ceiling }
+    {
+        self.ceiling
+    }
+
+    /// The words of its components' initial values.
+    pub fn words(&self) -> &[i64]
+        ensures { result.now ≡ self.now.words }
+    {
+        &self.words
+    }
+}
 
 /// What the declarations of protected objects tell.
 #[derive(Drop)]
 pub struct ProtectedObjects {
-    /// Their rows in the table of an image.
-    pub rows: Vec<Object>,
+    /// What each tells of its row, in their order.
+    pub declared: Vec<DeclaredObject>,
     /// Where their components stand.
     pub components: Vec<ComponentSlot>,
 }
@@ -101,7 +140,7 @@ impl ProtectedObjects {
         ensures adds { OnOk result (AddsObjects scope.now self.old (OfProtected (protected_tree object.now) ∷ []) self.new) }
         ensures refused { IfErr result (λ why. RefusesObjects scope.now (OfProtected (protected_tree object.now) ∷ []) why) }
     {
-        let number = self.rows.len();
+        let number = self.declared.len();
         let words = component_words(
             alloc,
             &mut self.components,
@@ -110,8 +149,7 @@ impl ProtectedObjects {
             &object.components,
         )?;
         let ceiling = ceiling_named(scope, &object.name);
-        self.rows
-            .push(Object::new(ceiling, None, Barrier::Closed, words))?;
+        self.declared.push(DeclaredObject::new(ceiling, words))?;
         Ok(())
     }
 
@@ -186,8 +224,8 @@ impl ProtectedObjects {
     }
 }
 
-/// The protected objects that a package declares, whose names are visible: the row of each has its ceiling and the words of its components, and nothing opens
-/// it; its components stand one behind another.
+/// What the declarations of the protected objects of a package tell, whose names are visible: of each its ceiling and the words of its components, and these
+/// stand one behind another.
 ///
 /// # Errors
 /// `Memory` where memory was refused, `Limit` where components have more words than a program, `Outside` where the text of a component doesn't tell its first
@@ -198,13 +236,13 @@ pub fn protected_objects(
     package_: &Option<Package>,
 ) -> Result<ProtectedObjects, Refusal>
     requires sound { SoundScope scope.now }
-    ensures rows { IfOk result (λ objects. objects.rows.items ≡ object_rows scope.now (package_items (optional_tree package_tree package_.now))) }
+    ensures declared { IfOk result (λ objects. objects.declared.items ≡ bare_objects scope.now (package_items (optional_tree package_tree package_.now))) }
     ensures components { IfOk result (λ objects. objects.components.items ≡ component_slots scope.now 0 (package_items (optional_tree package_tree package_.now))) }
     ensures made { IfOk result (λ objects. objects_have_words scope.now (package_items (optional_tree package_tree package_.now)) ≡ true) }
     ensures refused { IfErr result (λ why. RefusesObjects scope.now (package_items (optional_tree package_tree package_.now)) why) }
 {
     let mut objects = ProtectedObjects {
-        rows: Vec::new(alloc),
+        declared: Vec::new(alloc),
         components: Vec::new(alloc),
     };
     if let Some(package_) = package_ {

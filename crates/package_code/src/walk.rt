@@ -2,7 +2,7 @@
 ghost use Rattle.std.specs.Prelude.{◌≡◌, ◌≤◌, ◌+◌, false, is_none, is_some, length, map, slice_get, true, None, Some, IfErr, IfOk, OnOk};
 ghost use Rattle.ada_tree.specs.ExpressionTree.{expr_tree};
 ghost use Rattle.ada_tree.specs.StatementTree.{MoreStmts, NoStmts, stmt_tree, stmt_trees, subprogram_tree};
-ghost use Rattle.ada_tree.specs.ProgramTree.{OfItem, OperationBody, SubprogramBody, TaskBody, body_item_tree, body_tree, item_tree, program_tree, protected_item_tree};
+ghost use Rattle.ada_tree.specs.ProgramTree.{OfItem, SubprogramBody, TaskBody, body_item_tree, body_tree, item_tree, program_tree, protected_item_tree};
 ghost use Rattle.base.specs.declared.limits.TheConstants.{OBJECTS};
 ghost use Rattle.types.specs.Scopes.{number_of};
 ghost use Rattle.declaring.specs.BodyNames.{object_body_scope};
@@ -17,20 +17,21 @@ ghost use Rattle.expr_code.specs.Refusing.{IsRefused};
 ghost use Rattle.expr_code.specs.Seeing.{told_of};
 ghost use Rattle.step_simulation.specs.part_code.specs.Emitting.{HasEntries};
 ghost use Rattle.stmt_code.specs.Subprograms.{IsCalledFunction, KeepsRules};
-ghost use Rattle.package_code.specs.Bodies.{components_or_none, of_object, of_operation, of_subprogram, of_task, operation_kind};
+ghost use Rattle.package_code.specs.Bodies.{components_or_none, of_object, of_operation, of_subprogram, of_task, operation_kind, own_body, own_head, own_kind, own_name};
 ghost use Rattle.package_code.specs.Directory.{IsDirectory, number_told};
 ghost use Rattle.package_code.specs.Laws.{MayBeAdded};
 ghost use Rattle.package_code.specs.Refusing.{RefusesCode};
 ghost use Rattle.package_code.specs.Walking.{AddsAsTold, AddsBody, AddsOperation, AddsSubprogram, AddsValueFunction, BeginsWalk, HasObjectBody, IsAsTold, IsCalledSubprogram, IsWalked, IsInObjectBody, RefusesBody, StandFrom, operation_visible, row_of};
 
 use crate::directory::{Directory, unseen};
+use crate::inside::{see_behind, see_operation};
 use crate::laws::{bodies_are_numbered, bodies_may_be_added};
 use crate::operations::object_number;
 use ada_tree::{
     Body, BodyItem, Expr, Identifier, Item, Package, ProtectedBodyItem, Stmt, Subprogram,
 };
 use declaring::laws::object_bodies_end;
-use declaring::{declare_components, declare_item, enter_object, leave_object};
+use declaring::{declare_item, enter_object, leave_object};
 use expr_code::{OperationNumbers, Refusal, Visible};
 use expr_soundness::laws::scopes_are_sound;
 use image::Kind;
@@ -113,6 +114,16 @@ fn operation_kind(object: u16, given: &Option<Identifier>) -> Kind
     match given {
         None => Kind::ProtectedProcedure(object),
         Some(_) => Kind::ProtectedFunction(object),
+    }
+}
+
+// That of an operation or an entry.
+fn inside_kind(object: u16, item: &ProtectedBodyItem) -> Kind
+    ensures { result ≡ own_kind object (protected_item_tree item.now) }
+{
+    match item {
+        ProtectedBodyItem::Subprogram(subprogram, _) => operation_kind(object, &subprogram.result),
+        ProtectedBodyItem::Entry(_, _, _) => Kind::EntryBody(object),
     }
 }
 
@@ -263,62 +274,95 @@ impl Walk {
         Ok(())
     }
 
-    // Adds the code and the row of the body of an operation of this object, whose name and components are visible.
-    fn operation_body(
+    // Adds the code of an operation or entry of a protected object, whose components are visible.
+    fn inside_code(
+        &mut self,
+        accepted: &Accepted,
+        item: &ProtectedBodyItem,
+    ) -> Result<SubprogramWords, Refusal>
+        requires added { MayBeAdded (program_tree accepted.now) self.old.visible.scope (own_head (protected_item_tree item.now)) (own_body (protected_item_tree item.now)) }
+        requires entries { HasEntries self.old.visible }
+        ensures adds { IfOk result (λ words. AddsSubprogram (program_tree accepted.now) (own_head (protected_item_tree item.now)) (own_body (protected_item_tree item.now)) self.old.visible self.old.draft words self.new.draft) }
+        ensures called { IfOk result (λ words. IsCalledSubprogram (program_tree accepted.now) (own_head (protected_item_tree item.now)) self.old.visible.scope words) }
+        ensures keeps { IfOk result (λ words. KeepsRules (is_none (own_head (protected_item_tree item.now)).result) self.old.visible self.old.draft words self.new.draft) }
+        ensures visible { OnOk result (self.new.visible ≡ self.old.visible) }
+        ensures place { OnOk result (self.new.place ≡ self.old.place) }
+        ensures subprograms { OnOk result (self.new.subprograms ≡ self.old.subprograms) }
+        ensures told { OnOk result (AddsAsTold self.old.draft (own_head (protected_item_tree item.now)) (own_body (protected_item_tree item.now)) self.new.draft) }
+        ensures refused { IfErr result (λ why. RefusesBody (program_tree accepted.now) self.old.visible self.old.draft (own_head (protected_item_tree item.now)) (own_body (protected_item_tree item.now)) why) }
+    {
+        match item {
+            ProtectedBodyItem::Subprogram(subprogram, body) => {
+                self.code(accepted, subprogram, body)
+            }
+            ProtectedBodyItem::Entry(entry, _, body) => {
+                self.draft
+                    .procedure(&mut self.visible, &entry.formals, body)
+            }
+        }
+    }
+
+    // ... and its row.
+    fn inside_body(
         &mut self,
         accepted: &Accepted,
         directory: &Directory,
         object: u16,
-        subprogram: &Subprogram,
-        body: &Body,
+        item: &ProtectedBodyItem,
     ) -> Result<(), Refusal>
-        requires added { MayBeAdded (program_tree accepted.now) self.old.visible.scope (subprogram_tree subprogram.now) (body_tree body.now) }
+        requires added { MayBeAdded (program_tree accepted.now) self.old.visible.scope (own_head (protected_item_tree item.now)) (own_body (protected_item_tree item.now)) }
         requires entries { HasEntries self.old.visible }
-        requires numbered { number_told (program_of (program_tree accepted.now)).scope directory.now (Some object) (subprogram_tree subprogram.now).name.name ≡ Some (length self.old.subprograms.items) }
-        ensures adds { OnOk result (AddsBody (program_tree accepted.now) directory.now (of_object object self.old.visible.scope (subprogram_tree subprogram.now) (body_tree body.now)) self.old self.new) }
-        ensures told { OnOk result (AddsAsTold self.old.draft (subprogram_tree subprogram.now) (body_tree body.now) self.new.draft) }
-        ensures refused { IfErr result (λ why. RefusesBody (program_tree accepted.now) self.old.visible self.old.draft (subprogram_tree subprogram.now) (body_tree body.now) why) }
+        requires numbered { number_told (program_of (program_tree accepted.now)).scope directory.now (Some object) (own_name (protected_item_tree item.now)) ≡ Some (length self.old.subprograms.items) }
+        ensures adds { OnOk result (AddsBody (program_tree accepted.now) directory.now (of_object object self.old.visible.scope (protected_item_tree item.now)) self.old self.new) }
+        ensures told { OnOk result (AddsAsTold self.old.draft (own_head (protected_item_tree item.now)) (own_body (protected_item_tree item.now)) self.new.draft) }
+        ensures refused { IfErr result (λ why. RefusesBody (program_tree accepted.now) self.old.visible self.old.draft (own_head (protected_item_tree item.now)) (own_body (protected_item_tree item.now)) why) }
     {
-        let words = self.code(accepted, subprogram, body)?;
-        let kind = operation_kind(object, &subprogram.result);
+        let words = self.inside_code(accepted, item)?;
+        let kind = inside_kind(object, item);
         self.subprograms.push(row(kind, words, &self.draft)?)?;
         Ok(())
     }
 
-    // Adds the body of an operation of this object, which sees these components.
+    // Adds the body of an operation or entry of this object, which sees these components.
     fn operation(
         &mut self,
         accepted: &Accepted,
         directory: &Directory,
         object: u16,
         components: &[RecordComponent],
-        subprogram: &Subprogram,
-        body: &Body,
+        item: &ProtectedBodyItem,
     ) -> Result<(), Refusal>
-        requires added { MayBeAdded (program_tree accepted.now) (of_operation object self.old.visible.scope components.now (OperationBody (subprogram_tree subprogram.now) (body_tree body.now))).front (subprogram_tree subprogram.now) (body_tree body.now) }
+        requires added { let c = of_operation object self.old.visible.scope components.now (protected_item_tree item.now) in MayBeAdded (program_tree accepted.now) c.front c.head c.body }
         requires entries { HasEntries self.old.visible }
-        requires numbered { number_told (program_of (program_tree accepted.now)).scope directory.now (Some object) (subprogram_tree subprogram.now).name.name ≡ Some (length self.old.subprograms.items) }
-        ensures adds { OnOk result (AddsOperation (program_tree accepted.now) directory.now object components.now (subprogram_tree subprogram.now) (body_tree body.now) self.old self.new) }
-        ensures refused { IfErr result (λ why. RefusesBody (program_tree accepted.now) (operation_visible (program_of (program_tree accepted.now)).scope directory.now object components.now (subprogram_tree subprogram.now) self.old.visible) self.old.draft (subprogram_tree subprogram.now) (body_tree body.now) why) }
+        requires numbered { number_told (program_of (program_tree accepted.now)).scope directory.now (Some object) (own_name (protected_item_tree item.now)) ≡ Some (length self.old.subprograms.items) }
+        ensures adds { OnOk result (AddsOperation (program_tree accepted.now) directory.now object components.now (protected_item_tree item.now) self.old self.new) }
+        ensures refused { IfErr result (λ why. RefusesBody (program_tree accepted.now) (operation_visible (program_of (program_tree accepted.now)).scope directory.now object components.now (protected_item_tree item.now) self.old.visible) self.old.draft (own_head (protected_item_tree item.now)) (own_body (protected_item_tree item.now)) why) }
     {
         let whole = accepted.scope();
         let inside = usize::from(object);
         let len = self.visible.scope.len();
-        let is_function = subprogram.result.is_some();
-        declare_components(&mut self.visible.scope, is_function, components)?;
-        directory.tell_components(whole, inside, &mut self.visible, components)?;
-        declare_subprogram(self.alloc, &mut self.visible.scope, subprogram)?;
-        directory.tell_inside(whole, inside, &mut self.visible, &subprogram.name.name)?;
-        self.operation_body(accepted, directory, object, subprogram, body)?;
-        self.visible.scope.truncate(len);
-        self.visible.slots.truncate(len);
-        self.visible.subprograms.truncate(len);
-        declare_subprogram(self.alloc, &mut self.visible.scope, subprogram)?;
-        directory.tell_inside(whole, inside, &mut self.visible, &subprogram.name.name)?;
-        Ok(())
+        see_operation(
+            self.alloc,
+            directory,
+            whole,
+            inside,
+            &mut self.visible,
+            components,
+            item,
+        )?;
+        self.inside_body(accepted, directory, object, item)?;
+        see_behind(
+            self.alloc,
+            directory,
+            whole,
+            inside,
+            &mut self.visible,
+            len,
+            item,
+        )
     }
 
-    // Adds the bodies of operations in the body of an object with this number and these components, whose name has this number in front of it.
+    // Adds all of them, in the body of an object with this number and these components, whose name has this number in front of it.
     fn operations(
         &mut self,
         accepted: &Accepted,
@@ -342,12 +386,7 @@ impl Walk {
         names_are_known();
         premises_hold();
         for item in items {
-            match item {
-                ProtectedBodyItem::Subprogram(subprogram, body) => {
-                    self.operation(accepted, directory, object, components, subprogram, body)?;
-                }
-                ProtectedBodyItem::Entry(_, _, _) => return Err(Refusal::Outside),
-            }
+            self.operation(accepted, directory, object, components, item)?;
         }
         Ok(())
     }

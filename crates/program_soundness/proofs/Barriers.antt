@@ -32,11 +32,11 @@ use Rattle.step_soundness.specs.Laws.{BarriersAreOwn}
 
 -- ---- which barriers there are
 
-abbrev IsBare : Option ExprTree → Type 0
+abbrev pub IsBare : Option ExprTree → Type 0
 IsBare (Some e) = (name : Identifier) × (e ≡ Named name NoSelectors)
 IsBare None = ⊤
 
-abbrev AreBare : List Procedure → Type 0
+abbrev pub AreBare : List Procedure → Type 0
 AreBare [] = ⊤
 AreBare (q ∷ qs) = IsBare q.barrier × AreBare qs
 
@@ -87,7 +87,7 @@ bodies_bare s walked (ProtectedBody n items end_name ∷ bodies) h =
     all_bare (operation_procedures s (object_numbered s n) items) (procedures_among s bodies)
     (operations_bare s (components_named walked n) (object_numbered s n) items (front_empty here later h)) (bodies_bare s walked bodies (back_empty here later h))
 
-program_bare : (t : ProgramTree) → IsRestricted t → AreBare (procedures_among (program_scope t) (package_bodies t.package_))
+pub program_bare : (t : ProgramTree) → IsRestricted t → AreBare (procedures_among (program_scope t) (package_bodies t.package_))
 program_bare t h = by_package t.package_ parts
   where
     parts : package_part_faults t.package_ ≡ []
@@ -101,7 +101,7 @@ program_bare t h = by_package t.package_ parts
         bodies_bare (program_scope t) (specified_scope standard p) p.body.items
         (back_empty (items_faults (inside_scope standard p) p.declaration.items) (body_items_faults (specified_scope standard p) p.body.items) k)
 
-barrier_bare : (procedures : List Procedure) (o : ℕ) → AreBare procedures → IsBare (barrier_of procedures o)
+pub barrier_bare : (procedures : List Procedure) (o : ℕ) → AreBare procedures → IsBare (barrier_of procedures o)
 barrier_bare [] o h = tt
 barrier_bare (q ∷ qs) o h = by_test (is_of q.object (Some o) && is_some q.barrier) (barrier_bare qs o h.1)
   where

@@ -135,7 +135,7 @@ among_both (x ∷ xs) ys owner name = by_test (is_of x.object owner && bytes_eq 
     by_test true later = refl
     by_test false later = later
 
-entry_both : (xs ys : List Procedure) (o : ℕ) → entry_of (xs ++ ys) o ≡ or_else (entry_of xs o) (entry_of ys o)
+pub entry_both : (xs ys : List Procedure) (o : ℕ) → entry_of (xs ++ ys) o ≡ or_else (entry_of xs o) (entry_of ys o)
 entry_both [] ys o = refl
 entry_both (x ∷ xs) ys o = by_test (is_of x.object (Some o) && is_some x.barrier) (entry_both xs ys o)
   where

@@ -14,7 +14,7 @@ mod Declaring
 mod Globals
 mod Variables
 mod Objects
-mod Barriers
+pub mod Barriers
 pub mod Priorities
 mod Firsts
 pub mod FirstValues

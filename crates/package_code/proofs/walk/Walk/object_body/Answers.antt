@@ -9,7 +9,8 @@ use Rattle.package_code.specs.Bodies.{object_number}
 use Rattle.package_code.specs.Directory.{seen_inside}
 use Rattle.package_code.specs.Owners.{offered_names}
 use Rattle.package_code.specs.Walking.{IsInObjectBody}
-use Rattle.package_code.proofs.WalkedInside.{object_enters, object_few, object_leaves, place_fits}
+use Rattle.package_code.proofs.OperationBodies.{object_few}
+use Rattle.package_code.proofs.WalkedInside.{object_enters, object_leaves, place_fits}
 use Rattle.package_code.proofs.walk.Walk.object_body.Goals as goal
 
 pub operations-requires-clause-within : goal.operations-requires-clause-within
@@ -26,8 +27,12 @@ operations-requires-clause-within c =
     (record c.args.self.now.visible { scope = c.enter_object.new.scope }) (offered_names (map operation_value os))) c.as_slice.ensures)
     refl refl refl
 
-pub returns-clause-walked : goal.returns-clause-walked
-returns-clause-walked c =
+-- behind the last of its bodies
+behind_all : (c : goal.After-drop-components-2) → (let t = program_tree c.args.accepted.now in
+    let items = map protected_item_tree c.args.items.now in
+    IsInObjectBody t c.args.directory.now (object_number (program_of t).scope c.args.name.now)
+    (object_body_scope (front t c.args.self.now.place) c.args.number) c.deref.result.now items (length items) c.operations-2.new.self)
+behind_all c =
     let t = program_tree c.args.accepted.now in
     let short : c.in_ok-short.short ≡ c.object_number-object.result = search rules in
     let same : c.in_ok-short.short ≡ object_number (program_of t).scope c.args.name.now =
@@ -35,43 +40,33 @@ returns-clause-walked c =
     let s = object_body_scope (front t c.args.self.now.place) c.args.number in
     let items = map protected_item_tree c.args.items.now in
     let components = c.deref.result.now in
-    let within : IsInObjectBody t c.args.directory.now (object_number (program_of t).scope c.args.name.now) s components items (length items) c.operations-2.new.self =
     subst (λ k. IsInObjectBody t c.args.directory.now (object_number (program_of t).scope c.args.name.now) s components items k c.operations-2.new.self)
     (sym (length-map c.args.items.now protected_item_tree))
     (subst (λ o. IsInObjectBody t c.args.directory.now o s components items (length c.args.items.now) c.operations-2.new.self) same
-    c.in_ok-operations-2.ensures.within) in
-    (object_leaves c.scopes_are_sound.ensures c.names_are_known.ensures c.premises_hold.ensures t c.requires.legal
-    c.requires.restricted c.args.directory.now c.requires.directory c.args.self.now c.args.name.now items c.requires.at.0
-    c.requires.at.1 c.requires.walked c.requires.told c.args.number components c.operations-2.new.self within c.in_ok-operations-2.ensures.place
-    c.object_bodies_end.ensures (map operation_value c.in_ok-operations.operations) c.len-len.result c.leave_object.new.scope c.truncate.new.self
-    c.truncate-2.new.self _ c.len-len.ensures.value c.in_ok-operations.ensures.operations c.leave_object.ensures c.truncate.ensures c.truncate-2.ensures
-    refl refl refl refl).0
+    c.in_ok-operations-2.ensures.within)
+
+pub returns-clause-walked : goal.returns-clause-walked
+returns-clause-walked c =
+    (object_leaves c.scopes_are_sound.ensures c.names_are_known.ensures c.premises_hold.ensures (program_tree c.args.accepted.now) c.requires.legal
+    c.requires.restricted c.args.directory.now c.requires.directory c.args.self.now c.args.name.now (map protected_item_tree c.args.items.now)
+    c.requires.at.0 c.requires.at.1 c.requires.walked c.requires.told c.args.number c.deref.result.now c.operations-2.new.self (behind_all c)
+    c.in_ok-operations-2.ensures.place c.object_bodies_end.ensures (map operation_value c.in_ok-operations.operations) c.len-len.result
+    c.leave_object.new.scope c.truncate.new.self c.truncate-2.new.self _ c.len-len.ensures.value c.in_ok-operations.ensures.operations
+    c.leave_object.ensures c.truncate.ensures c.truncate-2.ensures refl refl refl refl).0
 
 pub returns-clause-told : goal.returns-clause-told
 returns-clause-told c =
-    let t = program_tree c.args.accepted.now in
-    let short : c.in_ok-short.short ≡ c.object_number-object.result = search rules in
-    let same : c.in_ok-short.short ≡ object_number (program_of t).scope c.args.name.now =
-    short ∙ c.object_number-object.ensures ∙ ap (λ s. object_number s c.args.name.now) c.scope.ensures in
-    let s = object_body_scope (front t c.args.self.now.place) c.args.number in
-    let items = map protected_item_tree c.args.items.now in
-    let components = c.deref.result.now in
-    let within : IsInObjectBody t c.args.directory.now (object_number (program_of t).scope c.args.name.now) s components items (length items) c.operations-2.new.self =
-    subst (λ k. IsInObjectBody t c.args.directory.now (object_number (program_of t).scope c.args.name.now) s components items k c.operations-2.new.self)
-    (sym (length-map c.args.items.now protected_item_tree))
-    (subst (λ o. IsInObjectBody t c.args.directory.now o s components items (length c.args.items.now) c.operations-2.new.self) same
-    c.in_ok-operations-2.ensures.within) in
-    (object_leaves c.scopes_are_sound.ensures c.names_are_known.ensures c.premises_hold.ensures t c.requires.legal
-    c.requires.restricted c.args.directory.now c.requires.directory c.args.self.now c.args.name.now items c.requires.at.0
-    c.requires.at.1 c.requires.walked c.requires.told c.args.number components c.operations-2.new.self within c.in_ok-operations-2.ensures.place
-    c.object_bodies_end.ensures (map operation_value c.in_ok-operations.operations) c.len-len.result c.leave_object.new.scope c.truncate.new.self
-    c.truncate-2.new.self _ c.len-len.ensures.value c.in_ok-operations.ensures.operations c.leave_object.ensures c.truncate.ensures c.truncate-2.ensures
-    refl refl refl refl).1
+    (object_leaves c.scopes_are_sound.ensures c.names_are_known.ensures c.premises_hold.ensures (program_tree c.args.accepted.now) c.requires.legal
+    c.requires.restricted c.args.directory.now c.requires.directory c.args.self.now c.args.name.now (map protected_item_tree c.args.items.now)
+    c.requires.at.0 c.requires.at.1 c.requires.walked c.requires.told c.args.number c.deref.result.now c.operations-2.new.self (behind_all c)
+    c.in_ok-operations-2.ensures.place c.object_bodies_end.ensures (map operation_value c.in_ok-operations.operations) c.len-len.result
+    c.leave_object.new.scope c.truncate.new.self c.truncate-2.new.self _ c.len-len.ensures.value c.in_ok-operations.ensures.operations
+    c.leave_object.ensures c.truncate.ensures c.truncate-2.ensures refl refl refl refl).1
 
 pub returns-in_err-short-clause-refused : goal.returns-in_err-short-clause-refused
 returns-in_err-short-clause-refused c =
     let few = object_few c.scopes_are_sound.ensures c.names_are_known.ensures c.premises_hold.ensures (program_tree c.args.accepted.now) c.requires.legal
-    c.requires.restricted c.args.directory.now c.requires.directory c.args.self.now.place c.args.name.now (map protected_item_tree c.args.items.now)
+    c.requires.restricted c.args.self.now.place c.args.name.now (map protected_item_tree c.args.items.now)
     c.requires.at.0 c.requires.at.1 in
     let is = c.object_number-object.ensures ∙ ap (λ s. object_number s c.args.name.now) c.scope.ensures in
     let most : (program_of (program_tree c.args.accepted.now)).objects ≤ 16 = c.requires.objects in

@@ -14,7 +14,7 @@ body-requires-clause-added c =
     may_be_added (program_tree c.args.accepted.now) c.args.directory.now c.args.self.now (subprogram_tree c.args.subprogram.now)
     (body_tree c.args.body.now) c.declare_subprogram.new.scope c.scope.result.now c.tell.new.visible c.requires.walked c.requires.at
     c.in_ok-declare_subprogram.ensures.ok c.scope.ensures c.in_ok-tell.ensures.tells
-    (c.bodies_may_be_added.ensures _ c.requires.legal c.requires.restricted _ _ 0 _ c.requires.at refl refl)
+    (c.bodies_may_be_added.ensures _ c.requires.legal c.requires.restricted _ _ 0 _ c.requires.at refl)
 
 pub returns-clause-walked : goal.returns-clause-walked
 returns-clause-walked c =
@@ -59,6 +59,6 @@ returns-in_err-body-clause-refused c =
     let t = program_tree c.args.accepted.now in
     let whole = body_refused t c.args.self.now _
     (of_subprogram (front t (suc c.args.self.now.place)) (subprogram_tree c.args.subprogram.now) (body_tree c.args.body.now))
-    c.tell.new.visible c.args.self.now.draft c.in_err-body.field-0.0 c.requires.told c.requires.walked.exceptions c.requires.at refl refl seen refl
+    c.tell.new.visible c.args.self.now.draft c.in_err-body.field-0.0 c.requires.told c.requires.walked.exceptions c.requires.at refl seen refl
     c.in_err-body.ensures.refused in
     search (rules, whole)

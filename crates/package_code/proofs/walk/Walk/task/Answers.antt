@@ -11,7 +11,7 @@ use Rattle.package_code.proofs.walk.Walk.task.Goals as goal
 pub task_body-requires-clause-added : goal.task_body-requires-clause-added
 task_body-requires-clause-added c =
     task_may_be_added (program_tree c.args.accepted.now) c.args.directory.now c.args.self.now c.args.name.now (body_tree c.args.body.now) c.requires.walked
-    c.requires.at (c.bodies_may_be_added.ensures _ c.requires.legal c.requires.restricted _ _ 0 _ c.requires.at refl refl)
+    c.requires.at (c.bodies_may_be_added.ensures _ c.requires.legal c.requires.restricted _ _ 0 _ c.requires.at refl)
 
 pub task_body-requires-clause-numbered : goal.task_body-requires-clause-numbered
 task_body-requires-clause-numbered c =
@@ -43,7 +43,7 @@ returns-in_err-task_body-clause-refused c =
     let seen = task_seen (program_tree c.args.accepted.now) c.args.self.now c.args.name.now (body_tree c.args.body.now) c.requires.told c.requires.at in
     let t = program_tree c.args.accepted.now in
     let whole = body_refused t c.args.self.now _ (of_task (front t (suc c.args.self.now.place)) c.args.name.now (body_tree c.args.body.now))
-    c.args.self.now.visible c.args.self.now.draft c.in_err-task_body.field-0.0 c.requires.told c.requires.walked.exceptions c.requires.at refl refl seen
+    c.args.self.now.visible c.args.self.now.draft c.in_err-task_body.field-0.0 c.requires.told c.requires.walked.exceptions c.requires.at refl seen
     refl
     c.in_err-task_body.ensures.refused in
     search (rules, whole)
