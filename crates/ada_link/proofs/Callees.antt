@@ -1,5 +1,5 @@
 -- What is called by a visible name, or behind a protected object, is the code of a body: it takes and gives as many words as the call passes (RM 6.4, 9.5).
-use Rattle.std.proofs.Common.{◌≡◌, ◌⊎◌, inl, inr, ℕ, zero, suc, ◌+◌, List, [], ◌∷◌, map, take, Bool, true, false, Option, Some, None, refl, sym, ap, ◌∙◌, subst}
+use Rattle.std.proofs.Common.{◌≡◌, ◌⊎◌, inl, inr, ℕ, zero, suc, ◌+◌, List, [], ◌∷◌, map, Bool, true, false, Option, Some, None, refl, sym, ap, ◌∙◌, subst}
 use Rattle.std.specs.Prelude.{bytes_eq, position, slice_get}
 use Rattle.ada_tree.specs.declared.declaration.Formal.{Formal}
 use Rattle.ada_tree.specs.declared.declaration.Mode.TheVariants as mode
@@ -22,14 +22,11 @@ use Rattle.types.specs.Scopes.{Scope, entity_at}
 use Rattle.types.specs.Standings.{operation_profile, profile_among}
 use Rattle.declaring.specs.BodyNames.{operation_entity}
 use Rattle.program_soundness.specs.legality.specs.MatchingRules as matching
-use Rattle.program_soundness.specs.legality.specs.ProtectedBodyRules.{protected_items_scope}
 use Rattle.meaning.specs.type_rules.specs.ProfileRules.{formal_parameters, profile_with}
-use Rattle.meaning.specs.type_rules.specs.SubtypeNames.{subtype_of}
 use Rattle.checking.specs.ProgramRules.{IsLegal}
 use Rattle.ravenscar.specs.ProgramRules.{IsRestricted}
 use Rattle.expr_soundness.specs.Agreeing.{parameter_subtype}
 use Rattle.expr_soundness.specs.SoundScopes.{AreIn, AreKnown, AreSoundOperations, IsKnown, IsSoundOperation, IsSoundProfile, IsSoundResult, SoundScope}
-use Rattle.expr_soundness.proofs.Positions.{first_place, found_at, place_is}
 use Rattle.expr_soundness.proofs.Widening.{subtype_known}
 use Rattle.meaning.specs.Programs.{Program, program_of, subtype_named}
 use Rattle.program_soundness.specs.Fronts.{declared_in, front, start_in}
@@ -39,13 +36,13 @@ use Rattle.program_soundness.proofs.Listing.{same_some}
 use Rattle.program_soundness.proofs.ObjectBodies as objects
 use Rattle.program_soundness.proofs.Offering.{stands_for_it}
 use Rattle.program_soundness.proofs.Whole.{IsPackage, kept}
-use Rattle.program_soundness.proofs.WiderScopes.{number_stands, same_bytes, stands}
+use Rattle.program_soundness.proofs.WiderScopes.{number_stands, stands}
 use Rattle.expr_code.specs.Code.{here}
 use Rattle.expr_code.specs.Seeing.{IsCallable, Package, external_of, external_profile, number_behind, object_named, profile_behind}
 use Rattle.expr_code.specs.declared.visible.Visible.{Visible}
 use Rattle.stmt_code.specs.Subprograms.{IsCalledFunction, IsCalledProcedure}
 use Rattle.step_simulation.specs.part_code.specs.Suiting.{IsCallableProcedure, passed_width, returned_width}
-use Rattle.package_code.specs.Bodies.{Coded, bodies_before, bodies_of, is_entry_body, number_in, object_number, of_operation, of_subprogram, operation_kind, or_zero}
+use Rattle.package_code.specs.Bodies.{Coded, bodies_before, bodies_of, number_in, of_subprogram, operation_kind, or_zero, own_head, own_kind}
 use Rattle.package_code.specs.Directory.{number_told, operations_told}
 use Rattle.package_code.specs.Owners.{protected_objects}
 use Rattle.package_code.specs.Package.{IsPackageOf}
@@ -57,9 +54,9 @@ use Rattle.package_code.proofs.InFront.{LawsOfNames, memory, whole}
 use Rattle.package_code.proofs.InOrder.{package_in_order}
 use Rattle.package_code.proofs.Linking.{body_there, called_front, ordered, package_of, with_one, without}
 use Rattle.package_code.proofs.Numbered.{IsNumberedBody, number_of_body}
-use Rattle.package_code.proofs.ObjectFronts.{operation_front}
+use Rattle.package_code.proofs.ObjectFronts.{operation_is_front}
 use Rattle.package_code.proofs.ObjectNumbers.{at_number}
-use Rattle.package_code.proofs.Offered.{object_entity, told_number}
+use Rattle.package_code.proofs.Offered.{IsToldOperation, object_entity, told_number}
 use Rattle.package_code.proofs.OperationBodies.{code_of, coded, has_number, object}
 use Rattle.package_code.proofs.OperationsAdded as added
 
@@ -96,14 +93,14 @@ formals_known s sound (f ∷ fs) ps h =
 -- ---- operations
 
 -- the profile of an operation that is found by its name
-record IsFoundOperation (os : List Operation) (name : List ℕ) (p : Profile) : Type 0 where
-  place : ℕ
-  placed : position (λ y. bytes_eq y.name name) os ≡ Some place
-  operation : Operation
-  there : slice_get os place ≡ Some operation
-  profile : operation.profile ≡ p
+pub record IsFoundOperation (os : List Operation) (name : List ℕ) (p : Profile) : Type 0 where
+  pub place : ℕ
+  pub placed : position (λ y. bytes_eq y.name name) os ≡ Some place
+  pub operation : Operation
+  pub there : slice_get os place ≡ Some operation
+  pub profile : operation.profile ≡ p
 
-operation_found : (o : ProtectedObject) (name : List ℕ) (p : Profile) → profile_behind (Some o) name ≡ Some p → IsFoundOperation o.operations name p
+pub operation_found : (o : ProtectedObject) (name : List ℕ) (p : Profile) → profile_behind (Some o) name ≡ Some p → IsFoundOperation o.operations name p
 operation_found o name p h = by_place (position (λ y. bytes_eq y.name name) o.operations) refl h
   where
     by_there : (k : ℕ) → position (λ y. bytes_eq y.name name) o.operations ≡ Some k → (z : Option Operation) → slice_get o.operations k ≡ z
@@ -116,23 +113,11 @@ operation_found o name p h = by_place (position (λ y. bytes_eq y.name name) o.o
     by_place (Some k) placed e = by_there k placed (slice_get o.operations k) refl e
     by_place None placed e = cc
 
-operation_sound : (s : Scope) (os : List Operation) (k : ℕ) (x : Operation) → AreSoundOperations s os → slice_get os k ≡ Some x
+pub operation_sound : (s : Scope) (os : List Operation) (k : ℕ) (x : Operation) → AreSoundOperations s os → slice_get os k ≡ Some x
     → IsSoundOperation s x.is_entry x.profile
 operation_sound s [] k x h at = cc
 operation_sound s (o ∷ os) zero x h at = subst (λ z. IsSoundOperation s z.is_entry z.profile) (same_some o x at) h.0
 operation_sound s (o ∷ os) (suc k) x h at = operation_sound s os k x h.1 at
-
--- what stands as a subprogram is no entry
-entity_plain : (x : Operation) (p : Profile) → Some (operation_entity x) ≡ Some (entity.Subprogram p) → (x.is_entry ≡ false) × (x.profile ≡ p)
-entity_plain x p h = by_kind x.is_entry refl h
-  where
-    profile_in : Option Entity → Profile
-    profile_in o = elim o [ Some e ↦ elim e [ entity.Subprogram q ↦ q | other ↦ p ] | None ↦ p ]
-
-    by_kind : (b : Bool) → x.is_entry ≡ b → Some (elim b [ true ↦ entity.Entry x.profile | false ↦ entity.Subprogram x.profile ]) ≡ Some (entity.Subprogram p)
-        → (x.is_entry ≡ false) × (x.profile ≡ p)
-    by_kind false i j = (i, ap profile_in j)
-    by_kind true i j = cc
 
 unit_matched : (u : ProtectedItemTree) → objects.unit_name u ≡ (matching.operation_name u).name
 unit_matched (OperationBody d b) = refl
@@ -313,15 +298,15 @@ module _ (laws : LawsOfNames) (t : ProgramTree) (legal : IsLegal t) (restricted 
     abbrev obj : ProtectedObject
     obj = object laws.scopes laws.names laws.premises t legal restricted place name items end_name at
 
-    pub own_callee : (j : ℕ) (d : SubprogramTree) (b : BodyTree) → slice_get items j ≡ Some (OperationBody d b) → (profile : Profile)
-        → profile_with program.scope (formal_parameters program.scope d.formals) d.result ≡ Some profile
-        → IsCallee (bodies_before t place + j) profile (operation_kind obj.number d.result)
-    own_callee j d b there profile own = record {
-      c = code_of laws.scopes laws.names laws.premises t legal restricted place name items end_name at j (OperationBody d b);
+    pub own_callee : (j : ℕ) (u : ProtectedItemTree) → slice_get items j ≡ Some u → (profile : Profile)
+        → profile_with program.scope (formal_parameters program.scope (own_head u).formals) (own_head u).result ≡ Some profile
+        → IsCallee (bodies_before t place + j) profile (own_kind obj.number u)
+    own_callee j u there profile own = record {
+      c = code_of laws.scopes laws.names laws.premises t legal restricted place name items end_name at j u;
       is = body_at t place j (ProtectedBody name items end_name)
-          (code_of laws.scopes laws.names laws.premises t legal restricted place name items end_name at j (OperationBody d b)) at
-          (coded laws.scopes laws.names laws.premises t legal restricted place name items end_name at j (OperationBody d b) there);
-      front = operation_front laws t legal restricted place name items end_name at j d b there;
+          (code_of laws.scopes laws.names laws.premises t legal restricted place name items end_name at j u) at
+          (coded laws.scopes laws.names laws.premises t legal restricted place name items end_name at j u there);
+      front = operation_is_front laws t legal restricted place name items end_name at j u there;
       own = own;
       kind_is = refl;
     }
@@ -367,10 +352,11 @@ module _ (laws : LawsOfNames) (t : ProgramTree) (legal : IsLegal t) (restricted 
     module _ (o : ProtectedObject) (n : ℕ) (seen : entity_at v.scope n ≡ Some (Protected o)) (is : stands program.scope name ≡ Some (Protected o))
         (told : number_behind v.operations (Some o) operation ≡ Some number)
         (found : IsFoundOperation o.operations operation profile) where
+      of_operation_ : IsToldOperation o (number_told program.scope h.directory (Some o.number)) operation number
+      of_operation_ = told_number program start all w g refl v operations o name operation number is told
+
       numbered : number_in t (Some o.number) operation ≡ Some number
-      numbered =
-          sym (h.told.operations o.number operation)
-          ∙ told_number program start all w g refl v operations o name operation number is told
+      numbered = sym (h.told.operations o.number operation) ∙ of_operation_.numbered
 
       b : IsNumberedBody t (Some o.number) operation number
       b = number_of_body t (Some o.number) operation number numbered
@@ -414,28 +400,32 @@ module _ (laws : LawsOfNames) (t : ProgramTree) (legal : IsLegal t) (restricted 
           (added.owned laws.scopes laws.names laws.premises t legal restricted f.place x.name x.items x.end_name x.at) operation there.place there.operation
           there.placed there.there
 
-      plain : (there.operation.is_entry ≡ false) × (stands ended operation ≡ Some (entity.Subprogram profile))
+      same_operation : found.operation ≡ there.operation
+      same_operation =
+          same_some found.operation there.operation
+          (sym found.there ∙ ap (λ (z : ProtectedObject). slice_get z.operations found.place) same_object
+          ∙ ap (slice_get of_item.operations) (same_some found.place there.place
+          (sym found.placed ∙ ap (λ (z : ProtectedObject). position (λ y. bytes_eq y.name operation) z.operations) same_object ∙ there.placed))
+          ∙ there.there)
+
+      -- it is no entry, of which nothing is told
+      no_entry : found.operation.is_entry ≡ false
+      no_entry =
+          ap (λ (z : Operation). z.is_entry)
+          (same_some found.operation of_operation_.operation_
+          (sym found.there ∙ ap (slice_get o.operations) (same_some found.place of_operation_.place (sym found.placed ∙ of_operation_.placed))
+          ∙ of_operation_.there))
+          ∙ of_operation_.no_entry
+
+      plain : stands ended operation ≡ Some (entity.Subprogram profile)
       plain =
-          by_item x.item x.is as_named
-          (added.owned laws.scopes laws.names laws.premises t legal restricted f.place x.name x.items x.end_name x.at f.k x.item x.there)
-        where
-          by_item : (u : ProtectedItemTree)
-              → b.code
-              ≡ of_operation (object_number program.scope x.name)
-              (protected_items_scope (added.begun laws.scopes laws.names laws.premises t legal restricted f.place x.name x.items x.end_name x.at) (take f.k x.items))
-              (added.obj laws.scopes laws.names laws.premises t legal restricted f.place x.name x.items x.end_name x.at).components u
-              → objects.unit_name u ≡ operation
-              → objects.HasOwn program start all w f.place x.name x.items x.end_name x.at u
-              → (there.operation.is_entry ≡ false) × (stands ended operation ≡ Some (entity.Subprogram profile))
-          by_item (OperationBody d c) same named has =
-              let own : stands ended operation ≡ Some (entity.Subprogram has.profile) = ap (stands ended) (sym named) ∙ has.stands_ in
-              let e = entity_plain there.operation has.profile (sym stands_for ∙ own) in
-              (e.0, own ∙ ap (λ z. Some (entity.Subprogram z)) (sym e.1 ∙ there.profile))
-          by_item (EntryBody d barrier c) same named has =
-              absurd (let bad = sym (ap (λ z. is_entry_body z.kind) same) ∙ (body_there t i h number b.code b.is).no_entry in cc)
+          stands_for
+          ∙ ap (λ b. Some (elim b [ true ↦ entity.Entry there.operation.profile | false ↦ entity.Subprogram there.operation.profile ]))
+          (ap (λ (z : Operation). z.is_entry) (sym same_operation) ∙ no_entry)
+          ∙ ap (λ z. Some (entity.Subprogram z)) there.profile
 
       y : IsOwnItem f.place x.name x.items x.end_name x.at operation profile
-      y = own_item f.place x.name x.items x.end_name x.at operation profile plain.1 f.k x.item x.there as_named
+      y = own_item f.place x.name x.items x.end_name x.at operation profile plain f.k x.item x.there as_named
 
       number_there : bodies_before t f.place + y.j ≡ number
       number_there =
@@ -446,21 +436,13 @@ module _ (laws : LawsOfNames) (t : ProgramTree) (legal : IsLegal t) (restricted 
       sound_profile : IsSoundProfile v.scope profile
       sound_profile =
           let own = operation_sound v.scope o.operations found.place found.operation (sound.each n (Protected o) seen).0 found.there in
-          let entry : found.operation.is_entry ≡ false =
-          ap (λ (z : Operation). z.is_entry)
-          (same_some found.operation there.operation
-          (sym found.there ∙ ap (λ (z : ProtectedObject). slice_get z.operations found.place) same_object
-          ∙ ap (slice_get of_item.operations) (same_some found.place there.place
-          (sym found.placed ∙ ap (λ (z : ProtectedObject). position (λ y. bytes_eq y.name operation) z.operations) same_object ∙ there.placed))
-          ∙ there.there))
-          ∙ plain.0 in
-          subst (IsSoundOperation v.scope false) found.profile (subst (λ e. IsSoundOperation v.scope e found.operation.profile) entry own)
+          subst (IsSoundOperation v.scope false) found.profile (subst (λ e. IsSoundOperation v.scope e found.operation.profile) no_entry own)
 
       result : IsExternal v number profile
       result = record {
         kind = operation_kind of_item.number y.d.result;
         callee = subst (λ m. IsCallee m profile (operation_kind of_item.number y.d.result)) number_there
-            (own_callee f.place x.name x.items x.end_name x.at y.j y.d y.b y.there profile y.profile);
+            (own_callee f.place x.name x.items x.end_name x.at y.j (OperationBody y.d y.b) y.there profile y.profile);
         external = external_kind of_item.number y.d.result;
         sound = sound_profile;
       }

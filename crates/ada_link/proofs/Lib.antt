@@ -1,8 +1,9 @@
-mod Closing
 mod LinkedTasks
 mod Unmoved
+mod Reached
 mod Meaning
 mod Callees
+mod EntryCallees
 mod MainCalls
 mod Suited
 mod KeptCode

@@ -15,7 +15,7 @@ use Rattle.meaning.specs.Source.{duty_items, task_items}
 use Rattle.meaning.specs.Works.{Declares, DoesMain, Goes, Sequence, TaskWork, ends_of_calls}
 use Rattle.expr_code.specs.Seeing.{Package}
 use Rattle.step_simulation.specs.part_code.specs.Statements.{Numbers}
-use Rattle.step_simulation.specs.Standing.{CodeStands, Going}
+use Rattle.step_simulation.specs.Standing.{CodeStands, Going, Note}
 use Rattle.package_code.specs.Linked.{AreLinkedTasks, IsLinkedTask}
 
 -- ---- no call waits below the body of a task
@@ -66,14 +66,14 @@ module _ (program : Program) (i : Sections) (g : Package) (numbers : Numbers) wh
   abbrev state_of : Option rows.Task → TaskState
   state_of row = let n = body_of row in record { frame = body_frame i n (called i n); callers = []; raising = None }
 
-  task_stands : (k : Kernel) (t : ℕ) (task : Task) (row : rows.Task) → IsLinkedTask program i g numbers task row
-      → CodeStands i program g numbers k t (work_of (Some task)) (state_of (Some row))
-  task_stands k t task row h =
-      subst (λ s. CodeStands i program g numbers k t (work_of (Some task)) (record { frame = body_frame i row.subprogram s; callers = []; raising = None }))
+  task_stands : (note : Note) (k : Kernel) (t : ℕ) (task : Task) (row : rows.Task) → IsLinkedTask program i g numbers task row
+      → CodeStands i program g numbers note k t (work_of (Some task)) (state_of (Some row))
+  task_stands note k t task row h =
+      subst (λ s. CodeStands i program g numbers note k t (work_of (Some task)) (record { frame = body_frame i row.subprogram s; callers = []; raising = None }))
       (sym h.there)
       (Going (duty_items task.duty) refl (record {
         around = h.around;
-        follows = h.begins;
+        follows = h.begins note;
         rests = h.rests;
         object = ap (λ o. object_of (kind_of o)) h.there ∙ h.object;
         stack = refl;
@@ -81,10 +81,10 @@ module _ (program : Program) (i : Sections) (g : Package) (numbers : Numbers) wh
         depth = duty_ends task.duty;
       }))
 
-  pub tasks_stand : (k : Kernel) (t : ℕ) (tasks : List Task) (table : List rows.Task) → Linked tasks table → (u : ℕ) → u < length table
-      → CodeStands i program g numbers k t (work_of (slice_get tasks u)) (state_of (slice_get table u))
-  tasks_stand k t [] [] h u there = absurd (omega (arith, there))
-  tasks_stand k t (task ∷ tasks) (row ∷ table) h zero there = task_stands k t task row h.0
-  tasks_stand k t (task ∷ tasks) (row ∷ table) h (suc u) there = tasks_stand k t tasks table h.1 u (omega (arith, there))
-  tasks_stand k t [] (row ∷ table) h u there = absurd h
-  tasks_stand k t (task ∷ tasks) [] h u there = absurd h
+  pub tasks_stand : (note : Note) (k : Kernel) (t : ℕ) (tasks : List Task) (table : List rows.Task) → Linked tasks table → (u : ℕ) → u < length table
+      → CodeStands i program g numbers note k t (work_of (slice_get tasks u)) (state_of (slice_get table u))
+  tasks_stand note k t [] [] h u there = absurd (omega (arith, there))
+  tasks_stand note k t (task ∷ tasks) (row ∷ table) h zero there = task_stands note k t task row h.0
+  tasks_stand note k t (task ∷ tasks) (row ∷ table) h (suc u) there = tasks_stand note k t tasks table h.1 u (omega (arith, there))
+  tasks_stand note k t [] (row ∷ table) h u there = absurd h
+  tasks_stand note k t (task ∷ tasks) [] h u there = absurd h

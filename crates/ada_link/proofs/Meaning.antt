@@ -1,28 +1,26 @@
 -- A linked image has the meaning of its program.
-use Rattle.std.proofs.Common.{◌≡◌, ◌<◌, ℕ, ◌+◌, List, [], None, Option, refl, sym, ap, ◌∙◌, subst}
-use Rattle.std.specs.Prelude.{slice_get, length}
+use Rattle.std.proofs.Common.{◌≡◌, ℕ, ◌+◌, List, [], refl, sym, ap, ◌∙◌, subst}
 use Rattle.base.specs.declared.schedule.ScheduleLine.{ScheduleLine}
 use Rattle.kernel.specs.State.{Kernel}
-use Rattle.kernel.specs.Effects.{Effect, after, begin}
-use Rattle.kernel.specs.Worlds.{Solo, Tasks, among, ending, solo_of, step}
+use Rattle.kernel.specs.Effects.{begin}
+use Rattle.kernel.specs.Worlds.{Tasks, among, solo_of, step}
 use Rattle.kernel.specs.Laws.{LeftUnmoved, LinesGrow, QuietStays, ReachesCallers, RunnerIsCalm}
 use Rattle.kernel.specs.RunLaws.{run_plus}
 use Rattle.image.specs.Sections.{Sections}
-use Rattle.image.specs.Operations.{entry_of}
 use Rattle.image.specs.Rules.{IsWellFormed}
 use Rattle.image.specs.Texts.{text_from_one}
 use Rattle.image.specs.Frames.{Words, TaskState}
 use Rattle.image.specs.Steps.{behaviour, is_open}
 use Rattle.image.specs.Steps as steps
 use Rattle.image.specs.Code as image
-use Rattle.image_laws.specs.Laws.{CodeLeadsOn}
+use Rattle.image_laws.specs.Linked.{actions_of, kind_at, with_action}
 use Rattle.image_laws.specs.Whole.{IsWhole, StartsWhole, StepsWhole}
 use Rattle.ada_tree.specs.ProgramTree.{ProgramTree}
 use Rattle.checking.specs.ProgramRules.{IsLegal}
 use Rattle.ravenscar.specs.ProgramRules.{IsRestricted}
 use Rattle.meaning.specs.Laws.{CountGivesMeaning}
 use Rattle.meaning.specs.Calls as calls
-use Rattle.meaning.specs.Meeting.{Before, Met, Meets, Moved, Owed, Relation}
+use Rattle.meaning.specs.Meeting.{Before, Met, Meets, Relation}
 use Rattle.meaning.specs.MeetingLaws.{met_for}
 use Rattle.meaning.specs.Works.{GivenToCaller, Store, TaskWork}
 use Rattle.meaning.specs.Source.{SourceWorld, source, partition_of, source_behaviour, source_start}
@@ -38,20 +36,17 @@ use Rattle.program_soundness.specs.SoundWorlds.{IsSoundWorld}
 use Rattle.program_soundness.proofs.Awaiting.{runner_awaits}
 use Rattle.expr_code.specs.Coming.{most_steps}
 use Rattle.expr_code.specs.Seeing.{Package}
-use Rattle.step_simulation.specs.Laws.{IsKnownHere, StepsAreMet}
-use Rattle.step_simulation.specs.part_code.specs.Resting.{StandsFor}
+use Rattle.step_simulation.specs.Laws.{EffectsAreMet, IsKnownHere, KnowsCaller, StepsAreMet}
 use Rattle.step_simulation.specs.part_code.specs.Statements.{Numbers}
-use Rattle.step_simulation.specs.Standing.{Catching, Closing, CodeStands, Copying, Going, Note, Over, Raised, relation, work_size}
+use Rattle.step_simulation.specs.Standing.{Note, relation}
 use Rattle.package_code.specs.LinkLaws.{LinkedKeepsCount, LinkedMeansTheSame}
 use Rattle.package_code.specs.Linked.{IsLinkedProgram}
-use Rattle.ada_link.proofs.Closing.{closes}
 use Rattle.ada_link.proofs.LinkedTasks.{as_many, same_name, same_priority, tasks_stand}
-use Rattle.ada_link.proofs.Unmoved.{actions_stay, partition_stays}
+use Rattle.ada_link.proofs.Reached.{Step, closed_queue, image_relation, owed}
 
 pub record LawsBelow : Type 0 where
   pub starts_whole : StartsWhole
   pub steps_whole : StepsWhole
-  pub leads : CodeLeadsOn
   pub grow : LinesGrow
   pub unmoved : LeftUnmoved
   pub quiet : QuietStays
@@ -61,6 +56,7 @@ pub record LawsBelow : Type 0 where
   pub starts : StartsAreSound
   pub runs : RunsAreSound
   pub met : StepsAreMet
+  pub effects : EffectsAreMet
 
 module _ (laws : LawsBelow) (p : ProgramTree) (i : Sections) (g : Package) (numbers : Numbers) (well_formed : IsWellFormed i) (legal : IsLegal p)
     (restricted : IsRestricted p) (linked : IsLinkedProgram p i g numbers) where
@@ -79,28 +75,8 @@ module _ (laws : LawsBelow) (p : ProgramTree) (i : Sections) (g : Package) (numb
         ceiling = λ o. linked.ceilings o j;
       })
 
-  -- ---- each task of the image stands for its work
-
-  -- the frames of a task that takes no step stand for its work in the next kernel as well, where it has the same actions open under the same priorities
-  stays : (k l : Kernel) (u : ℕ) (w : TaskWork) (s : TaskState) → k.outcome ≡ None → l.actions u ≡ k.actions u → l.partition ≡ k.partition
-      → CodeStands i program g numbers k u w s → CodeStands i program g numbers l u w s
-  stays k l u w s on opened ranked (Going items is h) = Going items is h
-  stays k l u w s on opened ranked (Copying vs xs items is h) = Copying vs xs items is h
-  stays k l u w s on opened ranked (Catching items is h) = Catching items is h
-  stays k l u w s on opened ranked (Raised x items f fs is throws caught) =
-      Raised x items f fs is (record { throws = λ schedule n m here there. throws.throws schedule n m (here ∙ opened) (there ∙ ranked) }) caught
-  stays k l u w s on opened ranked (Closing o done items next is ends h) =
-      Closing o done items next is (record { ends = λ schedule n m here there. ends.ends schedule n m (here ∙ opened) (there ∙ ranked) }) h
-  stays k l u w s on opened ranked (Over o h) = absurd cc
-
-  -- behind the last task there is neither work nor code
   abbrev all : Relation Note Store TaskWork GivenToCaller Words TaskState steps.Given
-  all = record {
-    shares = StandsFor program g;
-    stands = λ note k u w s. u < length i.tasks → CodeStands i program g numbers k u w s;
-    leaves = λ note k t e w s given gives. CodeStands i program g numbers (after t e k) t w s;
-    size = λ w. work_size w.work;
-  }
+  all = image_relation i program g numbers
 
   module _ (schedule : List ScheduleLine) where
     -- the worlds of the program's run
@@ -109,6 +85,26 @@ module _ (laws : LawsBelow) (p : ProgramTree) (i : Sections) (g : Package) (numb
 
     abbrev Here : Note → Kernel → ℕ → Tasks Store TaskWork → Tasks Words TaskState → Type 0
     Here note k t c d = Before (source_behaviour p schedule) (behaviour i schedule) all frames_of (most_steps i) Sources (IsWhole i) note k t c d
+
+    -- the step of this task
+    abbrev reached : (note : Note) (k : Kernel) (t : ℕ) (c : Tasks Store TaskWork) (d : Tasks Words TaskState) → Step
+    reached note k t c d = record {
+      unmoved = laws.unmoved;
+      effects = laws.effects;
+      i = i;
+      program = program;
+      g = g;
+      numbers = numbers;
+      has = linked.code;
+      schedule = schedule;
+      Ones = Sources;
+      sound = λ v h. subst (IsSoundWorld program) (sym h.1) (laws.runs program schedule h.0 sound);
+      note = note;
+      k = k;
+      t = t;
+      c = c;
+      d = d;
+    }
 
     known : (note : Note) (k : Kernel) (t : ℕ) (c : Tasks Store TaskWork) (d : Tasks Words TaskState) → Here note k t c d
         → IsKnownHere program k t c.memory (c.tasks t)
@@ -121,7 +117,15 @@ module _ (laws : LawsBelow) (p : ProgramTree) (i : Sections) (g : Package) (numb
           task = subst (λ q. IsSoundTask program c.memory q (c.tasks t)) awaits (world.tasks t);
           opened = world.actions t;
           partition = r.others.partition ∙ sym same_partition;
+          closed = closed_queue (reached note k t c d) r;
         }
+
+    -- the kernel knows for whom the frame runs the body of an entry
+    knows_caller : (note : Note) (k : Kernel) (t : ℕ) (c : Tasks Store TaskWork) (d : Tasks Words TaskState) → Here note k t c d → KnowsCaller k t (d.tasks t)
+    knows_caller note k t c d r o u pending is = (
+      actions_of i (d.tasks t).callers,
+      r.others.linked.by_frames t ∙ ap (λ q. with_action q (kind_at i (d.tasks t).frame) (actions_of i (d.tasks t).callers)) is,
+    )
 
     met : (note : Note) (k : Kernel) (t : ℕ) (c : Tasks Store TaskWork) (d : Tasks Words TaskState) → Here note k t c d
         → Met (source_behaviour p schedule) (behaviour i schedule) all frames_of (most_steps i) note k t (solo_of t c) (solo_of t d)
@@ -129,28 +133,7 @@ module _ (laws : LawsBelow) (p : ProgramTree) (i : Sections) (g : Package) (numb
         met_for (source_behaviour p schedule) (behaviour i schedule) (relation i program g numbers) all frames_of (most_steps i) note note k t
         (λ m n h. h) (λ w s h there. h) (λ e w s given gives h. h) (λ w. refl) (solo_of t c) (solo_of t d)
         (laws.met i program g numbers linked.code (laws.premises p legal) schedule note k t r.runner.calm c.memory d.memory (c.tasks t) (d.tasks t)
-        (known note k t c d r) r.shared (r.stand t (r.others.bounded.running t r.runner.calm.runs.running)))
-
-    -- no object has an entry
-    bare : (o : ℕ) → entry_of (slice_get i.objects o) ≡ None
-    bare o = linked.entries o
-
-    owed : (note : Note) (k : Kernel) (t : ℕ) (c : Tasks Store TaskWork) (d : Tasks Words TaskState) (e : Effect) (a : Solo Store TaskWork)
-        (b : Solo Words TaskState) (x : Option GivenToCaller) (y : Option steps.Given)
-        → Moved (source_behaviour p schedule) (behaviour i schedule) all frames_of (most_steps i) Sources (IsWhole i) note k t c d e a b x y
-        → (next : Note)
-        × Owed (source_behaviour p schedule) (behaviour i schedule) all frames_of (most_steps i) next k t e c.tasks d.tasks a.task b.task x y (ending k t e)
-    owed note k t c d e a b x y moved =
-        let before = moved.before in (
-          note,
-          subst
-              (Owed (source_behaviour p schedule) (behaviour i schedule) all frames_of (most_steps i) note k t e c.tasks d.tasks a.task b.task x y)
-              (sym (closes laws.leads i well_formed bare (record { kernel = k; rest = d }) before.others t e)) (
-                (λ there. moved.leaves),
-                (λ v other there. stays k (after t e k) v (c.tasks v) (d.tasks v) before.runner.calm.runs.on
-                    (actions_stay laws.unmoved t v other e k) (partition_stays laws.unmoved t e k) (before.stand v there)),
-              ),
-        )
+        (known note k t c d r) (knows_caller note k t c d r) r.shared (r.stand t (r.others.bounded.running t r.runner.calm.runs.running)))
 
     meets : Meets (source_behaviour p schedule) (behaviour i schedule) all frames_of (most_steps i) Sources (IsWhole i)
     meets = record {
@@ -164,7 +147,7 @@ module _ (laws : LawsBelow) (p : ProgramTree) (i : Sections) (g : Package) (numb
         reaches = λ e. laws.reaches (is_open i w.rest.memory) w.kernel t e runs.running h.kept;
       };
       met = met;
-      owed = owed;
+      owed = λ note k t c d e a b x y moved. owed (reached note k t c d) moved.before e a b x y moved;
     }
 
     -- ---- the starts
@@ -178,7 +161,7 @@ module _ (laws : LawsBelow) (p : ProgramTree) (i : Sections) (g : Package) (numb
         others = laws.starts_whole i well_formed;
         note = λ u. [];
         shared = linked.words;
-        stands = λ u there. tasks_stand program i g numbers (source_start p).kernel u program.tasks i.tasks linked.tasks u there;
+        stands = λ u there. tasks_stand program i g numbers (λ v. []) (source_start p).kernel u program.tasks i.tasks linked.tasks u there;
       };
     }
 

@@ -11,7 +11,7 @@ use Rattle.types.specs.Entities.{Entity, Operation, Protected, ProtectedObject}
 use Rattle.types.specs.Laws.{ValuesHaveWords}
 use Rattle.types.specs.Layouts.{total, words_of}
 use Rattle.types.specs.Places.{Object}
-use Rattle.types.specs.Scopes.{Named, Scope}
+use Rattle.types.specs.Scopes.{Scope}
 use Rattle.declaring.specs.ProtectedRules.{object_components, object_with, protected_entity}
 use Rattle.declaring.specs.PackageNames.{body_item_scope}
 use Rattle.meaning.specs.expr_rules.proofs.TypedLaw.{back_empty, front_empty}
@@ -31,12 +31,12 @@ use Rattle.program_soundness.proofs.Listing.{same_some, taken_next}
 use Rattle.program_soundness.proofs.ObjectTrees.{first_part}
 use Rattle.program_soundness.proofs.Walked.{item_new, legal_at, scope_next}
 use Rattle.program_soundness.proofs.Whole.{IsPackage, kept}
-use Rattle.package_code.specs.Objects.{object_row}
+use Rattle.package_code.specs.Objects.{bare_object, bare_objects}
 use Rattle.package_code.specs.Package.{first_words_of}
 use Rattle.package_code.specs.Refusing.{program_words}
 use Rattle.package_code.proofs.Declared.{among_both}
 use Rattle.package_code.proofs.InFront.{LawsOfNames, last_is, memory, whole}
-use Rattle.package_code.proofs.ObjectNumbers.{components_of, many_rows, object_there, rows_of, trees_among, trees_both}
+use Rattle.package_code.proofs.ObjectNumbers.{bare_of, components_of, many_of, many_rows, object_there, trees_among, trees_both}
 use Rattle.package_code.proofs.Placed.{items_are}
 use Rattle.package_code.proofs.Seen.{one_behind}
 use Rattle.ada_link.proofs.CountsFit.{declared_none, many_both, no_fewer_than, within_kind}
@@ -233,7 +233,8 @@ module _ (laws : LawsOfNames) (t : ProgramTree) (legal : IsLegal t) (restricted 
 
   pub objects_few : size_faults t ≡ [] → program.objects ≤ OBJECTS
   objects_few none =
-      let rows = many_rows program start all w in
-      let mapped : (ds : List ProtectedTree) → length (map (object_row s) ds) ≡ length ds = λ ds. length-map ds (object_row s) in
-      let same : program.objects ≡ length (trees_among (items_among all)) = sym rows ∙ ap length (rows_of s (items_among all)) ∙ mapped (trees_among (items_among all)) in
+      let objects = bare_objects s (items_among all) in
+      let mapped : (ds : List ProtectedTree) → length (map (bare_object s) ds) ≡ length ds = λ ds. length-map ds (bare_object s) in
+      let same : program.objects ≡ length (trees_among (items_among all)) =
+      sym (many_rows program start all w t) ∙ many_of t 0 objects ∙ ap length (bare_of s (items_among all)) ∙ mapped (trees_among (items_among all)) in
       subst (λ n. n ≤ OBJECTS) (sym same) (trees_within t.package_ none)

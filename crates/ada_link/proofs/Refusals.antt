@@ -1,5 +1,5 @@
 -- Why no sections of a program are put together: what refuses its variables, its bodies, main or its tables refuses the program.
-use Rattle.std.proofs.Common.{◌≡◌, ℕ, zero, suc, ◌+◌, ◌≤◌, ◌<◌, List, [], ◌∷◌, ◌++◌, length, map, take, inl, inr, Bool, true, false, ◌&&◌, Option, Some, None, refl, sym, ap, ◌∙◌, subst, arith, length-append, take_all}
+use Rattle.std.proofs.Common.{◌≡◌, ℕ, suc, ◌+◌, ◌≤◌, ◌<◌, List, [], ◌∷◌, ◌++◌, length, map, take, inl, inr, Bool, true, false, ◌&&◌, Option, Some, None, refl, sym, ap, ◌∙◌, subst, arith, length-append, take_all}
 use Rattle.std.specs.List.{list_all}
 use Rattle.std.specs.Prelude.{nat_le, sum_by, ◌||◌}
 use Rattle.base.specs.Names.{is_label, is_name}
@@ -83,6 +83,23 @@ module _ (t : ProgramTree) where
         ∙ ap (λ l. number_from 0 l (Some o) name) (names_of whole t.package_);
     components = λ o name. ap (λ l. component_told l o name) parts ∙ components_told t o name;
   }
+
+  -- ... where they were made of its text and its names
+  pub tables_told : (s : Scope) (items : List ItemTree) (bodies : List BodyItemTree) → s ≡ whole → items ≡ package_items t.package_
+      → bodies ≡ package_bodies t.package_ → (g : Globals) → AreGlobals s items g → (directory : Directory) → HaveBodyNumbers s bodies directory.numbers.items
+      → directory.slots ≡ g.slots
+      → directory.operations.items ≡ entries_among s 0 bodies
+      → directory.components.items ≡ component_slots s 0 items
+      → AreGlobals whole (package_items t.package_) (record g { slots = directory.slots }) × IsDirectory t directory
+  tables_told s items bodies scope declared written g are directory numbered slots entries parts =
+      let theirs : AreGlobals whole (package_items t.package_) g =
+      subst (λ z. AreGlobals z (package_items t.package_) g) scope (subst (λ l. AreGlobals s l g) declared are) in (
+        subst (λ z. AreGlobals whole (package_items t.package_) (record g { slots = z })) (sym slots) theirs,
+        directory_told g directory.numbers.items directory theirs
+            (subst (λ z. HaveBodyNumbers z (package_bodies t.package_) directory.numbers.items) scope
+            (subst (λ l. HaveBodyNumbers s l directory.numbers.items) written numbered))
+            (ap (λ z. z.items) slots) refl (entries ∙ (λ j. entries_among (scope j) 0 (written j))) (parts ∙ (λ j. component_slots (scope j) 0 (declared j))),
+      )
 
   -- ---- memory
 
@@ -231,7 +248,7 @@ module _ (t : ProgramTree) where
     all_words =
         let plain = ap length (h.plain_words ∙ h.are.words) in
         let parts : sum_by (λ o. length o.words) i.objects ≡ object_words whole (package_items t.package_) =
-        ap (sum_by (λ (o : ObjectRow). length o.words)) h.objects ∙ rows_words whole (package_items t.package_) in
+        ap (sum_by (λ (o : ObjectRow). length o.words)) h.objects ∙ rows_words t 0 whole (package_items t.package_) in
         (λ j. plain j + parts j)
 
     pub limits_refused : length i.objects ≡ (program_of t).objects → is_within_limits i ≡ false → RefusesSections t refusal.Limit

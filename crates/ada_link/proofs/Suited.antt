@@ -1,11 +1,10 @@
 -- What is visible in front of a body, and in front of main, stands in the image and in the subprogram to which the code is added.
-use Rattle.std.proofs.Common.{◌≡◌, ◌⊎◌, inl, inr, ℕ, suc, ◌+◌, ◌<◌, ◌≤◌, List, [], ◌∷◌, ◌++◌, length, length-append, Bool, true, false, Option, Some, None, ◌||◌, refl, sym, ap, ◌∙◌, subst, arith}
-use Rattle.std.specs.Prelude.{is_none, nat_eq, nat_lt, option_map, slice_get}
+use Rattle.std.proofs.Common.{◌≡◌, ◌⊎◌, inl, inr, ℕ, ◌+◌, ◌<◌, List, [], length, true, Option, Some, None, ◌||◌, refl, sym, ap, ◌∙◌, subst, arith}
+use Rattle.std.specs.Prelude.{is_none, nat_lt, slice_get}
 use Rattle.std.proofs.lemmas.Bool.{eq-eqb, lt-ltb}
 use Rattle.ada_tree.specs.declared.declaration.Formal.{Formal}
 use Rattle.ada_tree.specs.declared.expression.Identifier.{Identifier}
-use Rattle.ada_tree.specs.StatementTree.{SubprogramTree}
-use Rattle.ada_tree.specs.ProgramTree.{BodyItemTree, BodyTree, OperationBody, ProgramTree, ProtectedBody, ProtectedItemTree}
+use Rattle.ada_tree.specs.ProgramTree.{BodyItemTree, EntryBody, OperationBody, ProgramTree, ProtectedBody, ProtectedItemTree}
 use Rattle.image.specs.Code as sections
 use Rattle.image.specs.ObjectTable.{ObjectRow}
 use Rattle.image.specs.Rules.{calls_inside, has_region, has_word, is_external, is_plain, object_row, some_and, writes_region}
@@ -19,59 +18,79 @@ use Rattle.types.specs.declared.entity.Subtype.{Subtype}
 use Rattle.types.specs.Entities.{Profile, Protected, ProtectedObject}
 use Rattle.types.specs.Entities as entity
 use Rattle.types.specs.Layouts.{words_of}
-use Rattle.types.specs.Places as places
 use Rattle.types.specs.Places.{or_else}
 use Rattle.types.specs.Scopes.{Scope, offering}
-use Rattle.types.specs.Shapes.{value_words}
+use Rattle.types.specs.Statics.{static_place}
 use Rattle.checking.specs.ProgramRules.{IsLegal}
 use Rattle.ravenscar.specs.ProgramRules.{IsRestricted}
 use Rattle.expr_soundness.specs.SoundScopes.{IsKnown, SoundScope}
 use Rattle.meaning.specs.type_rules.specs.ProfileRules.{formal_parameters, profile_with}
-use Rattle.meaning.specs.Programs.{Program, components_among, objects_or_none, package_items, program_of}
-use Rattle.program_soundness.specs.Fronts.{declared_in, front, start_in}
+use Rattle.meaning.specs.Programs.{Program, program_of}
+use Rattle.program_soundness.specs.Fronts.{declared_in, front}
+use Rattle.program_soundness.specs.step_soundness.specs.Fitting.{IsFound}
+use Rattle.program_soundness.specs.step_soundness.specs.Objects.{first_store}
 use Rattle.program_soundness.proofs.BodyProfiles.{profile_none}
 use Rattle.program_soundness.proofs.Listing.{same_some}
 use Rattle.program_soundness.proofs.Moved.{hidden_stands}
 use Rattle.program_soundness.proofs.WiderScopes.{stands, stands_number}
-use Rattle.expr_code.specs.Seeing.{IsCallable, NamesProfile, Package, Suits, slot_of, subprogram_of, told_of}
+use Rattle.expr_code.specs.Seeing.{NamesProfile, Package, Suits, slot_of, subprogram_of, told_of}
 use Rattle.expr_code.specs.declared.visible.Slot.{Slot}
 use Rattle.expr_code.specs.declared.visible.Visible.{Visible}
 use Rattle.step_simulation.specs.part_code.specs.Resting.{Framed}
-use Rattle.step_simulation.specs.part_code.specs.Suiting.{IsCallableProcedure, SuitsStatements}
+use Rattle.step_simulation.specs.part_code.specs.Suiting.{SuitsStatements}
 use Rattle.stmt_code.specs.Subprograms.{SuitsBody}
-use Rattle.package_code.specs.Bodies.{bodies_before, number_in, operation_kind}
-use Rattle.package_code.specs.Owners.{in_object}
+use Rattle.package_code.specs.Bodies.{bodies_before, number_in, operation_kind, own_body, own_head, own_kind}
 use Rattle.package_code.specs.Directory.{AreTold, number_told}
-use Rattle.package_code.specs.Package.{IsInFront, IsPackageOf, first_words_of, place_among}
+use Rattle.package_code.specs.Package.{IsInFront}
 use Rattle.package_code.specs.Program.{HasProgram}
-use Rattle.package_code.proofs.BodyFronts.{IsBodyFront, body_words}
-use Rattle.package_code.proofs.InFront.{LawsOfNames, front_sound, front_words, kept_behind, memory, whole}
-use Rattle.package_code.proofs.InOrder.{stands_there}
+use Rattle.package_code.proofs.BodyFronts.{IsBodyFront, body_words, front_finds}
+use Rattle.package_code.proofs.InFront.{LawsOfNames, front_sound, front_words, kept_behind, memory}
 use Rattle.package_code.proofs.Linking.{in_front, ordered}
 use Rattle.package_code.proofs.ObjectFronts as fronts
-use Rattle.package_code.proofs.ObjectNumbers.{components_wide, row_words}
-use Rattle.package_code.proofs.Placed.{items_are}
 use Rattle.package_code.proofs.OperationBodies.{has_number, object}
-use Rattle.ada_link.proofs.Callees.{IsCallee, IsExternal, callable, external_there, g, of_program, own_callee, own_item, package_callee, procedure}
+use Rattle.ada_link.proofs.EntryCallees.{entry_there}
+use Rattle.ada_link.proofs.ObjectLines.{component_within}
+use Rattle.ada_link.proofs.Callees.{IsCallee, callable, external_there, g, of_program, own_callee, own_item, package_callee, procedure}
 
 -- ---- kinds
 
--- a function of an object calls its functions, a procedure both
-calls_function : (o : ℕ) (caller : Option Identifier) (r : Identifier) → (is_plain (operation_kind o (Some r)) || calls_inside (operation_kind o caller) (operation_kind o (Some r))) ≡ true
-calls_function o None r = eq-eqb o o refl
-calls_function o (Some q) r = eq-eqb o o refl
+-- a function of an object calls its functions; a procedure, or the body of its entry, both
+calls_function : (o : ℕ) (caller : ProtectedItemTree) (r : Identifier)
+    → (is_plain (operation_kind o (Some r)) || calls_inside (own_kind o caller) (operation_kind o (Some r))) ≡ true
+calls_function o (OperationBody d b) r = by_result d.result
+  where
+    by_result : (q : Option Identifier) → (is_plain (operation_kind o (Some r)) || calls_inside (operation_kind o q) (operation_kind o (Some r))) ≡ true
+    by_result None = eq-eqb o o refl
+    by_result (Some q) = eq-eqb o o refl
+calls_function o (EntryBody d barrier b) r = eq-eqb o o refl
 
-calls_any : (o : ℕ) (r : Option Identifier) → (is_plain (operation_kind o r) || calls_inside (operation_kind o None) (operation_kind o r)) ≡ true
-calls_any o None = eq-eqb o o refl
-calls_any o (Some r) = eq-eqb o o refl
+calls_any : (o : ℕ) (caller : ProtectedItemTree) → (own_head caller).result ≡ None → (r : Option Identifier)
+    → (is_plain (operation_kind o r) || calls_inside (own_kind o caller) (operation_kind o r)) ≡ true
+calls_any o (OperationBody d b) none r =
+    ap (λ q. is_plain (operation_kind o r) || calls_inside (operation_kind o q) (operation_kind o r)) none ∙ by_result r
+  where
+    by_result : (q : Option Identifier) → (is_plain (operation_kind o q) || calls_inside (operation_kind o None) (operation_kind o q)) ≡ true
+    by_result None = eq-eqb o o refl
+    by_result (Some q) = eq-eqb o o refl
+calls_any o (EntryBody d barrier b) none None = eq-eqb o o refl
+calls_any o (EntryBody d barrier b) none (Some r) = eq-eqb o o refl
 
-kind_object : (o : ℕ) (r : Option Identifier) → object_of (operation_kind o r) ≡ Some o
-kind_object o None = refl
-kind_object o (Some r) = refl
+kind_object : (o : ℕ) (u : ProtectedItemTree) → object_of (own_kind o u) ≡ Some o
+kind_object o (OperationBody d b) = by_result d.result
+  where
+    by_result : (q : Option Identifier) → object_of (operation_kind o q) ≡ Some o
+    by_result None = refl
+    by_result (Some q) = refl
+kind_object o (EntryBody d barrier b) = refl
 
-calls_gives : (s : Scope) (o : ℕ) (caller : Option Identifier) (fs : List Formal) (r : Option Identifier) (p : Profile)
+-- what is no function stores in its object
+kind_writes : (o : ℕ) (u : ProtectedItemTree) → (own_head u).result ≡ None → writes_object (own_kind o u) ≡ true
+kind_writes o (OperationBody d b) none = ap (λ q. writes_object (operation_kind o q)) none
+kind_writes o (EntryBody d barrier b) none = refl
+
+calls_gives : (s : Scope) (o : ℕ) (caller : ProtectedItemTree) (fs : List Formal) (r : Option Identifier) (p : Profile)
     → profile_with s (formal_parameters s fs) r ≡ Some p → (u : Subtype) → p.result ≡ Some u
-    → (is_plain (operation_kind o r) || calls_inside (operation_kind o caller) (operation_kind o r)) ≡ true
+    → (is_plain (operation_kind o r) || calls_inside (own_kind o caller) (operation_kind o r)) ≡ true
 calls_gives s o caller fs (Some r) p own u some = calls_function o caller r
 calls_gives s o caller fs None p own u some = (let none = profile_none s (formal_parameters s fs) p own in let bad = sym none ∙ some in cc)
 
@@ -118,6 +137,12 @@ module _ (laws : LawsOfNames) (t : ProgramTree) (legal : IsLegal t) (restricted 
         → (o : ProtectedObject) × (stands program.scope name ≡ Some (Protected o)) × ((q ≡ o) ⊎ (q.operations ≡ []))
     outer name q k = (q, whole_here name (Protected q) k, inl refl)
 
+    -- what is named is there in the program
+    finds : (name : List ℕ) (e : entity.Entity) → stands v.scope name ≡ Some e → IsFound program None name e
+    finds name e k =
+        (laws.fronts t (first_store program) legal restricted (memory laws t legal restricted) place
+        (static_place program.scope)).finds name e (ap (λ s. stands s name) (sym scope) ∙ k)
+
     callee : (name : List ℕ) (number : ℕ) (profile : Profile) → subprogram_of v name ≡ Some number → NamesProfile v.scope name profile
         → IsCallee laws t legal restricted i h number profile kinds.Plain
     callee name number profile seen n =
@@ -149,6 +174,7 @@ module _ (laws : LawsOfNames) (t : ProgramTree) (legal : IsLegal t) (restricted 
       externals = λ name operation number profile seen named none.
           let x = external_there laws t legal restricted i h v sound told.operations outer name operation number profile seen named in
           procedure laws t legal restricted i h v sound same number profile x.kind x.callee x.sound is_external x.external none;
+      entries = λ name operation number profile seen named. entry_there laws t legal restricted i h v sound same outer (λ x q k. finds x (Protected q) k) name operation number profile seen named;
     }
       where
         by_region : (r : Region) → has_region s r ≡ true → writes_region s r ≡ true
@@ -160,7 +186,7 @@ module _ (laws : LawsOfNames) (t : ProgramTree) (legal : IsLegal t) (restricted 
 
   module _ (place : ℕ) (name : Identifier) (items : List ProtectedItemTree) (end_name : Identifier)
       (at : slice_get (declared_in t.package_) place ≡ Some (ProtectedBody name items end_name))
-      (k : ℕ) (d : SubprogramTree) (b : BodyTree) (there : slice_get items k ≡ Some (OperationBody d b))
+      (k : ℕ) (u : ProtectedItemTree) (there : slice_get items k ≡ Some u)
       (v : Visible) where
     abbrev o : ProtectedObject
     o = object laws.scopes laws.names laws.premises t legal restricted place name items end_name at
@@ -168,36 +194,36 @@ module _ (laws : LawsOfNames) (t : ProgramTree) (legal : IsLegal t) (restricted 
     abbrev gg : Package
     gg = g laws t legal restricted i h
 
-    module _ (scope : v.scope ≡ fronts.seen laws t legal restricted place name items end_name at k d b there)
+    module _ (scope : v.scope ≡ fronts.seen laws t legal restricted place name items end_name at k u there)
         (told : AreTold program.scope h.directory (Some o.number) v) where
-      inside : IsInFront (fronts.seen laws t legal restricted place name items end_name at k d b there) gg (Some o.number) (seeing (Some o.number) v)
-      inside = in_front t i h (fronts.seen laws t legal restricted place name items end_name at k d b there) (Some o.number) (seeing (Some o.number) v) scope refl told
+      inside : IsInFront (fronts.seen laws t legal restricted place name items end_name at k u there) gg (Some o.number) (seeing (Some o.number) v)
+      inside = in_front t i h (fronts.seen laws t legal restricted place name items end_name at k u there) (Some o.number) (seeing (Some o.number) v) scope refl told
 
       abbrev Came : List ℕ → entity.Entity → Type 0
       Came x e =
-          fronts.CameHere laws t legal restricted place name items end_name at k d b there i gg (ordered t i h) (of_program laws t legal restricted i h)
+          fronts.CameHere laws t legal restricted place name items end_name at k u there i gg (ordered t i h) (of_program laws t legal restricted i h)
           h.told.operations (seeing (Some o.number) v) inside x e
 
       came : (x : List ℕ) (e : entity.Entity) → stands v.scope x ≡ Some e → Came x e
       came =
-          fronts.came laws t legal restricted place name items end_name at k d b there i gg (ordered t i h) (of_program laws t legal restricted i h)
+          fronts.came laws t legal restricted place name items end_name at k u there i gg (ordered t i h) (of_program laws t legal restricted i h)
           h.told.operations (seeing (Some o.number) v) inside
 
-      front_body : IsBodyFront t (Some o.number) v.scope d b
+      front_body : IsBodyFront t (Some o.number) v.scope (own_head u) (own_body u)
       front_body =
-          subst (λ u. IsBodyFront t (Some o.number) u d b) (sym scope)
-          (fronts.operation_front laws t legal restricted place name items end_name at k d b there)
+          subst (λ z. IsBodyFront t (Some o.number) z (own_head u) (own_body u)) (sym scope)
+          (fronts.operation_is_front laws t legal restricted place name items end_name at k u there)
 
       same_inside : (u : Subtype) → IsKnown v.scope u → words_of program.scope u ≡ words_of v.scope u
-      same_inside = body_words laws.scopes t (Some o.number) v.scope d b front_body (memory laws t legal restricted)
+      same_inside = body_words laws.scopes t (Some o.number) v.scope (own_head u) (own_body u) front_body (memory laws t legal restricted)
 
       -- ---- what is called
 
       record IsCalledInside (number : ℕ) (p : Profile) : Type 0 where
         kind : Kind
         callee : IsCallee laws t legal restricted i h number p kind
-        function : (u : Subtype) → p.result ≡ Some u → (is_plain kind || calls_inside (operation_kind o.number d.result) kind) ≡ true
-        procedure : d.result ≡ None → (is_plain kind || calls_inside (operation_kind o.number d.result) kind) ≡ true
+        function : (z : Subtype) → p.result ≡ Some z → (is_plain kind || calls_inside (own_kind o.number u) kind) ≡ true
+        procedure : (own_head u).result ≡ None → (is_plain kind || calls_inside (own_kind o.number u) kind) ≡ true
 
       called_inside : (x : List ℕ) (number : ℕ) (p : Profile) → subprogram_of v x ≡ Some number → NamesProfile v.scope x p → IsCalledInside number p
       called_inside x number p seen n = by_came (came x (entity.Subprogram p) (stands_number v.scope x n.number (entity.Subprogram p) n.numbered n.stands))
@@ -215,16 +241,16 @@ module _ (laws : LawsOfNames) (t : ProgramTree) (legal : IsLegal t) (restricted 
 
           by_came : Came x (entity.Subprogram p) → IsCalledInside number p
           by_came (inl hidden) =
-              let f = hidden_stands (front t place) (fronts.own_name_number laws t legal restricted place name items end_name at k d b there i gg (ordered t i h)
+              let f = hidden_stands (front t place) (fronts.own_name_number laws t legal restricted place name items end_name at k u there i gg (ordered t i h)
               (of_program laws t legal restricted i h) h.told.operations (seeing (Some o.number) v) inside) x (entity.Subprogram p) hidden in
               let is = kept_behind laws t legal restricted place x (entity.Subprogram p) (f.stands_ ∙ ap Some (subprogram_before f.before p f.same)) in
-              let untold = fronts.front_unnumbered laws t legal restricted place name items end_name at k d b there i gg (ordered t i h)
+              let untold = fronts.front_unnumbered laws t legal restricted place name items end_name at k u there i gg (ordered t i h)
               (of_program laws t legal restricted i h) h.told.operations (seeing (Some o.number) v) inside x f.before f.stands_ in
               record {
                 kind = kinds.Plain;
                 callee = package_callee laws t legal restricted i h x number p is
                     (second_same (number_told program.scope h.directory (Some o.number) x) (number_told program.scope h.directory None x) untold both);
-                function = λ u some. refl;
+                function = λ z some. refl;
                 procedure = λ none. refl;
               }
           by_came (inr (inl op)) =
@@ -237,13 +263,12 @@ module _ (laws : LawsOfNames) (t : ProgramTree) (legal : IsLegal t) (restricted 
               record {
                 kind = operation_kind o.number y.d.result;
                 callee = subst (λ m. IsCallee laws t legal restricted i h m p (operation_kind o.number y.d.result)) same
-                    (own_callee laws t legal restricted i h place name items end_name at y.j y.d y.b y.there p y.profile);
-                function = λ u some. calls_gives program.scope o.number d.result y.d.formals y.d.result p y.profile u some;
-                procedure = λ none. ap (λ r. is_plain (operation_kind o.number y.d.result) || calls_inside (operation_kind o.number r) (operation_kind o.number y.d.result)) none
-                    ∙ calls_any o.number y.d.result;
+                    (own_callee laws t legal restricted i h place name items end_name at y.j (OperationBody y.d y.b) y.there p y.profile);
+                function = λ z some. calls_gives program.scope o.number u y.d.formals y.d.result p y.profile z some;
+                procedure = λ none. calls_any o.number u none y.d.result;
               }
           by_came (inr (inr c)) =
-              absurd (let e = fronts.component_entity (fronts.is_function laws t legal restricted place name items end_name at k d b there) o.components x (entity.Subprogram p) c in let bad = e.1 in cc)
+              absurd (let e = fronts.component_entity (fronts.is_function laws t legal restricted place name items end_name at k u there) o.components x (entity.Subprogram p) c in let bad = e.1 in cc)
 
       outer_inside : (x : List ℕ) (q : ProtectedObject) → stands v.scope x ≡ Some (Protected q)
           → (z : ProtectedObject) × (stands program.scope x ≡ Some (Protected z)) × ((q ≡ z) ⊎ (q.operations ≡ []))
@@ -251,52 +276,28 @@ module _ (laws : LawsOfNames) (t : ProgramTree) (legal : IsLegal t) (restricted 
         where
           by_came : Came x (Protected q) → (z : ProtectedObject) × (stands program.scope x ≡ Some (Protected z)) × ((q ≡ z) ⊎ (q.operations ≡ []))
           by_came (inl hidden) =
-              let f = hidden_stands (front t place) (fronts.own_name_number laws t legal restricted place name items end_name at k d b there i gg (ordered t i h)
+              let f = hidden_stands (front t place) (fronts.own_name_number laws t legal restricted place name items end_name at k u there i gg (ordered t i h)
               (of_program laws t legal restricted i h) h.told.operations (seeing (Some o.number) v) inside) x (Protected q) hidden in
               let c = fronts.protected_before f.before q f.same in
               (c.0, kept_behind laws t legal restricted place x (Protected c.0) (f.stands_ ∙ ap Some c.1), c.2)
           by_came (inr (inl op)) = absurd (elim op.kinds [ inl e ↦ cc | inr e ↦ cc ])
           by_came (inr (inr c)) =
-              absurd (let e = fronts.component_entity (fronts.is_function laws t legal restricted place name items end_name at k d b there) o.components x (Protected q) c in let bad = e.1 in cc)
+              absurd (let e = fronts.component_entity (fronts.is_function laws t legal restricted place name items end_name at k u there) o.components x (Protected q) c in let bad = e.1 in cc)
 
       -- ---- words
 
       words_here : (x : List ℕ) (slot : Slot) → slot_of v x ≡ Some slot
           → ((slot.region ≡ regions.Object) × (gg.slots (Some o.number) x ≡ Some slot)) ⊎ ((slot.region ≡ regions.Plain) × (gg.slots None x ≡ Some slot))
       words_here x slot seen =
-          elim (fronts.words_there laws t legal restricted place name items end_name at k d b there i gg (ordered t i h) (of_program laws t legal restricted i h)
+          elim (fronts.words_there laws t legal restricted place name items end_name at k u there i gg (ordered t i h) (of_program laws t legal restricted i h)
           h.told.operations (seeing (Some o.number) v) inside x slot seen) [
             | inl y ↦ inl ((of_program laws t legal restricted i h).laid.region o.number x slot y.its, y.its)
             | inr y ↦ inr ((of_program laws t legal restricted i h).laid.plain x slot y.its, y.its)
           ]
 
       own_within : (x : List ℕ) (slot : Slot) → gg.slots (Some o.number) x ≡ Some slot → slot.offset < length (sections.initial_words_of (slice_get i.objects o.number))
-      own_within x slot told_slot_ = by_place (place_among 0 parts x) refl (sym ((ordered t i h).components o.number x) ∙ told_slot_)
-        where
-          parts : List places.Object
-          parts = program.components o.number
-
-          these : parts ≡ objects_or_none (slice_get (components_among program.scope (package_items t.package_)) o.number)
-          these =
-              ap (λ f. f o.number) (whole laws t legal restricted).components
-              ∙ ap (λ l. objects_or_none (slice_get (components_among program.scope l) o.number)) (sym (items_are t.package_))
-
-          words : sections.initial_words_of (slice_get i.objects o.number) ≡ first_words_of parts
-          words =
-              ap (λ l. sections.initial_words_of (slice_get l o.number)) h.objects ∙ row_words program.scope (package_items t.package_) o.number
-              ∙ ap first_words_of (sym these)
-
-          by_place : (z : Option Slot) → place_among 0 parts x ≡ z → option_map in_object z ≡ Some slot
-              → slot.offset < length (sections.initial_words_of (slice_get i.objects o.number))
-          by_place None is e = cc
-          by_place (Some z) is e =
-              let r = stands_there parts 0 x z is in
-              let wide = components_wide program.scope (package_items t.package_) o.number x r.object h.made (ap (λ l. places.object_of l x) (sym these) ∙ r.found) in
-              let here_ : z.offset ≡ slot.offset = ap (λ y. y.offset) (same_some (in_object z) slot e) in
-              let long = ap length words ∙ ap length r.words ∙ length-append r.front (value_words r.object.value ++ r.more) in
-              let longer = length-append (value_words r.object.value) r.more in
-              let at_ = r.offset in
-              omega (arith, wide, here_, long, longer, at_)
+      own_within x slot told_slot_ =
+          component_within laws t legal restricted i h o.number x slot (sym ((ordered t i h).components o.number x) ∙ told_slot_)
 
       has_own_word : (s : Subprogram) → object_of s.kind ≡ Some o.number → (a : ℕ) → a < length (sections.initial_words_of (slice_get i.objects o.number))
           → has_word i s a ≡ true
@@ -306,16 +307,16 @@ module _ (laws : LawsOfNames) (t : ProgramTree) (legal : IsLegal t) (restricted 
           by_row (Some r) less = lt-ltb a (length r.words) less
           by_row None less = absurd (omega (arith, less))
 
-      suits_inside : (s : Subprogram) → s.kind ≡ operation_kind o.number d.result → Suits v i s
+      suits_inside : (s : Subprogram) → s.kind ≡ own_kind o.number u → Suits v i s
       suits_inside s kind = record {
         locals = λ x slot seen local. elim (words_here x slot seen) [ inl y ↦ absurd (let bad = sym y.0 ∙ local in cc) | inr y ↦ absurd (let bad = sym y.0 ∙ local in cc) ];
         plain = λ x slot seen plain. elim (words_here x slot seen) [ inl y ↦ absurd (let bad = sym y.0 ∙ plain in cc) | inr y ↦ plain_within x slot y.1 ];
         object = λ x slot seen object. elim (words_here x slot seen) [
-          | inl y ↦ has_own_word s (ap object_of kind ∙ kind_object o.number d.result) slot.offset (own_within x slot y.1)
+          | inl y ↦ has_own_word s (ap object_of kind ∙ kind_object o.number u) slot.offset (own_within x slot y.1)
           | inr y ↦ absurd (let bad = sym y.0 ∙ object in cc)
         ];
         region = λ x slot seen. elim (words_here x slot seen) [
-          | inl y ↦ ap (has_region s) y.0 ∙ ap (λ z. some_and z (λ n. true)) (ap object_of kind ∙ kind_object o.number d.result)
+          | inl y ↦ ap (has_region s) y.0 ∙ ap (λ z. some_and z (λ n. true)) (ap object_of kind ∙ kind_object o.number u)
           | inr y ↦ ap (has_region s) y.0
         ];
         calls = λ x number p result seen n some.
@@ -328,10 +329,10 @@ module _ (laws : LawsOfNames) (t : ProgramTree) (legal : IsLegal t) (restricted 
             callable laws t legal restricted i h v front_body.sound same_inside number p y.kind y.callee y.sound is_external y.external result some;
       }
 
-      pub operation_suited : (s : Subprogram) → s.kind ≡ operation_kind o.number d.result → SuitsBody (is_none d.result) v i s
-      operation_suited s kind = by_result d.result refl
+      pub operation_suited : (s : Subprogram) → s.kind ≡ own_kind o.number u → SuitsBody (is_none (own_head u).result) v i s
+      operation_suited s kind = by_result (own_head u).result refl
         where
-          by_result : (r : Option Identifier) → d.result ≡ r → SuitsBody (is_none r) v i s
+          by_result : (r : Option Identifier) → (own_head u).result ≡ r → SuitsBody (is_none r) v i s
           by_result (Some r) is = suits_inside s kind
           by_result None is = record {
             names = suits_inside s kind;
@@ -344,9 +345,14 @@ module _ (laws : LawsOfNames) (t : ProgramTree) (legal : IsLegal t) (restricted 
             externals = λ x operation number p seen named none.
                 let y = external_there laws t legal restricted i h v front_body.sound told.operations outer_inside x operation number p seen named in
                 procedure laws t legal restricted i h v front_body.sound same_inside number p y.kind y.callee y.sound is_external y.external none;
+            entries = λ x operation number p seen named.
+                entry_there laws t legal restricted i h v front_body.sound same_inside outer_inside
+                (λ z q k. front_finds laws.scopes t (Some o.number) v.scope (own_head u) (own_body u) front_body (memory laws t legal restricted) z (Protected q) k)
+                x operation number p
+                seen named;
           }
             where
               writes_there : (r : Region) → writes_region s r ≡ true
               writes_there regions.Locals = refl
               writes_there regions.Plain = refl
-              writes_there regions.Object = ap writes_object (kind ∙ ap (operation_kind o.number) is)
+              writes_there regions.Object = ap writes_object kind ∙ kind_writes o.number u is

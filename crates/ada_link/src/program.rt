@@ -1,10 +1,13 @@
 //! The sections of the image of a program.
-ghost use Rattle.std.specs.Prelude.{◌≡◌, false, length, IfErr, IfOk};
+ghost use Rattle.std.specs.Prelude.{◌≡◌, false, length, true, IfErr, IfOk};
 ghost use Rattle.std.specs.List.{list_all};
 ghost use Rattle.base.specs.Names.{is_label, is_name};
 ghost use Rattle.ada_tree.specs.ProgramTree.{program_tree};
-ghost use Rattle.meaning.specs.Programs.{base_priority, program_of};
+ghost use Rattle.meaning.specs.Programs.{base_priority, package_items, program_of};
 ghost use Rattle.expr_code.specs.Refusing.{IsRefused};
+ghost use Rattle.package_code.specs.Directory.{IsDirectory};
+ghost use Rattle.package_code.specs.Globals.{AreGlobals};
+ghost use Rattle.package_code.specs.Objects.{HaveObjects, objects_have_words};
 ghost use Rattle.package_code.specs.Program.{HasProgram, KeepsTables, has_texts, is_within_limits};
 ghost use Rattle.package_code.specs.Refusing.{RefusesSections, RefusesLinking, program_labels, program_rows};
 
@@ -15,11 +18,11 @@ use base::limits::{EXCEPTIONS, LABELS, OBJECTS, ROWS, SUBPROGRAMS, TASKS};
 use base::names::{is_label, is_name};
 use expr_code::Refusal;
 use expr_soundness::laws::scopes_are_sound;
-use image::{Kind, Parts, Task};
+use image::{Kind, Object, Parts, Task};
 use lexer::Text;
 use package_code::{
-    Directory, Globals, ProtectedObjects, Walk, globals_of, protected_objects, row, task_row,
-    task_rows, walk_over,
+    Directory, Globals, ProtectedObjects, Walk, globals_of, object_rows, protected_objects, row,
+    task_row, task_rows, walk_over,
 };
 use program_soundness::body_laws::{fronts_fit, names_are_known, premises_hold};
 use program_soundness::program_laws::starts_are_sound;
@@ -37,6 +40,45 @@ fn main_task(accepted: &Accepted, number: usize) -> Result<Task, Refusal>
     task_row(accepted.scope(), &main.name, &main.aspect, subprogram)
 }
 
+// What the declarations of a program tell: the first words of its variables, its exceptions, the rows of its protected objects, and what bodies see of them.
+struct DeclaredTables {
+    words: Vec<i64>,
+    exceptions: Vec<Text>,
+    objects: Vec<Object>,
+    directory: Directory,
+}
+
+// Those of a program, in the order of its text.
+fn declarations(alloc: Global, accepted: &Accepted) -> Result<DeclaredTables, Refusal>
+    ensures globals { let t = program_tree accepted.now in IfOk result (λ told. AreGlobals (program_of t).scope (package_items t.package_) (record { slots = told.directory.slots; words = told.words; exceptions = told.exceptions })) }
+    ensures directory { IfOk result (λ told. IsDirectory (program_tree accepted.now) told.directory) }
+    ensures objects { IfOk result (λ told. HaveObjects (program_tree accepted.now) told.objects.items) }
+    ensures made { let t = program_tree accepted.now in IfOk result (λ told. objects_have_words (program_of t).scope (package_items t.package_) ≡ true) }
+    ensures refused { IfErr result (λ why. RefusesSections (program_tree accepted.now) why) }
+{
+    names_are_sound();
+    variables_are_placed();
+    let package_ = &accepted.program().package_;
+    let scope = accepted.scope();
+    let Globals {
+        slots,
+        words,
+        exceptions,
+    } = globals_of(alloc, scope, package_)?;
+    let ProtectedObjects {
+        declared,
+        components,
+    } = protected_objects(alloc, scope, package_)?;
+    let directory = Directory::new(alloc, slots, components, scope, package_)?;
+    let objects = object_rows(alloc, accepted, &directory, &declared)?;
+    Ok(DeclaredTables {
+        words,
+        exceptions,
+        objects,
+        directory,
+    })
+}
+
 // The code of its subprograms and tasks one behind another, in the order of their bodies, with their rows of handlers, that of main behind them, and the
 // variables, protected objects and tasks in the order of their declarations.
 fn put_together(alloc: Global, accepted: &Accepted) -> Result<Parts, Refusal>
@@ -45,24 +87,17 @@ fn put_together(alloc: Global, accepted: &Accepted) -> Result<Parts, Refusal>
     ensures rows { IfOk result (λ parts. length parts.rows ≡ program_rows (program_tree accepted.now)) }
     ensures refused { IfErr result (λ why. RefusesSections (program_tree accepted.now) why) }
 {
-    names_are_sound();
     main_is_known();
     main_may_be_added();
     premises_hold();
     tables_are_small();
-    variables_are_placed();
     let program = accepted.program();
-    let scope = accepted.scope();
-    let Globals {
-        slots,
+    let DeclaredTables {
         words,
         exceptions,
-    } = globals_of(alloc, scope, &program.package_)?;
-    let ProtectedObjects {
-        rows: objects,
-        components,
-    } = protected_objects(alloc, scope, &program.package_)?;
-    let directory = Directory::new(alloc, slots, components, scope, &program.package_)?;
+        objects,
+        directory,
+    } = declarations(alloc, accepted)?;
     let walk = walk_over(alloc, accepted, &directory, exceptions)?;
     let Walk {
         mut draft,
@@ -154,7 +189,7 @@ fn within_tables(alloc: Global, accepted: &Accepted) -> Result<Parts, Refusal>
 /// They make a well-formed image (`sections_are_well_formed`).
 ///
 /// # Errors
-/// `Outside` where the program has an entry, or what else has no code yet (docs/CODEGEN.md), or a text that is no name or label; `Limit` where the bound on its
+/// `Outside` where the program has what has no code yet (docs/CODEGEN.md), or a text that is no name or label; `Limit` where the bound on its
 /// instructions, the choices of its handlers, or the words of a frame or of an object, pass those of images (specs/Refusing); `Memory` where memory was refused.
 pub(crate) fn sections(alloc: Global, accepted: &Accepted) -> Result<Parts, Refusal>
     ensures program { IfOk result (λ parts. HasProgram (program_tree accepted.now) parts) }

@@ -40,12 +40,13 @@ pub record IsSmallText (tree : ProgramTree) (text : List ℕ) : Type 0 where
   pub is_tree : IsTreeOf tree text
   pub small : IsSmall tree is_tree.tokens
 
--- it declares a protected object, of whose entries no code is made yet
+-- It declares a protected object. That code is made of all that stands in such a text, and passes no limit where the text is small, isn't shown.
 abbrev pub IsBeyond : ProgramTree → Type 0
 IsBeyond tree = has_protected tree ≡ true
 
--- Why an accepted text is not compiled: memory was refused; it declares a protected object; or, as its tree tells, its code may pass a limit of images. Of a text
--- without protected objects whose bodies are small that is told only where all its code is long, and of a small one never.
+-- Why an accepted text is not compiled: memory was refused; no code is made of something in it, and it declares a protected object; or, as its tree tells, its
+-- code may pass a limit of images. Of a text without protected objects whose bodies are small the last is told only where all its code is long, and of a small
+-- one never.
 abbrev pub RefusesAccepted : List ℕ → ProgramTree → Fault → Type 0
 RefusesAccepted text tree fault =
     (fault ≡ memory_fault)
@@ -99,7 +100,7 @@ RefusesText text fault =
     (fault ≡ memory_fault)
     ⊎ (IsMisspelled text fault ⊎ (HasNoTree text fault ⊎ (HasIllegalTree text fault ⊎ (HasUnrestrictedTree text fault ⊎ HasRefusedTree text fault))))
 
--- What is outside the language of today is an accepted text that declares a protected object, refused by this number at byte 0. No other text is.
+-- A text that is told to be outside of what is compiled is an accepted one that declares a protected object, refused by this number at byte 0. No other text is.
 abbrev pub IsLeftOut : List ℕ → Fault → Type 0
 IsLeftOut text fault =
     fault.number ≡ OUTSIDE_LANGUAGE → (fault ≡ outside) × ((tree : ProgramTree) × (IsAccepted tree text × IsBeyond tree))

@@ -34,7 +34,8 @@ use Rattle.ada_link.specs.expr_code.specs.declared.visible.Visible.{Visible}
 use Rattle.ada_link.specs.expr_code.proofs.Language.{gives_number}
 use Rattle.ada_link.specs.part_code.specs.Lines.{is_put, line_behind, line_in, line_of}
 use Rattle.ada_link.specs.part_code.specs.Passing.{actuals_behind, operation_behind}
-use Rattle.ada_link.specs.part_code.specs.Needs.{actual_needs, actuals_needs, address_needs, call_needs, called_needs, copies_needs, destination_at, destinations_for, destinations_of, is_object, is_taken, line_needs, passed_needs, put_needs, through_needs}
+use Rattle.ada_link.specs.part_code.specs.EntryNames.{is_own_entry}
+use Rattle.ada_link.specs.part_code.specs.Needs.{actual_needs, actuals_needs, address_needs, bare_needs, call_needs, called_needs, copies_needs, destination_at, destinations_for, destinations_of, is_object, is_taken, line_needs, passed_needs, put_needs, through_needs}
 use Rattle.ada_link.specs.part_code.specs.declared.call.Destination.{Destination}
 use Rattle.source_laws.specs.Covered.{HasWhatCodeNeeds}
 use Rattle.source_laws.proofs.CoverNames.{IsTarget, address_made, attribute_given, is_given, known_taken, name_target, name_visible, slot_held, target_object, wanted_made}
@@ -411,6 +412,11 @@ module _ (exceptions : List (List ℕ)) (v : Visible) (cover : HasWhatCodeNeeds 
         (subst (λ u. selectors_faults s first.place u name.selectors ≡ []) put_stands
         (name_begins s cover.sound cover.formals first name.selectors legal).1))
 
+  -- where an entry of the own object is named, nothing is asked
+  bare_written : (name : NameTree) (own_entry : Bool) → (put_needs v name).outside ≡ false → (bare_needs v name own_entry).outside ≡ false
+  bare_written name true h = refl
+  bare_written name false h = h
+
   -- what is written as `Put` or `Put_Line` is isn't named behind an object
   through_written : (first : Identifier) (x : SelectorTrees) → (put_needs v (record { first = first; selectors = x })).outside ≡ false
       → (through_needs v (record { first = first; selectors = x }) (operation_behind x)).outside ≡ false
@@ -418,7 +424,7 @@ module _ (exceptions : List (List ℕ)) (v : Visible) (cover : HasWhatCodeNeeds 
       absurd (let never = (or_parts (not (is_put (entity_named s first.name))) true h).1 in cc)
   through_written first (MoreSelectors (Component operation) (MoreSelectors (Arguments a) NoSelectors)) h =
       absurd (let never = (or_parts (not (is_put (entity_named s first.name))) true h).1 in cc)
-  through_written first x h = h
+  through_written first x h = bare_written (record { first = first; selectors = x }) (is_own_entry (entity_named s first.name)) h
 
   pub call_made : (name : NameTree) → call_faults s name.first name.selectors ≡ [] → (call_needs v name).outside ≡ false
   call_made name h = by_profile (profile_named s name.first.name) refl

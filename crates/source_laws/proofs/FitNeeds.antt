@@ -14,6 +14,7 @@ use Rattle.types.specs.Scopes.{Scope}
 use Rattle.types.specs.Shapes.{shape_of}
 use Rattle.expr_soundness.specs.type_rules.specs.SubtypeNames.{subtype_of}
 use Rattle.program_soundness.specs.declaring.specs.LocalRules.{locals_scope}
+use Rattle.program_soundness.specs.step_soundness.specs.Fitting.{entity_named}
 use Rattle.program_soundness.specs.step_soundness.specs.body_restrictions.specs.BodyRules as restrictions
 use Rattle.expr_soundness.specs.expr_rules.proofs.TypedLaw.{back_empty, front_empty}
 use Rattle.size_rules.specs.Laws.{WordsAddUp}
@@ -27,7 +28,8 @@ use Rattle.ada_link.specs.part_code.specs.Lines.{LabelledValue, line_of}
 use Rattle.ada_link.specs.part_code.specs.Moving.{moves}
 use Rattle.ada_link.specs.part_code.specs.Passing.{ExternalName, actuals_behind, operation_behind}
 use Rattle.ada_link.specs.stmt_code.specs.Refusing.{Standpoint, alternatives_needs, behind_locals, elsifs_needs, handlers_needs, head_needs, in_loop, inside_handler, needs_if_any, raise_needs, return_needs, stmt_needs, stmts_needs}
-use Rattle.ada_link.specs.part_code.specs.Needs.{Needs, actual_needs, actuals_needs, assignment_needs, both, call_needs, called_needs, choices_needs, copies_needs, destinations_of, has_unfit, in_out_needs, initial_needs, line_needs, local_needs, local_visible, locals_needs, locals_visible, moded_needs, move_needs, moves_needs, needs_by, object_needs, passed_needs, target_needs, through_needs}
+use Rattle.ada_link.specs.part_code.specs.EntryNames.{is_own_entry}
+use Rattle.ada_link.specs.part_code.specs.Needs.{Needs, actual_needs, actuals_needs, assignment_needs, bare_needs, both, call_needs, called_needs, choices_needs, copies_needs, destinations_of, has_unfit, in_out_needs, initial_needs, line_needs, local_needs, local_visible, locals_needs, locals_visible, moded_needs, move_needs, moves_needs, needs_by, object_needs, passed_needs, target_needs, through_needs}
 use Rattle.ada_link.specs.part_code.specs.Suiting.{passed_width}
 use Rattle.ada_link.specs.part_code.specs.declared.call.Destination.{Destination}
 use Rattle.source_laws.proofs.CalleesSmall.{named_there}
@@ -131,8 +133,12 @@ module _ (v : Visible) (serves : Serves v.scope) where
   line_fit None = refl
   line_fit (Some line) = seen_fit
 
+  bare_fit : (name : NameTree) (own_entry : Bool) → IsFit (bare_needs v name own_entry)
+  bare_fit name true = refl
+  bare_fit name false = line_fit (line_of name)
+
   through_fit : (name : NameTree) (o : Option ExternalName) → IsFit (through_needs v name o)
-  through_fit name None = line_fit (line_of name)
+  through_fit name None = bare_fit name (is_own_entry (entity_named v.scope name.first.name))
   through_fit name (Some x) = ap (λ n. n.unfit) (external_beyond v name x serves.bare)
 
   call_fit : (name : NameTree) → IsFit (call_needs v name)

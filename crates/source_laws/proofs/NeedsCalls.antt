@@ -1,5 +1,5 @@
 -- What calls of procedures need on the operand stack: what is passed, and what is copied back.
-use Rattle.std.proofs.Common.{◌≡◌, ◌≤◌, ◌++◌, ◌+◌, ◌*◌, ℕ, zero, suc, [], ◌∷◌, List, length, true, false, not, Option, Some, None, refl, sym, ap, ◌∙◌, subst, arith}
+use Rattle.std.proofs.Common.{◌≡◌, ◌≤◌, ◌++◌, ◌+◌, ◌*◌, ℕ, zero, suc, [], ◌∷◌, List, length, Bool, true, false, not, Option, Some, None, refl, sym, ap, ◌∙◌, subst, arith}
 use Rattle.std.specs.Prelude.{⊤, is_none, nat_eq}
 use Rattle.std.proofs.Math.Nat.{max-le}
 use Rattle.std.proofs.lemmas.Bool.{or_from, or_parts}
@@ -44,7 +44,8 @@ use Rattle.ada_link.specs.expr_code.specs.declared.visible.Visible.{Visible}
 use Rattle.ada_link.specs.expr_code.proofs.Widths.{integral_one, words_by_type}
 use Rattle.ada_link.specs.part_code.specs.Lines.{LabelledValue, is_put, line_behind, line_in, line_of}
 use Rattle.ada_link.specs.part_code.specs.Passing.{ExternalName, actuals_behind, copied_width, operation_behind}
-use Rattle.ada_link.specs.part_code.specs.Needs.{Needs, actual_needs, actuals_needs, address_needs, beyond_if, both, call_needs, called_needs, check_words, copies_needs, copy_needs, destination_at, destinations_for, destinations_named, destinations_of, has_unfit, in_needs, in_out_needs, line_needs, passed_needs, stacked, target_needs, through_needs, words_at}
+use Rattle.ada_link.specs.part_code.specs.EntryNames.{is_own_entry}
+use Rattle.ada_link.specs.part_code.specs.Needs.{Needs, actual_needs, actuals_needs, address_needs, bare_needs, beyond_if, both, call_needs, called_needs, check_words, copies_needs, copy_needs, destination_at, destinations_for, destinations_named, destinations_of, has_unfit, in_needs, in_out_needs, line_needs, passed_needs, stacked, target_needs, through_needs, words_at}
 use Rattle.ada_link.specs.part_code.specs.Suiting.{passed_width, returned_width}
 use Rattle.ada_link.specs.part_code.specs.declared.call.Destination.{Destination}
 use Rattle.source_laws.specs.Depths.{IsSmallScope, formals_take}
@@ -388,10 +389,14 @@ module _ (v : Visible) (small : IsSmallScope v.scope) where
   formals_fit (f ∷ fs) h few =
       (fits_here s small f.subtype h.0 (few_words (words_of s f.subtype) (omega (arith, few))), formals_fit fs h.1 (omega (arith, few)))
 
-  through_plain : (name : NameTree) (o : Option ExternalName) → IsPlain (through_needs v name o)
-  through_plain name None =
+  bare_plain : (name : NameTree) (own_entry : Bool) → IsPlain (bare_needs v name own_entry)
+  bare_plain name true = record { frame = omega arith; fit = refl }
+  bare_plain name false =
       let put = beyond_if (not (is_put (entity_named s name.first.name))) in
       both_plain put (line_needs v (line_of name)) (record { frame = omega arith; fit = refl }) (line_plain (line_of name))
+
+  through_plain : (name : NameTree) (o : Option ExternalName) → IsPlain (through_needs v name o)
+  through_plain name None = bare_plain name (is_own_entry (entity_named s name.first.name))
   through_plain name (Some x) = subst IsPlain (sym (external_beyond v name x small.bare)) (record { frame = omega arith; fit = refl })
 
   called_plain : (name : NameTree) (o : Option Profile) → profile_named s name.first.name ≡ o → IsPlain (called_needs v name o)
@@ -410,11 +415,15 @@ module _ (v : Visible) (small : IsSmallScope v.scope) where
       parts : name_faults s name.first name.selectors ≡ []
       parts = front_empty (name_faults s name.first name.selectors) (call_rule name.first.place (standing_of s name.first name.selectors)) h
 
-      through_low : (o : Option ExternalName) → (through_needs v name o).outside ≡ false → (through_needs v name o).stack ≤ 80 + 12 * name_depth name
-      through_low None k =
+      bare_low : (own_entry : Bool) → (bare_needs v name own_entry).outside ≡ false → (bare_needs v name own_entry).stack ≤ 80 + 12 * name_depth name
+      bare_low true k = omega arith
+      bare_low false k =
           let put = is_put (entity_named s name.first.name) in
           let low = line_low name.first (not_false put ((or_parts (not put) _ k).0)) name.selectors l d.1 d.4 parts in
           max-le (omega arith) (omega (arith, low))
+
+      through_low : (o : Option ExternalName) → (through_needs v name o).outside ≡ false → (through_needs v name o).stack ≤ 80 + 12 * name_depth name
+      through_low None k = bare_low (is_own_entry (entity_named s name.first.name)) k
       through_low (Some x) k = absurd (let never : false ≡ true = sym k ∙ ap (λ n. n.outside) (external_beyond v name x small.bare) in cc)
 
       by_profile : (o : Option Profile) → profile_named s name.first.name ≡ o → (called_needs v name o).outside ≡ false

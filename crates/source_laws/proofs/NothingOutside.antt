@@ -128,7 +128,7 @@ module _ (procedures : ProceduresAreCovered) (functions : FunctionsAreCovered) (
 
     head : AreLegalFormals here d.formals
     head =
-        let own = bodies_added scopes names premises t legal restricted place (SubprogramBody d b) 0 (of_subprogram (front t (suc place)) d b) at refl refl in
+        let own = bodies_added scopes names premises t legal restricted place (SubprogramBody d b) 0 (of_subprogram (front t (suc place)) d b) at refl in
         record {
           named = all_named here d.formals (formals_named premises names scopes stay room t legal restricted place d b at);
           new_names = own.new_names;

@@ -27,7 +27,8 @@ use Rattle.program_soundness.proofs.WiderScopes.{number_stands}
 use Rattle.program_soundness.proofs.Whole.{IsPackage}
 use Rattle.ada_link.specs.expr_code.specs.Seeing.{external_profile, object_named, profile_behind}
 use Rattle.ada_link.specs.expr_code.specs.declared.visible.Visible.{Visible}
-use Rattle.ada_link.specs.part_code.specs.Needs.{beyond, external_needs, through_needs}
+use Rattle.ada_link.specs.part_code.specs.EntryNames.{entry_among, entry_behind}
+use Rattle.ada_link.specs.part_code.specs.Needs.{behind_needs, beyond, external_needs, through_needs}
 use Rattle.ada_link.specs.part_code.specs.Passing.{ExternalName}
 use Rattle.source_laws.specs.Covered.{has_protected, is_protected}
 
@@ -140,5 +141,12 @@ none_named s name h = by_number (number_of s name)
 none_external : (s : Scope) (object operation : List ℕ) → protected_count s ≡ 0 → external_profile s object operation ≡ None
 none_external s object operation h = ap (λ o. profile_behind o operation) (none_named s object h)
 
+none_entry : (s : Scope) (object operation : List ℕ) → protected_count s ≡ 0 → entry_behind s object operation ≡ None
+none_entry s object operation h = ap (λ o. entry_among o operation) (none_named s object h)
+
 pub external_beyond : (v : Visible) (name : NameTree) (x : ExternalName) → protected_count v.scope ≡ 0 → through_needs v name (Some x) ≡ beyond
-external_beyond v name x h = ap (external_needs v name.first.name x) (none_external v.scope name.first.name x.operation.name h)
+external_beyond v name x h =
+    let object = name.first.name in
+    let operation = x.operation.name in
+    ap (λ n. behind_needs v object x n (external_profile v.scope object operation)) (none_entry v.scope object operation h)
+    ∙ ap (external_needs v object x) (none_external v.scope object operation h)

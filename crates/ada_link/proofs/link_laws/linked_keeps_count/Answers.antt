@@ -6,7 +6,6 @@ returns c =
     linked_keeps_count (record {
       starts_whole = c.steps_whole.ensures.starts;
       steps_whole = c.steps_whole.ensures.steps;
-      leads = c.code_leads_on.ensures.leads_on;
       grow = c.lines_grow.ensures;
       unmoved = c.left_unmoved.ensures;
       quiet = c.quiet_stays.ensures;
@@ -16,4 +15,5 @@ returns c =
       starts = c.starts_are_sound.ensures;
       runs = c.runs_are_sound.ensures;
       met = c.steps_are_met.ensures;
+      effects = c.effects_are_met.ensures;
     })

@@ -1,9 +1,7 @@
 use Rattle.std.proofs.Common.{◌≡◌, ◌∷◌, ◌++◌, [], inl, length, refl, rules, sym, ap, ◌∙◌, subst}
-use Rattle.ada_tree.specs.StatementTree.{optional_tree}
-use Rattle.ada_tree.specs.ProgramTree.{package_tree, program_tree}
+use Rattle.ada_tree.specs.ProgramTree.{program_tree}
 use Rattle.image.specs.declared.tasks.Task.{Task}
 use Rattle.meaning.specs.Programs.{base_priority, main_task, package_bodies, package_items, program_of, tasks_among}
-use Rattle.expr_soundness.specs.SoundScopes.{SoundScope}
 use Rattle.program_soundness.specs.Fronts.{front}
 use Rattle.stmt_code.specs.Subprograms.{AddsMain, CallsProcedures}
 use Rattle.expr_code.specs.Code.{here}
@@ -11,41 +9,18 @@ use Rattle.step_simulation.specs.part_code.specs.Bounds.{main_bound}
 use Rattle.step_simulation.specs.part_code.specs.Needs.{RefusesMain}
 use Rattle.expr_code.specs.declared.refusal.Refusal.TheVariants as refusal
 use Rattle.package_code.specs.Refusing.{RefusesSections}
-use Rattle.package_code.specs.Directory.{HaveBodyNumbers, HasManyBodies, entries_among}
-use Rattle.package_code.specs.Objects.{RefusesObjects, component_slots, object_rows, objects_have_words}
-use Rattle.package_code.specs.Globals.{AreGlobals, RefusesGlobals}
 use Rattle.package_code.specs.Tasks.{HaveTasks}
 use Rattle.package_code.proofs.TasksAdded.{have_both}
-use Rattle.ada_link.proofs.Refusals.{bodies_refused, code_refused, directory_told, globals_refused, labels_told, main_refused, objects_refused, plain_refused, row_refused, rows_told, task_refused, walked_bodies}
+use Rattle.ada_link.proofs.Refusals.{code_refused, labels_told, main_refused, plain_refused, row_refused, rows_told, task_refused, walked_bodies}
 use Rattle.ada_link.proofs.program.put_together.Goals as goal
-
-pub globals_of-requires : goal.globals_of-requires
-globals_of-requires c = record {
-  sound = subst SoundScope (sym c.scope-scope.ensures)
-      (c.names_are_sound.ensures (program_tree c.args.accepted.now) c.program-program.ensures.legal);
-}
 
 pub walk_over-requires : goal.walk_over-requires
 walk_over-requires c =
     let t = program_tree c.args.accepted.now in
-    let g = c.in_ok-slots.field-0 in
-    let are = subst (λ z. AreGlobals z (package_items t.package_) g) c.scope-scope.ensures
-    (subst (λ p. AreGlobals c.scope-scope.result.now (package_items (optional_tree package_tree p.package_)) g) c.program-program.ensures.same
-    c.in_ok-slots.ensures.globals) in
-    let d = c.in_ok-directory.directory in
-    let numbered = subst (λ z. HaveBodyNumbers z (package_bodies t.package_) d.numbers.items) c.scope-scope.ensures
-    (subst (λ p. HaveBodyNumbers c.scope-scope.result.now (package_bodies (optional_tree package_tree p.package_)) d.numbers.items)
-    c.program-program.ensures.same c.in_ok-directory.ensures.numbers) in
-    let entries =
-    c.in_ok-directory.ensures.operations
-    ∙ (λ j. entries_among (c.scope-scope.ensures j) 0 (package_bodies (optional_tree package_tree (c.program-program.ensures.same j).package_))) in
-    let parts =
-    ap (λ v. v.items) c.in_ok-directory.ensures.components ∙ c.in_ok-objects.ensures.components
-    ∙ (λ j. component_slots (c.scope-scope.ensures j) 0 (package_items (optional_tree package_tree (c.program-program.ensures.same j).package_))) in
     record {
       objects = (c.tables_are_small.ensures t c.program-program.ensures.legal c.program-program.ensures.restricted).objects;
-      directory = directory_told t g d.numbers.items d are numbered (ap (λ v. v.items) c.in_ok-directory.ensures.slots) refl entries parts;
-      exceptions = are.exceptions;
+      directory = c.in_ok-words.ensures.directory;
+      exceptions = c.in_ok-words.ensures.globals.exceptions;
     }
 
 pub main-requires : goal.main-requires
@@ -69,25 +44,14 @@ returns-clause-program c =
     let same : task ≡ record { name = t.main.name.name; priority = base_priority (program_of t).scope t.main.aspect; subprogram = c.len.result } =
     c.in_ok-main_task.ensures.task in
     let declared = tasks_among (program_of t).scope (package_bodies t.package_) (package_items t.package_) in
-    let are = subst (λ z. AreGlobals z (package_items t.package_) c.in_ok-slots.field-0) c.scope-scope.ensures
-    (subst (λ p. AreGlobals c.scope-scope.result.now (package_items (optional_tree package_tree p.package_)) c.in_ok-slots.field-0)
-    c.program-program.ensures.same c.in_ok-slots.ensures.globals) in
-    let d = c.in_ok-directory.directory in
-    let numbered = subst (λ z. HaveBodyNumbers z (package_bodies t.package_) d.numbers.items) c.scope-scope.ensures
-    (subst (λ p. HaveBodyNumbers c.scope-scope.result.now (package_bodies (optional_tree package_tree p.package_)) d.numbers.items)
-    c.program-program.ensures.same c.in_ok-directory.ensures.numbers) in
-    let entries =
-    c.in_ok-directory.ensures.operations
-    ∙ (λ j. entries_among (c.scope-scope.ensures j) 0 (package_bodies (optional_tree package_tree (c.program-program.ensures.same j).package_))) in
-    let parts =
-    ap (λ v. v.items) c.in_ok-directory.ensures.components ∙ c.in_ok-objects.ensures.components
-    ∙ (λ j. component_slots (c.scope-scope.ensures j) 0 (package_items (optional_tree package_tree (c.program-program.ensures.same j).package_))) in
+    let told = c.in_ok-words.ensures in
+    let d = c.in_ok-words.field-0.directory in
     record {
-      globals = c.in_ok-slots.field-0;
-      are = are;
+      globals = record { slots = d.slots; words = c.in_ok-words.field-0.words; exceptions = c.in_ok-words.field-0.exceptions };
+      are = told.globals;
       directory = d;
-      slots = c.in_ok-directory.ensures.slots;
-      told = directory_told t c.in_ok-slots.field-0 d.numbers.items d are numbered (ap (λ v. v.items) c.in_ok-directory.ensures.slots) refl entries parts;
+      slots = refl;
+      told = told.directory;
       walk = walk;
       walked = c.in_ok-walk.ensures.walked;
       whole = c.in_ok-walk.ensures.whole;
@@ -96,14 +60,11 @@ returns-clause-program c =
       main = subst (λ l. AddsMain walk.visible walk.draft l words draft)
           (c.deref.ensures.value ∙ ap (λ p. p.main.statements.items) c.program-program.ensures.same) c.in_ok-main.ensures.adds;
       keeps = c.in_ok-main.ensures.keeps;
-      exceptions = ap (λ e. e.items) c.in_ok-main.ensures.adds.exceptions ∙ c.in_ok-walk.ensures.walked.exceptions ∙ sym are.exceptions;
+      exceptions = ap (λ e. e.items) c.in_ok-main.ensures.adds.exceptions ∙ c.in_ok-walk.ensures.walked.exceptions ∙ sym told.globals.exceptions;
       labels = c.in_ok-texts.ensures.texts;
       plain_words = refl;
-      objects = c.in_ok-objects.ensures.rows
-          ∙ (λ j. object_rows (c.scope-scope.ensures j) (package_items (optional_tree package_tree (c.program-program.ensures.same j).package_)));
-      made = sym
-          (λ j. objects_have_words (c.scope-scope.ensures j) (package_items (optional_tree package_tree (c.program-program.ensures.same j).package_)))
-          ∙ c.in_ok-objects.ensures.made;
+      objects = told.objects;
+      made = told.made;
       subprograms = c.in_ok-push-2.ensures.items ∙ ap (λ x. walk.subprograms.items ++ x ∷ []) c.in_ok-row.ensures.row;
       tasks = subst (HaveTasks t (program_of t).tasks) (sym c.in_ok-push.ensures.items)
           (have_both t declared (main_task (program_of t).scope t ∷ []) c.in_ok-tasks.tasks.items (task ∷ []) c.in_ok-tasks.ensures.have (
@@ -119,23 +80,7 @@ returns-clause-program c =
     }
 
 pub task_rows-requires : goal.task_rows-requires
-task_rows-requires c =
-    let t = program_tree c.args.accepted.now in
-    let g = c.in_ok-slots.field-0 in
-    let are = subst (λ z. AreGlobals z (package_items t.package_) g) c.scope-scope.ensures
-    (subst (λ p. AreGlobals c.scope-scope.result.now (package_items (optional_tree package_tree p.package_)) g) c.program-program.ensures.same
-    c.in_ok-slots.ensures.globals) in
-    let d = c.in_ok-directory.directory in
-    let numbered = subst (λ z. HaveBodyNumbers z (package_bodies t.package_) d.numbers.items) c.scope-scope.ensures
-    (subst (λ p. HaveBodyNumbers c.scope-scope.result.now (package_bodies (optional_tree package_tree p.package_)) d.numbers.items)
-    c.program-program.ensures.same c.in_ok-directory.ensures.numbers) in
-    let entries =
-    c.in_ok-directory.ensures.operations
-    ∙ (λ j. entries_among (c.scope-scope.ensures j) 0 (package_bodies (optional_tree package_tree (c.program-program.ensures.same j).package_))) in
-    let parts =
-    ap (λ v. v.items) c.in_ok-directory.ensures.components ∙ c.in_ok-objects.ensures.components
-    ∙ (λ j. component_slots (c.scope-scope.ensures j) 0 (package_items (optional_tree package_tree (c.program-program.ensures.same j).package_))) in
-    record { directory = directory_told t g d.numbers.items d are numbered (ap (λ v. v.items) c.in_ok-directory.ensures.slots) refl entries parts }
+task_rows-requires c = record { directory = c.in_ok-words.ensures.directory }
 
 pub returns-clause-labels : goal.returns-clause-labels
 returns-clause-labels c =
@@ -147,40 +92,10 @@ returns-clause-rows c =
     let t = program_tree c.args.accepted.now in
     ap (λ r. length r.items) c.in_ok-main.ensures.adds.rows ∙ rows_told t c.in_ok-walk.walk c.in_ok-walk.ensures.told c.in_ok-walk.ensures.whole
 
-pub returns-in_err-slots-clause-refused : goal.returns-in_err-slots-clause-refused
-returns-in_err-slots-clause-refused c =
-    let t = program_tree c.args.accepted.now in
-    let why = c.in_err-slots.field-0.0 in
-    let whole = globals_refused t (c.variables_are_placed.ensures t c.program-program.ensures.legal c.program-program.ensures.restricted) why
-    (subst (λ z. RefusesGlobals z [] (package_items t.package_) why) c.scope-scope.ensures
-    (subst (λ p. RefusesGlobals c.scope-scope.result.now [] (package_items (optional_tree package_tree p.package_)) why) c.program-program.ensures.same
-    c.in_err-slots.ensures.refused)) in
+pub returns-in_err-words-clause-refused : goal.returns-in_err-words-clause-refused
+returns-in_err-words-clause-refused c =
+    let whole = c.in_err-words.ensures.refused in
     search (rules, whole, c.from_residual.ensures)
-
-pub returns-in_err-directory-clause-refused : goal.returns-in_err-directory-clause-refused
-returns-in_err-directory-clause-refused c =
-    let t = program_tree c.args.accepted.now in
-    let why = c.in_err-directory.field-0.0 in
-    let whole = bodies_refused t why
-    (subst (λ p. HasManyBodies (package_bodies (optional_tree package_tree p.package_)) why) c.program-program.ensures.same
-    c.in_err-directory.ensures.refused) in
-    search (rules, whole, c.from_residual-in_err-directory.ensures)
-
-pub protected_objects-requires : goal.protected_objects-requires
-protected_objects-requires c = record {
-  sound = subst SoundScope (sym c.scope-scope.ensures)
-      (c.names_are_sound.ensures (program_tree c.args.accepted.now) c.program-program.ensures.legal);
-}
-
-pub returns-in_err-objects-clause-refused : goal.returns-in_err-objects-clause-refused
-returns-in_err-objects-clause-refused c =
-    let t = program_tree c.args.accepted.now in
-    let why = c.in_err-objects.field-0.0 in
-    let whole = objects_refused t why
-    (subst (λ z. RefusesObjects z (package_items t.package_) why) c.scope-scope.ensures
-    (subst (λ p. RefusesObjects c.scope-scope.result.now (package_items (optional_tree package_tree p.package_)) why) c.program-program.ensures.same
-    c.in_err-objects.ensures.refused)) in
-    search (rules, whole, c.from_residual-in_err-objects.ensures)
 
 pub returns-in_err-walk-clause-refused : goal.returns-in_err-walk-clause-refused
 returns-in_err-walk-clause-refused c =
