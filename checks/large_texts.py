@@ -145,15 +145,13 @@ def deep(name, frame, opening, inside, closing, opens_at=0, each=1, breaks=None,
     """The texts with 40 levels, and with one opening more.
 
     An opening opens `each` levels, the first of them by the token that stands `opens_at` bytes after the beginning of `opening`. The text with 40 levels runs,
-    and `ends` has its exit status and what it writes; or it breaks the rule with the number in `breaks` first, at the part of the text there; or it is not
-    compiled today.
+    and `ends` has its exit status and what it writes; or it breaks the rule with the number in `breaks` first, at the part of the text there.
     """
     head, tail = frame
     count = LEVELS // each
     texts = [head + opening * times + inside + closing * times + tail for times in (count, count + 1)]
     fault = "fault 7 at " + place_of(texts[1], len(head) + len(opening) * count + opens_at)
-    first = fault_at(texts[0], *breaks) if breaks else "fault 90 at 1:1"
-    status, out, err = (*ends, "") if ends else (2, "", first)
+    status, out, err = (*ends, "") if ends else (2, "", fault_at(texts[0], *breaks))
     return [(f"40 levels of {name}", texts[0], status, out, err), (f"41 levels of {name}", texts[1], 2, "", fault)]
 
 

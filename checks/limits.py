@@ -62,27 +62,27 @@ def told(program, scratch, text):
 
 
 def texts():
-    """Each text by a name, with what may be told of it: what is legal runs, or is no text of the language that is compiled today."""
+    """Each text by a name, with what is told of it: nothing of what is legal, which runs."""
     for most, declaration, body in LIMITS:
         name = f"{most} of `{declaration or body}`"
         kept, _ = program_of(most, declaration, body)
-        yield name, kept, ("", "fault 90 at 1:1\n")
+        yield name, kept, ""
         passed, mark = program_of(most + 1, declaration, body)
         line, column = passed.count("\n", 0, mark) + 1, mark - (passed.rfind("\n", 0, mark) + 1) + 1
-        yield "one more than " + name, passed, (f"fault 23 at {line}:{column}\n",)
-    yield f"{ROWS} rows", handled(ROWS), ("",)
+        yield "one more than " + name, passed, f"fault 23 at {line}:{column}\n"
+    yield f"{ROWS} rows", handled(ROWS), ""
     passed = handled(ROWS + 1)
-    yield f"one more than {ROWS} rows", passed, (f"fault 23 at {passed.count(chr(10))}:1\n",)
+    yield f"one more than {ROWS} rows", passed, f"fault 23 at {passed.count(chr(10))}:1\n"
 
 
 def main():
     program, scratch = sys.argv[1:]
     right = many = 0
-    for name, text, allowed in texts():
+    for name, text, expected in texts():
         given = told(program, scratch, text)
         many += 1
-        right += given in allowed
-        if given not in allowed:
+        right += given == expected
+        if given != expected:
             print(f"limits: {name}: told {given!r}", file=sys.stderr)
     print(f"limits: {right} of {many} texts are judged as they should be")
     return 0 if right == many else 1

@@ -98,7 +98,7 @@ def calls_of(program, folder):
         Call("go of a refused text", ["go", "main.adb", "empty", "1"], {"main.adb": b"procedure Main is begin null; end Main;", **empty}, "", "fault 39 at 1:1\n", 2),
         Call("go with a refused schedule", ["go", "main.adb", "faulty", "1"], {"main.adb": terms, "faulty": b"5 1 7\n4 1 7\n"}, "", "schedule fault 51 at line 2\n", 7),
     ]
-    for name in ("state_machine", "calculator"):
+    for name in ("state_machine", "calculator", "producer_consumer"):
         text, lines = example(name)
         found.append(Call(f"go of {name}", ["go", "main.adb", "empty", "100000"], {"main.adb": text, **empty}, lines))
     text, lines = example("sampler")

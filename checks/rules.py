@@ -3,14 +3,15 @@
 
     rules.py PROGRAM RULES SCRATCH
 
-A row's text is refused with the row's number at its mark; a legal one within the profile is compiled and run, or refused with 90, since not all of the
-language is compiled today.
+A row's text is refused with the row's number at its mark; a legal one within the profile is compiled and run, but a large one, whose code passes a limit of
+images, is refused with 23 at main.
 """
 import os
 import subprocess
 import sys
 
 FRAMED = "    "
+LIMIT_PASSED = 23
 
 
 def rows_of(lines):
@@ -22,13 +23,16 @@ def rows_of(lines):
         elif line.startswith(FRAMED) or not line:
             frame.append(line[len(FRAMED):])
         elif not line.startswith("#"):
-            number, row = line.split(" ", 1)
+            word, row = line.split(" ", 1)
             text = "\n".join(frame).rstrip("\n") + "\n"
             before, after = text.split("*\n", 1) if text == "*\n" else text.split("\n*\n", 1)
             before += "\n" if before else ""
             mark = len(before) + row.find("^")
             text = before + row.replace("^", "") + "\n" + after
-            yield text, None if number == "legal" else int(number), mark
+            if word == "large":
+                yield text, LIMIT_PASSED, text.rindex("procedure Main")
+            else:
+                yield text, None if word == "legal" else int(word), mark
 
 
 def told(number, text, mark):
@@ -47,9 +51,8 @@ def main():
         with open(source, "w", encoding="utf-8") as file:
             file.write(text)
         run = subprocess.run([program, "go", source, "/dev/null", "100000"], capture_output=True, text=True, check=False)
-        expected = told(number, text, mark) if number else told(90, text, 0)
-        is_run = not number and run.returncode != 2
-        if run.stderr != expected and not is_run:
+        is_right = run.stderr == told(number, text, mark) if number else run.returncode != 2
+        if not is_right:
             wrong += 1
             print(f"rules: {number or 'legal'} was expected, {run.stderr.strip()} was told of\n{text}", file=sys.stderr)
     print(f"rules: {len(rows) - wrong} of {len(rows)} texts are judged as they should be")

@@ -12,13 +12,13 @@ import subprocess
 import sys
 
 FRAMED = "    "
-ENDED, UNHANDLED = 0, 3
+STATUSES = {"unhandled": 3, "waits": 4}
 EXCEPTIONS = {"raises": "CONSTRAINT_ERROR", "overflows": "STORAGE_ERROR"}
 
 
 def status_of(lines):
     """The exit status behind these lines (docs/FORMATS.md)."""
-    return UNHANDLED if lines.splitlines()[-1].startswith("unhandled ") else ENDED
+    return STATUSES.get(lines.splitlines()[-1].split()[0], 0)
 
 
 def lines_of(word):

@@ -86,6 +86,15 @@ def many_tasks():
     return padded(start + bodies + "procedure Run is\nbegin\n", 'Put ("n", 0);\nend Run;\n'), lines + ended(0)
 
 
+def many_entries():
+    """As many protected objects as may be declared, each with an entry that copies as many words in and back as a small body may have."""
+    objects = range(1, 17)
+    start = f"type V is array (1 .. {WORDS}) of Integer;\n" + "".join(f"protected P{number} is entry E (A : in out V); end P{number};\n" for number in objects)
+    bodies = "".join(f"protected body P{number} is entry E (A : in out V) when True is begin A (1) := A (1) + 1; end E; end P{number};\n" for number in objects)
+    calls = "".join(f"P{number}.E (A);\n" for number in objects)
+    return padded(start + bodies + "procedure Run is\nA : V;\nbegin\nA (1) := 0;\n" + calls, 'Put ("n", A (1));\nend Run;\n'), ended(16)
+
+
 FUNCTION = "function F (A, B, C, D, E, G, H, I : Integer) return Integer is begin return A + I; end F;\n"
 
 
@@ -152,7 +161,7 @@ def wide_arrays():
     return padded(start, 'Put ("n", A1 (1_024));\nend Run;\n'), ended(8)
 
 
-SOURCES = [counted_sums, many_bodies, many_tasks, deep_operands, deep_conditions, deep_statements, many_handlers, wide_arrays]
+SOURCES = [counted_sums, many_bodies, many_tasks, many_entries, deep_operands, deep_conditions, deep_statements, many_handlers, wide_arrays]
 
 
 def main():
