@@ -1,12 +1,14 @@
 #!/usr/bin/env python3
 """Calls the program for each row of the tables in a folder, and compares every byte that it writes, and its exit status, with the row.
 
-    rows.py PROGRAM FOLDER SCRATCH
+    rows.py PROGRAM WATCHER FOLDER SCRATCH
 
-A table has rows of one kind, told by its name: programs, time, delays, tasks, protected, refused and spelling have sources, schedules has schedules, images and operations
-have images, words has words.
+A table has rows of one kind, told by its name: programs, time, delays, tasks, protected, entries, refused and spelling have sources, schedules has schedules, images and
+operations have images, words has words.
 
 - A source is called by `go`, then by `compile`, and what was compiled by `run`. Where it is refused, no image is made, and one that was there stays.
+- What was compiled of a row of tasks, delays, protected objects or entries is also run, on a schedule that is read, by the WATCHER (crates/exclusion_main), which asks after each step whether
+  exclusion holds. It takes as many steps as the least limit that gives the row's lines, where the row has `limits`, or as the limit that cuts it.
 - A row has a name, and lines of a word and what belongs to it: the whole `text`, or what stands in the frame in the place of SPEC and BODY (`spec`, `body`;
   the frame loses a line without text, and has an empty procedure where it calls one that no `body` has), or an image (`image`, checks/mnemonics.py); a
   `schedule` and a `limit` (none, 100000); and what is expected: lines of `out`, the line `err`, the exit `status` (0). Lines of one word are joined.
@@ -26,13 +28,14 @@ import mnemonics
 
 FRAMED = "    "
 STATUSES = {"fault": 2, "schedule": 7, "image": 6, "usage": 1, "cannot": 1, "accepted": 0}
+WATCHED = {"tasks", "delays", "protected", "entries"}
 DEFAULT_RUN = "procedure Run is begin null; end Run;"
 # A main that calls a procedure of an object, and writes the number of an exception that this leaves.
 CALLING = """label given label caught word 7 word 8 object 20 - 0 0 2 own 11 own 12 task MAIN 5 0
     sub 4 - 4 0 0 0 1 PCALL 0 1 0 RET 0 0 0 PUT 1 1 0 RET 0 0 0 handler 0 2 0 2"""
 CALLING_PLACES = 4
 JOBS = 2
-MOST_STEPS = 1_000
+MOST_STEPS = 2_000
 STATUS_OF_LIMIT = 5
 
 
@@ -113,11 +116,11 @@ def time_of(line):
 
 
 class Caller:
-    """Calls the program in a folder of its own, and tells where it leaves something else than what is expected."""
+    """Calls the program, and the watcher if there is one, in a folder of its own, and tells where it leaves something else than what is expected."""
 
-    def __init__(self, program, folder):
-        self.program, self.folder = os.path.abspath(program), folder
-        self.calls, self.wrong = 0, []
+    def __init__(self, program, watcher, folder):
+        self.program, self.watcher, self.folder = os.path.abspath(program), watcher and os.path.abspath(watcher), folder
+        self.calls, self.watched, self.steps, self.wrong = 0, 0, 0, []
         os.makedirs(folder)
 
     def write(self, name, content):
@@ -138,14 +141,25 @@ class Caller:
         if (run.stdout, run.stderr, run.returncode) != (out, err, status):
             self.wrong.append(f"{row['name']}: {' '.join(words)}: status {run.returncode}, {run.stdout[-300:]!r}, {run.stderr!r}; expected {status}, {out[-300:]!r}, {err!r}")
 
+    def watch(self, row, words, steps):
+        """Has the watcher run an image: exclusion holds after each step, and it takes so many (None: any number)."""
+        run = subprocess.run([self.watcher, *words], cwd=self.folder, capture_output=True, check=False)
+        self.watched += 1
+        held = re.fullmatch(rb"held after (\d+) steps\n", run.stdout)
+        if run.returncode or run.stderr or not held or steps not in (None, int(held[1])):
+            expected = "some" if steps is None else steps
+            self.wrong.append(f"{row['name']}: exclusion: status {run.returncode}, {run.stdout!r}, {run.stderr!r}; expected that it held after {expected} steps")
+        else:
+            self.steps += int(held[1])
+
     def grows(self, row, words, out):
-        """Calls the program on the words with each limit from 0 on."""
+        """Calls the program on the words with each limit from 0 on; gives the first one with which it writes this."""
         lines, before = out.splitlines(keepends=True), 0
         for limit in range(MOST_STEPS):
             run = subprocess.run([self.program, *words, str(limit)], cwd=self.folder, capture_output=True, check=False)
             self.calls += 1
             if run.stdout == out:
-                return
+                return limit
             *written, last = run.stdout.splitlines(keepends=True) or [b""]
             is_beginning = written == lines[:len(written)] and before <= len(written) < len(lines)
             cut = re.fullmatch(rb"step limit at (\d+)\n", last)
@@ -154,6 +168,7 @@ class Caller:
                 self.wrong.append(f"{row['name']}: with limit {limit}: status {run.returncode}, {run.stdout!r}, {run.stderr!r}")
             before = len(written)
         self.wrong.append(f"{row['name']}: no limit below {MOST_STEPS} gives its lines")
+        return None
 
     def same(self, row, what, found, expected):
         if found != expected:
@@ -181,8 +196,11 @@ def run_source(caller, row):
     else:
         caller.call(row, ["compile", "main.adb", "main.img"], b"", b"", 0)
         caller.call(row, ["run", "main.img", "input", limit], out, err, status)
+        steps = int(limit) if status == STATUS_OF_LIMIT else None
         if "limits" in row:
-            caller.grows(row, ["go", "main.adb", "input"], out)
+            steps = caller.grows(row, ["go", "main.adb", "input"], out)
+        if caller.watcher and status != STATUSES["schedule"]:
+            caller.watch(row, ["main.img", "input", limit], steps)
 
 
 def run_image(caller, row):
@@ -223,29 +241,33 @@ def run_words(caller, row):
     caller.same(row, "files have changed", files_left, files)
 
 
-KINDS = {"programs": run_source, "time": run_source, "delays": run_source, "tasks": run_source, "protected": run_source, "refused": run_source, "spelling": run_source, "schedules": run_source, "images": run_image, "operations": run_image, "words": run_words}
+KINDS = {"programs": run_source, "time": run_source, "delays": run_source, "tasks": run_source, "protected": run_source, "entries": run_source, "refused": run_source, "spelling": run_source, "schedules": run_source, "images": run_image, "operations": run_image, "words": run_words}
 
 
-def check_table(program, path, scratch):
-    """Calls the rows of one table; gives how many there are, how many calls that made, and what was wrong."""
+def check_table(program, watcher, path, scratch):
+    """Calls the rows of one table; gives a line that says how many there are and how many calls that made, and what was wrong."""
     name = os.path.splitext(os.path.basename(path))[0]
     with open(path, encoding="utf-8") as file:
         rows = rows_of(name, file.read().split("\n"))
-    callers = [Caller(program, os.path.join(scratch, f"{name}-{number}")) for number in range(JOBS)]
+    is_watched = name in WATCHED
+    callers = [Caller(program, watcher if is_watched else None, os.path.join(scratch, f"{name}-{number}")) for number in range(JOBS)]
     with ThreadPoolExecutor(JOBS) as pool:
         list(pool.map(lambda caller: [KINDS[name](caller, row) for row in rows[callers.index(caller)::JOBS]], callers))
-    return len(rows), sum(caller.calls for caller in callers), [told for caller in callers for told in caller.wrong]
+    calls, runs, steps = (sum(getattr(caller, count) for caller in callers) for count in ("calls", "watched", "steps"))
+    wrong = [told for caller in callers for told in caller.wrong]
+    watched = f"{runs} runs with exclusion after each of {steps} steps, " if is_watched else ""
+    return f"{len(rows)} rows of {path}, {calls} calls, {watched}{len(wrong)} wrong", bool(rows and (runs or not is_watched)), wrong
 
 
 def main():
-    program, folder, scratch = sys.argv[1:]
+    program, watcher, folder, scratch = sys.argv[1:]
     failed = False
     for path in sorted(os.path.join(folder, name) for name in os.listdir(folder)):
-        rows, calls, wrong = check_table(program, path, scratch)
+        summary, is_tried, wrong = check_table(program, watcher, path, scratch)
         for told in wrong:
             print(f"rows: {path}: {told}", file=sys.stderr)
-        print(f"rows: {rows} rows of {path}, {calls} calls, {len(wrong)} wrong")
-        failed = failed or not rows or wrong
+        print(f"rows: {summary}")
+        failed = failed or not is_tried or wrong
     return 1 if failed else 0
 
 

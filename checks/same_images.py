@@ -1,5 +1,5 @@
 #!/usr/bin/env python3
-"""Compares the images that the tests have as bytes with those of the same words in checks/rows/images.txt.
+"""Compares the images that the tests have as bytes with those of the same words in checks/rows/images.txt, and the one that exclusion_main runs with the tests'.
 
     same_images.py
 """
@@ -19,6 +19,8 @@ def main():
         table = {row["name"].lower(): row for row in rows_of("images", file.read().split("\n"))}
     with open(os.path.join(HERE, "..", "crates", "crate_tests", "src", "worked_images.rt"), encoding="utf-8") as file:
         source = file.read()
+    with open(os.path.join(HERE, "..", "crates", "exclusion_main", "data", "box.img"), "rb") as file:
+        watched = file.read()
     constants = CONSTANT.findall(source)
     same = 0
     for words, name, text in constants:
@@ -26,7 +28,7 @@ def main():
         row = table.get(words.lower())
         image = mnemonics.image_of("\n".join(row["image"]) if row else name.lower())
         lines = "".join(line + "\\n" for line in row["out"]) if row and name in re.search(r"WORKED.*", source, re.S)[0] else ""
-        if data == image and lines in source:
+        if data == image and lines in source and (name != "BOX" or data == watched):
             same += 1
         else:
             print(f"same_images: {name} is another image, or writes other lines", file=sys.stderr)

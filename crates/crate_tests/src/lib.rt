@@ -1,4 +1,5 @@
-//! Tests of what the machine and its keepers do beyond what the program runs: lists as well as rings and a heap, and each step by itself.
+//! Tests of what the machine and its keepers do beyond what the program runs: lists as well as rings and a heap, and each step by itself; and whether
+//! exclusion holds behind a step.
 #![tactic(auto)]
 
 ghost use Rattle.std.specs.Prelude.{◌≡◌};
@@ -6,7 +7,8 @@ ghost use Rattle.std.specs.Prelude.{◌≡◌};
 #[cfg(test)]
 mod both_keepers;
 #[cfg(test)]
-mod exclusion;
+mod changed_images;
+pub mod exclusion;
 #[cfg(test)]
 mod keepers;
 #[cfg(test)]
