@@ -16,7 +16,7 @@ mod LabelsFit
 mod WordsFit
 mod PartsFit
 mod CountsFit
-mod OperationsFit
+pub mod OperationsFit
 mod TasksFit
 mod TaskLines
 mod Tables

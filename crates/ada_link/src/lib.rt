@@ -7,3 +7,4 @@ pub mod link_laws;
 mod program;
 
 pub use compiling::compile_tree;
+pub use expr_code::Refusal;

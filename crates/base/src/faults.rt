@@ -82,5 +82,3 @@ pub const TABLES_DISAGREE: u8 = 47;
 pub const WRONG_SCHEDULE_LINE: u8 = 50;
 /// Memory was refused.
 pub const MEMORY_REFUSED: u8 = 60;
-/// The program is outside the language that is compiled today.
-pub const OUTSIDE_LANGUAGE: u8 = 90;

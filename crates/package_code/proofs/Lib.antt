@@ -38,7 +38,7 @@ mod EmittedMain
 pub mod Variables
 mod InitialWords
 pub mod Declared
-mod Told
+pub mod Told
 pub mod Walked
 mod BodyRows
 pub mod Adding
@@ -47,10 +47,10 @@ pub mod Linking
 pub mod Counted
 pub mod Seen
 pub mod ItemsTold
-mod AsTold
-mod ToldInside
+pub mod AsTold
+pub mod ToldInside
 pub mod ObjectNames
-mod SeenInside
+pub mod SeenInside
 mod WalkedInside
 pub mod ComponentSlots
 pub mod Numbered

@@ -2,7 +2,7 @@ pub mod Statics
 pub mod Extending
 mod Subtypes
 pub mod Initials
-mod Declared
+pub mod Declared
 mod Parts
 mod Walks
 mod Lists
@@ -10,10 +10,10 @@ mod Origins
 mod Matches
 mod Profiles
 mod Functions
-mod Declaring
+pub mod Declaring
 mod Globals
 mod Variables
-mod Objects
+pub mod Objects
 pub mod Barriers
 pub mod Priorities
 mod Firsts
