@@ -18,7 +18,8 @@ use Rattle.ada_link.specs.package_code.specs.Bodies.{Coded, bodies_among, coded_
 use Rattle.ada_link.specs.package_code.specs.Counts.{bound_of, bounds_at, bounds_from}
 use Rattle.ada_link.specs.package_code.specs.Laws.{TablesAreSmall}
 use Rattle.ada_link.specs.package_code.proofs.Coded.{among_first, coded_many}
-use Rattle.source_laws.specs.Small.{HasSmallBodies, SmallCodeFits, TakeFewWords, body_loops}
+use Rattle.source_laws.specs.Small.{HasSmallBodies, SmallCodeFits, TakeFewWords, body_loops, body_room, small_words}
+use Rattle.source_laws.specs.Visible.{IsBodyOf}
 use Rattle.source_laws.proofs.RowsCounted.{declared_size, rows_counted}
 
 -- the place so far behind another one
@@ -51,6 +52,15 @@ pub few_at : (t : ProgramTree) → HasSmallBodies t → (place : ℕ) (x : BodyI
 few_at t small place x at =
     subst (λ n. TakeFewWords (coded_at t n x)) (let same = behind_is 0 place in omega (arith, same))
     (few_behind t 0 (declared_in t.package_) place x small.words at)
+
+few_index : (xs : List Coded) (n : ℕ) (c : Coded) → TakeFewWords xs → slice_get xs n ≡ Some c → body_room c ≤ small_words
+few_index [] n c h at = cc
+few_index (x ∷ xs) zero c h at = subst (λ y. body_room y ≤ small_words) (same_some x c at) h.0
+few_index (x ∷ xs) (suc n) c h at = few_index xs n c h.1 at
+
+-- so each body with code is small
+pub few_of : (t : ProgramTree) → HasSmallBodies t → (c : Coded) → IsBodyOf t c → body_room c ≤ small_words
+few_of t small c b = few_index (coded_at t b.place b.item) b.index c (few_at t small b.place b.item b.at) b.coded
 
 -- ---- instructions
 

@@ -1,7 +1,7 @@
--- Code is made of all legal calls of procedures and of lines, where what is visible has what code needs.
-use Rattle.std.proofs.Common.{◌≡◌, ◌++◌, ℕ, suc, [], ◌∷◌, List, length, Bool, true, false, ◌&&◌, not, Option, Some, None, refl, sym, ap, ◌∙◌, subst, arith}
+-- Code is made of all legal calls, by names and through protected objects, and of lines, where what is visible has what code needs.
+use Rattle.std.proofs.Common.{◌≡◌, ◌++◌, ℕ, suc, [], ◌∷◌, List, length, Bool, true, false, ◌||◌, not, Option, Some, None, refl, sym, ap, ◌∙◌, subst, arith}
 use Rattle.std.specs.Prelude.{⊤, is_none, is_some, nat_eq}
-use Rattle.std.proofs.lemmas.Bool.{and_from, or_from, or_parts}
+use Rattle.std.proofs.lemmas.Bool.{or_from, or_parts}
 use Rattle.ada_link.specs.base.specs.declared.faults.TheConstants.{WRONG_ARGUMENT_COUNT}
 use Rattle.ada_tree.specs.declared.declaration.Mode.{Mode}
 use Rattle.ada_tree.specs.declared.declaration.Mode.TheVariants as mode
@@ -10,10 +10,11 @@ use Rattle.ada_tree.specs.ExpressionTree.{Arguments, ArgumentTree, ArgumentTrees
 use Rattle.types.specs.declared.entity.FormalParameter.{FormalParameter}
 use Rattle.types.specs.declared.entity.Role.{Role}
 use Rattle.types.specs.declared.entity.Subtype.{Subtype}
+use Rattle.types.specs.declared.standing.Callee.{Callee}
 use Rattle.types.specs.declared.standing.Callee.TheVariants as callee
 use Rattle.types.specs.declared.standing.Standing.{Standing}
 use Rattle.types.specs.declared.standing.Standing.TheVariants as standing
-use Rattle.types.specs.Entities.{Arrays, Constant, Doubtful, Entity, Entry, Exception, Integers, LibraryUnit, Literal, Object, OfSubtype, OfType, Predefined, Profile, Protected, Put, Records, Subprogram, Task, TypeForm}
+use Rattle.types.specs.Entities.{Arrays, Constant, Doubtful, Entity, Entry, Exception, Integers, LibraryUnit, Literal, Object, OfSubtype, OfType, Predefined, Profile, Protected, ProtectedObject, Put, Records, Subprogram, Task, TypeForm}
 use Rattle.types.specs.Scopes.{Scope, form_at, integer_type, number_of, profile_of}
 use Rattle.types.specs.Standings.{call_stands, callee_profile, component_of, component_stands, conversion_stands, count, element_stands, is_single, part_of, result_stands, select, select_all, settle, standing_of, stands_first, stands_for}
 use Rattle.expr_soundness.specs.expr_rules.specs.declared.names.Slot.TheVariants.{Takes}
@@ -26,24 +27,25 @@ use Rattle.expr_soundness.specs.type_rules.specs.SubtypeNames.{entity_at_or_none
 use Rattle.program_soundness.specs.step_soundness.specs.Fitting.{entity_named}
 use Rattle.expr_soundness.specs.SoundScopes.{AreKnown, IsKnown}
 use Rattle.expr_soundness.proofs.Expressions.{not_false}
-use Rattle.expr_soundness.proofs.Goods.{Good, good_all, good_select, part_unbroken}
+use Rattle.expr_soundness.proofs.Goods.{Good, good_all, good_select}
 use Rattle.expr_soundness.proofs.Positions.{IsNamed, named}
 use Rattle.ada_link.specs.expr_code.specs.Refusing.{is_outside}
-use Rattle.ada_link.specs.expr_code.specs.Seeing.{profile_named, slot_of, subprogram_of, subprogram_profile}
+use Rattle.ada_link.specs.expr_code.specs.Seeing.{external_of, external_profile, profile_named, slot_of, subprogram_of, subprogram_profile}
 use Rattle.ada_link.specs.expr_code.specs.declared.visible.Visible.{Visible}
 use Rattle.ada_link.specs.expr_code.proofs.Language.{gives_number}
 use Rattle.ada_link.specs.part_code.specs.Lines.{is_put, line_behind, line_in, line_of}
-use Rattle.ada_link.specs.part_code.specs.Passing.{actuals_behind, operation_behind}
-use Rattle.ada_link.specs.part_code.specs.EntryNames.{is_own_entry}
-use Rattle.ada_link.specs.part_code.specs.Needs.{actual_needs, actuals_needs, address_needs, bare_needs, call_needs, called_needs, copies_needs, destination_at, destinations_for, destinations_of, is_object, is_taken, line_needs, passed_needs, put_needs, through_needs}
+use Rattle.ada_link.specs.part_code.specs.Passing.{ExternalName, actuals_behind, operation_behind}
+use Rattle.ada_link.specs.part_code.specs.EntryNames.{entry_behind, is_own_entry}
+use Rattle.ada_link.specs.part_code.specs.Needs.{actual_needs, actuals_needs, address_needs, bare_needs, behind_needs, call_needs, called_needs, copies_needs, destination_at, destinations_for, destinations_of, is_object, is_taken, line_needs, passed_needs, put_needs, through_needs}
 use Rattle.ada_link.specs.part_code.specs.declared.call.Destination.{Destination}
 use Rattle.source_laws.specs.Covered.{HasWhatCodeNeeds}
 use Rattle.source_laws.proofs.CoverNames.{IsTarget, address_made, attribute_given, is_given, known_taken, name_target, name_visible, slot_held, target_object, wanted_made}
 use Rattle.source_laws.proofs.CoverScopes.{placed}
-use Rattle.source_laws.proofs.NamedCalls.{SlotsFrom, arguments_legal, begins_there, called, first_slot, later_slots, profile_is, slots_are}
+use Rattle.source_laws.proofs.NamedCalls.{SlotsFrom, begins_there, called, called_arguments, first_slot, later_slots, names, profile_is, profile_slots}
 use Rattle.source_laws.proofs.NeedsCalls.{destinations_by, moded_by}
-use Rattle.source_laws.proofs.NeedsScopes.{known_formals, profile_by}
+use Rattle.source_laws.proofs.NeedsScopes.{known_behind, known_formals, profile_by}
 use Rattle.source_laws.proofs.PeakSlots.{begins, name_begins, slot_by}
+use Rattle.source_laws.proofs.ThroughObjects.{IsCalledWith, called_with, calls_behind, nothing_behind}
 
 -- ---- what a call begins with
 
@@ -135,6 +137,10 @@ called_statement : (s : Scope) (place : ℕ) (w : Standing) → Good s w → cal
 called_statement s place standing.Statement g h = refl
 called_statement s place standing.Doubtful g h = absurd g
 called_statement s place w g h = absurd cc
+
+pub not_none : {X : Type 0} (o : Option X) → is_some o ≡ true → is_none o ≡ false
+not_none (Some x) h = refl
+not_none None h = absurd cc
 
 -- ---- actual parameters
 
@@ -241,65 +247,35 @@ module _ (exceptions : List (List ℕ)) (v : Visible) (cover : HasWhatCodeNeeds 
       copied_both v (destinations_for v f a) (destinations_of v fs rest) (actual_back f a (first_slot s w k f fs a same (front_empty here more h)))
       (actuals_back fs w (suc k) rest (later_slots s w k f fs same) (back_empty here more h))
 
-  -- ---- calls of procedures of the package
+  -- ---- calls of what has this profile
 
-  -- nothing stands behind a call
-  nothing_behind : (place : ℕ) (r : Option Subtype) (x : SelectorTree) (rest : SelectorTrees)
-      → selectors_faults s place (result_stands r) (MoreSelectors x rest) ≡ [] → ⊥
-  nothing_behind place (Some t) x rest h =
-      let w = standing.Given t None in
-      good_select s cover.sound place w x tt
-      (part_unbroken s cover.sound place w x (front_empty (selector_faults s place w x) (selectors_faults s place (select s w x) rest) h))
-  nothing_behind place None x rest h =
-      let w = standing.Statement in
-      good_select s cover.sound place w x tt
-      (part_unbroken s cover.sound place w x (front_empty (selector_faults s place w x) (selectors_faults s place (select s w x) rest) h))
-
-  module _ (first : Identifier) (p : Profile) (there : profile_named s first.name ≡ Some p) where
+  module _ (place : ℕ) (f : Callee) (p : Profile) (is : callee_profile s f ≡ Some p) (known : AreKnown s p.formals) where
     abbrev w : Standing
-    w = called s first p there
+    w = standing.Callee f
 
-    parts_legal : (selectors : SelectorTrees) → name_faults s first selectors ≡ [] → selectors_faults s first.place w selectors ≡ []
-    parts_legal selectors h =
-        subst (λ u. selectors_faults s first.place u selectors ≡ []) (begins_there s first p there)
-        (name_begins s cover.sound cover.formals first selectors h).1
-
-    good_there : (selectors : SelectorTrees) → name_faults s first selectors ≡ [] → Good s w
-    good_there selectors h = subst (Good s) (begins_there s first p there) (name_begins s cover.sound cover.formals first selectors h).0
-
-    no_part : (x : SelectorTree) (rest : SelectorTrees) → (Good s (select s w x) → ⊥) → name_faults s first (MoreSelectors x rest) ≡ [] → ⊥
-    no_part x rest bad h =
-        bad (good_select s cover.sound first.place w x (good_there (MoreSelectors x rest) h)
-        (part_unbroken s cover.sound first.place w x
-        (front_empty (selector_faults s first.place w x) (selectors_faults s first.place (select s w x) rest) (parts_legal (MoreSelectors x rest) h))))
-
-    called_made : (all : ArgumentTrees) → name_faults s first (MoreSelectors (Arguments all) NoSelectors) ≡ []
+    called_made : (all : ArgumentTrees) → selectors_faults s place w (MoreSelectors (Arguments all) NoSelectors) ≡ []
         → (passed_needs v p.formals (Some all)).outside ≡ false
     called_made all h =
         let x = Arguments all in
-        let parts = parts_legal (MoreSelectors x NoSelectors) h in
-        let counted = front_empty (part_rule s first.place w x) (arguments_faults s w 0 all)
-        (front_empty (selector_faults s first.place w x) (selectors_faults s first.place (select s w x) NoSelectors) parts) in
-        let many : count all ≡ length (profile_formals (callee_profile s (callee.Direct _))) =
-        same_number (count all) (length (profile_formals (callee_profile s (callee.Direct _))))
-        (not_false _ (unbroken WRONG_ARGUMENT_COUNT first.place _ counted)) in
-        let legal = arguments_legal s first p there all NoSelectors h in
+        let counted = front_empty (part_rule s place w x) (arguments_faults s w 0 all)
+        (front_empty (selector_faults s place w x) (selectors_faults s place (select s w x) NoSelectors) h) in
+        let many : count all ≡ length (profile_formals (callee_profile s f)) =
+        same_number (count all) (length (profile_formals (callee_profile s f))) (not_false _ (unbroken WRONG_ARGUMENT_COUNT place _ counted)) in
+        let legal = called_arguments s place f all NoSelectors h in
+        let slots = profile_slots s f p is in
         or_from (actuals_needs 0 v p.formals all).outside (copies_needs v (destinations_of v p.formals all)).outside
-        (actuals_made p.formals w 0 0 all (known_formals s first.name p cover.sound there) (slots_are s first p there)
-        (many ∙ ap (λ o. length (profile_formals o)) (profile_is s first p there)) legal)
-        (copies_made v (destinations_of v p.formals all) (actuals_back p.formals w 0 all (slots_are s first p there) legal))
+        (actuals_made p.formals w 0 0 all known slots (many ∙ ap (λ o. length (profile_formals o)) is) legal)
+        (copies_made v (destinations_of v p.formals all) (actuals_back p.formals w 0 all slots legal))
 
-    passed_made : (selectors : SelectorTrees) → name_faults s first selectors ≡ [] → (passed_needs v p.formals (actuals_behind selectors)).outside ≡ false
-    passed_made NoSelectors h = refl
-    passed_made (MoreSelectors (Arguments a) NoSelectors) h = called_made a h
-    passed_made (MoreSelectors (Arguments a) (MoreSelectors x rest)) h =
-        let y = Arguments a in
-        let parts = parts_legal (MoreSelectors y (MoreSelectors x rest)) h in
-        let behind = back_empty (selector_faults s first.place w y) (selectors_faults s first.place (select s w y) (MoreSelectors x rest)) parts in
-        absurd (nothing_behind first.place p.result x rest
-        (subst (λ u. selectors_faults s first.place u (MoreSelectors x rest) ≡ []) (ap call_stands (profile_is s first p there)) behind))
-    passed_made (MoreSelectors (Component name) rest) h = absurd (no_part (Component name) rest (λ g. g) h)
-    passed_made (MoreSelectors (Attribute name) rest) h = absurd (no_part (Attribute name) rest (λ g. g) h)
+    passed_with : (selectors : SelectorTrees) → IsCalledWith selectors → selectors_faults s place w selectors ≡ []
+        → (passed_needs v p.formals (actuals_behind selectors)).outside ≡ false
+    passed_with NoSelectors ends h = refl
+    passed_with (MoreSelectors (Arguments a) NoSelectors) ends h = called_made a h
+    passed_with rest ends h = absurd ends
+
+    passed_made : (selectors : SelectorTrees) → Good s w → selectors_faults s place w selectors ≡ []
+        → (passed_needs v p.formals (actuals_behind selectors)).outside ≡ false
+    passed_made selectors good h = passed_with selectors (called_with s cover.sound place f p selectors is good h) h
 
   -- ---- lines
 
@@ -332,7 +308,7 @@ module _ (exceptions : List (List ℕ)) (v : Visible) (cover : HasWhatCodeNeeds 
       line_made place a (front_empty (part_rule s place standing.Put x) (arguments_faults s standing.Put 0 a) inside)
       (back_empty (part_rule s place standing.Put x) (arguments_faults s standing.Put 0 a) inside)
   put_made place (MoreSelectors (Arguments a) (MoreSelectors x rest)) h =
-      absurd (nothing_behind place None x rest
+      absurd (nothing_behind s cover.sound place None x rest
       (back_empty (selector_faults s place standing.Put (Arguments a)) (selectors_faults s place standing.Statement (MoreSelectors x rest)) h))
   put_made place (MoreSelectors (Component name) rest) h =
       absurd (good_select s cover.sound place standing.Put (Component name) tt
@@ -340,6 +316,66 @@ module _ (exceptions : List (List ℕ)) (v : Visible) (cover : HasWhatCodeNeeds 
   put_made place (MoreSelectors (Attribute name) rest) h =
       absurd (good_select s cover.sound place standing.Put (Attribute name) tt
       (front_empty (selector_faults s place standing.Put (Attribute name)) (selectors_faults s place standing.Doubtful rest) h))
+
+  put_stands : (name : List ℕ) → entity_named s name ≡ Some Put → stands_first s (number_of s name) ≡ standing.Put
+  put_stands name is = by_number (number_of s name) is
+    where
+      by_number : (o : Option ℕ) → entity_at_or_none s o ≡ Some Put → stands_first s o ≡ standing.Put
+      by_number (Some n) k = ap (stands_for n) k
+      by_number None k = absurd cc
+
+  -- ---- entries, and what stands behind protected objects
+
+  -- where an entry of the own object is named, nothing is asked
+  bare_written : (name : NameTree) (own_entry : Bool) → (put_needs v name).outside ≡ false → (bare_needs v name own_entry).outside ≡ false
+  bare_written name true h = refl
+  bare_written name false h = h
+
+  -- what is written as `Put` or `Put_Line` is isn't named behind an object
+  through_written : (first : Identifier) (x : SelectorTrees) → (put_needs v (record { first = first; selectors = x })).outside ≡ false
+      → (through_needs v (record { first = first; selectors = x }) (operation_behind x)).outside ≡ false
+  through_written first (MoreSelectors (Component operation) NoSelectors) h =
+      absurd (let never = (or_parts (not (is_put (entity_named s first.name))) true h).1 in cc)
+  through_written first (MoreSelectors (Component operation) (MoreSelectors (Arguments a) NoSelectors)) h =
+      absurd (let never = (or_parts (not (is_put (entity_named s first.name))) true h).1 in cc)
+  through_written first x h = bare_written (record { first = first; selectors = x }) (is_own_entry (entity_named s first.name)) h
+
+  entry_written : (first : Identifier) (x : SelectorTrees) → is_own_entry (entity_named s first.name) ≡ true → IsCalledWith x
+      → (through_needs v (record { first = first; selectors = x }) (operation_behind x)).outside ≡ false
+  entry_written first NoSelectors own ends = ap (λ b. (bare_needs v (record { first = first; selectors = NoSelectors }) b).outside) own
+  entry_written first (MoreSelectors (Arguments a) NoSelectors) own ends =
+      ap (λ b. (bare_needs v (record { first = first; selectors = MoreSelectors (Arguments a) NoSelectors }) b).outside) own
+  entry_written first x own ends = absurd ends
+
+  -- an entry is called as an operation with a number is
+  behind_written : (object : List ℕ) (x : ExternalName) (entry : Option ℕ) (p : Profile)
+      → (is_some entry || is_some (external_of v object x.operation.name)) ≡ true → (passed_needs v p.formals (Some x.arguments)).outside ≡ false
+      → (behind_needs v object x entry (Some p)).outside ≡ false
+  behind_written object x (Some number) p offered h = h
+  behind_written object x None p offered h =
+      or_from (is_none (external_of v object x.operation.name)) (passed_needs v p.formals (Some x.arguments)).outside
+      (not_none (external_of v object x.operation.name) offered) h
+
+  object_written : (first operation : Identifier) (rest : SelectorTrees) (p : Profile) → IsCalledWith rest
+      → external_profile s first.name operation.name ≡ Some p → (passed_needs v p.formals (actuals_behind rest)).outside ≡ false
+      → (let all = MoreSelectors (Component operation) rest in
+      (through_needs v (record { first = first; selectors = all }) (operation_behind all)).outside ≡ false)
+  object_written first operation rest p ends told h = by_rest rest ends h
+    where
+      as_told : (x : ExternalName) → x.operation ≡ operation → (passed_needs v p.formals (Some x.arguments)).outside ≡ false
+          → (behind_needs v first.name x (entry_behind s first.name x.operation.name) (external_profile s first.name x.operation.name)).outside ≡ false
+      as_told x same k =
+          let is : external_profile s first.name x.operation.name ≡ Some p = ap (λ (i : Identifier). external_profile s first.name i.name) same ∙ told in
+          let entry = entry_behind s first.name x.operation.name in
+          subst (λ o. (behind_needs v first.name x entry o).outside ≡ false) (sym is)
+          (behind_written first.name x entry p (cover.offered first.name x.operation.name p is) k)
+
+      by_rest : (rest : SelectorTrees) → IsCalledWith rest → (passed_needs v p.formals (actuals_behind rest)).outside ≡ false
+          → (let all = MoreSelectors (Component operation) rest in
+          (through_needs v (record { first = first; selectors = all }) (operation_behind all)).outside ≡ false)
+      by_rest NoSelectors e k = as_told (record { operation = operation; arguments = NoArguments }) refl k
+      by_rest (MoreSelectors (Arguments a) NoSelectors) e k = as_told (record { operation = operation; arguments = a }) refl k
+      by_rest more e k = absurd e
 
   -- ---- all calls
 
@@ -362,29 +398,62 @@ module _ (exceptions : List (List ℕ)) (v : Visible) (cover : HasWhatCodeNeeds 
     calling : is_calling start ≡ true
     calling = call_begins s name.selectors start (ap is_calling ends)
 
+    abbrev IsWritten : Type 0
+    IsWritten = (through_needs v name (operation_behind name.selectors)).outside ≡ false
+
+    line_written : entity_named s first.name ≡ Some Put → (put_needs v name).outside ≡ false
+    line_written is =
+        or_from (not (is_put (entity_named s first.name))) (line_needs v (line_of name)).outside (ap (λ e. not (is_put e)) is)
+        (put_made first.place name.selectors
+        (subst (λ u. selectors_faults s first.place u name.selectors ≡ []) (put_stands first.name is)
+        (name_begins s cover.sound cover.formals first name.selectors legal).1))
+
     module _ (x : IsNamed s first.name) where
       begins_is : (e : Entity) → x.entity ≡ e → start ≡ stands_for x.number (Some e)
       begins_is e is = ap (stands_first s) x.numbered ∙ ap (stands_for x.number) (x.stands ∙ ap Some is)
 
-      entity_is : (e : Entity) → x.entity ≡ e → entity_named s first.name ≡ Some e
-      entity_is e is = ap (entity_at_or_none s) x.numbered ∙ x.stands ∙ ap Some is
-
       silent : (e : Entity) → x.entity ≡ e → no_call (stands_for x.number (Some e)) → ⊥
       silent e is quiet = contrary s _ quiet (ap is_calling (sym (begins_is e is)) ∙ calling)
 
-      abbrev IsLine : Type 0
-      IsLine = entity_named s first.name ≡ Some Put
+      entity_is : (e : Entity) → x.entity ≡ e → entity_named s first.name ≡ Some e
+      entity_is e is = ap (entity_at_or_none s) x.numbered ∙ x.stands ∙ ap Some is
 
-      by_entity : (e : Entity) → x.entity ≡ e → IsLine
-      by_entity Put is = entity_is Put is
+      -- what stands there, and its parts
+      good_as : (w : Standing) → start ≡ w → Good s w × (selectors_faults s first.place w name.selectors ≡ [])
+      good_as w is =
+          subst (λ u. Good s u × (selectors_faults s first.place u name.selectors ≡ [])) is
+          (name_begins s cover.sound cover.formals first name.selectors legal)
+
+      entry_made : (p : Profile) → x.entity ≡ Entry p → IsWritten
+      entry_made p is =
+          let f = callee.Direct x.number in
+          let it = good_as (standing.Callee f) (begins_is (Entry p) is) in
+          entry_written first name.selectors (ap is_own_entry (entity_is (Entry p) is))
+          (called_with s cover.sound first.place f p name.selectors (ap profile_of (x.stands ∙ ap Some is)) it.0 it.1)
+
+      object_made : (o : ProtectedObject) → x.entity ≡ Protected o → IsWritten
+      object_made o is =
+          let w = standing.Protected x.number in
+          let here = begins_is (Protected o) is in
+          let parts = good_as w here in
+          let alone : select_all s w name.selectors ≡ standing.Other → ⊥ =
+          λ k. let never = sym k ∙ ap (λ u. select_all s u name.selectors) (sym here) ∙ ends in cc in
+          let it = calls_behind s cover.sound first.place first.name x.number o x.numbered (x.stands ∙ ap Some is) name.selectors parts.0 parts.1 alone in
+          subst (λ all. (through_needs v (record { first = first; selectors = all }) (operation_behind all)).outside ≡ false) (sym it.is)
+          (object_written first it.operation it.rest it.profile it.ends it.told
+          (passed_made first.place it.callee it.profile it.profiled (known_behind s first.name it.operation.name it.profile cover.sound it.told) it.rest
+          it.good it.unbroken))
+
+      by_entity : (e : Entity) → x.entity ≡ e → IsWritten
+      by_entity Put is = through_written first name.selectors (line_written (entity_is Put is))
       by_entity (Subprogram p) is =
           absurd (let never = sym none ∙ ap (profile_by s) x.numbered ∙ ap subprogram_profile (x.stands ∙ ap Some is) in cc)
-      by_entity (Entry p) is = absurd (cover.without_entries first.name p (entity_is (Entry p) is))
+      by_entity (Entry p) is = entry_made p is
       by_entity (Predefined o p) is =
           let gives = gives_number s o p (cover.sound.each x.number (Predefined o p) (x.stands ∙ ap Some is)) in
           absurd (function_ends s x.number p gives.subtype name.selectors (ap profile_of (x.stands ∙ ap Some is)) gives.result
           (ap (λ u. select_all s u name.selectors) (sym (begins_is (Predefined o p) is)) ∙ ends))
-      by_entity (Protected o) is = absurd (cover.unprotected first.name x.number (begins_is (Protected o) is))
+      by_entity (Protected o) is = object_made o is
       by_entity (Object r t) is = absurd (silent (Object r t) is refl)
       by_entity (OfType form t) is = absurd (silent (OfType form t) is refl)
       by_entity (OfSubtype t) is = absurd (silent (OfSubtype t) is refl)
@@ -395,48 +464,22 @@ module _ (exceptions : List (List ℕ)) (v : Visible) (cover : HasWhatCodeNeeds 
       by_entity LibraryUnit is = absurd (silent LibraryUnit is refl)
       by_entity Doubtful is = absurd (silent Doubtful is refl)
 
-    named_put : entity_named s first.name ≡ Some Put
-    named_put = let x = named s first.name (name_visible exceptions v cover first name.selectors legal) in by_entity x x.entity refl
-
-    put_stands : start ≡ standing.Put
-    put_stands = by_number (number_of s first.name) named_put
-      where
-        by_number : (o : Option ℕ) → entity_at_or_none s o ≡ Some Put → stands_first s o ≡ standing.Put
-        by_number (Some n) k = ap (stands_for n) k
-        by_number None k = absurd cc
-
-    written : (put_needs v name).outside ≡ false
-    written =
-        or_from (not (is_put (entity_named s first.name))) (line_needs v (line_of name)).outside (ap (λ e. not (is_put e)) named_put)
-        (put_made first.place name.selectors
-        (subst (λ u. selectors_faults s first.place u name.selectors ≡ []) put_stands
-        (name_begins s cover.sound cover.formals first name.selectors legal).1))
-
-  -- where an entry of the own object is named, nothing is asked
-  bare_written : (name : NameTree) (own_entry : Bool) → (put_needs v name).outside ≡ false → (bare_needs v name own_entry).outside ≡ false
-  bare_written name true h = refl
-  bare_written name false h = h
-
-  -- what is written as `Put` or `Put_Line` is isn't named behind an object
-  through_written : (first : Identifier) (x : SelectorTrees) → (put_needs v (record { first = first; selectors = x })).outside ≡ false
-      → (through_needs v (record { first = first; selectors = x }) (operation_behind x)).outside ≡ false
-  through_written first (MoreSelectors (Component operation) NoSelectors) h =
-      absurd (let never = (or_parts (not (is_put (entity_named s first.name))) true h).1 in cc)
-  through_written first (MoreSelectors (Component operation) (MoreSelectors (Arguments a) NoSelectors)) h =
-      absurd (let never = (or_parts (not (is_put (entity_named s first.name))) true h).1 in cc)
-  through_written first x h = bare_written (record { first = first; selectors = x }) (is_own_entry (entity_named s first.name)) h
+    written : IsWritten
+    written = let x = named s first.name (name_visible exceptions v cover first name.selectors legal) in by_entity x x.entity refl
 
   pub call_made : (name : NameTree) → call_faults s name.first name.selectors ≡ [] → (call_needs v name).outside ≡ false
   call_made name h = by_profile (profile_named s name.first.name) refl
     where
+      parts : name_faults s name.first name.selectors ≡ []
+      parts = front_empty (name_faults s name.first name.selectors) (call_rule name.first.place (standing_of s name.first name.selectors)) h
+
       by_profile : (o : Option Profile) → profile_named s name.first.name ≡ o → (called_needs v name o).outside ≡ false
-      by_profile None none = through_written name.first name.selectors (written name h none)
+      by_profile None none = written name h none
       by_profile (Some p) there =
+          let w = called s name.first p there in
+          let it = subst (λ u. Good s u × (selectors_faults s name.first.place u name.selectors ≡ [])) (begins_there s name.first p there)
+          (name_begins s cover.sound cover.formals name.first name.selectors parts) in
           or_from (is_none (subprogram_of v name.first.name)) (passed_needs v p.formals (actuals_behind name.selectors)).outside
-          (numbered (subprogram_of v name.first.name) (cover.numbered name.first.name p there))
-          (passed_made name.first p there name.selectors
-          (front_empty (name_faults s name.first name.selectors) (call_rule name.first.place (standing_of s name.first name.selectors)) h))
-        where
-          numbered : (o : Option ℕ) → is_some o ≡ true → is_none o ≡ false
-          numbered (Some n) k = refl
-          numbered None k = absurd cc
+          (not_none (subprogram_of v name.first.name) (cover.numbered name.first.name p there))
+          (passed_made name.first.place (callee.Direct (names s name.first p there).number) p (profile_is s name.first p there)
+          (known_formals s name.first.name p cover.sound there) name.selectors it.0 it.1)

@@ -1,7 +1,7 @@
 -- Code is made of all legal expressions, where what is visible has what code needs: of names with their parts, and of targets.
 use Rattle.std.proofs.Common.{◌≡◌, ◌++◌, ℕ, suc, [], ◌∷◌, List, Bool, true, false, ◌&&◌, ◌||◌, not, Option, Some, None, refl, sym, ap, ◌∙◌, subst}
 use Rattle.std.specs.Prelude.{bytes_eq, codes, cond, pos, is_none, is_some, nat_eq}
-use Rattle.std.proofs.lemmas.Bool.{and_from, or_from}
+use Rattle.std.proofs.lemmas.Bool.{and_from, or_from, or_right}
 use Rattle.ada_link.specs.base.specs.declared.faults.TheConstants.{NAME_NOT_VISIBLE, NOT_A_VARIABLE}
 use Rattle.ada_tree.specs.declared.expression.Identifier.{Identifier}
 use Rattle.ada_tree.specs.ExpressionTree.{Arguments, ArgumentTree, ArgumentTrees, Attribute, Component, Conditional, ElsifValueTrees, ExprTree, MoreArguments, MoreElsifValues, MoreSelectors, Named, NoArguments, NoElsifValues, NoSelectors, Parenthesized, SelectorTree, SelectorTrees, Text, Value}
@@ -10,6 +10,7 @@ use Rattle.types.specs.declared.entity.FormalParameter.{FormalParameter}
 use Rattle.types.specs.declared.entity.Role.{Role}
 use Rattle.types.specs.declared.entity.Subtype.{Subtype}
 use Rattle.types.specs.declared.entity.Value.{Value as Scalar}
+use Rattle.types.specs.declared.standing.Callee.{Callee}
 use Rattle.types.specs.declared.standing.Callee.TheVariants as callee
 use Rattle.types.specs.declared.standing.Standing.{Standing}
 use Rattle.types.specs.declared.standing.Standing.TheVariants as standing
@@ -26,17 +27,14 @@ use Rattle.expr_soundness.specs.expr_rules.specs.Faults.{rule}
 use Rattle.expr_soundness.specs.expr_rules.specs.NameRules.{is_doubtful, mismatch, part_rule, slot_at, slot_rule, slot_wanted, value_rule, variable_rule}
 use Rattle.expr_soundness.specs.expr_rules.specs.Typing.{boolean_wanted, is_booleans, own_of}
 use Rattle.expr_soundness.specs.expr_rules.proofs.TypedLaw.{back_empty, front_empty, unbroken}
-use Rattle.program_soundness.specs.step_soundness.specs.Fitting.{entity_named}
-use Rattle.expr_soundness.specs.type_rules.specs.SubtypeNames.{entity_at_or_none}
-use Rattle.expr_soundness.specs.SoundScopes.{IsKnown, SoundScope}
+use Rattle.expr_soundness.specs.SoundScopes.{IsKnown, IsSoundEntry, SoundScope}
 use Rattle.expr_soundness.proofs.Expressions.{not_false}
 use Rattle.expr_soundness.proofs.Goods.{Good, good_all, good_select, no_constant_parts, part_unbroken}
 use Rattle.expr_soundness.proofs.Positions.{IsNamed, named}
 use Rattle.ada_link.specs.expr_code.specs.Emitting.{IsLegalExpression, has_numbers, is_composite}
-use Rattle.ada_link.specs.expr_code.specs.Refusing.{are_passable, argument_outside, arguments_outside, elsifs_outside, is_callable, is_called, is_made, is_outside, is_passable, selector_outside, selectors_outside}
+use Rattle.ada_link.specs.expr_code.specs.Refusing.{are_passable, argument_outside, arguments_outside, elsifs_outside, is_callable, is_called, is_external_call, is_external_callable, is_made, is_outside, is_passable, selectors_outside}
 use Rattle.ada_link.specs.expr_code.specs.Refusing as refusing
-use Rattle.ada_link.specs.expr_code.specs.Seeing.{operation_named, operation_of, profile_named, slot_of, subprogram_of, subprogram_profile}
-use Rattle.ada_link.specs.expr_code.specs.declared.visible.Slot as visible
+use Rattle.ada_link.specs.expr_code.specs.Seeing.{external_of, operation_named, operation_of, profile_named, slot_of, subprogram_of, subprogram_profile}
 use Rattle.ada_link.specs.expr_code.specs.declared.visible.Visible.{Visible}
 use Rattle.ada_link.specs.expr_code.proofs.Legal.{legal_left, legal_operand, legal_right}
 use Rattle.ada_link.specs.expr_code.proofs.Widths.{words_by_type}
@@ -44,12 +42,9 @@ use Rattle.ada_link.specs.part_code.specs.Needs.{address_needs, is_object, is_ta
 use Rattle.source_laws.specs.Covered.{HasWhatCodeNeeds}
 use Rattle.source_laws.specs.Depths.{AreScalar, FewFormals, is_scalar_form}
 use Rattle.source_laws.proofs.NeedsScopes.{profile_by}
-use Rattle.source_laws.proofs.PeakSlots.{begins, name_begins, scalar_words, statement_ends, value_path}
+use Rattle.source_laws.proofs.PeakSlots.{IsPath, begins, name_begins, path_behind, scalar_words, statement_ends, value_path}
+use Rattle.source_laws.proofs.ThroughObjects.{IsCalledWith, calls_behind}
 use Rattle.source_laws.proofs.Peaks.{conditional_parts, inside_legal, legal_of}
-
-or_right : (a b : Bool) → b ≡ true → (a || b) ≡ true
-or_right true b h = refl
-or_right false b h = h
 
 -- ---- types that code takes
 
@@ -223,22 +218,22 @@ module _ (s : Scope) (sound : SoundScope s) where
   given_ends place w rest g h is none = absurd cc
 
   -- a procedure's call is no value
-  procedure_ends : (place n : ℕ) (p : Profile) (all : SelectorTrees) (few : FewFormals s) → callee_profile s (callee.Direct n) ≡ Some p → p.result ≡ None
-      → Good s (standing.Callee (callee.Direct n)) → selectors_faults s place (standing.Callee (callee.Direct n)) all ≡ []
-      → select_all s (standing.Callee (callee.Direct n)) all ≡ standing.Statement
-  procedure_ends place n p NoSelectors few is none g h = ap call_stands is ∙ ap result_stands none
-  procedure_ends place n p (MoreSelectors (Arguments a) rest) few is none g h =
-      let w = standing.Callee (callee.Direct n) in
-      let ends : call_stands (callee_profile s (callee.Direct n)) ≡ standing.Statement = ap call_stands is ∙ ap result_stands none in
+  procedure_ends : (place : ℕ) (f : Callee) (p : Profile) (all : SelectorTrees) (few : FewFormals s) → callee_profile s f ≡ Some p → p.result ≡ None
+      → Good s (standing.Callee f) → selectors_faults s place (standing.Callee f) all ≡ []
+      → select_all s (standing.Callee f) all ≡ standing.Statement
+  procedure_ends place f p NoSelectors few is none g h = ap call_stands is ∙ ap result_stands none
+  procedure_ends place f p (MoreSelectors (Arguments a) rest) few is none g h =
+      let w = standing.Callee f in
+      let ends : call_stands (callee_profile s f) ≡ standing.Statement = ap call_stands is ∙ ap result_stands none in
       ap (λ u. select_all s u rest) ends ∙ statement_ends s sound few place rest
       (subst (λ u. selectors_faults s place u rest ≡ []) ends
       (back_empty (selector_faults s place w (Arguments a)) (selectors_faults s place (select s w (Arguments a)) rest) h))
-  procedure_ends place n p (MoreSelectors (Component name) rest) few is none g h =
-      let w = standing.Callee (callee.Direct n) in
+  procedure_ends place f p (MoreSelectors (Component name) rest) few is none g h =
+      let w = standing.Callee f in
       absurd (good_select s sound place w (Component name) g
       (front_empty (selector_faults s place w (Component name)) (selectors_faults s place (select s w (Component name)) rest) h))
-  procedure_ends place n p (MoreSelectors (Attribute name) rest) few is none g h =
-      let w = standing.Callee (callee.Direct n) in
+  procedure_ends place f p (MoreSelectors (Attribute name) rest) few is none g h =
+      let w = standing.Callee f in
       absurd (good_select s sound place w (Attribute name) g
       (front_empty (selector_faults s place w (Attribute name)) (selectors_faults s place (select s w (Attribute name)) rest) h))
 
@@ -248,6 +243,30 @@ module _ (exceptions : List (List ℕ)) (v : Visible) (cover : HasWhatCodeNeeds 
   abbrev s : Scope
   s = v.scope
 
+  -- ---- functions
+
+  -- what is called has a result, where a name with a value ends behind it; so code may call it
+  module _ (place : ℕ) (f : Callee) (p : Profile) (rest : SelectorTrees) (is : callee_profile s f ≡ Some p)
+      (path : IsPath s cover.sound cover.formals place (standing.Callee f) rest) where
+    procedure_not : p.result ≡ None → ⊥
+    procedure_not none = path.ends (procedure_ends s cover.sound place f p rest cover.formals is none path.good path.unbroken)
+
+    function_made : (number : Option ℕ) (r : Option Subtype) → p.result ≡ r
+        → ((t : Subtype) → p.result ≡ Some t → (is_some number ≡ true) × (is_scalar_form (form_at s t.type_number) ≡ true))
+        → is_callable s number (Some p) ≡ true
+    function_made number None none told = absurd (procedure_not none)
+    function_made number (Some t) given told =
+        and_from (is_called s number p) (are_passable s p.formals)
+        (and_from (is_some number) (refusing.is_single s p.result) (told t given).0 (ap (refusing.is_single s) given ∙ single_result s t (told t given).1))
+        (formals_passable s p.formals ((cover.formals f p is).scalar t given))
+
+  -- ... also behind the name of its object
+  external_made : (object : List ℕ) (operation : Identifier) (rest : SelectorTrees) → IsCalledWith rest → is_external_callable v object operation.name ≡ true
+      → is_external_call v object (MoreSelectors (Component operation) rest) ≡ true
+  external_made object operation NoSelectors ends h = h
+  external_made object operation (MoreSelectors (Arguments a) NoSelectors) ends h = h
+  external_made object operation rest ends h = absurd ends
+
   -- ---- what a name with a value begins with
 
   module _ (first : Identifier) (selectors : SelectorTrees) (legal : IsLegalExpression s (Named first selectors)) (x : IsNamed s first.name) where
@@ -256,9 +275,6 @@ module _ (exceptions : List (List ℕ)) (v : Visible) (cover : HasWhatCodeNeeds 
 
     begins_is : (e : Entity) → x.entity ≡ e → start ≡ stands_for x.number (Some e)
     begins_is e is = ap (stands_first s) x.numbered ∙ ap (stands_for x.number) (x.stands ∙ ap Some is)
-
-    entity_is : (e : Entity) → x.entity ≡ e → entity_named s first.name ≡ Some e
-    entity_is e is = ap (entity_at_or_none s) x.numbered ∙ x.stands ∙ ap Some is
 
     profile_is : (p : Profile) → x.entity ≡ Subprogram p → profile_named s first.name ≡ Some p
     profile_is p is = ap (profile_by s) x.numbered ∙ ap subprogram_profile (x.stands ∙ ap Some is)
@@ -270,23 +286,42 @@ module _ (exceptions : List (List ℕ)) (v : Visible) (cover : HasWhatCodeNeeds 
     made_as : (w : Standing) → start ≡ w → is_made v first selectors w ≡ true → is_made v first selectors start ≡ true
     made_as w is h = subst (λ u. is_made v first selectors u ≡ true) (sym is) h
 
-    function_made : (p : Profile) → x.entity ≡ Subprogram p → (r : Option Subtype) → p.result ≡ r
-        → is_callable s (subprogram_of v first.name) (Some p) ≡ true
-    function_made p is None none =
-        let path = value_path s cover.sound cover.formals first selectors legal in
-        let w = standing.Callee (callee.Direct x.number) in
-        let here : start ≡ w = begins_is (Subprogram p) is in
-        let called : callee_profile s (callee.Direct x.number) ≡ Some p = ap profile_of (x.stands ∙ ap Some is) in
-        absurd (path.ends (ap (λ u. select_all s u selectors) here
-        ∙ procedure_ends s cover.sound first.place x.number p selectors cover.formals called none (subst (Good s) here path.good)
-        (subst (λ u. selectors_faults s first.place u selectors ≡ []) here path.unbroken)))
-    function_made p is (Some t) given =
+    path_from : (w : Standing) → start ≡ w → IsPath s cover.sound cover.formals first.place w selectors
+    path_from w is =
+        subst (λ u. IsPath s cover.sound cover.formals first.place u selectors) is (value_path s cover.sound cover.formals first selectors legal)
+
+    subprogram_made : (p : Profile) → x.entity ≡ Subprogram p → is_callable s (subprogram_of v first.name) (Some p) ≡ true
+    subprogram_made p is =
         let there = profile_is p is in
-        let called : callee_profile s (callee.Direct x.number) ≡ Some p = ap profile_of (x.stands ∙ ap Some is) in
-        and_from (is_called s (subprogram_of v first.name) p) (are_passable s p.formals)
-        (and_from (is_some (subprogram_of v first.name)) (refusing.is_single s p.result) (cover.numbered first.name p there)
-        (ap (refusing.is_single s) given ∙ single_result s t (cover.results first.name p t there given)))
-        (formals_passable s p.formals ((cover.formals (callee.Direct x.number) p called).scalar t given))
+        function_made first.place (callee.Direct x.number) p selectors (ap profile_of (x.stands ∙ ap Some is))
+        (path_from (standing.Callee (callee.Direct x.number)) (begins_is (Subprogram p) is)) (subprogram_of v first.name) p.result refl
+        (λ t given. (cover.numbered first.name p there, cover.results first.name p t there given))
+
+    -- an entry has no result
+    entry_not : (p : Profile) → x.entity ≡ Entry p → ⊥
+    entry_not p is =
+        let its : IsSoundEntry s p = cover.sound.each x.number (Entry p) (x.stands ∙ ap Some is) in
+        procedure_not first.place (callee.Direct x.number) p selectors (ap profile_of (x.stands ∙ ap Some is))
+        (path_from (standing.Callee (callee.Direct x.number)) (begins_is (Entry p) is)) its.none
+
+    -- an object alone has no value, nor has a call of its procedure or entry
+    behind_made : (o : ProtectedObject) → x.entity ≡ Protected o → is_external_call v first.name selectors ≡ true
+    behind_made o is =
+        let w = standing.Protected x.number in
+        let here = begins_is (Protected o) is in
+        let path = path_from w here in
+        let ends = back_empty (name_faults s first selectors) (value_rule first.place (standing_of s first selectors)) legal.unbroken in
+        let alone : select_all s w selectors ≡ standing.Other → ⊥ =
+        λ k. let never = subst (λ u. value_rule first.place u ≡ []) (ap (λ u. select_all s u selectors) here ∙ k) ends in cc in
+        let it = calls_behind s cover.sound first.place first.name x.number o x.numbered (x.stands ∙ ap Some is) selectors path.good path.unbroken alone in
+        let parts = subst (λ all. IsPath s cover.sound cover.formals first.place w all) it.is path in
+        let behind = subst (λ u. IsPath s cover.sound cover.formals first.place u it.rest) it.selected
+        (path_behind s cover.sound cover.formals first.place w (Component it.operation) it.rest parts) in
+        let number = external_of v first.name it.operation.name in
+        subst (λ all. is_external_call v first.name all ≡ true) (sym it.is)
+        (external_made first.name it.operation it.rest it.ends
+        (ap (is_callable s number) it.told ∙ function_made first.place it.callee it.profile it.rest it.profiled behind number it.profile.result refl
+        (λ t given. cover.gives first.name it.operation.name it.profile t it.told given)))
 
     by_entity : (e : Entity) → x.entity ≡ e → is_made v first selectors start ≡ true
     by_entity (Object r t) is =
@@ -300,14 +335,14 @@ module _ (exceptions : List (List ℕ)) (v : Visible) (cover : HasWhatCodeNeeds 
     by_entity (Subprogram p) is =
         made_as (standing.Callee (callee.Direct x.number)) (begins_is (Subprogram p) is)
         (or_right (is_some (operation_named s first.name)) (is_callable s (subprogram_of v first.name) (profile_named s first.name))
-        (ap (is_callable s (subprogram_of v first.name)) (profile_is p is) ∙ function_made p is p.result refl))
-    by_entity (Entry p) is = absurd (cover.without_entries first.name p (entity_is (Entry p) is))
+        (ap (is_callable s (subprogram_of v first.name)) (profile_is p is) ∙ subprogram_made p is))
+    by_entity (Entry p) is = absurd (entry_not p is)
     by_entity (Predefined o p) is =
         made_as (standing.Callee (callee.Direct x.number)) (begins_is (Predefined o p) is)
         (ap (λ q. is_some q || is_callable s (subprogram_of v first.name) (profile_named s first.name)) (operation_is (Predefined o p) is))
     by_entity Put is = made_as standing.Put (begins_is Put is) refl
     by_entity (Task priority) is = made_as standing.Task (begins_is (Task priority) is) refl
-    by_entity (Protected o) is = absurd (cover.unprotected first.name x.number (begins_is (Protected o) is))
+    by_entity (Protected o) is = made_as (standing.Protected x.number) (begins_is (Protected o) is) (behind_made o is)
     by_entity LibraryUnit is = made_as standing.Other (begins_is LibraryUnit is) refl
     by_entity Doubtful is = made_as standing.Doubtful (begins_is Doubtful is) refl
 

@@ -1,5 +1,5 @@
 -- What is visible keeps what code needs of it where an object, a loop parameter or formals are visible besides.
-use Rattle.std.proofs.Common.{◌≡◌, ◌≤◌, ◌⊎◌, inl, inr, ◌++◌, ◌+◌, ℕ, zero, suc, [], ◌∷◌, List, length, map, Bool, true, false, Option, Some, None, refl, sym, ap, ◌∙◌, subst, arith}
+use Rattle.std.proofs.Common.{◌≡◌, ◌≤◌, ◌⊎◌, ◌||◌, inl, inr, ◌++◌, ◌+◌, ℕ, zero, suc, [], ◌∷◌, List, length, map, Bool, true, false, Option, Some, None, refl, sym, ap, ◌∙◌, subst, arith}
 use Rattle.std.specs.Prelude.{cond, is_some}
 use Rattle.std.proofs.lemmas.List.{append-nil, append_assoc}
 use Rattle.ada_link.specs.base.specs.declared.faults.TheConstants.{DECLARED_TWICE}
@@ -12,8 +12,8 @@ use Rattle.types.specs.declared.entity.Role.TheVariants as role
 use Rattle.types.specs.declared.entity.Subtype.{Subtype}
 use Rattle.types.specs.declared.standing.Standing.{Standing}
 use Rattle.types.specs.declared.standing.Standing.TheVariants as standing
-use Rattle.types.specs.Entities.{Entity, Entry, Exception, Object, Profile, Protected, ProtectedObject}
-use Rattle.types.specs.Scopes.{Named, Scope, base_range_of, entity_at, entity_of, is_visible, number_of, with_name}
+use Rattle.types.specs.Entities.{Entity, Exception, Object, Profile}
+use Rattle.types.specs.Scopes.{Named, Scope, base_range_of, entity_at, entity_of, form_at, is_visible, number_of, with_name}
 use Rattle.types.specs.Standings.{stands_first, stands_for}
 use Rattle.types.specs.Statics.{start_of}
 use Rattle.expr_soundness.specs.expr_rules.specs.declared.own.Wanted.TheVariants.{AnyInteger}
@@ -29,13 +29,15 @@ use Rattle.expr_soundness.proofs.Growing.{form_before, grown, object_named, soun
 use Rattle.expr_soundness.proofs.Positions.{entity_added, item_added, number_added, number_kept, same_some}
 use Rattle.expr_soundness.proofs.Widening.{subtype_known}
 use Rattle.ada_link.specs.expr_code.specs.Entries.{entry_at}
-use Rattle.ada_link.specs.expr_code.specs.Seeing.{profile_named, told_of}
+use Rattle.ada_link.specs.expr_code.specs.Seeing.{external_profile, number_behind, object_named as protected_by_name, profile_behind, profile_named, told_of}
 use Rattle.ada_link.specs.expr_code.specs.declared.visible.Slot.{Slot}
 use Rattle.ada_link.specs.expr_code.specs.declared.visible.Visible.{Visible}
+use Rattle.ada_link.specs.part_code.specs.EntryNames.{entry_among, entry_behind}
 use Rattle.ada_link.specs.part_code.specs.Formals.{no_subprogram, slot_for}
 use Rattle.ada_link.specs.part_code.specs.Needs.{local_visible, with_object}
 use Rattle.ada_link.specs.stmt_code.specs.WholeRefusals.{formals_visible, from_behind, out_behind, placed_as, placed_formals, placed_if}
 use Rattle.ada_link.specs.part_code.specs.Bounds.{words_named}
+use Rattle.ada_link.specs.part_code.proofs.OperationNames.{told_object, told_without}
 use Rattle.source_laws.specs.Covered.{AreLegalFormals, HasWhatCodeNeeds}
 use Rattle.source_laws.specs.Covered as covered
 use Rattle.source_laws.specs.Depths.{is_full, is_scalar_form}
@@ -103,26 +105,6 @@ named_part s name r t h = by_number (number_of s name) h
     by_number (Some n) k = ap (stands_for n) k
     by_number None k = absurd cc
 
-protected_entity : (n m : ℕ) (o : Option Entity) → stands_for n o ≡ standing.Protected m → (x : ProtectedObject) × (o ≡ Some (Protected x))
-protected_entity n m (Some (Protected x)) h = (x, refl)
-protected_entity n m o h = absurd cc
-
-protected_named : (s : Scope) (name : List ℕ) (m : ℕ) → stands_first s (number_of s name) ≡ standing.Protected m
-    → (x : ProtectedObject) × (entity_named s name ≡ Some (Protected x))
-protected_named s name m h = by_number (number_of s name) h
-  where
-    by_number : (o : Option ℕ) → stands_first s o ≡ standing.Protected m → (x : ProtectedObject) × (entity_at_or_none s o ≡ Some (Protected x))
-    by_number (Some n) k = protected_entity n m (entity_at s n) k
-    by_number None k = absurd cc
-
-named_protected : (s : Scope) (name : List ℕ) (x : ProtectedObject) → entity_named s name ≡ Some (Protected x)
-    → (m : ℕ) × (stands_first s (number_of s name) ≡ standing.Protected m)
-named_protected s name x h = by_number (number_of s name) h
-  where
-    by_number : (o : Option ℕ) → entity_at_or_none s o ≡ Some (Protected x) → (m : ℕ) × (stands_first s o ≡ standing.Protected m)
-    by_number (Some n) k = (n, ap (stands_for n) k)
-    by_number None k = absurd cc
-
 -- ---- with an object more
 
 abbrev pub seen_by : (operations : List (List (Option ℕ))) → Scope → List (Option Slot) → List (Option ℕ) → Visible
@@ -180,17 +162,30 @@ module _ (exceptions : List (List ℕ)) (os : List (List (Option ℕ))) (s : Sco
   raised_here : (other : List ℕ) → entity_named wider other ≡ Some Exception → entity_named s other ≡ Some Exception
   raised_here other h = elim (before other Exception h) [ inl i ↦ i | inr i ↦ (let never = i.0 in absurd cc) ]
 
-  protected_before : (other : List ℕ) (o : ProtectedObject) → entity_named wider other ≡ Some (Protected o) → entity_named s other ≡ Some (Protected o)
-  protected_before other o h = elim (before other (Protected o) h) [ inl i ↦ i | inr i ↦ (let never = i.0 in absurd cc) ]
+  -- the name of a protected object is no other than before
+  same_object : (other operation : List ℕ) (p : Profile) → external_profile wider other operation ≡ Some p
+      → protected_by_name wider other ≡ protected_by_name s other
+  same_object other operation p h =
+      let o = told_object (λ q. profile_behind q operation) refl p (protected_by_name wider other) h in
+      let was = told_without (λ q. q) refl o.0 other s own (λ q is. cc) o.1 in
+      o.1 ∙ sym was.2
 
-  no_protected : (other : List ℕ) (n : ℕ) → stands_first wider (number_of wider other) ≡ standing.Protected n → ⊥
-  no_protected other n h =
-      let o = protected_named wider other n h in
-      let old = named_protected s other o.0 (protected_before other o.0 o.1) in
-      cover.unprotected other old.0 old.1
+  behind_before : (other operation : List ℕ) (p : Profile) → external_profile wider other operation ≡ Some p → external_profile s other operation ≡ Some p
+  behind_before other operation p h = ap (λ q. profile_behind q operation) (sym (same_object other operation p h)) ∙ h
 
-  no_entry : (other : List ℕ) (p : Profile) → entity_named wider other ≡ Some (Entry p) → ⊥
-  no_entry other p h = elim (before other (Entry p) h) [ inl i ↦ cover.without_entries other p i | inr i ↦ (let never = i.0 in absurd cc) ]
+  offered_here : (other operation : List ℕ) (p : Profile) → external_profile wider other operation ≡ Some p
+      → (is_some (entry_behind wider other operation) || is_some (number_behind os (protected_by_name wider other) operation)) ≡ true
+  offered_here other operation p h =
+      subst (λ q. (is_some (entry_among q operation) || is_some (number_behind os q operation)) ≡ true) (sym (same_object other operation p h))
+      (cover.offered other operation p (behind_before other operation p h))
+
+  gives_here : (other operation : List ℕ) (p : Profile) (u : Subtype) → external_profile wider other operation ≡ Some p → p.result ≡ Some u
+      → (is_some (number_behind os (protected_by_name wider other) operation) ≡ true) × (is_scalar_form (form_at wider u.type_number) ≡ true)
+  gives_here other operation p u h result =
+      let old = cover.gives other operation p u (behind_before other operation p h) result in (
+        ap (λ q. is_some (number_behind os q operation)) (same_object other operation p h) ∙ old.0,
+        test_kept s wider (grown s (own ∷ [])) is_scalar_form refl u.type_number old.1,
+      )
 
   pub covered_behind : IsSoundObject s r t → HasWhatCodeNeeds exceptions (seen_by os wider slots subprograms)
   covered_behind object =
@@ -209,8 +204,8 @@ module _ (exceptions : List (List ℕ)) (os : List (List (Option ℕ))) (s : Sco
         results = λ other p u is result. test_kept s wider (grown s (own ∷ [])) is_scalar_form refl u.type_number
             (cover.results other p u (named_before s name r t other p is) result);
         raised = λ other h. cover.raised other (raised_here other h);
-        unprotected = no_protected;
-        without_entries = no_entry;
+        offered = offered_here;
+        gives = gives_here;
       }
 
   -- a name that was not visible

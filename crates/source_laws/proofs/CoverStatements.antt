@@ -1,6 +1,6 @@
 -- Code is made of all legal statements that break no restriction, where what is visible has what code needs.
 use Rattle.std.proofs.Common.{◌≡◌, ◌++◌, ℕ, [], ◌∷◌, List, Bool, true, false, ◌&&◌, not, Option, Some, None, refl, sym, ap, subst}
-use Rattle.std.specs.Prelude.{◌≢◌, is_none, is_some}
+use Rattle.std.specs.Prelude.{◌≢◌, is_some}
 use Rattle.std.proofs.lemmas.Bool.{and_from, or_from}
 use Rattle.ada_link.specs.base.specs.declared.faults.TheConstants.{MISPLACED_STATEMENT}
 use Rattle.ada_tree.specs.declared.expression.Identifier.{Identifier}
@@ -40,7 +40,7 @@ use Rattle.ada_link.specs.part_code.specs.Raising.{are_numbered, choice_number, 
 use Rattle.ada_link.specs.stmt_code.specs.Refusing.{Standpoint, alternatives_needs, behind_locals, elsifs_needs, handlers_needs, head_needs, inside_counted, inside_handler, inside_loop, needs_if_any, raise_needs, return_needs, stmt_needs, stmts_needs}
 use Rattle.ada_link.specs.stmt_code.proofs.Refused.{locals_seen}
 use Rattle.source_laws.specs.Covered.{HasWhatCodeNeeds}
-use Rattle.source_laws.proofs.CoverCalls.{call_made}
+use Rattle.source_laws.proofs.CoverCalls.{call_made, not_none}
 use Rattle.source_laws.proofs.CoverChoices.{choices_made}
 use Rattle.source_laws.proofs.CoverNames.{wanted_made}
 use Rattle.source_laws.proofs.CoverScopes.{covered_loop}
@@ -87,10 +87,6 @@ module _ (s : Scope) (sound : SoundScope s) where
   handled_named name place repeated (Some Exception) is h = is
   handled_named name place repeated (Some Doubtful) is h = absurd (never_doubtful name is)
   handled_named name place repeated (Some e) is h = absurd cc
-
-not_none : {X : Type 0} (o : Option X) → is_some o ≡ true → is_none o ≡ false
-not_none (Some x) h = refl
-not_none None h = absurd cc
 
 module _ (exceptions : List (List ℕ)) (v : Visible) (cover : HasWhatCodeNeeds exceptions v) where
   one_numbered : (before : List (List ℕ)) (single : Bool) (c : ExceptionChoice) → exception_choice_faults v.scope before single c ≡ []

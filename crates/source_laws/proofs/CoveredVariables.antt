@@ -1,25 +1,27 @@
--- Code has first words for each variable of an accepted text: its given value is known, and takes words.
-use Rattle.std.proofs.Common.{◌≡◌, ℕ, zero, suc, ◌*◌, ◌≤◌, Bool, true, false, not, cond, List, [], ◌∷◌, ◌++◌, length, Option, Some, None, refl, sym, ap, ◌∙◌, subst, arith}
-use Rattle.std.specs.Prelude.{is_none, nat_eq, slice_get}
+-- Code has first words for each variable of an accepted text, and for each component of its protected objects: a given value is known, and takes words.
+use Rattle.std.proofs.Common.{◌≡◌, ℕ, zero, suc, ◌*◌, ◌≤◌, Bool, true, false, not, cond, List, [], ◌∷◌, ◌++◌, length, map, ◌||◌, Option, Some, None, refl, sym, ap, ◌∙◌, subst, arith}
+use Rattle.std.specs.Prelude.{bytes_eq, is_none, nat_eq, slice_get}
 use Rattle.std.proofs.lemmas.Bool.{and_parts, or_from}
 use Rattle.std.proofs.lemmas.Bool.Decides.{nat_tests}
+use Rattle.ada_tree.specs.declared.expression.Identifier.{Identifier}
 use Rattle.ada_tree.specs.ExpressionTree.{ExprTree}
-use Rattle.ada_tree.specs.StatementTree.{ObjectTree}
+use Rattle.ada_tree.specs.StatementTree.{ObjectTree, OperationTree, ProtectedComponentTree, ProtectedTree}
 use Rattle.ada_tree.specs.ProgramTree.{BodyItemTree, OfException, OfItem, OfObject, OfProtected, OfSubprogram, OfTask, OfType, ProgramTree, ProtectedBody, SubprogramBody, TaskBody}
 use Rattle.types.specs.declared.entity.Subtype.{Subtype}
 use Rattle.types.specs.Laws.{ValuesHaveWords}
 use Rattle.types.specs.Places.{Object}
-use Rattle.types.specs.Scopes.{Scope, base_range_of}
+use Rattle.types.specs.Scopes.{Scope, base_range_of, is_visible}
 use Rattle.types.specs.Shapes.{Grouped, MoreShapes, NoShapes, Repeated, Shape, Shapeless, Shapes, shape_of, value_words, words, words_of_parts}
 use Rattle.expr_soundness.specs.expr_rules.specs.Laws.{type_shape}
 use Rattle.expr_soundness.specs.expr_rules.specs.Faults.{rule}
-use Rattle.ada_link.specs.base.specs.declared.faults.TheConstants.{NOT_STATIC}
-use Rattle.expr_soundness.specs.expr_rules.proofs.TypedLaw.{back_empty, front_empty}
+use Rattle.ada_link.specs.base.specs.declared.faults.TheConstants.{DECLARED_TWICE, NOT_STATIC}
+use Rattle.expr_soundness.specs.expr_rules.proofs.TypedLaw.{back_empty, front_empty, unbroken}
 use Rattle.expr_soundness.specs.type_rules.specs.ObjectRules.{fixed_faults, fixed_initial_faults, fixed_scalar}
 use Rattle.expr_soundness.specs.type_rules.specs.SubtypeNames.{declared_twice, subtype_faults, subtype_of}
-use Rattle.expr_soundness.specs.meaning.specs.Programs.{initial_value, items_among, object_named, program_of, subtype_named, variable, variables_among}
+use Rattle.expr_soundness.specs.meaning.specs.Programs.{component, components_among, initial_value, items_among, object_named, objects_or_none, program_of, subtype_named, variable, variables_among}
 use Rattle.expr_soundness.specs.Laws.{ScopesAreSound}
 use Rattle.expr_soundness.specs.SoundScopes.{IsKnown}
+use Rattle.program_soundness.specs.declaring.specs.ProtectedRules.{component_initial_faults, is_component_in, is_component_like, is_operation_in, is_operation_like, part_faults, parts_faults}
 use Rattle.checking.specs.ProgramRules.{IsLegal}
 use Rattle.program_soundness.specs.ravenscar.specs.ProgramRules.{IsRestricted}
 use Rattle.program_soundness.specs.step_soundness.specs.Objects.{AreSoundObjects, IsOf}
@@ -29,11 +31,13 @@ use Rattle.program_soundness.specs.Fronts.{declared_in, front, start_in}
 use Rattle.program_soundness.proofs.BodyProfiles.{named_is, subtype_kept}
 use Rattle.program_soundness.proofs.Extending.{Extends}
 use Rattle.program_soundness.proofs.Listing.{same_some}
+use Rattle.program_soundness.proofs.ObjectItems.{either_false}
+use Rattle.program_soundness.proofs.ObjectTrees.{parts_legal}
 use Rattle.program_soundness.proofs.Trees.{tree_package}
 use Rattle.program_soundness.proofs.Walked.{item_new, legal_at}
 use Rattle.program_soundness.proofs.Whole.{IsPackage, kept, known_subtype}
 use Rattle.ada_link.specs.part_code.specs.Needs.{lack_word, lacks_word}
-use Rattle.ada_link.specs.package_code.specs.Refusing.{is_outside_variable, lacks_first_words}
+use Rattle.ada_link.specs.package_code.specs.Refusing.{is_outside_variable, lack_components, lacks_first_words}
 use Rattle.source_laws.specs.Depths.{are_full, is_full}
 use Rattle.source_laws.proofs.FullShapes.{full_some}
 use Rattle.source_laws.proofs.LaterValues.{fixed_same, fixed_some}
@@ -96,7 +100,34 @@ item_sound s [] k x at h = cc
 item_sound s (y ∷ rest) zero x at h = subst (IsItemSound s) (same_some y x at) (first_sound s y rest h).0
 item_sound s (y ∷ rest) (suc k) x at h = item_sound s rest k x at (first_sound s y rest h).1
 
--- ---- variables of a text
+-- ---- the components of protected objects
+
+-- those of one stand among those of all
+among_components : (s : Scope) (xs : List BodyItemTree) (k : ℕ) (d : ProtectedTree) → slice_get xs k ≡ Some (OfItem (OfProtected d))
+    → (o : ℕ) × (slice_get (components_among s (items_among xs)) o ≡ Some (map (component s) d.components))
+among_components s [] k d at = cc
+among_components s (x ∷ rest) zero d at =
+    subst (λ y. (o : ℕ) × (slice_get (components_among s (items_among (y ∷ rest))) o ≡ Some (map (component s) d.components)))
+    (sym (same_some x (OfItem (OfProtected d)) at)) (0, refl)
+among_components s (OfItem (OfProtected e) ∷ rest) (suc k) d at = let x = among_components s rest k d at in (suc x.0, x.1)
+among_components s (OfItem (OfObject e) ∷ rest) (suc k) d at = among_components s rest k d at
+among_components s (OfItem (OfType e) ∷ rest) (suc k) d at = among_components s rest k d at
+among_components s (OfItem (OfException name) ∷ rest) (suc k) d at = among_components s rest k d at
+among_components s (OfItem (OfSubprogram e) ∷ rest) (suc k) d at = among_components s rest k d at
+among_components s (OfItem (OfTask e) ∷ rest) (suc k) d at = among_components s rest k d at
+among_components s (SubprogramBody e b ∷ rest) (suc k) d at = among_components s rest k d at
+among_components s (TaskBody name b ∷ rest) (suc k) d at = among_components s rest k d at
+among_components s (ProtectedBody name items end_name ∷ rest) (suc k) d at = among_components s rest k d at
+
+-- a component that is like nothing has a name of its own
+new_part : (s : Scope) (own : Identifier) (ts : List OperationTree) (before : List ProtectedComponentTree) (name : List ℕ)
+    → is_component_like s own ts before name ≡ false → is_visible s name ≡ false
+new_part s own ts before name h =
+    let operation = (either_false (is_operation_like s own ts name) (is_component_in before name) h).0 in
+    let first = (either_false (is_visible s name || bytes_eq own.name name) (is_operation_in ts name) operation).0 in
+    (either_false (is_visible s name) (bytes_eq own.name name) first).0
+
+-- ---- variables and components of a text
 
 module _ (premises : PremisesHold) (names : NamesAreKnown) (scopes : ScopesAreSound) (declarations : DeclarationsAreSound) (objects : ObjectsAreSound)
     (sized : ValuesHaveWords) (t : ProgramTree) (legal : IsLegal t) (restricted : IsRestricted t)
@@ -116,66 +147,114 @@ module _ (premises : PremisesHold) (names : NamesAreKnown) (scopes : ScopesAreSo
   whole_extends : (place : ℕ) → Extends (front t place) whole
   whole_extends place = let more = behind_front t place in (more.0, sym w.scope ∙ more.1)
 
-  module _ (place : ℕ) (d : ObjectTree) (at : slice_get all place ≡ Some (OfItem (OfObject d))) (variable_ : d.constant ≡ false) where
+  -- an object that is given its value in front of a place of the package, or none
+  module _ (place : ℕ) (name subtype : Identifier) (value : Option ExprTree) (new : is_visible (front t place) name.name ≡ false)
+      (named : subtype_faults (front t place) subtype ≡ [])
+      (given : (e : ExprTree) → value ≡ Some e → fixed_faults (front t place) (subtype_of (front t place) subtype) e ≡ [])
+      (suited : IsOf whole (subtype_named whole subtype).type_number (initial_value whole (subtype_named whole subtype) value)) where
     abbrev here : Scope
     here = front t place
 
-    judged_here : subtype_faults here d.subtype ++ fixed_initial_faults here d ++ declared_twice here d.name ≡ []
-    judged_here = legal_at start all place (OfItem (OfObject d)) at w.list.legal
-
-    named_there : subtype_faults here d.subtype ≡ []
-    named_there =
-        front_empty (subtype_faults here d.subtype) (fixed_initial_faults here d)
-        (front_empty (subtype_faults here d.subtype ++ fixed_initial_faults here d) (declared_twice here d.name) judged_here)
-
-    initial_legal : fixed_initial_faults here d ≡ []
-    initial_legal =
-        back_empty (subtype_faults here d.subtype) (fixed_initial_faults here d)
-        (front_empty (subtype_faults here d.subtype ++ fixed_initial_faults here d) (declared_twice here d.name) judged_here)
-
-    told : (u : Subtype) × (subtype_of here d.subtype ≡ Some u)
-    told = known_subtype (program_of t) start all w place d.subtype named_there
+    told : (u : Subtype) × (subtype_of here subtype ≡ Some u)
+    told = known_subtype (program_of t) start all w place subtype named
 
     abbrev u : Subtype
     u = told.0
 
-    named_whole : subtype_of whole d.subtype ≡ Some u
-    named_whole = subtype_kept here whole (kept (program_of t) start all w place) d.subtype u told.1
+    named_whole : subtype_of whole subtype ≡ Some u
+    named_whole = subtype_kept here whole (kept (program_of t) start all w place) subtype u told.1
 
     known_whole : IsKnown whole u
-    known_whole = scopes.subtype whole d.subtype u (premises t legal).sound named_whole
+    known_whole = scopes.subtype whole subtype u (premises t legal).sound named_whole
 
     -- a given value is known
-    value_known : (e : ExprTree) → d.value ≡ Some e → is_none (fixed_scalar whole (Some u) e) ≡ false
+    value_known : (e : ExprTree) → value ≡ Some e → is_none (fixed_scalar whole (Some u) e) ≡ false
     value_known e is =
-        let given : fixed_faults here (Some u) e ≡ [] =
-        ap (λ o. fixed_faults here o e) (sym told.1)
-        ∙ sym (ap (λ o. elim o [ Some v ↦ fixed_faults here (subtype_of here d.subtype) v | None ↦ rule NOT_STATIC d.name.place d.constant ]) is)
-        ∙ initial_legal in
-        let some =
-        fixed_some declarations here ((names t legal restricted).fronts place) d.name d.subtype u e (item_new here (OfObject d) judged_here) named_there told.1
-        given in
-        ap is_none (fixed_same here whole (whole_extends place) ((names t legal restricted).fronts place) u e given ∙ some.1)
+        let unbroken : fixed_faults here (Some u) e ≡ [] = ap (λ o. fixed_faults here o e) (sym told.1) ∙ given e is in
+        let some = fixed_some declarations here ((names t legal restricted).fronts place) name subtype u e new named told.1 unbroken in
+        ap is_none (fixed_same here whole (whole_extends place) ((names t legal restricted).fronts place) u e unbroken ∙ some.1)
 
-    first_words : lacks_first_words whole u d.value ≡ false
-    first_words = by_value d.value refl
+    first_words : lacks_first_words whole u value ≡ false
+    first_words = by_value value refl
       where
-        by_value : (o : Option ExprTree) → d.value ≡ o → lacks_first_words whole u o ≡ false
+        by_value : (o : Option ExprTree) → value ≡ o → lacks_first_words whole u o ≡ false
         by_value None is = full_lacks (shape_of whole u) (full u known_whole)
         by_value (Some e) is = value_known e is
 
     -- it takes words
-    takes_words : nat_eq (length (value_words (initial_value whole u d.value))) 0 ≡ false
+    takes_words : nat_eq (length (value_words (initial_value whole u value))) 0 ≡ false
     takes_words =
-        let same = named_is whole d.subtype u named_whole in
-        let suited : IsOf whole u.type_number (initial_value whole u d.value) =
-        subst (λ v. IsOf whole v.type_number (initial_value whole v d.value)) same
-        (item_sound whole all place (OfItem (OfObject d)) at (subst (AreSoundObjects whole) w.variables (objects.variables t legal)) variable_) in
-        let own = (sized (type_shape whole u.type_number) (initial_value whole u d.value) suited).sized in
+        let same = named_is whole subtype u named_whole in
+        let own : IsOf whole u.type_number (initial_value whole u value) =
+        subst (λ v. IsOf whole v.type_number (initial_value whole v value)) same suited in
+        let sizes = (sized (type_shape whole u.type_number) (initial_value whole u value) own).sized in
         let some = full_some (type_shape whole u.type_number) (full (base_range_of u.type_number) known_whole) in
-        not_zero (length (value_words (initial_value whole u d.value))) (omega (arith, own, some))
+        not_zero (length (value_words (initial_value whole u value))) (omega (arith, sizes, some))
+
+    object_inside : is_outside_variable whole (subtype_of whole subtype) value ≡ false
+    object_inside =
+        ap (λ o. is_outside_variable whole o value) named_whole
+        ∙ or_from (lacks_first_words whole u value) (nat_eq (length (value_words (initial_value whole u value))) 0) first_words takes_words
+
+  -- ---- variables
+
+  module _ (place : ℕ) (d : ObjectTree) (at : slice_get all place ≡ Some (OfItem (OfObject d))) (variable_ : d.constant ≡ false) where
+    abbrev judged_here : subtype_faults (front t place) d.subtype ++ fixed_initial_faults (front t place) d ++ declared_twice (front t place) d.name ≡ []
+    judged_here = legal_at start all place (OfItem (OfObject d)) at w.list.legal
+
+    initial_legal : fixed_initial_faults (front t place) d ≡ []
+    initial_legal =
+        back_empty (subtype_faults (front t place) d.subtype) (fixed_initial_faults (front t place) d)
+        (front_empty (subtype_faults (front t place) d.subtype ++ fixed_initial_faults (front t place) d) (declared_twice (front t place) d.name) judged_here)
 
     pub variable_inside : is_outside_variable whole (subtype_of whole d.subtype) d.value ≡ false
     variable_inside =
-        ap (λ o. is_outside_variable whole o d.value) named_whole
-        ∙ or_from (lacks_first_words whole u d.value) (nat_eq (length (value_words (initial_value whole u d.value))) 0) first_words takes_words
+        object_inside place d.name d.subtype d.value (item_new (front t place) (OfObject d) judged_here)
+        (front_empty (subtype_faults (front t place) d.subtype) (fixed_initial_faults (front t place) d)
+        (front_empty (subtype_faults (front t place) d.subtype ++ fixed_initial_faults (front t place) d) (declared_twice (front t place) d.name) judged_here))
+        (λ e is. sym (ap (λ o. elim o [
+          | Some v ↦ fixed_faults (front t place) (subtype_of (front t place) d.subtype) v
+          | None ↦ rule NOT_STATIC d.name.place d.constant
+        ]) is) ∙ initial_legal)
+        (item_sound whole all place (OfItem (OfObject d)) at (subst (AreSoundObjects whole) w.variables (objects.variables t legal)) variable_)
+
+  -- ---- components of protected objects
+
+  module _ (place : ℕ) (d : ProtectedTree) (at : slice_get all place ≡ Some (OfItem (OfProtected d))) where
+    abbrev before : Scope
+    before = front t place
+
+    parts_unbroken : parts_faults before d.name d.operations [] d.components ≡ []
+    parts_unbroken = parts_legal before d (legal_at start all place (OfItem (OfProtected d)) at w.list.legal)
+
+    -- their values at the start are of their types
+    parts_suited : AreSoundObjects whole (map (component whole) d.components)
+    parts_suited =
+        let x = among_components whole all place d at in
+        subst (AreSoundObjects whole) (ap (λ f. f x.0) w.components ∙ ap objects_or_none x.1) (objects.components t legal x.0)
+
+    part_inside : (seen : List ProtectedComponentTree) (c : ProtectedComponentTree) → part_faults before d.name d.operations seen c ≡ []
+        → IsOf whole (subtype_named whole c.subtype).type_number (initial_value whole (subtype_named whole c.subtype) c.value)
+        → is_outside_variable whole (subtype_of whole c.subtype) c.value ≡ false
+    part_inside seen c h suited =
+        let like = is_component_like before d.name d.operations seen c.name.name in
+        let two = front_empty (rule DECLARED_TWICE c.name.place like ++ subtype_faults before c.subtype) (component_initial_faults before c) h in
+        let initial = back_empty (rule DECLARED_TWICE c.name.place like ++ subtype_faults before c.subtype) (component_initial_faults before c) h in
+        object_inside place c.name c.subtype c.value
+        (new_part before d.name d.operations seen c.name.name
+        (unbroken DECLARED_TWICE c.name.place like (front_empty (rule DECLARED_TWICE c.name.place like) (subtype_faults before c.subtype) two)))
+        (back_empty (rule DECLARED_TWICE c.name.place like) (subtype_faults before c.subtype) two)
+        (λ e is. sym (ap (λ o. elim o [ Some v ↦ fixed_faults before (subtype_of before c.subtype) v | None ↦ [] ]) is) ∙ initial)
+        suited
+
+    parts_inside : (seen cs : List ProtectedComponentTree) → parts_faults before d.name d.operations seen cs ≡ []
+        → AreSoundObjects whole (map (component whole) cs) → lack_components whole cs ≡ false
+    parts_inside seen [] h suited = refl
+    parts_inside seen (c ∷ cs) h suited =
+        let own = part_faults before d.name d.operations seen c in
+        let rest = parts_faults before d.name d.operations (seen ++ c ∷ []) cs in
+        or_from (is_outside_variable whole (subtype_of whole c.subtype) c.value) (lack_components whole cs)
+        (part_inside seen c (front_empty own rest h) suited.0) (parts_inside (seen ++ c ∷ []) cs (back_empty own rest h) suited.1)
+
+    pub components_inside : lack_components whole d.components ≡ false
+    components_inside = parts_inside [] d.components parts_unbroken parts_suited

@@ -42,18 +42,18 @@ use Rattle.source_laws.proofs.UnitClauses.{clauses_keep}
 
 -- ---- what is asked of a name
 
-abbrev FewOperations : Scope → List Operation → Type 0
+abbrev pub FewOperations : Scope → List Operation → Type 0
 FewOperations s [] = Unit {0}
 FewOperations s (o ∷ os) = HasFewFormals s o.profile × FewOperations s os
 
-abbrev FewIn : Scope → Entity → Type 0
+abbrev pub FewIn : Scope → Entity → Type 0
 FewIn s (Subprogram p) = HasFewFormals s p
 FewIn s (Entry p) = HasFewFormals s p
 FewIn s (Predefined o p) = HasFewFormals s p
 FewIn s (Protected o) = FewOperations s o.operations
 FewIn s e = Unit {0}
 
-abbrev AllFew : Scope → (names : Scope) → Type 0
+abbrev pub AllFew : Scope → (names : Scope) → Type 0
 AllFew s [] = Unit {0}
 AllFew s (n ∷ names) = FewIn s n.entity × AllFew s names
 
@@ -106,6 +106,27 @@ calls_with s name e h k = by_test (is_visible s name)
               (all_kept s (record { name = name; entity = e } ∷ []) s h.all)
               (entity_kept s (record { name = name; entity = e } ∷ []) e k, tt);
         }
+
+-- ... also where other names are visible, but no other types
+
+module _ (s u : Scope) (forms : (n : ℕ) → form_at u n ≡ form_at s n) where
+  scalars_same : (fs : List FormalParameter) → AreScalar s fs → AreScalar u fs
+  scalars_same [] h = tt
+  scalars_same (f ∷ fs) h = (ap is_scalar_form (forms f.subtype.type_number) ∙ h.0, scalars_same fs h.1)
+
+  pub profile_same : (p : Profile) → HasFewFormals s p → HasFewFormals u p
+  profile_same p h = record { few = h.few; scalar = λ t is. scalars_same p.formals (h.scalar t is) }
+
+  operations_same : (os : List Operation) → FewOperations s os → FewOperations u os
+  operations_same [] h = tt
+  operations_same (o ∷ os) h = (profile_same o.profile h.0, operations_same os h.1)
+
+  pub entity_same : (e : Entity) → FewIn s e → FewIn u e
+  entity_same (Subprogram p) h = profile_same p h
+  entity_same (Entry p) h = profile_same p h
+  entity_same (Predefined o p) h = profile_same p h
+  entity_same (Protected o) h = operations_same o.operations h
+  entity_same e h = tt
 
 -- ---- in front of the package
 
@@ -211,7 +232,7 @@ module _ (scopes : ScopesAreSound) (s : Scope) (sound : SoundScope s) where
           (or_parts (is_composite s (subtype_of s own)) (has_wrong_formal s fs)
           (unbroken WRONG_FUNCTION name.place (is_composite s (subtype_of s own) || has_wrong_formal s fs) k)).1
 
-  subprogram_few : (d : SubprogramTree) → profile_faults s d ≡ [] → (o : Option Profile) → own_profile s d ≡ o → FewIn s (profile_entity o)
+  pub subprogram_few : (d : SubprogramTree) → profile_faults s d ≡ [] → (o : Option Profile) → own_profile s d ≡ o → FewIn s (profile_entity o)
   subprogram_few d h None is = tt
   subprogram_few d h (Some p) is =
       let two = front_empty (formals_faults s [] d.formals ++ result_faults s d.result) (function_faults s d.name d.formals d.result) h in
@@ -318,7 +339,7 @@ module _ (scopes : ScopesAreSound) where
 
 -- ---- what is told of each callee
 
-few_at : (s names : Scope) (n : ℕ) (e : Entity) → AllFew s names → entity_at names n ≡ Some e → FewIn s e
+pub few_at : (s names : Scope) (n : ℕ) (e : Entity) → AllFew s names → entity_at names n ≡ Some e → FewIn s e
 few_at s [] n e h at = cc
 few_at s (x ∷ names) zero e h at = subst (FewIn s) (same_some x.entity e at) h.0
 few_at s (x ∷ names) (suc n) e h at = few_at s names n e h.1 at
@@ -329,8 +350,8 @@ operation_at s [] n p h is = cc
 operation_at s (o ∷ os) zero p h is = subst (HasFewFormals s) (same_some o.profile p is) h.0
 operation_at s (o ∷ os) (suc n) p h is = operation_at s os n p h.1 is
 
-pub few_called : (s : Scope) → Calls s → FewFormals s
-few_called s h (callee.Direct n) p is = by_entity (entity_at s n) (λ e at. few_at s s n e h.all at) is
+pub few_called : (s : Scope) → ((n : ℕ) (e : Entity) → entity_at s n ≡ Some e → FewIn s e) → FewFormals s
+few_called s h (callee.Direct n) p is = by_entity (entity_at s n) (λ e at. h n e at) is
   where
     by_entity : (o : Option Entity) → ((e : Entity) → o ≡ Some e → FewIn s e) → profile_of o ≡ Some p → HasFewFormals s p
     by_entity (Some (Subprogram q)) few k = subst (HasFewFormals s) (same_some q p k) (few (Subprogram q) refl)
@@ -338,7 +359,7 @@ few_called s h (callee.Direct n) p is = by_entity (entity_at s n) (λ e at. few_
     by_entity (Some (Predefined o q)) few k = subst (HasFewFormals s) (same_some q p k) (few (Predefined o q) refl)
     by_entity (Some e) few k = cc
     by_entity None few k = cc
-few_called s h (callee.Operation object n) p is = by_entity (entity_at s object) (λ e at. few_at s s object e h.all at) is
+few_called s h (callee.Operation object n) p is = by_entity (entity_at s object) (λ e at. h object e at) is
   where
     by_entity : (o : Option Entity) → ((e : Entity) → o ≡ Some e → FewIn s e) → profile_among (protected_of o) n ≡ Some p → HasFewFormals s p
     by_entity (Some (Protected x)) few k = operation_at s x.operations n p (few (Protected x) refl) k

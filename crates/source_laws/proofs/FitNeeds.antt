@@ -21,19 +21,18 @@ use Rattle.size_rules.specs.Laws.{WordsAddUp}
 use Rattle.size_rules.specs.BodySizes.{alternatives_things, elsifs_things, handlers_things, local_things, locals_things, stmt_things, stmts_things}
 use Rattle.program_soundness.proofs.WiderScopes.{stands_number}
 use Rattle.ada_link.specs.expr_code.specs.Refusing.{is_fit}
-use Rattle.ada_link.specs.expr_code.specs.Seeing.{profile_named}
+use Rattle.ada_link.specs.expr_code.specs.Seeing.{external_profile, profile_named}
 use Rattle.ada_link.specs.expr_code.specs.declared.visible.Visible.{Visible}
 use Rattle.ada_link.specs.part_code.specs.Bounds.{local_words}
 use Rattle.ada_link.specs.part_code.specs.Lines.{LabelledValue, line_of}
 use Rattle.ada_link.specs.part_code.specs.Moving.{moves}
 use Rattle.ada_link.specs.part_code.specs.Passing.{ExternalName, actuals_behind, operation_behind}
 use Rattle.ada_link.specs.stmt_code.specs.Refusing.{Standpoint, alternatives_needs, behind_locals, elsifs_needs, handlers_needs, head_needs, in_loop, inside_handler, needs_if_any, raise_needs, return_needs, stmt_needs, stmts_needs}
-use Rattle.ada_link.specs.part_code.specs.EntryNames.{is_own_entry}
-use Rattle.ada_link.specs.part_code.specs.Needs.{Needs, actual_needs, actuals_needs, assignment_needs, bare_needs, both, call_needs, called_needs, choices_needs, copies_needs, destinations_of, has_unfit, in_out_needs, initial_needs, line_needs, local_needs, local_visible, locals_needs, locals_visible, moded_needs, move_needs, moves_needs, needs_by, object_needs, passed_needs, target_needs, through_needs}
+use Rattle.ada_link.specs.part_code.specs.EntryNames.{entry_behind, is_own_entry}
+use Rattle.ada_link.specs.part_code.specs.Needs.{Needs, actual_needs, actuals_needs, assignment_needs, bare_needs, behind_needs, both, call_needs, called_needs, choices_needs, copies_needs, destinations_of, has_unfit, in_out_needs, initial_needs, line_needs, local_needs, local_visible, locals_needs, locals_visible, moded_needs, move_needs, moves_needs, needs_by, object_needs, passed_needs, target_needs, through_needs}
 use Rattle.ada_link.specs.part_code.specs.Suiting.{passed_width}
 use Rattle.ada_link.specs.part_code.specs.declared.call.Destination.{Destination}
-use Rattle.source_laws.proofs.CalleesSmall.{named_there}
-use Rattle.source_laws.proofs.UnprotectedFronts.{external_beyond}
+use Rattle.source_laws.proofs.AddedNames.{named_there}
 use Rattle.source_laws.proofs.FitScopes.{AreFew, FewThings, IsFew, IsInside, Serves, all_fit, few_back, few_fit, few_front, local_few, local_inside, locals_inside, loop_inside}
 
 abbrev pub IsFit : Needs → Type 0
@@ -139,7 +138,15 @@ module _ (v : Visible) (serves : Serves v.scope) where
 
   through_fit : (name : NameTree) (o : Option ExternalName) → IsFit (through_needs v name o)
   through_fit name None = bare_fit name (is_own_entry (entity_named v.scope name.first.name))
-  through_fit name (Some x) = ap (λ n. n.unfit) (external_beyond v name x serves.bare)
+  through_fit name (Some x) =
+      by_profile (entry_behind v.scope name.first.name x.operation.name) (external_profile v.scope name.first.name x.operation.name) refl
+    where
+      by_profile : (number : Option ℕ) (o : Option Profile) → external_profile v.scope name.first.name x.operation.name ≡ o
+          → IsFit (behind_needs v name.first.name x number o)
+      by_profile (Some n) (Some p) told = passed_fit p.formals (Some x.arguments) (serves.behind name.first.name x.operation.name p told)
+      by_profile None (Some p) told = passed_fit p.formals (Some x.arguments) (serves.behind name.first.name x.operation.name p told)
+      by_profile (Some n) None told = refl
+      by_profile None None told = refl
 
   call_fit : (name : NameTree) → IsFit (call_needs v name)
   call_fit name = by_profile (profile_named v.scope name.first.name) refl

@@ -9,11 +9,11 @@ use Rattle.ada_tree.specs.StatementTree.{DeclarationTree, LocalObject, LocalProt
 use Rattle.types.specs.declared.entity.FormalParameter.{FormalParameter}
 use Rattle.types.specs.declared.entity.Role.{Role}
 use Rattle.types.specs.declared.entity.Subtype.{Subtype}
-use Rattle.types.specs.Entities.{Doubtful, Entity, Integers, Object, Profile, Protected, Subprogram, Task, TypeForm}
+use Rattle.types.specs.Entities.{Doubtful, Entity, Integers, Object, Profile, Protected, ProtectedObject, Subprogram, Task, TypeForm}
 use Rattle.types.specs.Laws.{ShapesStay}
 use Rattle.types.specs.Layouts.{capped, words_of}
 use Rattle.types.specs.Places.{or_else}
-use Rattle.types.specs.Scopes.{Scope, base_range_of, entity_at, form_at, form_of, is_visible, one_if_protected, protected_count, with_name}
+use Rattle.types.specs.Scopes.{Scope, base_range_of, entity_at, form_at, form_of, is_visible, with_name}
 use Rattle.types.specs.Shapes.{shape_of, words}
 use Rattle.expr_soundness.specs.expr_rules.specs.Typing.{is_integers, own_of}
 use Rattle.expr_soundness.specs.expr_rules.proofs.TypedLaw.{back_empty, front_empty}
@@ -31,14 +31,16 @@ use Rattle.expr_soundness.specs.SoundScopes.{IsKnown}
 use Rattle.expr_soundness.proofs.Parts.{shape_by_form}
 use Rattle.expr_soundness.proofs.Positions.{entity_added}
 use Rattle.program_soundness.proofs.Listing.{same_some}
-use Rattle.program_soundness.proofs.WiderScopes.{form_with, stands, stands_with}
+use Rattle.program_soundness.proofs.WiderScopes.{form_with, stands, stands_number, stands_with}
 use Rattle.ada_link.specs.expr_code.specs.Refusing.{is_fit}
+use Rattle.ada_link.specs.expr_code.specs.Seeing.{external_profile}
+use Rattle.ada_link.specs.expr_code.proofs.Externals.{IsBehind, is_behind}
 use Rattle.ada_link.specs.part_code.specs.Needs.{are_unfit, is_unfit}
 use Rattle.ada_link.specs.package_code.proofs.InFront.{known_inside}
 use Rattle.source_laws.specs.Depths.{is_full}
-use Rattle.source_laws.proofs.CalleesSmall.{with_behind}
+use Rattle.source_laws.proofs.AddedNames.{with_behind}
 use Rattle.source_laws.proofs.FullShapes.{full_fit}
-use Rattle.source_laws.proofs.UnprotectedFronts.{with_unprotected}
+use Rattle.source_laws.proofs.NamedBehind.{external_by}
 
 -- its values take no more words than an image
 pub record IsFew (s : Scope) (u : Subtype) : Type 0 where
@@ -54,7 +56,7 @@ pub record Serves (s : Scope) : Type 0 where
   pub named : (name : Identifier) (u : Subtype) → subtype_of s name ≡ Some u → IsKnown s u
   pub objects : (number : ℕ) (r : Role) (u : Subtype) → entity_at s number ≡ Some (Object r u) → IsFew s u
   pub called : (name : List ℕ) (p : Profile) → stands s name ≡ Some (Subprogram p) → AreFew s p.formals
-  pub bare : protected_count s ≡ 0
+  pub behind : (object operation : List ℕ) (p : Profile) → external_profile s object operation ≡ Some p → AreFew s p.formals
 
 -- ---- what is visible is fit
 
@@ -101,9 +103,11 @@ no_subprogram s (Task priority) p h is = cc
 no_subprogram s Doubtful p h is = cc
 no_subprogram s e p h is = h
 
-no_object : (s : Scope) (e : Entity) → IsLocal s e → one_if_protected e ≡ 0
-no_object s (Protected o) h = absurd h
-no_object s e h = refl
+no_protected : (s : Scope) (e : Entity) (o : ProtectedObject) → IsLocal s e → e ≡ Protected o → ⊥
+no_protected s (Object r u) o h is = cc
+no_protected s (Task priority) o h is = cc
+no_protected s Doubtful o h is = cc
+no_protected s e o h is = h
 
 object_few : (s : Scope) (e : Entity) (r : Role) (u : Subtype) → IsLocal s e → e ≡ Object r u → IsFew s u
 object_few s e r u h is = subst (IsLocal s) is h
@@ -173,6 +177,17 @@ module _ (stay : ShapesStay) (s : Scope) (serves : Serves s) (name : List ℕ) (
       by_case (inl i) = all_next p.formals (serves.called other p i)
       by_case (inr i) = absurd (no_subprogram s e p own i)
 
+  behind_next : (object operation : List ℕ) (p : Profile) → external_profile next object operation ≡ Some p → AreFew next p.formals
+  behind_next object operation p h =
+      by_case (first_or_new object (Protected x.protected) (stands_number next object x.number (Protected x.protected) x.numbered x.stands))
+    where
+      x : IsBehind next object operation p
+      x = is_behind next object operation p h
+
+      by_case : (stands s object ≡ Some (Protected x.protected)) ⊎ (e ≡ Protected x.protected) → AreFew next p.formals
+      by_case (inl i) = all_next p.formals (serves.behind object operation p (external_by next object operation p x s i))
+      by_case (inr i) = absurd (no_protected s e x.protected own i)
+
   pub serves_next : Serves next
   serves_next =
       record {
@@ -180,7 +195,7 @@ module _ (stay : ShapesStay) (s : Scope) (serves : Serves s) (name : List ℕ) (
         named = λ other u h. ap is_some (same_form u.type_number) ∙ serves.named other u (subtype_before other u h);
         objects = objects_next;
         called = called_next;
-        bare = with_unprotected s name e serves.bare (no_object s e own);
+        behind = behind_next;
       }
 
 -- ---- things that stand in a body, whose objects have the words of a frame

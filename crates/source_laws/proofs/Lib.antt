@@ -7,20 +7,31 @@ mod WholeItems
 mod UnitClauses
 mod BoundedNames
 mod FullShapes
+mod InsideNames
+mod InsideEntities
 mod VisibleWords
+mod InsideLimits
 mod FewCallees
-mod CalleesSmall
+mod InsideCallees
+mod ObjectCallees
+mod CalledBodies
+mod AddedNames
 mod FitScopes
 mod FitNeeds
+mod FitFronts
+mod FitCallees
 mod FitBodies
 mod SmallBodies
 mod LaterNames
 mod LaterOperators
 mod LaterExpressions
 mod LaterValues
-mod UnprotectedFronts
 mod CoveredVariables
+mod ObjectsOffer
 mod CoveredFronts
+mod CoveredOperations
+mod WholeBodies
+mod SmallFronts
 mod NothingOutside
 pub mod Peaks
 pub mod PeakBounds
@@ -38,6 +49,8 @@ pub mod NeedsBodies
 pub mod NeedsNames
 pub mod NeedsMoves
 pub mod NamedCalls
+pub mod NamedBehind
+pub mod ThroughObjects
 pub mod CoverScopes
 pub mod CoverNames
 pub mod CoverCalls

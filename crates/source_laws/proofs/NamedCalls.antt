@@ -1,15 +1,16 @@
--- Calls of subprograms of the package by their names: what is expected of each actual parameter (RM 6.4).
+-- Calls, by the name of a subprogram or behind that of a protected object: what is expected of each actual parameter (RM 6.4).
 use Rattle.std.proofs.Common.{◌≡◌, ◌+◌, ℕ, suc, [], ◌∷◌, List, Some, ap, ◌∙◌, subst, arith}
 use Rattle.std.specs.Prelude.{slice_get}
 use Rattle.ada_tree.specs.declared.expression.Identifier.{Identifier}
 use Rattle.ada_tree.specs.ExpressionTree.{Arguments, ArgumentTree, ArgumentTrees, MoreSelectors, SelectorTrees}
 use Rattle.types.specs.declared.entity.FormalParameter.{FormalParameter}
+use Rattle.types.specs.declared.standing.Callee.{Callee}
 use Rattle.types.specs.declared.standing.Callee.TheVariants as callee
 use Rattle.types.specs.declared.standing.Standing.{Standing}
 use Rattle.types.specs.declared.standing.Standing.TheVariants as standing
 use Rattle.types.specs.Entities.{Profile}
 use Rattle.types.specs.Scopes.{Scope, number_of, profile_of}
-use Rattle.types.specs.Standings.{callee_profile, stands_first, stands_for}
+use Rattle.types.specs.Standings.{callee_profile, select, stands_first, stands_for}
 use Rattle.expr_soundness.specs.expr_rules.specs.ExpressionRules.{argument_faults, arguments_faults, name_faults, selector_faults, selectors_faults}
 use Rattle.expr_soundness.specs.expr_rules.specs.NameRules.{formal_slot_or, part_rule, profile_formals, slot_at}
 use Rattle.expr_soundness.specs.expr_rules.proofs.TypedLaw.{back_empty, front_empty}
@@ -29,7 +30,23 @@ module _ (s : Scope) where
   pub later_slots : (w : Standing) (k : ℕ) (f : FormalParameter) (fs : List FormalParameter) → SlotsFrom w k (f ∷ fs) → SlotsFrom w (suc k) fs
   later_slots w k f fs same m j is = same m (suc j) (omega (arith, is))
 
-  -- ---- what is called
+  -- ---- whatever is called
+
+  module _ (f : Callee) (p : Profile) (is : callee_profile s f ≡ Some p) where
+    pub profile_slots : SlotsFrom (standing.Callee f) 0 p.formals
+    profile_slots m j at =
+        ap (λ o. formal_slot_or (slice_get (profile_formals o) m)) is ∙ ap (λ n. formal_slot_or (slice_get p.formals n))
+        (let same : m ≡ j = omega (arith, at) in same)
+
+  -- in the parentheses behind it
+  pub called_arguments : (place : ℕ) (f : Callee) (all : ArgumentTrees) (rest : SelectorTrees)
+      → selectors_faults s place (standing.Callee f) (MoreSelectors (Arguments all) rest) ≡ [] → arguments_faults s (standing.Callee f) 0 all ≡ []
+  called_arguments place f all rest h =
+      let w = standing.Callee f in
+      back_empty (part_rule s place w (Arguments all)) (arguments_faults s w 0 all)
+      (front_empty (selector_faults s place w (Arguments all)) (selectors_faults s place (select s w (Arguments all)) rest) h)
+
+  -- ---- a subprogram by its name
 
   module _ (first : Identifier) (p : Profile) (there : profile_named s first.name ≡ Some p) where
     pub names : NamesProfile s first.name p
@@ -45,16 +62,13 @@ module _ (s : Scope) where
     begins_there = ap (stands_first s) names.numbered ∙ ap (stands_for names.number) names.stands
 
     pub slots_are : SlotsFrom called 0 p.formals
-    slots_are m j is =
-        ap (λ o. formal_slot_or (slice_get (profile_formals o) m)) profile_is ∙ ap (λ n. formal_slot_or (slice_get p.formals n))
-        (let same : m ≡ j = omega (arith, is) in same)
+    slots_are = profile_slots (callee.Direct names.number) p profile_is
 
     -- in the parentheses behind the name
     pub arguments_legal : (all : ArgumentTrees) (rest : SelectorTrees) → name_faults s first (MoreSelectors (Arguments all) rest) ≡ []
         → arguments_faults s called 0 all ≡ []
     arguments_legal all rest h =
         let x = MoreSelectors (Arguments all) rest in
-        let behind = subst (λ u. selectors_faults s first.place u x ≡ []) begins_there
-        (back_empty _ (selectors_faults s first.place (stands_first s (number_of s first.name)) x) h) in
-        back_empty (part_rule s first.place called (Arguments all)) (arguments_faults s called 0 all)
-        (front_empty (selector_faults s first.place called (Arguments all)) _ behind)
+        called_arguments first.place (callee.Direct names.number) all rest
+        (subst (λ u. selectors_faults s first.place u x ≡ []) begins_there
+        (back_empty _ (selectors_faults s first.place (stands_first s (number_of s first.name)) x) h))

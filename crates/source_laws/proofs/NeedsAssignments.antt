@@ -58,7 +58,8 @@ module _ (v : Visible) (small : IsSmallScope v.scope) where
       record { stack_low = omega (arith, low); frame_low = omega arith; fit = nothing_unfit v small }
 
   -- a condition stands above the address of the target
-  condition_fits : (e : ExprTree) (l : Limit) (ts : Tokens) → expression l e ts → IsLegalExpression s e → width_of s e ≡ 1 → MoveFits (needs_above 1 v e) (expr_depth e)
+  condition_fits : (e : ExprTree) (l : Limit) (ts : Tokens) → expression l e ts → IsLegalExpression s e → width_of s e ≡ 1
+      → MoveFits (needs_above 1 v e) (expr_depth e)
   condition_fits e l ts d h one =
       let low = single_low s small Expression e l ts d (omega arith) h one in
       record { stack_low = omega (arith, low); frame_low = omega arith; fit = nothing_unfit v small }

@@ -16,13 +16,14 @@ use Rattle.types.specs.declared.entity.FormalParameter.{FormalParameter}
 use Rattle.types.specs.declared.entity.Role.{Role}
 use Rattle.types.specs.declared.entity.Subtype.{Subtype}
 use Rattle.types.specs.declared.standing.Callee.TheVariants as callee
+use Rattle.types.specs.declared.standing.Callee.{Callee}
 use Rattle.types.specs.declared.standing.Standing.{Standing}
 use Rattle.types.specs.declared.standing.Standing.TheVariants as standing
 use Rattle.types.specs.Entities.{Entity, Integers, Profile, Put, Spans, Times, TypeForm}
 use Rattle.types.specs.Layouts.{words_of}
 use Rattle.types.specs.Scopes.{Scope, base_range_of, form_at, integer_type, number_of}
 use Rattle.types.specs.Shapes.{shape_of}
-use Rattle.types.specs.Standings.{standing_of, stands_first, stands_for}
+use Rattle.types.specs.Standings.{callee_profile, standing_of, stands_first, stands_for}
 use Rattle.expr_soundness.specs.expr_rules.specs.declared.names.Slot.{Slot}
 use Rattle.expr_soundness.specs.expr_rules.specs.declared.names.Slot.TheVariants.{Expects, Takes}
 use Rattle.expr_soundness.specs.expr_rules.specs.declared.own.Own.TheVariants.{Typed}
@@ -38,26 +39,26 @@ use Rattle.expr_soundness.proofs.Expressions.{not_false}
 use Rattle.program_soundness.specs.step_soundness.specs.Fitting.{entity_named}
 use Rattle.ada_link.specs.expr_code.specs.Emitting.{IsLegalExpression}
 use Rattle.ada_link.specs.expr_code.specs.Refusing.{is_fit}
-use Rattle.ada_link.specs.expr_code.specs.Seeing.{profile_named, slot_of, subprogram_of}
+use Rattle.ada_link.specs.expr_code.specs.Seeing.{external_of, external_profile, profile_named, slot_of, subprogram_of}
 use Rattle.ada_link.specs.expr_code.specs.declared.visible.Slot as visible
 use Rattle.ada_link.specs.expr_code.specs.declared.visible.Visible.{Visible}
 use Rattle.ada_link.specs.expr_code.proofs.Widths.{integral_one, words_by_type}
 use Rattle.ada_link.specs.part_code.specs.Lines.{LabelledValue, is_put, line_behind, line_in, line_of}
 use Rattle.ada_link.specs.part_code.specs.Passing.{ExternalName, actuals_behind, copied_width, operation_behind}
-use Rattle.ada_link.specs.part_code.specs.EntryNames.{is_own_entry}
-use Rattle.ada_link.specs.part_code.specs.Needs.{Needs, actual_needs, actuals_needs, address_needs, bare_needs, beyond_if, both, call_needs, called_needs, check_words, copies_needs, copy_needs, destination_at, destinations_for, destinations_named, destinations_of, has_unfit, in_needs, in_out_needs, line_needs, passed_needs, stacked, target_needs, through_needs, words_at}
+use Rattle.ada_link.specs.part_code.specs.EntryNames.{entry_behind, is_own_entry}
+use Rattle.ada_link.specs.part_code.specs.Needs.{Needs, actual_needs, actuals_needs, address_needs, bare_needs, behind_needs, beyond_if, both, call_needs, called_needs, check_words, copies_needs, copy_needs, destination_at, destinations_for, destinations_named, destinations_of, has_unfit, in_needs, in_out_needs, line_needs, passed_needs, stacked, target_needs, through_needs, words_at}
 use Rattle.ada_link.specs.part_code.specs.Suiting.{passed_width, returned_width}
 use Rattle.ada_link.specs.part_code.specs.declared.call.Destination.{Destination}
 use Rattle.source_laws.specs.Depths.{IsSmallScope, formals_take}
 use Rattle.source_laws.proofs.PeakBounds.{through}
 use Rattle.source_laws.proofs.PeakSlots.{IsPath, begins, slot_by, slot_width, value_path}
 use Rattle.source_laws.proofs.Peaks.{selectors_low}
-use Rattle.source_laws.proofs.NamedCalls.{SlotsFrom, arguments_legal, called, first_slot, later_slots, names, profile_is, slots_are}
+use Rattle.source_laws.proofs.NamedBehind.{behind_legal, behind_profile, named_behind}
+use Rattle.source_laws.proofs.NamedCalls.{SlotsFrom, begins_there, called_arguments, first_slot, later_slots, names, profile_is, profile_slots}
 use Rattle.source_laws.proofs.NeedsBounds.{Fits, copied_bound, passed_bound}
-use Rattle.source_laws.proofs.NeedsScopes.{few_words, known_formals}
+use Rattle.source_laws.proofs.NeedsScopes.{few_words, known_behind, known_formals}
 use Rattle.source_laws.proofs.NeedsShapes.{AreFit, fits_here, nothing_unfit}
 use Rattle.source_laws.proofs.NeedsValues.{single_low, typed_low}
-use Rattle.source_laws.proofs.UnprotectedFronts.{external_beyond}
 
 -- ---- sums over formals
 
@@ -235,59 +236,82 @@ module _ (v : Visible) (small : IsSmallScope v.scope) where
       let few = check_few (form_at s d.subtype.type_number) in
       max-le (omega (arith, h, few)) (copies_low ds most (omega (arith, h)))
 
-  -- ---- calls of procedures of the package
+  -- ---- what is called
 
-  passed_low : (p : Profile) (o : Option ArgumentTrees) (d : ℕ) → total (passed_width s) p.formals ≤ 72
-      → ((all : ArgumentTrees) → o ≡ Some all → ((actuals_needs 0 v p.formals all).stack ≤ 78 + 12 * d)
-      × (total (copied_width s) (destinations_of v p.formals all) ≤ 72))
-      → (passed_needs v p.formals o).stack ≤ 78 + 12 * d
-  passed_low p None d few each = omega arith
-  passed_low p (Some all) d few each =
-      let it = each all refl in
-      let back = copies_low (destinations_of v p.formals all) 72 it.1 in
-      max-le it.0 (max-le (omega (arith, few)) (omega (arith, back)))
-
-  module _ (first : Identifier) (p : Profile) (there : profile_named s first.name ≡ Some p) where
+  module _ (f : Callee) (p : Profile) (is : callee_profile s f ≡ Some p) (few : formals_take s p.formals ≤ 64) where
     abbrev w : Standing
-    w = called s first p there
+    w = standing.Callee f
 
     few_formals : length p.formals ≤ 8
-    few_formals = (small.formals (callee.Direct (names s first p there).number) p (profile_is s first p there)).few
+    few_formals = (small.formals f p is).few
 
     few_passed : total (passed_width s) p.formals ≤ 72
-    few_passed = let all = all_passed s p.formals in let few = small.words first.name p there in let eight = few_formals in omega (arith, all, few, eight)
+    few_passed = let all = all_passed s p.formals in let eight = few_formals in omega (arith, all, few, eight)
 
     few_returned : total (returned_width s) p.formals ≤ 72
-    few_returned = let all = all_returned s p.formals in let few = small.words first.name p there in let eight = few_formals in omega (arith, all, few, eight)
+    few_returned = let all = all_returned s p.formals in let eight = few_formals in omega (arith, all, few, eight)
 
-    called_low : (all : ArgumentTrees) (l : Limit) → AreSpelled l all → arguments_faults s w 0 all ≡ []
-        → ((actuals_needs 0 v p.formals all).stack ≤ 78 + 12 * arguments_depth all) × (total (copied_width s) (destinations_of v p.formals all) ≤ 72)
-    called_low all l d h = (
-      actuals_low p.formals w 0 0 all l d (slots_are s first p there) h (omega (arith, few_passed)),
-      through _ (total (returned_width s) p.formals) 72 (actuals_back p.formals w 0 all (slots_are s first p there) h) few_returned,
-    )
+    given_low : (all : ArgumentTrees) (l : Limit) (d : ℕ) → AreSpelled l all → arguments_faults s w 0 all ≡ [] → arguments_depth all ≤ d
+        → (passed_needs v p.formals (Some all)).stack ≤ 78 + 12 * d
+    given_low all l d spelled h deep =
+        let slots = profile_slots s f p is in
+        let low = actuals_low p.formals w 0 0 all l spelled slots h (omega (arith, few_passed)) in
+        let back = copies_low (destinations_of v p.formals all) 72
+        (through _ (total (returned_width s) p.formals) 72 (actuals_back p.formals w 0 all slots h) few_returned) in
+        let passed = few_passed in
+        max-le (omega (arith, low, deep)) (max-le (omega (arith, passed)) (omega (arith, back)))
 
-    some_inside : (all other : ArgumentTrees) → Some all ≡ Some other → all ≡ other
-    some_inside all other h = let g : Option ArgumentTrees → ArgumentTrees = λ o. elim o [ Some y ↦ y | None ↦ all ] in ap g h
-
-    pub invoked_low : (selectors : SelectorTrees) (l : Limit) (ts : Tokens) → spells_selectors selectors l ts → name_faults s first selectors ≡ []
+    -- with nothing behind it, or with actual parameters
+    pub passed_low : (place : ℕ) (selectors : SelectorTrees) (l : Limit) (ts : Tokens) → spells_selectors selectors l ts
+        → selectors_faults s place w selectors ≡ []
         → (passed_needs v p.formals (actuals_behind selectors)).stack ≤ 78 + 12 * selectors_depth selectors
-    invoked_low NoSelectors l ts d h =
-        passed_low p (Some NoArguments) 0 few_passed (λ all is. subst
-        (λ x. ((actuals_needs 0 v p.formals x).stack ≤ 78 + 12 * 0) × (total (copied_width s) (destinations_of v p.formals x) ≤ 72))
-        (some_inside NoArguments all is)
-        (omega arith, omega arith))
-    invoked_low (MoreSelectors (Arguments a) NoSelectors) l ts d h =
+    passed_low place NoSelectors l ts d h = given_low NoArguments l 0 tt refl (omega arith)
+    passed_low place (MoreSelectors (Arguments a) NoSelectors) l ts d h =
         let inside = behind_spelled l a NoSelectors ts d in
-        let it = called_low a inside.0 inside.1 (arguments_legal s first p there a NoSelectors h) in
-        let low = it.0 in
-        passed_low p (Some a) (selectors_depth (MoreSelectors (Arguments a) NoSelectors)) few_passed (λ all is. subst
-        (λ x. ((actuals_needs 0 v p.formals x).stack ≤ 78 + 12 * selectors_depth (MoreSelectors (Arguments a) NoSelectors))
-        × (total (copied_width s) (destinations_of v p.formals x) ≤ 72)) (some_inside a all is)
-        (omega (arith, low), it.1))
-    invoked_low (MoreSelectors (Arguments a) (MoreSelectors x rest)) l ts d h = omega arith
-    invoked_low (MoreSelectors (Component name) rest) l ts d h = omega arith
-    invoked_low (MoreSelectors (Attribute name) rest) l ts d h = omega arith
+        given_low a inside.0 (selectors_depth (MoreSelectors (Arguments a) NoSelectors)) inside.1 (called_arguments s place f a NoSelectors h) (omega arith)
+    passed_low place (MoreSelectors (Arguments a) (MoreSelectors x rest)) l ts d h = omega arith
+    passed_low place (MoreSelectors (Component name) rest) l ts d h = omega arith
+    passed_low place (MoreSelectors (Attribute name) rest) l ts d h = omega arith
+
+  -- ---- calls of procedures of the package
+
+  pub invoked_low : (first : Identifier) (p : Profile) → profile_named s first.name ≡ Some p → (selectors : SelectorTrees) (l : Limit) (ts : Tokens)
+      → spells_selectors selectors l ts → name_faults s first selectors ≡ []
+      → (passed_needs v p.formals (actuals_behind selectors)).stack ≤ 78 + 12 * selectors_depth selectors
+  invoked_low first p there selectors l ts d h =
+      passed_low (callee.Direct (names s first p there).number) p (profile_is s first p there) (small.words first.name p there) first.place selectors l ts d
+      (subst (λ u. selectors_faults s first.place u selectors ≡ []) (begins_there s first p there)
+      (back_empty _ (selectors_faults s first.place (stands_first s (number_of s first.name)) selectors) h))
+
+  -- ---- ... of operations and entries, named behind their protected objects
+
+  module _ (first operation : Identifier) (rest : SelectorTrees) (l : Limit) (ts : Tokens)
+      (d : spells_selectors (MoreSelectors (Component operation) rest) l ts) (h : name_faults s first (MoreSelectors (Component operation) rest) ≡ []) where
+    external_passed : (p : Profile) → external_profile s first.name operation.name ≡ Some p
+        → (passed_needs v p.formals (actuals_behind rest)).stack ≤ 78 + 12 * selectors_depth rest
+    external_passed p told =
+        passed_low (named_behind s first operation p told) p (behind_profile s first operation p told) (small.behind first.name operation.name p told)
+        first.place rest l d.1 d.4 (behind_legal s first operation p told rest h)
+
+    external_low : (a : ArgumentTrees) → actuals_behind rest ≡ Some a
+        → (through_needs v (record { first = first; selectors = MoreSelectors (Component operation) rest })
+        (Some (record { operation = operation; arguments = a }))).stack ≤ 80 + 12 * selectors_depth (MoreSelectors (Component operation) rest)
+    external_low a is =
+        by_profile (entry_behind s first.name operation.name) (external_profile s first.name operation.name) refl
+      where
+        x : ExternalName
+        x = record { operation = operation; arguments = a }
+
+        passed : (p : Profile) → external_profile s first.name operation.name ≡ Some p
+            → (passed_needs v p.formals (Some a)).stack ≤ 78 + 12 * selectors_depth rest
+        passed p told = subst (λ o. (passed_needs v p.formals o).stack ≤ 78 + 12 * selectors_depth rest) is (external_passed p told)
+
+        by_profile : (number : Option ℕ) (o : Option Profile) → external_profile s first.name operation.name ≡ o
+            → (behind_needs v first.name x number o).stack ≤ 80 + 12 * selectors_depth (MoreSelectors (Component operation) rest)
+        by_profile (Some n) (Some p) told = let low = passed p told in omega (arith, low)
+        by_profile None (Some p) told = let low = passed p told in max-le (omega arith) (omega (arith, low))
+        by_profile (Some n) None told = omega arith
+        by_profile None None told = omega arith
 
   -- ---- lines
 
@@ -397,7 +421,22 @@ module _ (v : Visible) (small : IsSmallScope v.scope) where
 
   through_plain : (name : NameTree) (o : Option ExternalName) → IsPlain (through_needs v name o)
   through_plain name None = bare_plain name (is_own_entry (entity_named s name.first.name))
-  through_plain name (Some x) = subst IsPlain (sym (external_beyond v name x small.bare)) (record { frame = omega arith; fit = refl })
+  through_plain name (Some x) =
+      by_profile (entry_behind s name.first.name x.operation.name) (external_profile s name.first.name x.operation.name) refl
+    where
+      passed : (p : Profile) → external_profile s name.first.name x.operation.name ≡ Some p → IsPlain (passed_needs v p.formals (Some x.arguments))
+      passed p told =
+          passed_plain p.formals (Some x.arguments)
+          (formals_fit p.formals (known_behind s name.first.name x.operation.name p small.sound told) (small.behind name.first.name x.operation.name p told))
+
+      by_profile : (number : Option ℕ) (o : Option Profile) → external_profile s name.first.name x.operation.name ≡ o
+          → IsPlain (behind_needs v name.first.name x number o)
+      by_profile (Some n) (Some p) told = passed p told
+      by_profile None (Some p) told =
+          let numbered = beyond_if (is_none (external_of v name.first.name x.operation.name)) in
+          both_plain numbered (passed_needs v p.formals (Some x.arguments)) (record { frame = omega arith; fit = refl }) (passed p told)
+      by_profile (Some n) None told = record { frame = omega arith; fit = refl }
+      by_profile None None told = record { frame = omega arith; fit = refl }
 
   called_plain : (name : NameTree) (o : Option Profile) → profile_named s name.first.name ≡ o → IsPlain (called_needs v name o)
   called_plain name (Some p) is =
@@ -407,6 +446,24 @@ module _ (v : Visible) (small : IsSmallScope v.scope) where
       (formals_fit p.formals (known_formals s name.first.name p small.sound is) (small.words name.first.name p is)))
   called_plain name None is = through_plain name (operation_behind name.selectors)
 
+  module _ (first : Identifier) where
+    bare_low : (path : SelectorTrees) (l : Limit) (ts : Tokens) → spells_selectors path l ts → name_faults s first path ≡ []
+        → (own_entry : Bool) → (bare_needs v (record { first = first; selectors = path }) own_entry).outside ≡ false
+        → (bare_needs v (record { first = first; selectors = path }) own_entry).stack ≤ 80 + 12 * selectors_depth path
+    bare_low path l ts d h true k = omega arith
+    bare_low path l ts d h false k =
+        let put = is_put (entity_named s first.name) in
+        let low = line_low first (not_false put ((or_parts (not put) _ k).0)) path l ts d h in
+        max-le (omega arith) (omega (arith, low))
+
+    through_low : (selectors : SelectorTrees) (l : Limit) (ts : Tokens) → spells_selectors selectors l ts → name_faults s first selectors ≡ []
+        → (through_needs v (record { first = first; selectors = selectors }) (operation_behind selectors)).outside ≡ false
+        → (through_needs v (record { first = first; selectors = selectors }) (operation_behind selectors)).stack ≤ 80 + 12 * selectors_depth selectors
+    through_low (MoreSelectors (Component operation) NoSelectors) l ts d h k = external_low first operation NoSelectors l ts d h NoArguments refl
+    through_low (MoreSelectors (Component operation) (MoreSelectors (Arguments a) NoSelectors)) l ts d h k =
+        external_low first operation (MoreSelectors (Arguments a) NoSelectors) l ts d h a refl
+    through_low selectors l ts d h k = bare_low selectors l ts d h (is_own_entry (entity_named s first.name)) k
+
   pub call_low : (name : NameTree) (l : Limit) (ts : Tokens) → spells_name l name ts → call_faults s name.first name.selectors ≡ []
       → (call_needs v name).outside ≡ false
       → (call_needs v name).stack ≤ 80 + 12 * name_depth name
@@ -415,21 +472,10 @@ module _ (v : Visible) (small : IsSmallScope v.scope) where
       parts : name_faults s name.first name.selectors ≡ []
       parts = front_empty (name_faults s name.first name.selectors) (call_rule name.first.place (standing_of s name.first name.selectors)) h
 
-      bare_low : (own_entry : Bool) → (bare_needs v name own_entry).outside ≡ false → (bare_needs v name own_entry).stack ≤ 80 + 12 * name_depth name
-      bare_low true k = omega arith
-      bare_low false k =
-          let put = is_put (entity_named s name.first.name) in
-          let low = line_low name.first (not_false put ((or_parts (not put) _ k).0)) name.selectors l d.1 d.4 parts in
-          max-le (omega arith) (omega (arith, low))
-
-      through_low : (o : Option ExternalName) → (through_needs v name o).outside ≡ false → (through_needs v name o).stack ≤ 80 + 12 * name_depth name
-      through_low None k = bare_low (is_own_entry (entity_named s name.first.name)) k
-      through_low (Some x) k = absurd (let never : false ≡ true = sym k ∙ ap (λ n. n.outside) (external_beyond v name x small.bare) in cc)
-
       by_profile : (o : Option Profile) → profile_named s name.first.name ≡ o → (called_needs v name o).outside ≡ false
           → (called_needs v name o).stack ≤ 80 + 12 * name_depth name
       by_profile (Some p) is k = let low = invoked_low name.first p is name.selectors l d.1 d.4 parts in max-le (omega arith) (omega (arith, low))
-      by_profile None is k = through_low (operation_behind name.selectors) k
+      by_profile None is k = through_low name.first name.selectors l d.1 d.4 parts k
 
   pub call_fits : (name : NameTree) (l : Limit) (ts : Tokens) → spells_name l name ts → call_faults s name.first name.selectors ≡ []
       → (call_needs v name).outside ≡ false → (taken words : ℕ) → Fits (call_needs v name) taken words (name_depth name)

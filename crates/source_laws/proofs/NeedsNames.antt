@@ -1,9 +1,9 @@
 -- A legal name whose value has more than one word is that of a variable, or of a part of one, whose words have a place.
-use Rattle.std.proofs.Common.{◌≡◌, ◌≤◌, ◌⊎◌, inl, inr, ◌++◌, ℕ, zero, suc, [], ◌∷◌, List, Bool, true, false, ◌&&◌, ◌||◌, not, Option, Some, None, refl, sym, ap, ◌∙◌, subst, arith}
+use Rattle.std.proofs.Common.{◌≡◌, ◌≤◌, ◌⊎◌, inl, inr, ◌++◌, ℕ, [], List, Bool, true, false, ◌&&◌, ◌||◌, not, Option, Some, None, refl, sym, ap, ◌∙◌, subst, arith}
 use Rattle.std.specs.Prelude.{bytes_eq, codes, cond, is_none, is_some, nat_eq}
 use Rattle.std.proofs.lemmas.Bool.{and_parts, or_parts}
 use Rattle.ada_tree.specs.declared.expression.Identifier.{Identifier}
-use Rattle.ada_tree.specs.ExpressionTree.{Arguments, Attribute, Component, MoreSelectors, NoSelectors, SelectorTree, SelectorTrees}
+use Rattle.ada_tree.specs.ExpressionTree.{Arguments, Attribute, Component, MoreSelectors, NoSelectors, SelectorTrees}
 use Rattle.ada_tree.specs.ExpressionTree as tree
 use Rattle.ada_link.specs.base.specs.declared.faults.TheConstants.{NAME_NOT_VISIBLE}
 use Rattle.types.specs.declared.entity.PredefinedOperation.{PredefinedOperation}
@@ -18,8 +18,8 @@ use Rattle.types.specs.declared.standing.Standing.TheVariants as standing
 use Rattle.types.specs.Entities.{Arrays, Constant, Doubtful, Entity, Entry, Exception, Integers, LibraryUnit, Literal, Object, OfSubtype, OfType, Predefined, Profile, Protected, Put, Records, Subprogram, Task, TypeForm}
 use Rattle.types.specs.Evaluating.{fixed_value}
 use Rattle.types.specs.Layouts.{words_of}
-use Rattle.types.specs.Scopes.{Scope, entity_at, form_at, is_visible, number_of, profile_of, protected_of}
-use Rattle.types.specs.Standings.{array_attribute, bounds_stand, call_stands, called_operation, callee_profile, component_of, component_stands, conversion_stands, element_stands, is_single, object_attribute, operation_profile, operation_stands, part_of, profile_among, result_stands, select, select_all, standing_of, stands_first, stands_for, subtype_attribute}
+use Rattle.types.specs.Scopes.{Scope, entity_at, form_at, is_visible, number_of, profile_of}
+use Rattle.types.specs.Standings.{array_attribute, bounds_stand, call_stands, callee_profile, component_of, component_stands, conversion_stands, element_stands, is_single, object_attribute, part_of, result_stands, select, select_all, standing_of, stands_first, stands_for, subtype_attribute}
 use Rattle.expr_soundness.specs.expr_rules.specs.ExpressionRules.{selector_faults, selectors_faults}
 use Rattle.expr_soundness.specs.expr_rules.specs.Faults.{rule}
 use Rattle.expr_soundness.specs.expr_rules.specs.NameRules.{value_rule}
@@ -31,19 +31,17 @@ use Rattle.expr_soundness.proofs.Expressions.{not_false}
 use Rattle.expr_soundness.proofs.Goods.{no_constant_parts, no_integer_parts, part_unbroken}
 use Rattle.expr_soundness.proofs.Positions.{IsNamed, named}
 use Rattle.ada_link.specs.expr_code.specs.Emitting.{IsLegalExpression}
-use Rattle.ada_link.specs.expr_code.specs.Entries.{entry_at}
 use Rattle.ada_link.specs.expr_code.specs.Refusing.{are_passable, is_callable, is_called, is_external_call, is_external_callable, is_made, is_outside, selectors_outside}
 use Rattle.ada_link.specs.expr_code.specs.Refusing as refusing
 use Rattle.ada_link.specs.expr_code.specs.Seeing.{external_of, external_profile, operation_named, operation_of, profile_named, slot_of, subprogram_of, subprogram_profile}
 use Rattle.ada_link.specs.expr_code.specs.Widths.{own_words, width_of}
 use Rattle.ada_link.specs.expr_code.specs.declared.visible.Slot.{Slot}
 use Rattle.ada_link.specs.expr_code.specs.declared.visible.Visible.{Visible}
-use Rattle.ada_link.specs.expr_code.proofs.Externals.{is_behind}
 use Rattle.ada_link.specs.expr_code.proofs.Language.{gives_number}
 use Rattle.ada_link.specs.expr_code.proofs.Widths.{fixed_width, integral_one, numeric_one, words_by_type}
 use Rattle.ada_link.specs.part_code.specs.Moving.{source_at, source_by, variable_at}
-use Rattle.ada_link.specs.part_code.specs.declared.moving.Source.{Source}
 use Rattle.source_laws.specs.Depths.{IsSmallVisible}
+use Rattle.source_laws.proofs.NamedBehind.{behind_begins, behind_profile, behind_stands, named_behind}
 use Rattle.source_laws.proofs.NeedsScopes.{profile_by}
 use Rattle.source_laws.proofs.PeakSlots.{IsPath, value_path}
 
@@ -144,17 +142,10 @@ module _ (s : Scope) where
       → refusing.is_single s p.result ≡ true
       → (rest : SelectorTrees) → IsThin (standing_of s object (MoreSelectors (Component operation) rest))
   behind_closed object operation p told single rest =
-      let at = is_behind s object.name operation.name p told in
-      let f = callee.Operation at.number at.place in
-      let there = ap protected_of at.stands in
-      let begins = ap (stands_first s) at.numbered ∙ ap (stands_for at.number) at.stands in
-      let behind : select s (standing.Protected at.number) (Component operation) ≡ standing.Callee f =
-      ap (λ o. operation_stands at.number o operation.name) there ∙ ap (called_operation at.number) at.placed in
-      let profiled : callee_profile s f ≡ Some p =
-      ap (λ o. profile_among o at.place) there ∙ ap operation_profile at.found ∙ ap Some at.profiled in
       subst IsThin
-      (sym (ap (λ w. select_all s w (MoreSelectors (Component operation) rest)) begins ∙ ap (λ w. select_all s w rest) behind))
-      (callee_closed f p profiled single rest)
+      (sym (ap (λ w. select_all s w (MoreSelectors (Component operation) rest)) (behind_begins s object operation p told)
+      ∙ ap (λ w. select_all s w rest) (behind_stands s object operation p told)))
+      (callee_closed (named_behind s object operation p told) p (behind_profile s object operation p told) single rest)
 
   put_closed : IsClosed standing.Put
   put_closed NoSelectors none = refl

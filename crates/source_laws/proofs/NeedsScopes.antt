@@ -4,16 +4,15 @@ use Rattle.std.specs.Prelude.{cond}
 use Rattle.ada_link.specs.base.specs.declared.limits.TheConstants.{WORDS}
 use Rattle.ada_tree.specs.declared.expression.Identifier.{Identifier}
 use Rattle.ada_tree.specs.StatementTree.{ObjectTree, RangeTree}
-use Rattle.ada_link.specs.image.specs.declared.instruction.Region.TheVariants as regions
 use Rattle.types.specs.declared.entity.FormalParameter.{FormalParameter}
 use Rattle.types.specs.declared.entity.Role.{Role}
 use Rattle.types.specs.declared.entity.Role.TheVariants as role
 use Rattle.types.specs.declared.entity.Subtype.{Subtype}
 use Rattle.types.specs.declared.standing.Callee.{Callee}
 use Rattle.types.specs.declared.standing.Callee.TheVariants as callee
-use Rattle.types.specs.Entities.{Entity, Object, Profile, Subprogram}
+use Rattle.types.specs.Entities.{Entity, Object, Profile, Protected, Subprogram}
 use Rattle.types.specs.Layouts.{words_of}
-use Rattle.types.specs.Scopes.{Scope, base_range_of, entity_at, entity_of, form_at, integer_type, is_visible, number_of, profile_of, protected_of, with_name}
+use Rattle.types.specs.Scopes.{Scope, base_range_of, entity_at, entity_of, form_at, integer_type, is_visible, number_of, profile_of, protected_at, protected_of, with_name}
 use Rattle.types.specs.Shapes.{words}
 use Rattle.types.specs.Standings.{callee_profile, profile_among}
 use Rattle.types.specs.Statics.{start_of}
@@ -27,16 +26,15 @@ use Rattle.expr_soundness.specs.expr_rules.proofs.TypedLaw.{back_empty, front_em
 use Rattle.expr_soundness.specs.type_rules.specs.ObjectRules.{local_object_scope, object_entity, role_of}
 use Rattle.expr_soundness.specs.type_rules.specs.SubtypeNames.{declared_twice, entity_at_or_none, subtype_in, subtype_of}
 use Rattle.program_soundness.specs.declaring.specs.BodyNames.{bounds_type, if_integers, last_rule, loop_faults, loop_scope, loop_type, parameter_entity}
-use Rattle.expr_soundness.specs.SoundScopes.{AreKnown, IsKnown, IsSoundObject, IsSoundProfile, SoundScope}
-use Rattle.expr_soundness.proofs.Goods.{not_empty, object_known}
+use Rattle.expr_soundness.specs.SoundScopes.{AreKnown, IsKnown, IsSoundEntity, IsSoundObject, IsSoundProfile, SoundScope}
+use Rattle.expr_soundness.proofs.Goods.{not_empty, object_known, sound_operation, sound_result}
 use Rattle.expr_soundness.proofs.Growing.{form_before, grown, object_named, sound_with_object, test_kept}
 use Rattle.expr_soundness.proofs.Positions.{entity_added, entity_kept, item_added, number_added, number_kept}
 use Rattle.expr_soundness.proofs.Widening.{subtype_known}
-use Rattle.ada_link.specs.expr_code.specs.Seeing.{NamesProfile, profile_named, subprogram_profile}
+use Rattle.ada_link.specs.expr_code.specs.Seeing.{NamesProfile, external_profile, profile_behind, profile_named, subprogram_profile}
+use Rattle.ada_link.specs.expr_code.proofs.Externals.{is_behind}
 use Rattle.ada_link.specs.expr_code.proofs.Widths.{fits, integral_one, known, words_by_type}
-use Rattle.ada_link.specs.expr_code.specs.declared.visible.Slot.{Slot}
 use Rattle.source_laws.specs.Depths.{AreScalar, IsSmallScope, ObjectsHaveRoom, formals_take, is_full, is_scalar_form}
-use Rattle.source_laws.proofs.UnprotectedFronts.{push_unprotected}
 
 no_profile : (p : Profile) → None ≡ Some p → ⊥
 no_profile p h = cc
@@ -45,6 +43,9 @@ no_profile p h = cc
 
 abbrev pub profile_by : Scope → Option ℕ → Option Profile
 profile_by s o = elim o [ None ↦ None | Some n ↦ subprogram_profile (entity_at s n) ]
+
+abbrev behind_by : Scope → (operation : List ℕ) → Option ℕ → Option Profile
+behind_by s operation o = profile_behind (elim o [ None ↦ None | Some n ↦ protected_at s n ]) operation
 
 profile_is : (o : Option Entity) (p : Profile) → subprogram_profile o ≡ Some p → o ≡ Some (Subprogram p)
 profile_is (Some (Subprogram q)) p h = let f : Option Profile → Profile = λ x. elim x [ Some y ↦ y | None ↦ q ] in ap (λ x. Some (Subprogram (f x))) h
@@ -62,6 +63,14 @@ known_formals s name p sound h =
     let x = names_profile s name p h in
     let y : IsSoundProfile s p = sound.each x.number (Subprogram p) x.stands in
     y.known
+
+-- those of an operation or entry that is named behind its protected object
+pub known_behind : (s : Scope) (object operation : List ℕ) (p : Profile) → SoundScope s → external_profile s object operation ≡ Some p → AreKnown s p.formals
+known_behind s object operation p sound h =
+    let x = is_behind s object operation p h in
+    let all : IsSoundEntity s x.number (Protected x.protected) = sound.each x.number (Protected x.protected) x.stands in
+    let one = sound_result s sound x.entry.is_entry x.entry.profile (sound_operation s sound x.protected.operations x.place x.entry all.0 x.found) in
+    subst (λ (q : Profile). AreKnown s q.formals) x.profiled one.known
 
 -- ---- with names behind them
 
@@ -128,6 +137,20 @@ module _ (s : Scope) (name : List ℕ) (r : Role) (t : Subtype) where
           ]
       by_number None is k = absurd (no_profile p k)
 
+  behind_before : (object operation : List ℕ) (p : Profile) → external_profile (s ++ more) object operation ≡ Some p
+      → external_profile s object operation ≡ Some p
+  behind_before object operation p h = by_number (number_of (s ++ more) object) refl h
+    where
+      by_number : (o : Option ℕ) → number_of (s ++ more) object ≡ o → behind_by (s ++ more) operation o ≡ Some p
+          → external_profile s object operation ≡ Some p
+      by_number (Some n) is k =
+          elim (number_added s (object_named name r t) object n is) [
+            | inl i ↦ ap (behind_by s operation) i ∙ profile_before (λ e. profile_behind (protected_of e) operation) refl refl n p k
+            | inr i ↦ absurd (no_profile p (sym (ap (λ m. behind_by (s ++ more) operation (Some m)) i.0
+                ∙ ap (λ x. profile_behind (protected_of (entity_of x)) operation) (item_added s (object_named name r t))) ∙ k))
+          ]
+      by_number None is k = absurd (no_profile p k)
+
   abbrev object_type : Entity → Subtype
   object_type (Object q u) = u
   object_type e = t
@@ -158,7 +181,10 @@ module _ (s : Scope) (name : List ℕ) (r : Role) (t : Subtype) where
             let before = form_before s name r t n form is in
             ap is_full ((grown s more).shapes n form before) ∙ small.full n form before;
         objects = room_behind small object few;
-        bare = push_unprotected s (object_named name r t) small.bare refl;
+        behind = λ object operation p is.
+            let here = behind_before object operation p is in
+            subst (λ n. n ≤ 64) (sym (formals_kept s more p.formals (known_behind s object operation p small.sound here)))
+            (small.behind object operation p here);
       }
 
   pub small_named : IsSmallScope s → IsSoundObject s r t → words_of s t ≤ WORDS → IsSmallScope (with_name s name (Object r t))

@@ -125,7 +125,8 @@ choices_fit : (s : Scope) (choices : ChoicesTree) (taken words deep : ℕ) → F
 choices_fit s (Values cs) taken words deep = record { stack_low = omega arith; frame_low = omega arith; fit = refl }
 choices_fit s (OtherValues place) taken words deep = record { stack_low = omega arith; frame_low = omega arith; fit = refl }
 
-exit_fits : (a : Standpoint) (o : Option ExprTree) (l : Limit) (ts : Tokens) → optional (λ e. word words.When ⨾ expression l e) o ts → IsSmallScope a.visible.scope
+exit_fits : (a : Standpoint) (o : Option ExprTree) (l : Limit) (ts : Tokens) → optional (λ e. word words.When ⨾ expression l e) o ts
+    → IsSmallScope a.visible.scope
     → optional_condition_faults a.visible.scope o ≡ [] → (taken words : ℕ) → Fits (needs_if_any a.visible o) taken words (depth_if_any expr_depth o)
 exit_fits a None l ts d small h taken words = nothing_fits taken words 0
 exit_fits a (Some e) l ts d small h taken words =
@@ -321,7 +322,8 @@ mutual
       (fits_more first a.taken a.taken m (m + n) (stmt_depth x) deep p (omega arith) (le-max_left (stmt_depth x) (stmts_depth rest)))
       (fits_more others a.taken a.taken n (m + n) (stmts_depth rest) deep q (omega arith) (le-max_right (stmt_depth x) (stmts_depth rest)))
 
-  elsifs_fit : (all : ElsifTrees) (a : Standpoint) (b : rules.Around) (l : Limit) (ts : Tokens) → grammar.elsifs all l ts → elsifs_faults a.visible.scope b all ≡ []
+  elsifs_fit : (all : ElsifTrees) (a : Standpoint) (b : rules.Around) (l : Limit) (ts : Tokens) → grammar.elsifs all l ts
+      → elsifs_faults a.visible.scope b all ≡ []
       → IsSmallVisible a.visible → elsifs_words a.visible.scope all ≤ 64 → (elsifs_needs a all).outside ≡ false
       → Fits (elsifs_needs a all) a.taken (elsifs_words a.visible.scope all) (elsifs_depth all)
   elsifs_fit NoElsifs a b l ts d h small few out = nothing_fits a.taken 0 0

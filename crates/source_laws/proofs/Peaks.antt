@@ -321,7 +321,8 @@ module _ (s : Scope) (sound : SoundScope s) where
       argument_low slot (Text label place) l ts d narrow h = omega arith
 
     -- where any expression may stand
-    pub expression_low : (e : ExprTree) (l : Limit) (ts : Tokens) → expression l e ts → IsLegalExpression s e → peak s e ≤ max (width_of s e) (6 + 12 * expr_depth e)
+    pub expression_low : (e : ExprTree) (l : Limit) (ts : Tokens) → expression l e ts → IsLegalExpression s e
+        → peak s e ≤ max (width_of s e) (6 + 12 * expr_depth e)
     expression_low e l ts d h =
         let low = peak_low e l ts d.1 h in
         let few = waits (made_by e) Expression d.0 in

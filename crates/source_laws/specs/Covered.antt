@@ -1,16 +1,15 @@
--- That code is made of all that stands in an accepted text without protected objects.
-use Rattle.std.specs.Prelude.{◌≡◌, ◌≢◌, ℕ, ◌+◌, Bool, true, false, List, [], ◌∷◌, length, Option, Some, is_some, ⊤}
-use Rattle.std.specs.List.{list_any}
+-- That code is made of all that stands in an accepted text.
+use Rattle.std.specs.Prelude.{◌≡◌, ◌≢◌, ℕ, ◌+◌, true, false, ◌||◌, List, [], ◌∷◌, length, Option, Some, is_some, ⊤}
 use Rattle.ada_tree.specs.declared.declaration.Formal.{Formal}
 use Rattle.ada_tree.specs.ExpressionTree.{ExprTree}
 use Rattle.ada_tree.specs.Language.{Limit}
 use Rattle.ada_tree.specs.ProgramGrammar.{program}
-use Rattle.ada_tree.specs.ProgramTree.{BodyItemTree, BodyTree, OfItem, OfProtected, ProgramTree}
+use Rattle.ada_tree.specs.ProgramTree.{BodyTree, ProgramTree}
 use Rattle.ada_link.specs.lexer.specs.declared.token.Token.{Token}
 use Rattle.types.specs.declared.entity.Role.{Role}
 use Rattle.types.specs.declared.entity.Subtype.{Subtype}
 use Rattle.types.specs.declared.standing.Standing.TheVariants as standing
-use Rattle.types.specs.Entities.{Entry, Exception, Profile}
+use Rattle.types.specs.Entities.{Exception, Profile}
 use Rattle.types.specs.Scopes.{Scope, form_at, number_of}
 use Rattle.types.specs.Standings.{stands_first}
 use Rattle.expr_soundness.specs.expr_rules.specs.declared.own.Wanted.TheVariants.{OfType}
@@ -25,23 +24,13 @@ use Rattle.checking.specs.ProgramRules.{IsLegal}
 use Rattle.program_soundness.specs.ravenscar.specs.ProgramRules.{IsRestricted}
 use Rattle.expr_soundness.specs.SoundScopes.{SoundScope}
 use Rattle.program_soundness.specs.step_soundness.specs.Fitting.{entity_named}
-use Rattle.program_soundness.specs.Fronts.{declared_in}
-use Rattle.ada_link.specs.expr_code.specs.Seeing.{profile_named, slot_of, subprogram_of}
+use Rattle.ada_link.specs.expr_code.specs.Seeing.{external_of, external_profile, profile_named, slot_of, subprogram_of}
 use Rattle.ada_link.specs.expr_code.specs.declared.visible.Visible.{Visible}
+use Rattle.ada_link.specs.part_code.specs.EntryNames.{entry_behind}
 use Rattle.ada_link.specs.part_code.specs.Raising.{number_among}
 use Rattle.ada_link.specs.stmt_code.specs.WholeRefusals.{function_needs, procedure_needs}
 use Rattle.ada_link.specs.package_code.specs.Refusing.{program_needs}
 use Rattle.source_laws.specs.Depths.{FewFormals, TypesAreFull, is_scalar_form}
-
--- ---- texts with protected objects
-
-abbrev pub is_protected : BodyItemTree → Bool
-is_protected (OfItem (OfProtected d)) = true
-is_protected item = false
-
--- a protected object is declared in the package
-abbrev pub has_protected : ProgramTree → Bool
-has_protected t = list_any is_protected (declared_in t.package_)
 
 -- ---- what is asked of the names that are visible
 
@@ -61,9 +50,12 @@ pub record HasWhatCodeNeeds (exceptions : List (List ℕ)) (v : Visible) : Type 
       → is_scalar_form (form_at v.scope t.type_number) ≡ true
   -- an exception has a number
   pub raised : (name : List ℕ) → entity_named v.scope name ≡ Some Exception → is_some (number_among exceptions name) ≡ true
-  -- there are no protected objects, and no entries
-  pub unprotected : (name : List ℕ) (n : ℕ) → stands_first v.scope (number_of v.scope name) ≢ standing.Protected n
-  pub without_entries : (name : List ℕ) (p : Profile) → entity_named v.scope name ≢ Some (Entry p)
+  -- what is named behind a protected object is its entry, or an operation with a number
+  pub offered : (object operation : List ℕ) (p : Profile) → external_profile v.scope object operation ≡ Some p
+      → (is_some (entry_behind v.scope object operation) || is_some (external_of v object operation)) ≡ true
+  -- ... and a function among them has a result of one word
+  pub gives : (object operation : List ℕ) (p : Profile) (t : Subtype) → external_profile v.scope object operation ≡ Some p → p.result ≡ Some t
+      → (is_some (external_of v object operation) ≡ true) × (is_scalar_form (form_at v.scope t.type_number) ≡ true)
 
 -- ---- whole subprograms
 
@@ -101,7 +93,7 @@ FunctionsAreCovered =
 
 -- ---- accepted texts
 
--- code is made of all that stands in an accepted text without protected objects
+-- code is made of all that stands in an accepted text
 abbrev pub NothingIsOutside : Type 0
-NothingIsOutside = (limit : Limit) (t : ProgramTree) (tokens : List Token) → program limit t tokens → IsLegal t → IsRestricted t → has_protected t ≡ false
+NothingIsOutside = (limit : Limit) (t : ProgramTree) (tokens : List Token) → program limit t tokens → IsLegal t → IsRestricted t
     → (program_needs t).outside ≡ false

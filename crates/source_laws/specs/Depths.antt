@@ -15,7 +15,7 @@ use Rattle.types.specs.declared.entity.Subtype.{Subtype}
 use Rattle.types.specs.declared.standing.Callee.{Callee}
 use Rattle.types.specs.Entities.{Booleans, Integers, Object, Profile, Spans, Times, TypeForm}
 use Rattle.types.specs.Layouts.{words_of}
-use Rattle.types.specs.Scopes.{Scope, entity_at, form_at, protected_count}
+use Rattle.types.specs.Scopes.{Scope, entity_at, form_at}
 use Rattle.types.specs.Shapes.{Grouped, MoreShapes, NoShapes, Repeated, Shape, Shapes, words, words_of_parts}
 use Rattle.types.specs.Standings.{callee_profile}
 use Rattle.expr_soundness.specs.expr_rules.specs.declared.own.Wanted.TheVariants.{OfType}
@@ -27,7 +27,7 @@ use Rattle.program_soundness.specs.legality.specs.BodyRules.{body_faults}
 use Rattle.expr_soundness.specs.SoundScopes.{SoundScope}
 use Rattle.ada_link.specs.expr_code.specs.Emitting.{IsLegalExpression}
 use Rattle.ada_link.specs.expr_code.specs.Refusing.{peak}
-use Rattle.ada_link.specs.expr_code.specs.Seeing.{profile_named}
+use Rattle.ada_link.specs.expr_code.specs.Seeing.{external_profile, profile_named}
 use Rattle.ada_link.specs.expr_code.specs.Widths.{width_of}
 use Rattle.ada_link.specs.expr_code.specs.declared.visible.Slot.{Slot}
 use Rattle.ada_link.specs.expr_code.specs.declared.visible.Visible.{Visible}
@@ -62,9 +62,13 @@ FewFormals s = (f : Callee) (p : Profile) → callee_profile s f ≡ Some p → 
 abbrev pub formals_take : Scope → List FormalParameter → ℕ
 formals_take s fs = total (λ f. words_of s f.subtype) fs
 
--- those of each subprogram of the package that is visible are few
+-- those of each subprogram that is visible are few
 abbrev pub FewWords : Scope → Type 0
 FewWords s = (name : List ℕ) (p : Profile) → profile_named s name ≡ Some p → formals_take s p.formals ≤ 64
+
+-- ... and of each operation or entry that is named behind its protected object
+abbrev pub FewWordsBehind : Scope → Type 0
+FewWordsBehind s = (object operation : List ℕ) (p : Profile) → external_profile s object operation ≡ Some p → formals_take s p.formals ≤ 64
 
 -- each part of a value takes a word at least: no array is without components, and no record
 abbrev mutual
@@ -84,14 +88,14 @@ TypesAreFull s = (n : ℕ) (form : TypeForm) → form_at s n ≡ Some form → i
 abbrev pub ObjectsHaveRoom : Scope → Type 0
 ObjectsHaveRoom s = (n : ℕ) (r : Role) (t : Subtype) → entity_at s n ≡ Some (Object r t) → words_of s t ≤ WORDS
 
--- what is visible in a small source, which declares no protected object
+-- what is visible in a small source
 pub record IsSmallScope (s : Scope) : Type 0 where
   pub sound : SoundScope s
   pub formals : FewFormals s
   pub words : FewWords s
   pub full : TypesAreFull s
   pub objects : ObjectsHaveRoom s
-  pub bare : protected_count s ≡ 0
+  pub behind : FewWordsBehind s
 
 -- ... of names
 pub record IsSmallVisible (v : Visible) : Type 0 where

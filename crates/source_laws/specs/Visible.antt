@@ -1,8 +1,8 @@
 -- What is visible in front of the declarations and bodies of an accepted text keeps limits that its code counts on.
-use Rattle.std.specs.Prelude.{◌≡◌, ℕ, ◌≤◌, true, false, List, Some}
+use Rattle.std.specs.Prelude.{◌≡◌, ℕ, ◌≤◌, true, false, List, Some, slice_get}
 use Rattle.ada_link.specs.base.specs.declared.limits.TheConstants.{WORDS}
 use Rattle.ada_link.specs.lexer.specs.declared.token.Token.{Token}
-use Rattle.ada_tree.specs.ProgramTree.{ProgramTree}
+use Rattle.ada_tree.specs.ProgramTree.{BodyItemTree, ProgramTree}
 use Rattle.ada_tree.specs.Language.{Limit}
 use Rattle.ada_tree.specs.ProgramGrammar.{program}
 use Rattle.types.specs.declared.entity.Role.{Role}
@@ -14,10 +14,10 @@ use Rattle.types.specs.Shapes.{shape_of}
 use Rattle.checking.specs.ProgramRules.{IsLegal}
 use Rattle.program_soundness.specs.ravenscar.specs.ProgramRules.{IsRestricted}
 use Rattle.expr_soundness.specs.SoundScopes.{IsKnown}
-use Rattle.program_soundness.specs.Fronts.{front}
+use Rattle.program_soundness.specs.Fronts.{declared_in, front}
 use Rattle.ada_link.specs.expr_code.specs.Refusing.{is_fit}
+use Rattle.ada_link.specs.package_code.specs.Bodies.{Coded, coded_at}
 use Rattle.ada_link.specs.package_code.specs.Refusing.{program_needs}
-use Rattle.source_laws.specs.Covered.{has_protected}
 use Rattle.source_laws.specs.Depths.{FewFormals, IsSmallScope, is_full}
 use Rattle.source_laws.specs.Small.{HasSmallBodies}
 
@@ -31,24 +31,40 @@ pub record KeepsLimits (s : Scope) : Type 0 where
   -- an object has no more
   pub objects : (number : ℕ) (r : Role) (u : Subtype) → entity_at s number ≡ Some (Object r u) → words_of s u ≤ WORDS
 
--- so it is in front of each declaration and body of an accepted text
+-- so it is in front of each declaration and body of the package of an accepted text
 abbrev pub FrontsKeepLimits : Type 0
 FrontsKeepLimits = (limit : Limit) (t : ProgramTree) (tokens : List Token) → program limit t tokens → IsLegal t → IsRestricted t → (place : ℕ)
     → KeepsLimits (front t place)
 
--- nothing that code of an accepted text without protected objects needs takes no words, or more than an image has, nor does a part of it
+-- a body of the text that has code of its own: of a subprogram or a task, or of an operation or entry of a protected object
+pub record IsBodyOf (t : ProgramTree) (c : Coded) : Type 0 where
+  pub place : ℕ
+  pub item : BodyItemTree
+  pub index : ℕ
+  pub at : slice_get (declared_in t.package_) place ≡ Some item
+  pub coded : slice_get (coded_at t place item) index ≡ Some c
+
+-- ... and in front of the parameters of each of these
+abbrev pub BodiesKeepLimits : Type 0
+BodiesKeepLimits = (limit : Limit) (t : ProgramTree) (tokens : List Token) → program limit t tokens → IsLegal t → IsRestricted t
+    → (c : Coded) → IsBodyOf t c → KeepsLimits c.front
+
+-- nothing that code of an accepted text needs takes no words, or more than an image has, nor does a part of it
 abbrev pub NothingIsUnfit : Type 0
-NothingIsUnfit = (limit : Limit) (t : ProgramTree) (tokens : List Token) → program limit t tokens → IsLegal t → IsRestricted t → has_protected t ≡ false
+NothingIsUnfit = (limit : Limit) (t : ProgramTree) (tokens : List Token) → program limit t tokens → IsLegal t → IsRestricted t
     → (program_needs t).unfit ≡ false
 
 -- ---- what can be called
 
--- has few formals in front of each declaration and body of an accepted text
+-- has few formals in front of each declaration and body of the package of an accepted text
 abbrev pub CalleesHaveFew : Type 0
 CalleesHaveFew = (t : ProgramTree) → IsLegal t → IsRestricted t → (place : ℕ) → FewFormals (front t place)
 
--- and in one without protected objects whose bodies are small these take few words
+-- ... and in front of the parameters of each body with code
+abbrev pub BodiesCallFew : Type 0
+BodiesCallFew = (t : ProgramTree) → IsLegal t → IsRestricted t → (c : Coded) → IsBodyOf t c → FewFormals c.front
+
+-- and in one whose bodies are small these take few words
 abbrev pub FrontsAreSmall : Type 0
-FrontsAreSmall = (limit : Limit) (t : ProgramTree) (tokens : List Token) → program limit t tokens → IsLegal t → IsRestricted t → has_protected t ≡ false
-    → HasSmallBodies t → (place : ℕ)
-    → IsSmallScope (front t place)
+FrontsAreSmall = (limit : Limit) (t : ProgramTree) (tokens : List Token) → program limit t tokens → IsLegal t → IsRestricted t → HasSmallBodies t
+    → (c : Coded) → IsBodyOf t c → IsSmallScope c.front

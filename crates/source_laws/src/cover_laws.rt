@@ -1,4 +1,4 @@
-//! Of what code is made: what stands in accepted bodies of a text without protected objects.
+//! Of what code is made: what stands in accepted bodies.
 ghost use Rattle.source_laws.specs.Covered.{FunctionsAreCovered, ProceduresAreCovered};
 
 /// Code is made of all that stands in an accepted body of a procedure or task, where each visible name has what its code needs.

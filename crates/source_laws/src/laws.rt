@@ -1,24 +1,26 @@
 //! The laws of source texts, each what a function without work ensures.
-ghost use Rattle.source_laws.specs.Limits.{SmallBodiesPassByLength, SmallHasRoom, SmallIsUnlimited};
+ghost use Rattle.source_laws.specs.Limits.{LimitsAreTold, SmallHasRoom, SmallIsUnlimited};
 ghost use Rattle.source_laws.specs.Small.{SmallCodeFits};
 ghost use Rattle.source_laws.specs.Spelled.{OutsideIsTold, TextsAreSpelled};
-ghost use Rattle.source_laws.specs.Visible.{CalleesHaveFew, FrontsAreSmall, FrontsKeepLimits, NothingIsUnfit};
+ghost use Rattle.source_laws.specs.Visible.{BodiesCallFew, BodiesKeepLimits, CalleesHaveFew, FrontsAreSmall, FrontsKeepLimits, NothingIsUnfit};
 
 use crate::depth_laws::{functions_have_room, procedures_have_room};
+use crate::outside_laws::nothing_is_outside;
 use ada_link::laws::tables_are_small;
 use ada_tree::laws::size_within_tokens;
 use checking::laws::words_have_room;
 use expr_soundness::laws::scopes_are_sound;
-use program_soundness::body_laws::{names_are_known, premises_hold};
+use program_soundness::body_laws::{fronts_fit, names_are_known, premises_hold};
+use program_soundness::program_laws::starts_are_sound;
 use size_rules::laws::words_add_up;
-use types::laws::shapes_stay;
+use types::laws::{shapes_stay, values_have_words};
 
 /// The names and labels in the tree of a text are spelled as such (docs/LANGUAGE.md, "Lexical elements").
 pub fn texts_are_spelled()
     ensures { TextsAreSpelled }
 {}
 
-/// An accepted text is refused by 90 only where its tree has what no code is made of.
+/// An accepted text is refused for want of code only where its tree has what no code is made of.
 pub fn outside_is_told()
     ensures { OutsideIsTold }
 {}
@@ -31,7 +33,7 @@ pub fn small_code_fits()
     tables_are_small();
 }
 
-/// In front of each declaration and body of an accepted text objects have no more words than an image, and each part of a value has a word
+/// In front of each declaration and body of the package of an accepted text objects have no more words than an image, and each part of a value has a word
 /// (docs/LANGUAGE.md, "Limits").
 pub fn fronts_keep_limits()
     ensures { FrontsKeepLimits }
@@ -42,66 +44,99 @@ pub fn fronts_keep_limits()
     words_have_room();
 }
 
-/// Nothing that code of an accepted text without protected objects needs takes no words, or more than an image has.
-pub fn nothing_is_unfit()
-    ensures { NothingIsUnfit }
+/// ... and so it is in front of the parameters of each body with code, also in the body of a protected object.
+pub fn bodies_keep_limits()
+    ensures { BodiesKeepLimits }
 {
     fronts_keep_limits();
     names_are_known();
     premises_hold();
     scopes_are_sound();
     shapes_stay();
+    words_have_room();
+}
+
+/// Nothing that code of an accepted text needs takes no words, or more than an image has.
+pub fn nothing_is_unfit()
+    ensures { NothingIsUnfit }
+{
+    bodies_keep_limits();
+    fronts_fit();
+    fronts_keep_limits();
+    names_are_known();
+    premises_hold();
+    scopes_are_sound();
+    shapes_stay();
+    starts_are_sound();
+    values_have_words();
     words_add_up();
     words_have_room();
 }
 
-/// What can be called in front of each declaration and body of an accepted text has at most 8 formals, and those of functions are scalar.
+/// What can be called in front of each declaration and body of the package of an accepted text has at most 8 formals, and those of functions are scalar.
 pub fn callees_have_few()
     ensures { CalleesHaveFew }
 {
     names_are_known();
     premises_hold();
     scopes_are_sound();
-    shapes_stay();
-    words_have_room();
 }
 
-/// What is visible in front of each declaration and body is small in a text without protected objects whose bodies are: its formals take at most 64 words.
+/// ... and so it is in front of the parameters of each body with code, also in the body of a protected object.
+pub fn bodies_call_few()
+    ensures { BodiesCallFew }
+{
+    callees_have_few();
+    names_are_known();
+    premises_hold();
+    scopes_are_sound();
+}
+
+/// What is visible in front of the parameters of each body is small in a text whose bodies are: formals of what can be called take at most 64 words.
 pub fn fronts_are_small()
     ensures { FrontsAreSmall }
 {
-    fronts_keep_limits();
+    bodies_call_few();
+    bodies_keep_limits();
+    fronts_fit();
     names_are_known();
     premises_hold();
     scopes_are_sound();
     shapes_stay();
+    starts_are_sound();
+    values_have_words();
     words_have_room();
 }
 
-/// The frames and operand stacks of the code of a text without protected objects whose bodies, of subprograms and tasks, are small have room.
+/// The frames and operand stacks of the code of a text whose bodies are small have room.
 pub fn small_has_room()
     ensures { SmallHasRoom }
 {
     fronts_are_small();
+    fronts_fit();
     functions_have_room();
     names_are_known();
+    nothing_is_outside();
     premises_hold();
     procedures_have_room();
     scopes_are_sound();
+    shapes_stay();
+    starts_are_sound();
+    values_have_words();
 }
 
-/// So such an accepted text whose bodies are small passes a limit of images only by the instructions, or the rows of handlers, of all its code.
-pub fn small_bodies_pass_by_length()
-    ensures { SmallBodiesPassByLength }
+/// So the code of an accepted text passes a limit of images only by the instructions, or the rows of handlers, of all of it, or by the words of a frame, where
+/// not each body is small.
+pub fn limits_are_told()
+    ensures { LimitsAreTold }
 {
     nothing_is_unfit();
     small_has_room();
 }
 
-/// And no limit of images refuses a small accepted text without protected objects of which code is made.
+/// And that of a small accepted text passes none.
 pub fn small_is_unlimited()
     ensures { SmallIsUnlimited }
 {
-    small_bodies_pass_by_length();
     small_code_fits();
 }
