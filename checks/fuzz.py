@@ -1,5 +1,5 @@
 #!/usr/bin/env python3
-"""Changes programs, with a fixed seed, and gives each text to the program: it always returns, with a status of a run, or with one line of a fault that stands in the text and isn't 90.
+"""Changes programs, with a fixed seed, and gives each text to the program: it always returns, with a status of a run, or with one line of a fault that stands in the text and has a number of docs/FAULTS.md.
 
     fuzz.py PROGRAM SCRATCH COUNT [SEED]
 
@@ -22,7 +22,7 @@ STACK = 192 * 1024
 STEPS = "1000"
 PRLIMIT = shutil.which("prlimit")
 ENDED, REFUSED, UNHANDLED, WAITING, CUT = 0, 2, 3, 4, 5
-NO_CODE = 90
+NUMBERS = {*range(1, 8), *range(10, 24), *range(30, 40)}
 
 
 def changed(text, chance):
@@ -59,8 +59,8 @@ def wrong(program, path, text):
         return f"ends with {call.returncode}, {call.stderr[:80]}"
     lines = text.split(b"\n")
     line, column = int(fault[2]), int(fault[3])
-    if int(fault[1]) == NO_CODE:
-        return "is accepted, and no code is made of it"
+    if int(fault[1]) not in NUMBERS:
+        return f"is refused by {int(fault[1])}, which is no rule"
     is_inside = line <= len(lines) and 1 <= column <= len(lines[line - 1]) + 1
     return None if is_inside else f"places a fault at {line}:{column}"
 

@@ -19,11 +19,13 @@ use Rattle.ravenscar.specs.ProgramRules.{IsRestricted, RefusesUnrestricted, rest
 use Rattle.fault_numbers.specs.Numbers.{AreNumberedWithin, GrammarNumbers, IsNumbered, LegalityNumbers, RestrictionNumbers, SpellingNumbers}
 use Rattle.ada_link.specs.meaning.specs.SameMeaning.{KeepsCount, SameMeaning}
 use Rattle.ada_link.specs.expr_code.specs.Coming.{most_steps}
-use Rattle.ada_link.specs.Compiled.{IsBounded, RefusesTree}
-use Rattle.source_laws.specs.Covered.{NothingIsOutside, has_protected}
-use Rattle.source_laws.specs.Limits.{SmallBodiesPassByLength, SmallIsUnlimited}
+use Rattle.ada_link.specs.Compiled.{IsBounded}
+use Rattle.ada_link.specs.expr_code.specs.declared.refusal.Refusal.TheVariants as refusal
+use Rattle.ada_link.specs.package_code.specs.Refusing.{RefusesLinking}
+use Rattle.source_laws.specs.Covered.{NothingIsOutside}
+use Rattle.source_laws.specs.Limits.{LimitsAreTold, SmallIsUnlimited}
 use Rattle.source_laws.specs.Spelled.{OutsideIsTold}
-use Rattle.adarun.specs.Accepted.{Compiles, IsAccepted, CompilesAccepted, IsJudged, IsLeftOut, IsTreeOf, RefusesAccepted, RefusesText}
+use Rattle.adarun.specs.Accepted.{Compiles, IsAccepted, CompilesAccepted, IsJudged, IsTextFault, IsTreeOf, RefusesAccepted, RefusesText, RefusesTree}
 
 -- the program that was read is the one that was checked
 pub compiles : {E : Type 0} (r : Result Sections E) (text : List ℕ) (tokens list : List Token) (read : Program)
@@ -50,39 +52,12 @@ compiles (Err e) text tokens list read spells same derives checked is legal rest
 abbrev Tells : List ℕ → ProgramTree → Type 0
 Tells text tree = (fault : Fault) → RefusesTree tree fault → RefusesAccepted text tree fault
 
-not_false : (b : Bool) → (b ≡ false → ⊥) → b ≡ true
-not_false true h = refl
-not_false false h = absurd (h refl)
-
-unless : {A : Type 0} (b : Bool) → (b ≡ false → A) → (b ≡ true) ⊎ A
-unless true h = inl refl
-unless false h = inr (h refl)
-
-pub tells : OutsideIsTold → NothingIsOutside → SmallBodiesPassByLength → SmallIsUnlimited → (text : List ℕ) (tree : ProgramTree) → IsTreeOf tree text → IsLegal tree → IsRestricted tree
+pub tells : LimitsAreTold → SmallIsUnlimited → (text : List ℕ) (tree : ProgramTree) → IsTreeOf tree text → IsLegal tree → IsRestricted tree
     → Tells text tree
-tells outside nothing by_length unlimited text tree is_tree legal restricted fault (inl memory) = inl memory
-tells outside nothing by_length unlimited text tree is_tree legal restricted fault (inr (inl beyond)) =
-    let told = outside text is_tree.tokens tree (record { limit = None; spelled = is_tree.spells; tree = is_tree.derives.derives }) beyond.1 in
-    inr (inl (
-      beyond.0,
-      not_false (has_protected tree)
-          (λ plain. let never = sym (nothing None tree is_tree.tokens is_tree.derives.derives legal restricted plain) ∙ told in cc),
-    ))
-tells outside nothing by_length unlimited text tree is_tree legal restricted fault (inr (inr large)) =
-    inr (inr (
-      large.0,
-      (
-        large.1,
-        (
-          λ small. unless (has_protected tree)
-              (λ plain. by_length None tree is_tree.tokens is_tree.derives.derives legal restricted plain small
-              (nothing None tree is_tree.tokens is_tree.derives.derives legal restricted plain) large.1),
-          λ it. not_false (has_protected tree)
-              (λ plain. unlimited None tree it.is_tree.tokens it.is_tree.derives.derives legal restricted plain it.small
-              (nothing None tree it.is_tree.tokens it.is_tree.derives.derives legal restricted plain) large.1),
-        ),
-      ),
-    ))
+tells told unlimited text tree is_tree legal restricted fault (inl memory) = inl memory
+tells told unlimited text tree is_tree legal restricted fault (inr large) =
+    let passed = told None tree is_tree.tokens is_tree.derives.derives legal restricted large.1 in
+    inr (large.0, (passed, λ it. unlimited None tree it.is_tree.tokens it.is_tree.derives.derives legal restricted it.small passed))
 
 pub given : (r : Result Sections Fault) (text : List ℕ) (tree made : ProgramTree) → Tells text tree → made ≡ tree → IfOk r (λ i. SameMeaning made i)
     → IfErr r (λ f. RefusesTree made f)
@@ -125,15 +100,27 @@ judged_legal text tree made fault same legal (inl memory) = inl memory
 judged_legal text tree made fault same legal (inr least) = inr (inr (inl (subst IsLegal same legal, subst (λ t. IsLeast (restriction_faults t) fault) same least)))
 
 -- what breaks no rule
-pub judged_accepted : OutsideIsTold → NothingIsOutside → SmallBodiesPassByLength → SmallIsUnlimited → (r : Result Sections Fault) (text : List ℕ) (tree made : ProgramTree)
+pub judged_accepted : LimitsAreTold → SmallIsUnlimited → (r : Result Sections Fault) (text : List ℕ) (tree made : ProgramTree)
     → IsTreeOf tree text → made ≡ tree → IsLegal made → IsRestricted made → IfErr r (λ f. RefusesTree made f) → IsJudged text tree r
-judged_accepted outside nothing by_length unlimited (Ok i) text tree made is_tree same legal restricted refused = (subst IsLegal same legal, subst IsRestricted same restricted)
-judged_accepted outside nothing by_length unlimited (Err fault) text tree made is_tree same legal restricted refused =
+judged_accepted told unlimited (Ok i) text tree made is_tree same legal restricted refused = (subst IsLegal same legal, subst IsRestricted same restricted)
+judged_accepted told unlimited (Err fault) text tree made is_tree same legal restricted refused =
     let fine = subst IsLegal same legal in
     let held = subst IsRestricted same restricted in
-    inr (inr (inr (fine, (held, tells outside nothing by_length unlimited text tree is_tree fine held fault (subst (λ t. RefusesTree t fault) same refused)))))
+    inr (inr (inr (fine, (held, tells told unlimited text tree is_tree fine held fault (subst (λ t. RefusesTree t fault) same refused)))))
 
 -- ---- texts that are not compiled
+
+-- no code is lacking of what its text has
+pub never_outside : OutsideIsTold → NothingIsOutside → (text : List ℕ) (tokens list : List Token) (read checked : Program)
+    → Spells text tokens → list ≡ tokens → Derives (program_tree read) list → checked ≡ read
+    → IsLegal (program_tree checked) → IsRestricted (program_tree checked)
+    → RefusesLinking (program_tree checked) refusal.Outside → ⊥
+never_outside outside nothing text tokens list read checked spells same derives is legal restricted refused =
+    let tree = program_tree checked in
+    let derived = subst (λ p. Derives (program_tree p) tokens) (sym is) (subst (Derives (program_tree read)) same derives) in
+    let told = outside text tokens tree (record { limit = None; spelled = spells; tree = derived.derives }) refused in
+    let never = sym (nothing None tree tokens derived.derives legal restricted) ∙ told in
+    cc
 
 -- what has tokens, of which no tree derives all
 pub no_tree : (text : List ℕ) (tokens list : List Token) (fault : Fault) → Spells text tokens → list ≡ tokens → IsRefusal list fault → RefusesText text fault
@@ -179,46 +166,41 @@ unrestricted_text text tokens list read checked fault spells same derives is leg
     })))))
 
 -- it is accepted
-pub refused_text : {A : Type 0} → OutsideIsTold → NothingIsOutside → SmallBodiesPassByLength → SmallIsUnlimited → (r : Result A Fault) (text : List ℕ) (tokens list : List Token)
+pub refused_text : {A : Type 0} → LimitsAreTold → SmallIsUnlimited → (r : Result A Fault) (text : List ℕ) (tokens list : List Token)
     (read checked : Program)
     → Spells text tokens → list ≡ tokens → Derives (program_tree read) list → checked ≡ read
     → IsLegal (program_tree checked) → IsRestricted (program_tree checked)
     → IfErr r (λ f. RefusesTree (program_tree checked) f)
     → IfErr r (λ f. RefusesText text f)
-refused_text outside nothing by_length unlimited (Ok a) text tokens list read checked spells same derives is legal restricted refused = tt
-refused_text outside nothing by_length unlimited (Err fault) text tokens list read checked spells same derives is legal restricted refused =
+refused_text told unlimited (Ok a) text tokens list read checked spells same derives is legal restricted refused = tt
+refused_text told unlimited (Err fault) text tokens list read checked spells same derives is legal restricted refused =
     let is_tree = read_tree text tokens list read checked spells same derives is in
     inr (inr (inr (inr (inr (record {
       tree = program_tree checked;
       accepted = record { is_tree = is_tree; legal = legal; restricted = restricted };
-      refused = tells outside nothing by_length unlimited text (program_tree checked) is_tree legal restricted fault refused;
+      refused = tells told unlimited text (program_tree checked) is_tree legal restricted fault refused;
     })))))
 
--- ---- what is refused as outside the language of today
+-- ---- numbers of faults
 
 module _ (spelling : SpellingNumbers) (grammar : GrammarNumbers) (legality : LegalityNumbers) (restrictions : RestrictionNumbers) where
   among : (first last : ℕ) (faults : Faults) (fault : Fault) → AreNumberedWithin first last faults → IsLeast faults fault → IsNumbered first last fault
   among first last faults fault all least = All-contains (IsNumbered first last) faults fault all least.listed
 
-  of_tree : (text : List ℕ) (tree : ProgramTree) (fault : Fault) → IsAccepted tree text → RefusesAccepted text tree fault → IsLeftOut text fault
-  of_tree text tree fault accepted (inl memory) = λ is. let n = ap (λ f. f.number) memory in absurd (omega (arith, n, is))
-  of_tree text tree fault accepted (inr (inl out)) = λ is. (out.0, (tree, (accepted, out.1)))
-  of_tree text tree fault accepted (inr (inr large)) = λ is. let n = ap (λ f. f.number) large.0 in absurd (omega (arith, n, is))
+  of_text : (text : List ℕ) (fault : Fault) → RefusesText text fault → IsTextFault fault.number
+  of_text text fault (inl memory) = inr (inr (inr (ap (λ f. f.number) memory)))
+  of_text text fault (inr (inl broken)) = let n = spelling text fault broken.broken in inl (n.0, omega (arith, n.1))
+  of_text text fault (inr (inr (inl none))) = let n = grammar none.tokens fault none.faulty in inl (omega (arith, n.0), n.1)
+  of_text text fault (inr (inr (inr (inl illegal)))) =
+      inr (inl (among NAME_NOT_VISIBLE LIMIT_PASSED (program_faults illegal.tree) fault (legality illegal.tree) illegal.least))
+  of_text text fault (inr (inr (inr (inr (inl broken))))) =
+      inr (inr (inl (among LOCAL_TASKING WRONG_PRAGMAS (restriction_faults broken.tree) fault (restrictions broken.tree) broken.least)))
+  of_text text fault (inr (inr (inr (inr (inr refused))))) = of_tree refused.refused
+    where
+      of_tree : RefusesAccepted text refused.tree fault → IsTextFault fault.number
+      of_tree (inl memory) = inr (inr (inr (ap (λ f. f.number) memory)))
+      of_tree (inr large) = let n = ap (λ f. f.number) large.0 in inr (inl (omega (arith, n), omega (arith, n)))
 
-  left_out : (text : List ℕ) (fault : Fault) → RefusesText text fault → IsLeftOut text fault
-  left_out text fault (inl memory) = λ is. let n = ap (λ f. f.number) memory in absurd (omega (arith, n, is))
-  left_out text fault (inr (inl broken)) = λ is. let n = (spelling text fault broken.broken).1 in absurd (omega (arith, n, is))
-  left_out text fault (inr (inr (inl none))) = λ is. let n = (grammar none.tokens fault none.faulty).1 in absurd (omega (arith, n, is))
-  left_out text fault (inr (inr (inr (inl illegal)))) =
-      λ is.
-      let n = (among NAME_NOT_VISIBLE LIMIT_PASSED (program_faults illegal.tree) fault (legality illegal.tree) illegal.least).1 in
-      absurd (omega (arith, n, is))
-  left_out text fault (inr (inr (inr (inr (inl broken))))) =
-      λ is.
-      let n = (among LOCAL_TASKING WRONG_PRAGMAS (restriction_faults broken.tree) fault (restrictions broken.tree) broken.least).1 in
-      absurd (omega (arith, n, is))
-  left_out text fault (inr (inr (inr (inr (inr refused))))) = of_tree text refused.tree fault refused.accepted refused.refused
-
-  pub refused_left_out : {A : Type 0} (r : Result A Fault) (text : List ℕ) → IfErr r (λ f. RefusesText text f) → IfErr r (λ f. IsLeftOut text f)
-  refused_left_out (Ok a) text refused = tt
-  refused_left_out (Err fault) text refused = left_out text fault refused
+  pub numbered : {A : Type 0} (r : Result A Fault) (text : List ℕ) → IfErr r (λ f. RefusesText text f) → IfErr r (λ f. IsTextFault f.number)
+  numbered (Ok a) text refused = tt
+  numbered (Err fault) text refused = of_text text fault refused

@@ -1,6 +1,6 @@
 -- Which texts are programs, which of these are accepted, and which are compiled.
-use Rattle.std.specs.Prelude.{◌≡◌, ◌⊎◌, ◌<◌, ℕ, true, List, Result, Ok, Err}
-use Rattle.base.specs.declared.faults.TheConstants.{OUTSIDE_LANGUAGE}
+use Rattle.std.specs.Prelude.{◌≡◌, ◌⊎◌, ◌<◌, ◌≤◌, ℕ, List, Result, Ok, Err}
+use Rattle.base.specs.declared.faults.TheConstants.{LIMIT_PASSED, MEMORY_REFUSED}
 use Rattle.lexer.specs.Fault.{memory_fault}
 use Rattle.lexer.specs.Spelling.{Spells, IsBroken}
 use Rattle.lexer.specs.declared.fault.Fault.{Fault}
@@ -16,11 +16,10 @@ use Rattle.ravenscar.specs.ProgramRules.{IsRestricted, restriction_faults}
 use Rattle.ada_link.specs.meaning.specs.SameMeaning.{KeepsCount, SameMeaning}
 use Rattle.ada_link.specs.expr_code.specs.Coming.{most_steps}
 use Rattle.ada_link.specs.expr_code.specs.declared.refusal.Refusal.TheVariants as refusal
-use Rattle.ada_link.specs.Compiled.{IsBounded, outside, too_large}
+use Rattle.ada_link.specs.Compiled.{IsBounded}
 use Rattle.ada_link.specs.package_code.specs.Refusing as sections
-use Rattle.source_laws.specs.Covered.{has_protected}
-use Rattle.source_laws.specs.Limits.{IsLong}
-use Rattle.source_laws.specs.Small.{HasSmallBodies, IsSmall}
+use Rattle.source_laws.specs.Limits.{MayPassLimits}
+use Rattle.source_laws.specs.Small.{IsSmall}
 
 -- the tree is what the text spells
 pub record IsTreeOf (tree : ProgramTree) (text : List ℕ) : Type 0 where
@@ -40,19 +39,17 @@ pub record IsSmallText (tree : ProgramTree) (text : List ℕ) : Type 0 where
   pub is_tree : IsTreeOf tree text
   pub small : IsSmall tree is_tree.tokens
 
--- It declares a protected object. That code is made of all that stands in such a text, and passes no limit where the text is small, isn't shown.
-abbrev pub IsBeyond : ProgramTree → Type 0
-IsBeyond tree = has_protected tree ≡ true
+-- the code of a program passes a limit of images
+abbrev pub too_large : ProgramTree → Fault
+too_large tree = record { number = LIMIT_PASSED; place = tree.main.place }
 
--- Why an accepted text is not compiled: memory was refused; no code is made of something in it, and it declares a protected object; or, as its tree tells, its
--- code may pass a limit of images. Of a text without protected objects whose bodies are small the last is told only where all its code is long, and of a small
--- one never.
+-- why an accepted program is not compiled: memory was refused, or, as its tree tells, its code may pass a limit of images
+abbrev pub RefusesTree : ProgramTree → Fault → Type 0
+RefusesTree tree fault = (fault ≡ memory_fault) ⊎ ((fault ≡ too_large tree) × sections.RefusesLinking tree refusal.Limit)
+
+-- Why an accepted text is not compiled: memory was refused; or, as its tree tells, its code may pass a limit of images, which that of no small text does.
 abbrev pub RefusesAccepted : List ℕ → ProgramTree → Fault → Type 0
-RefusesAccepted text tree fault =
-    (fault ≡ memory_fault)
-    ⊎ (((fault ≡ outside) × IsBeyond tree)
-    ⊎ ((fault ≡ too_large tree)
-    × (sections.RefusesLinking tree refusal.Limit × ((HasSmallBodies tree → IsBeyond tree ⊎ IsLong tree) × (IsSmallText tree text → IsBeyond tree)))))
+RefusesAccepted text tree fault = (fault ≡ memory_fault) ⊎ ((fault ≡ too_large tree) × (MayPassLimits tree × (IsSmallText tree text → ⊥)))
 
 -- a well-formed image that means the same as the text's tree, keeps the count of steps, and has no more instructions than the text tells
 pub record Compiles (text : List ℕ) (image : Sections) : Type 0 where
@@ -93,20 +90,19 @@ pub record HasRefusedTree (text : List ℕ) (fault : Fault) : Type 0 where
   pub accepted : IsAccepted tree text
   pub refused : RefusesAccepted text tree fault
 
--- memory was refused; the text breaks a rule of spelling, and this is the first; its tokens have no tree; the tree is illegal; it is legal and breaks a restriction; or the text is accepted and not
--- compiled
+-- memory was refused; the text breaks a rule of spelling, and this is the first; its tokens have no tree; the tree is illegal; it is legal and breaks a
+-- restriction; or the text is accepted and not compiled
 abbrev pub RefusesText : List ℕ → Fault → Type 0
 RefusesText text fault =
     (fault ≡ memory_fault)
     ⊎ (IsMisspelled text fault ⊎ (HasNoTree text fault ⊎ (HasIllegalTree text fault ⊎ (HasUnrestrictedTree text fault ⊎ HasRefusedTree text fault))))
 
--- A text that is told to be outside of what is compiled is an accepted one that declares a protected object, refused by this number at byte 0. No other text is.
-abbrev pub IsLeftOut : List ℕ → Fault → Type 0
-IsLeftOut text fault =
-    fault.number ≡ OUTSIDE_LANGUAGE → (fault ≡ outside) × ((tree : ProgramTree) × (IsAccepted tree text × IsBeyond tree))
+-- the number of a rule that a text may break, or that of refused memory (docs/FAULTS.md)
+abbrev pub IsTextFault : ℕ → Type 0
+IsTextFault n = ((1 ≤ n) × (n ≤ 7)) ⊎ (((10 ≤ n) × (n ≤ 23)) ⊎ (((30 ≤ n) × (n ≤ 39)) ⊎ (n ≡ MEMORY_REFUSED)))
 
--- The tree of this text breaks no rule; or the text is refused for want of memory, by the least rule from 10 to 23 that it breaks, where it is legal by the least one
--- from 30 to 39, and where it breaks none of these as an accepted one is.
+-- The tree of this text breaks no rule; or the text is refused for want of memory, by the least rule from 10 to 23 that it breaks, where it is legal by the
+-- least one from 30 to 39, and where it breaks none of these as an accepted one is.
 abbrev pub IsJudged : List ℕ → ProgramTree → Result Image Fault → Type 0
 IsJudged text tree (Ok image) = IsLegal tree × IsRestricted tree
 IsJudged text tree (Err fault) =

@@ -2,9 +2,10 @@ use Rattle.std.proofs.Common.{◌≡◌, Err, ap, inl, rules, subst, sym, ◌∙
 use Rattle.std.specs.Prelude.{IfErr}
 use Rattle.ada_link.specs.ada_tree.specs.ProgramTree.{program_tree}
 use Rattle.checking.specs.ProgramRules.{IsLegal}
+use Rattle.ravenscar.specs.ProgramRules.{IsRestricted}
 use Rattle.parser.specs.Parsing.{Derives}
 use Rattle.adarun.specs.Accepted.{CompilesAccepted, IsJudged, RefusesText}
-use Rattle.adarun.proofs.Compiling.{compiles, given, judged, judged_accepted, judged_legal, legal_given, refused_left_out, misspelled, no_tree, refused_text, restricted_given, tells, unrestricted_text}
+use Rattle.adarun.proofs.Compiling.{compiles, given, judged, judged_accepted, judged_legal, legal_given, misspelled, never_outside, no_tree, numbered, refused_text, restricted_given, tells, unrestricted_text}
 use Rattle.adarun.proofs.compilation.compile.Goals as goal
 
 pub returns-in_err-list-clause-refused : goal.returns-in_err-list-clause-refused
@@ -47,21 +48,21 @@ pub returns-clause-judged : goal.returns-clause-judged
 returns-clause-judged c = λ tree is_tree.
     let same = c.deref.ensures.value ∙ c.in_ok-list.ensures.complete is_tree.tokens is_tree.spells in
     let lent = ap program_tree (c.in_ok-accepted.ensures.same ∙ c.in_ok-checked.ensures.same) in
-    judged_accepted c.outside_is_told.ensures c.nothing_is_outside.ensures c.small_bodies_pass_by_length.ensures c.small_is_unlimited.ensures _ _ _ _ is_tree (lent ∙ c.in_ok-program.ensures.only tree (subst (Derives tree) (sym same) is_tree.derives))
-    c.compile_tree.ensures.legal
-    c.compile_tree.ensures.restricted
-    c.compile_tree.ensures.refused
+    judged_accepted c.limits_are_told.ensures c.small_is_unlimited.ensures _ _ _ _ is_tree (lent ∙ c.in_ok-program.ensures.only tree (subst (Derives tree) (sym same) is_tree.derives))
+    c.image_of.ensures.legal
+    c.image_of.ensures.restricted
+    c.image_of.ensures.refused
 
 pub returns-clause-means : goal.returns-clause-means
 returns-clause-means c =
     compiles _ _ _ _ _ c.in_ok-list.ensures.sound c.deref.ensures.value c.in_ok-program.ensures.found _
     (c.in_ok-accepted.ensures.same ∙ c.in_ok-checked.ensures.same)
-    c.compile_tree.ensures.legal
-    c.compile_tree.ensures.restricted
-    c.compile_tree.ensures.means
-    c.compile_tree.ensures.counted
-    c.compile_tree.ensures.bounded
-    c.compile_tree.ensures.well_formed
+    c.image_of.ensures.legal
+    c.image_of.ensures.restricted
+    c.image_of.ensures.means
+    c.image_of.ensures.counted
+    c.image_of.ensures.bounded
+    c.image_of.ensures.well_formed
 
 pub returns-in_err-checked-clause-accepted : goal.returns-in_err-checked-clause-accepted
 returns-in_err-checked-clause-accepted c = λ tree given_tree.
@@ -85,10 +86,10 @@ returns-clause-accepted c = λ tree given_tree.
     let is_tree = given_tree.is_tree in
     let same = c.deref.ensures.value ∙ c.in_ok-list.ensures.complete is_tree.tokens is_tree.spells in
     let lent = ap program_tree (c.in_ok-accepted.ensures.same ∙ c.in_ok-checked.ensures.same) in
-    let told = tells c.outside_is_told.ensures c.nothing_is_outside.ensures c.small_bodies_pass_by_length.ensures c.small_is_unlimited.ensures c.args.source.now tree is_tree given_tree.legal given_tree.restricted in
+    let told = tells c.limits_are_told.ensures c.small_is_unlimited.ensures c.args.source.now tree is_tree given_tree.legal given_tree.restricted in
     given _ _ _ _ told (lent ∙ c.in_ok-program.ensures.only tree (subst (Derives tree) (sym same) is_tree.derives))
-    c.compile_tree.ensures.means
-    c.compile_tree.ensures.refused
+    c.image_of.ensures.means
+    c.image_of.ensures.refused
 
 pub returns-in_err-accepted-clause-refused : goal.returns-in_err-accepted-clause-refused
 returns-in_err-accepted-clause-refused c =
@@ -99,23 +100,32 @@ returns-in_err-accepted-clause-refused c =
 
 pub returns-clause-refused : goal.returns-clause-refused
 returns-clause-refused c =
-    refused_text c.outside_is_told.ensures c.nothing_is_outside.ensures c.small_bodies_pass_by_length.ensures c.small_is_unlimited.ensures _ _ _ _ _ _ c.in_ok-list.ensures.sound c.deref.ensures.value c.in_ok-program.ensures.found
+    refused_text c.limits_are_told.ensures c.small_is_unlimited.ensures _ _ _ _ _ _ c.in_ok-list.ensures.sound c.deref.ensures.value c.in_ok-program.ensures.found
     (c.in_ok-accepted.ensures.same ∙ c.in_ok-checked.ensures.same)
-    c.compile_tree.ensures.legal
-    c.compile_tree.ensures.restricted
-    c.compile_tree.ensures.refused
+    c.image_of.ensures.legal
+    c.image_of.ensures.restricted
+    c.image_of.ensures.refused
 
-pub returns-in_err-checked-clause-left_out : goal.returns-in_err-checked-clause-left_out
-returns-in_err-checked-clause-left_out c =
+pub returns-in_err-checked-clause-numbered : goal.returns-in_err-checked-clause-numbered
+returns-in_err-checked-clause-numbered c =
     let refused : IfErr c.from_residual-in_err-checked.result (λ fault. RefusesText c.args.source.now fault) = search rules in
-    refused_left_out c.spelling_numbers.ensures c.grammar_numbers.ensures c.legality_numbers.ensures c.restriction_numbers.ensures _ c.args.source.now refused
+    numbered c.spelling_numbers.ensures c.grammar_numbers.ensures c.legality_numbers.ensures c.restriction_numbers.ensures _ c.args.source.now refused
 
-pub returns-in_err-accepted-clause-left_out : goal.returns-in_err-accepted-clause-left_out
-returns-in_err-accepted-clause-left_out c =
-    refused_left_out c.spelling_numbers.ensures c.grammar_numbers.ensures c.legality_numbers.ensures c.restriction_numbers.ensures _ c.args.source.now
+pub returns-in_err-accepted-clause-numbered : goal.returns-in_err-accepted-clause-numbered
+returns-in_err-accepted-clause-numbered c =
+    numbered c.spelling_numbers.ensures c.grammar_numbers.ensures c.legality_numbers.ensures c.restriction_numbers.ensures _ c.args.source.now
     (returns-in_err-accepted-clause-refused c)
 
-pub returns-clause-left_out : goal.returns-clause-left_out
-returns-clause-left_out c =
-    refused_left_out c.spelling_numbers.ensures c.grammar_numbers.ensures c.legality_numbers.ensures c.restriction_numbers.ensures _ c.args.source.now
+pub returns-clause-numbered : goal.returns-clause-numbered
+returns-clause-numbered c =
+    numbered c.spelling_numbers.ensures c.grammar_numbers.ensures c.legality_numbers.ensures c.restriction_numbers.ensures _ c.args.source.now
     (returns-clause-refused c)
+
+pub image_of-requires : goal.image_of-requires
+image_of-requires c = λ refused.
+    never_outside c.outside_is_told.ensures c.nothing_is_outside.ensures _ _ _ _ _ c.in_ok-list.ensures.sound c.deref.ensures.value
+    c.in_ok-program.ensures.found
+    (c.in_ok-accepted.ensures.same ∙ c.in_ok-checked.ensures.same)
+    (subst (λ p. IsLegal (program_tree p)) (sym (c.in_ok-accepted.ensures.same ∙ c.in_ok-checked.ensures.same)) c.in_ok-checked.ensures.legal)
+    (subst (λ p. IsRestricted (program_tree p)) (sym c.in_ok-accepted.ensures.same) c.in_ok-accepted.ensures.restricted)
+    refused
