@@ -42,7 +42,7 @@ use Rattle.source_laws.specs.Covered.{AreLegalFormals, HasWhatCodeNeeds}
 use Rattle.source_laws.specs.Covered as covered
 use Rattle.source_laws.specs.Depths.{is_full, is_scalar_form}
 use Rattle.source_laws.proofs.NeedsFormals.{AreNamed, IsBehind, formal_known, named_there, one_behind, visible_there}
-use Rattle.source_laws.proofs.NeedsScopes.{bounds_known, bounds_legal, callee_before, constant_or_variable, integral, named_before, scalar_kept}
+use Rattle.source_laws.proofs.NeedsScopes.{behind_before, bounds_known, bounds_legal, callee_before, constant_or_variable, integral, named_before, scalar_kept}
 
 -- ---- what is told by numbers
 
@@ -170,19 +170,16 @@ module _ (exceptions : List (List ℕ)) (os : List (List (Option ℕ))) (s : Sco
       let was = told_without (λ q. q) refl o.0 other s own (λ q is. cc) o.1 in
       o.1 ∙ sym was.2
 
-  behind_before : (other operation : List ℕ) (p : Profile) → external_profile wider other operation ≡ Some p → external_profile s other operation ≡ Some p
-  behind_before other operation p h = ap (λ q. profile_behind q operation) (sym (same_object other operation p h)) ∙ h
-
   offered_here : (other operation : List ℕ) (p : Profile) → external_profile wider other operation ≡ Some p
       → (is_some (entry_behind wider other operation) || is_some (number_behind os (protected_by_name wider other) operation)) ≡ true
   offered_here other operation p h =
       subst (λ q. (is_some (entry_among q operation) || is_some (number_behind os q operation)) ≡ true) (sym (same_object other operation p h))
-      (cover.offered other operation p (behind_before other operation p h))
+      (cover.offered other operation p (behind_before s name r t other operation p h))
 
   gives_here : (other operation : List ℕ) (p : Profile) (u : Subtype) → external_profile wider other operation ≡ Some p → p.result ≡ Some u
       → (is_some (number_behind os (protected_by_name wider other) operation) ≡ true) × (is_scalar_form (form_at wider u.type_number) ≡ true)
   gives_here other operation p u h result =
-      let old = cover.gives other operation p u (behind_before other operation p h) result in (
+      let old = cover.gives other operation p u (behind_before s name r t other operation p h) result in (
         ap (λ q. is_some (number_behind os q operation)) (same_object other operation p h) ∙ old.0,
         test_kept s wider (grown s (own ∷ [])) is_scalar_form refl u.type_number old.1,
       )

@@ -66,7 +66,7 @@ module _ (s g : Scope) (x : Extends s g) (sound : SoundScope s) where
     pub faults : static_faults g w within e ≡ []
     pub scalar : static_scalar g w within e ≡ static_scalar s w within e
 
-  static_kept : (w : Wanted) (within : Option Subtype) (e : ExprTree) → static_faults s w within e ≡ [] → IsStaticKept w within e
+  pub static_kept : (w : Wanted) (within : Option Subtype) (e : ExprTree) → static_faults s w within e ≡ [] → IsStaticKept w within e
   static_kept w within e h =
       let typed = faults_of s w e in
       let form = form_rule (start_of e) (static_form s e) in

@@ -5,6 +5,7 @@ mod RowsCounted
 mod CodeCounted
 mod WholeItems
 mod UnitClauses
+mod NamesTested
 mod BoundedNames
 mod FullShapes
 mod InsideNames
@@ -33,6 +34,16 @@ mod CoveredOperations
 mod WholeBodies
 mod SmallFronts
 mod NothingOutside
+mod PartsCounted
+mod MeantStatements
+mod MeantTexts
+mod MeantBarriers
+mod MeantWorlds
+mod NamesTogether
+mod SpelledNumbers
+mod NumberScopes
+mod StandardStatics
+mod MainAspect
 pub mod Peaks
 pub mod PeakBounds
 pub mod PeakSlots

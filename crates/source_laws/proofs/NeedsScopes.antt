@@ -137,7 +137,7 @@ module _ (s : Scope) (name : List ℕ) (r : Role) (t : Subtype) where
           ]
       by_number None is k = absurd (no_profile p k)
 
-  behind_before : (object operation : List ℕ) (p : Profile) → external_profile (s ++ more) object operation ≡ Some p
+  pub behind_before : (object operation : List ℕ) (p : Profile) → external_profile (s ++ more) object operation ≡ Some p
       → external_profile s object operation ≡ Some p
   behind_before object operation p h = by_number (number_of (s ++ more) object) refl h
     where

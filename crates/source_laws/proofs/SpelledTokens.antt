@@ -1,12 +1,13 @@
--- The identifiers and labels among the tokens of a text are names and labels.
-use Rattle.std.proofs.Common.{◌≡◌, ℕ, Bool, true, false, not, ◌&&◌, ◌||◌, List, [], ◌∷◌, length, refl, sym, ap, ◌∙◌, subst, arith}
-use Rattle.std.specs.Prelude.{bytes_eq, nat_eq, nat_le}
+-- The identifiers and labels among the tokens of a text are names and labels, and its numbers have 64 bits.
+use Rattle.std.proofs.Common.{◌≡◌, ◌<◌, ℕ, pos, Bool, true, false, not, ◌&&◌, ◌||◌, List, [], ◌∷◌, length, refl, sym, ap, ◌∙◌, subst, arith}
+use Rattle.std.specs.Prelude.{◌^◌, bytes_eq, nat_eq, nat_le}
 use Rattle.std.specs.Char.{is_ascii_alphabetic, to_ascii_uppercase}
 use Rattle.std.specs.Cmp.Lexicographic.{bytes_decides}
 use Rattle.std.specs.List.{list_all, list_any}
-use Rattle.std.proofs.lemmas.Bool.{and_from, and_parts, le-leb}
+use Rattle.std.proofs.lemmas.Bool.{and_from, and_parts, le-leb, lt-ltb}
 use Rattle.std.proofs.lemmas.Bool.Decides.{nat_tests}
 use Rattle.std.proofs.lemmas.List.{length-map}
+use Rattle.ada_link.specs.base.specs.Arithmetic.{is_in_base_range}
 use Rattle.ada_link.specs.base.specs.Names.{is_digit, is_identifier, is_label, is_letter, is_name, is_reserved, is_rest}
 use Rattle.ada_link.specs.base.specs.Names as names
 use Rattle.ada_link.specs.base.specs.declared.limits.TheConstants.{LABEL_LIMIT, NAME_LIMIT}
@@ -16,14 +17,16 @@ use Rattle.ada_link.specs.lexer.specs.declared.token.TokenKind.TheVariants as ki
 use Rattle.ada_link.specs.lexer.specs.declared.word.Word.{Word}
 use Rattle.ada_link.specs.lexer.specs.declared.word.Word.TheVariants as words
 use Rattle.ada_link.specs.lexer.specs.Characters.{begins, is_underline, is_word_character}
-use Rattle.ada_link.specs.lexer.specs.Elements.{IsLabel, IsName, IsToken, has_single_underlines, upper_case}
+use Rattle.ada_link.specs.lexer.specs.Elements.{IsLabel, IsName, IsToken, has_single_underlines, upper_case, value}
+use Rattle.ada_link.specs.lexer.specs.Limits.{number_limit}
 use Rattle.ada_link.specs.lexer.specs.Spelling.{Comment, Here, Lexeme, Row, White}
 use Rattle.ada_link.specs.lexer.specs.Words.{spelling}
 
--- a token's name is a name, its label a label
+-- a token's name is a name, its label a label, and its number has 64 bits
 abbrev pub IsKindSpelled : TokenKind → Type 0
 IsKindSpelled (kinds.Identifier name) = is_name name ≡ true
 IsKindSpelled (kinds.Label text) = is_label text ≡ true
+IsKindSpelled (kinds.Number z) = is_in_base_range z ≡ true
 IsKindSpelled k = Unit {0}
 
 abbrev pub AreSpelled : List Token → Type 0
@@ -101,10 +104,16 @@ label_spelled text is =
     and_from (nat_le 1 (length text)) _ (le-leb 1 (length text) is.some)
     (and_from (nat_le (length text) LABEL_LIMIT) (list_all names.is_label_character text) (le-leb (length text) LABEL_LIMIT is.short) is.characters)
 
+-- ---- literals
+
+literal_fits : (n : ℕ) → n < number_limit → is_in_base_range (pos n) ≡ true
+literal_fits n h = lt-ltb n (2 ^ 63) (omega (arith, h))
+
 kind_spelled : (k : TokenKind) (element rest : List ℕ) → IsToken k element rest → IsKindSpelled k
 kind_spelled (kinds.Identifier name) element rest is =
     subst (λ n. is_name n ≡ true) (sym is.1) (name_spelled element is.0 (λ w e. is.2 w (e ∙ sym is.1)))
 kind_spelled (kinds.Label text) element rest is = label_spelled text is.0
+kind_spelled (kinds.Number z) element rest is = ap is_in_base_range is.1 ∙ literal_fits (value element) is.0.in_range
 kind_spelled k element rest is = tt
 
 -- of a whole text

@@ -209,7 +209,7 @@ module _ (laws : LawsOfNames) (t : ProgramTree) (legal : IsLegal t) (restricted 
 
   -- ---- bodies of operations and entries
 
-  restricted_items : (cs : List RecordComponent) (items : List ProtectedItemTree) (k : ℕ) (i : ProtectedItemTree)
+  pub restricted_items : (cs : List RecordComponent) (items : List ProtectedItemTree) (k : ℕ) (i : ProtectedItemTree)
       → restrictions.operations_faults cs items ≡ [] → slice_get items k ≡ Some i → restrictions.operation_faults cs i ≡ []
   restricted_items cs [] k i h at = cc
   restricted_items cs (x ∷ rest) zero i h at =

@@ -4,3 +4,6 @@ pub mod Small
 pub mod Visible
 pub mod Limits
 pub mod Covered
+pub mod Meant
+pub mod MeantRuns
+pub mod Counted

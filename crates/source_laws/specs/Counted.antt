@@ -1,0 +1,49 @@
+-- That each part of a text has no more nodes than tokens, so the code of each body has a bound by the tokens of the item that it stands in.
+use Rattle.std.specs.Prelude.{◌≡◌, ◌≤◌, ◌+◌, ◌*◌, ◌++◌, ℕ, List, length, Some, slice_get}
+use Rattle.ada_link.specs.lexer.specs.declared.token.Token.{Token}
+use Rattle.ada_tree.specs.ExpressionGrammar.{expression}
+use Rattle.ada_tree.specs.ExpressionTree.{ExprTree}
+use Rattle.ada_tree.specs.Language.{Limit}
+use Rattle.ada_tree.specs.ProgramGrammar.{body, body_item, program, protected_item}
+use Rattle.ada_tree.specs.ProgramTree.{BodyItemTree, BodyTree, ProgramTree, ProtectedBody, ProtectedItemTree}
+use Rattle.ada_tree.specs.Size.{body_item_size, body_size, expr_size, protected_item_size, stmt_size}
+use Rattle.ada_tree.specs.StatementGrammar.{stmt}
+use Rattle.ada_tree.specs.StatementTree.{StmtTree}
+use Rattle.program_soundness.specs.declaring.specs.BodyNames.{formals_scope}
+use Rattle.ada_link.specs.part_code.specs.Bounds.{body_words, formals_words}
+use Rattle.ada_link.specs.package_code.specs.Bodies.{Coded}
+use Rattle.ada_link.specs.package_code.specs.Counts.{bound_of}
+use Rattle.source_laws.specs.Visible.{IsBodyOf}
+
+-- ---- nodes
+
+pub record PartsWithinTokens : Type 0 where
+  pub expressions : (limit : Limit) (e : ExprTree) (tokens : List Token) → expression limit e tokens → expr_size e ≤ length tokens
+  pub statements : (limit : Limit) (x : StmtTree) (tokens : List Token) → stmt x limit tokens → stmt_size x ≤ length tokens
+  pub bodies : (limit : Limit) (b : BodyTree) (tokens : List Token) → body limit b tokens → body_size b ≤ length tokens
+  pub items : (limit : Limit) (x : BodyItemTree) (tokens : List Token) → body_item limit x tokens → body_item_size x ≤ length tokens
+  pub operations : (limit : Limit) (i : ProtectedItemTree) (tokens : List Token) → protected_item limit i tokens → protected_item_size i ≤ length tokens
+
+-- ---- instructions
+
+-- the words of the formals of a body with code, and of all objects that are declared in it
+abbrev pub words_in : Coded → ℕ
+words_in c = formals_words c.front (formals_scope c.front c.head.formals) c.head.formals + body_words (formals_scope c.front c.head.formals) c.body
+
+-- the tokens that spell a body with code: those of its item of the package, or of its operation or entry in the body of a protected object
+abbrev pub SpellsBody : Limit → BodyItemTree → (index : ℕ) → List Token → Type 0
+SpellsBody limit (ProtectedBody name items end_name) index part = (i : ProtectedItemTree) × (slice_get items index ≡ Some i) × protected_item limit i part
+SpellsBody limit x index part = body_item limit x part
+
+-- they stand in the text
+pub record HasBodyTokens (limit : Limit) (x : BodyItemTree) (index : ℕ) (tokens : List Token) : Type 0 where
+  pub front : List Token
+  pub part : List Token
+  pub behind : List Token
+  pub split : tokens ≡ front ++ (part ++ behind)
+  pub spelled : SpellsBody limit x index part
+
+-- The code of each body takes at most 20 instructions for each token that spells it, and two for each word of its formals and objects.
+abbrev pub CodeWithinTokens : Type 0
+CodeWithinTokens = (limit : Limit) (t : ProgramTree) (tokens : List Token) → program limit t tokens → (c : Coded) (b : IsBodyOf t c)
+    → (x : HasBodyTokens limit b.item b.index tokens) × (bound_of c ≤ 20 * length x.part + 2 * words_in c)
