@@ -3,10 +3,10 @@
 
     rows.py PROGRAM WATCHER FOLDER SCRATCH
 
-A table has rows of one kind, told by its name: programs, time, delays, tasks, protected, entries, refused and spelling have sources, schedules has schedules, images and
+A table has rows of one kind, told by its name: programs, time, delays, tasks, protected, entries, traces, refused and spelling have sources, schedules has schedules, images and
 operations have images, words has words.
 
-- A source is called by `go`, then by `compile`, and what was compiled by `run`. Where it is refused, no image is made, and one that was there stays.
+- A source is called by `go`, by `trace`, whose rows tell the same lines, then by `compile`, and what was compiled by `run`; one of traces by `trace` alone, with each byte of its rows. Where it is refused, no image is made, and one that was there stays.
 - What was compiled of a row of tasks, delays, protected objects or entries is also run, on a schedule that is read, by the WATCHER (crates/exclusion_main), which asks after each step whether
   exclusion holds. It takes as many steps as the least limit that gives the row's lines, where the row has `limits`, or as the limit that cuts it.
 - A row has a name, and lines of a word and what belongs to it: the whole `text`, or what stands in the frame in the place of SPEC and BODY (`spec`, `body`;
@@ -14,7 +14,7 @@ operations have images, words has words.
   `schedule` and a `limit` (none, 100000); and what is expected: lines of `out`, the line `err`, the exit `status` (0). Lines of one word are joined.
 - A row on one line has what is expected, `: `, and the text, the schedule or the words.
 - A row with `limits` is run with each limit from 0 on: up to the first one that gives the row's lines it writes whole lines of these, no fewer than with the
-  limit before, and then where the limit cut it, at a time between those of the lines around.
+  limit before, and then where the limit cut it, at a time between those of the lines around; from there on it gives the row's lines.
 - Of the image of a row with `cut`, each beginning is too short by what isn't there, and is refused at its end.
 - `\\n`, `\\xNN` and the like stand for bytes, and {5*ab} for a part five times.
 """
@@ -36,6 +36,7 @@ CALLING = """label given label caught word 7 word 8 object 20 - 0 0 2 own 11 own
 CALLING_PLACES = 4
 JOBS = 2
 MOST_STEPS = 2_000
+MOST_LIMIT = 2**64 - 1
 STATUS_OF_LIMIT = 5
 
 
@@ -141,6 +142,15 @@ class Caller:
         if (run.stdout, run.stderr, run.returncode) != (out, err, status):
             self.wrong.append(f"{row['name']}: {' '.join(words)}: status {run.returncode}, {run.stdout[-300:]!r}, {run.stderr!r}; expected {status}, {out[-300:]!r}, {err!r}")
 
+    def tell(self, row, words, out, err, status):
+        """Calls the program for a trace: the lines of the run stand in it word for word, in their order, and its last line is the run's."""
+        run = subprocess.run([self.program, "trace", *words], cwd=self.folder, capture_output=True, check=False)
+        self.calls += 1
+        *rows, last = run.stdout.splitlines(keepends=True) or [b""]
+        written = b"".join(told[1] for told in (re.fullmatch(rb"\d+ \d+ \S+ writes (.*\n)", told) for told in rows) if told) + last
+        if (written, run.stderr, run.returncode) != (out, err, status):
+            self.wrong.append(f"{row['name']}: trace: status {run.returncode}, {written[-300:]!r}, {run.stderr!r}; expected {status}, {out[-300:]!r}, {err!r}")
+
     def watch(self, row, words, steps):
         """Has the watcher run an image: exclusion holds after each step, and it takes so many (None: any number)."""
         run = subprocess.run([self.watcher, *words], cwd=self.folder, capture_output=True, check=False)
@@ -159,6 +169,8 @@ class Caller:
             run = subprocess.run([self.program, *words, str(limit)], cwd=self.folder, capture_output=True, check=False)
             self.calls += 1
             if run.stdout == out:
+                if run.returncode != STATUS_OF_LIMIT:
+                    self.stays(row, words, limit, run)
                 return limit
             *written, last = run.stdout.splitlines(keepends=True) or [b""]
             is_beginning = written == lines[:len(written)] and before <= len(written) < len(lines)
@@ -169,6 +181,14 @@ class Caller:
             before = len(written)
         self.wrong.append(f"{row['name']}: no limit below {MOST_STEPS} gives its lines")
         return None
+
+    def stays(self, row, words, limit, ended):
+        """Calls the program with one step more than it needs, and with the most steps that a limit may have: it writes the same."""
+        for more in (limit + 1, MOST_LIMIT):
+            run = subprocess.run([self.program, *words, str(more)], cwd=self.folder, capture_output=True, check=False)
+            self.calls += 1
+            if (run.stdout, run.stderr, run.returncode) != (ended.stdout, ended.stderr, ended.returncode):
+                self.wrong.append(f"{row['name']}: with limit {more}: status {run.returncode}, {run.stdout!r}, {run.stderr!r}, and not as with limit {limit}")
 
     def same(self, row, what, found, expected):
         if found != expected:
@@ -181,6 +201,13 @@ def expected_of(row):
     return out, err, int(row.get("status", ["0"])[0])
 
 
+def row_of(table, name):
+    """A row of a table by its name: its source, its schedule, its limit, and standard output, standard error and the exit status."""
+    with open(os.path.join(os.path.dirname(os.path.abspath(__file__)), "rows", table + ".txt"), encoding="utf-8") as file:
+        row = next(row for row in rows_of(table, file.read().split("\n")) if row["name"] == name)
+    return framed(row["frame"], row), bytes_of("".join(row.get("schedule", []))), row.get("limit", ["100000"])[0], *expected_of(row)
+
+
 def run_source(caller, row):
     """A source by `go`, and by `compile` and then `run`."""
     limit = row.get("limit", ["100000"])[0]
@@ -188,6 +215,7 @@ def run_source(caller, row):
     caller.write("main.adb", framed(row["frame"], row))
     caller.write("input", bytes_of("".join(row.get("schedule", []))))
     caller.call(row, ["go", "main.adb", "input", limit], out, err, status)
+    caller.tell(row, ["main.adb", "input", limit], out, err, status)
     if status == 2:
         caller.write("kept.img", b"kept")
         for image, before in [("kept.img", b"kept"), ("none.img", None)]:
@@ -201,6 +229,13 @@ def run_source(caller, row):
             steps = caller.grows(row, ["go", "main.adb", "input"], out)
         if caller.watcher and status != STATUSES["schedule"]:
             caller.watch(row, ["main.img", "input", limit], steps)
+
+
+def run_trace(caller, row):
+    """A source by `trace`, with each byte of its rows."""
+    caller.write("main.adb", framed(row["frame"], row))
+    caller.write("input", bytes_of("".join(row.get("schedule", []))))
+    caller.call(row, ["trace", "main.adb", "input", row.get("limit", ["100000"])[0]], *expected_of(row))
 
 
 def run_image(caller, row):
@@ -241,7 +276,7 @@ def run_words(caller, row):
     caller.same(row, "files have changed", files_left, files)
 
 
-KINDS = {"programs": run_source, "time": run_source, "delays": run_source, "tasks": run_source, "protected": run_source, "entries": run_source, "refused": run_source, "spelling": run_source, "schedules": run_source, "images": run_image, "operations": run_image, "words": run_words}
+KINDS = {"programs": run_source, "time": run_source, "delays": run_source, "tasks": run_source, "protected": run_source, "entries": run_source, "refused": run_source, "spelling": run_source, "schedules": run_source, "traces": run_trace, "images": run_image, "operations": run_image, "words": run_words}
 
 
 def check_table(program, watcher, path, scratch):

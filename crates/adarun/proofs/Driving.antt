@@ -13,7 +13,7 @@ use Rattle.command_line.specs.declared.WordsError.TheVariants.{Usage}
 use Rattle.adarun.specs.Accepted.{RefusesText}
 use Rattle.adarun.specs.Headline.{Runs}
 use Rattle.adarun.specs.Stopping.{RefusesRunning}
-use Rattle.adarun.specs.Driving.{Contents, HasRun, HasRunImage, IsContentRead, KeepsSink, LeavesGo, LeavesRun, status_of}
+use Rattle.adarun.specs.Driving.{Contents, HasRun, HasRunImage, HasTraced, IsContentRead, KeepsSink, LeavesGo, LeavesRun, LeavesTrace, status_of}
 use Rattle.adarun.specs.declared.going.GoFault.{GoFault}
 use Rattle.adarun.specs.declared.going.GoFault.TheVariants as faults
 use Rattle.adarun.specs.declared.program.Status.{Status}
@@ -107,3 +107,20 @@ asked_as command read request is answers = subst (λ r. command_of r ≡ command
 
 pub asked_nothing : (command : Command) (error : WordsError) → error ≡ Usage → AnswersWords command (Err error) → Nothing ≡ command
 asked_nothing command error is answers = sym (subst (λ e. AnswersWords command (Err e)) is answers)
+
+-- ---- `trace`: a schedule that is refused leaves what it leaves to `go`
+
+module _ (contents : Contents) (source schedule : List ℕ) (limit : ℕ) (old new : Option (List ℕ)) where
+  pub unscheduled_trace : (b : Bool) (status : Status) → status ≡ cond b NoMemory ScheduleRefused → LeavesGo contents source schedule limit status old new → LeavesTrace contents source schedule limit status old new
+  unscheduled_trace true status e h = subst (λ s. LeavesTrace contents source schedule limit s old new) (sym e) (subst (λ s. LeavesGo contents source schedule limit s old new) e h)
+  unscheduled_trace false status e h = subst (λ s. LeavesTrace contents source schedule limit s old new) (sym e) (subst (λ s. LeavesGo contents source schedule limit s old new) e h)
+
+  has_traced : (outcome : Outcome) → HasTraced contents source schedule limit (status_of outcome) old new → LeavesTrace contents source schedule limit (status_of outcome) old new
+  has_traced (outcomes.Ended time) h = h
+  has_traced (outcomes.Unhandled exception task time) h = h
+  has_traced (outcomes.WaitsForever time) h = h
+  has_traced (outcomes.StepLimit time) h = h
+  has_traced (outcomes.ImageFault time) h = h
+
+  pub trace_leaves : (status : Status) (outcome : Outcome) → status ≡ status_of outcome → HasTraced contents source schedule limit (status_of outcome) old new → LeavesTrace contents source schedule limit status old new
+  trace_leaves status outcome e h = subst (λ s. LeavesTrace contents source schedule limit s old new) (sym e) (has_traced outcome h)

@@ -18,7 +18,8 @@ use Rattle.machine.specs.Stands.{EndsBy}
 use Rattle.machine.specs.Written.{AppendsBeginning}
 use Rattle.machine.specs.declared.reports.Outcome.{Outcome}
 use Rattle.machine.specs.declared.reports.Outcome.TheVariants as outcomes
-use Rattle.command_line.specs.Words.{Command, CompileText, GoText, ListImage, Nothing, RunImage, asked, is_plain}
+use Rattle.tracing.specs.Traces.{trace_text}
+use Rattle.command_line.specs.Words.{Command, CompileText, GoText, ListImage, Nothing, RunImage, TraceText, asked, is_plain}
 use Rattle.adarun.specs.Accepted.{Compiles, RefusesText}
 use Rattle.adarun.specs.Headline.{Runs, WritesBeginning}
 use Rattle.adarun.specs.Stopping.{HasImage}
@@ -104,6 +105,44 @@ LeavesGo contents source schedule limit NoMemory old new = new ≡ old
 LeavesGo contents source schedule limit Failed old new = (new ≡ old) ⊎ HasBegun contents source schedule limit old new
 LeavesGo contents source schedule limit status old new = HasRun contents source schedule limit status old new
 
+-- ---- `trace`
+
+-- the file was read, and its lines are a schedule
+pub record HasSchedule (contents : Contents) (name : List ℕ) : Type 0 where
+  pub input : List ℕ
+  pub read : IsContentRead (contents name) input
+  pub lines : List ScheduleLine
+  pub is_schedule : schedules.IsScheduleText input lines
+
+-- the source was read and compiled, the second file is a schedule, and the trace of the image's run was written, with an outcome of this status
+pub record HasTraced (contents : Contents) (source schedule : List ℕ) (limit : ℕ) (status : Status) (old new : Option (List ℕ)) : Type 0 where
+  pub text : List ℕ
+  pub source_read : IsContentRead (contents source) text
+  pub image : Sections
+  pub compiles : Compiles text image
+  pub given : HasSchedule contents schedule
+  pub outcome : Outcome
+  pub status_is : status ≡ status_of outcome
+  pub written : Appends old new (trace_text image given.lines limit)
+  pub ends : EndsBy outcome (code image given.lines limit)
+
+-- a beginning of that trace was written
+pub record HasBegunTrace (contents : Contents) (source schedule : List ℕ) (limit : ℕ) (old new : Option (List ℕ)) : Type 0 where
+  pub text : List ℕ
+  pub source_read : IsContentRead (contents source) text
+  pub image : Sections
+  pub compiles : Compiles text image
+  pub given : HasSchedule contents schedule
+  pub begins : AppendsBeginning old new (trace_text image given.lines limit)
+
+-- what `trace` wrote to standard output, by the exit status
+abbrev pub LeavesTrace : Contents → List ℕ → List ℕ → ℕ → Status → Option (List ℕ) → Option (List ℕ) → Type 0
+LeavesTrace contents source schedule limit SourceRefused old new = HasRefusedSource contents source old new
+LeavesTrace contents source schedule limit ScheduleRefused old new = HasRefusedSchedule contents source schedule old new
+LeavesTrace contents source schedule limit NoMemory old new = new ≡ old
+LeavesTrace contents source schedule limit Failed old new = (new ≡ old) ⊎ HasBegunTrace contents source schedule limit old new
+LeavesTrace contents source schedule limit status old new = HasTraced contents source schedule limit status old new
+
 -- ---- images
 
 -- the file was read, and its bytes are those of this image
@@ -119,13 +158,6 @@ pub record HasRefusedImage (contents : Contents) (name : List ℕ) (old new : Op
   pub fault : refused.ImageFault
   pub refused : image_fault bytes ≡ Some fault
   pub unwritten : new ≡ old
-
--- the file was read, and its lines are a schedule
-pub record HasSchedule (contents : Contents) (name : List ℕ) : Type 0 where
-  pub input : List ℕ
-  pub read : IsContentRead (contents name) input
-  pub lines : List ScheduleLine
-  pub is_schedule : schedules.IsScheduleText input lines
 
 -- ---- `list`
 
@@ -230,6 +262,8 @@ LeavesWritten (CompileText source image) before after status old new = LeavesCom
 LeavesWritten (ListImage image) before after status old new = AreFilesKept before after × LeavesList before image status old new
 LeavesWritten (RunImage image schedule limit) before after status old new = AreFilesKept before after × LeavesRun before image schedule limit status old new
 LeavesWritten (GoText source schedule limit) before after status old new = AreFilesKept before after × LeavesGo before source schedule limit status old new
+LeavesWritten (TraceText source schedule limit) before after status old new = AreFilesKept before after
+    × LeavesTrace before source schedule limit status old new
 LeavesWritten Nothing before after status old new = AreFilesKept before after × ((new ≡ old) × ((status ≡ Failed) ⊎ (status ≡ NoMemory)))
 
 -- the number of an exit status

@@ -37,8 +37,8 @@ abbrev pub IsWrittenBy : ProgramTree → List ScheduleLine → machine.Outcome �
 IsWrittenBy tree schedule outcome (Some o) written = IsWholeRun tree schedule o written
 IsWrittenBy tree schedule outcome None written = IsCut tree schedule outcome written
 
--- A run of an accepted text under the schedule that the input is has written what the text means: the source's whole text where the run came to an outcome, which
--- is the source's; else, cut at the limit, a beginning of the source's lines, and the line that says so.
+-- A run of an accepted text under the schedule that the input is has written what the text means: the source's whole text where the run came to an outcome,
+-- which is the source's; else, cut at the limit, a beginning of the source's lines, and the line that says so.
 pub record WritesItsMeaning (text input : List ℕ) (outcome : machine.Outcome) (old new : Option (List ℕ)) : Type 0 where
   pub schedule : List ScheduleLine
   pub is_schedule : IsScheduleText input schedule
@@ -55,10 +55,11 @@ abbrev pub ComesToTheSame : ProgramTree → List ScheduleLine → Sections → T
 ComesToTheSame tree schedule image =
     (steps : ℕ) (o : Outcome)
     → (source tree schedule steps).kernel.outcome ≡ Some o
-    → (enough : ℕ) × ((limit : ℕ) → enough ≤ limit → ((code image schedule limit).kernel.outcome ≡ Some o) × (code_text image schedule limit ≡ source_text tree schedule steps))
+    → (enough : ℕ) × ((limit : ℕ) → enough ≤ limit → ((code image schedule limit).kernel.outcome ≡ Some o)
+    × (code_text image schedule limit ≡ source_text tree schedule steps))
 
--- The same run by its image, for at most `limit` steps of its code: a well-formed image that means the same as the text's tree and keeps the count of steps. What was
--- written is what its code writes within the limit, so under every limit that is large enough the run comes to the outcome that the source has.
+-- The same run by its image, for at most `limit` steps of its code: a well-formed image that means the same as the text's tree and keeps the count of steps.
+-- What was written is what its code writes within the limit, so under every limit that is large enough the run comes to the outcome that the source has.
 pub record Runs (text input : List ℕ) (limit : ℕ) (outcome : machine.Outcome) (old new : Option (List ℕ)) : Type 0 where
   pub schedule : List ScheduleLine
   pub is_schedule : IsScheduleText input schedule

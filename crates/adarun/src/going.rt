@@ -48,7 +48,8 @@ pub fn go<S: Sink>(
     // A refusal is that of the call it comes from, where the calls before it gave their answers.
     ensures refused { IfErr result (RefusesRunning source.now schedule.now) }
     // An accepted text is refused only for want of memory, or because its code may be too large, which that of no small text is: its text tells which.
-    ensures accepted { (tree : ProgramTree) (fault : Fault) → IsAccepted tree source.now → result ≡ Err (GoFault.Source fault) → RefusesAccepted source.now tree fault }
+    ensures accepted { (tree : ProgramTree) (fault : Fault) → IsAccepted tree source.now → result ≡ Err (GoFault.Source fault) → RefusesAccepted
+        source.now tree fault }
     ensures source { (fault : Fault) → result ≡ Err (GoFault.Source fault) → sink.new ≡ sink.old }
     ensures schedule { (fault : ScheduleFault) → result ≡ Err (GoFault.Schedule fault) → sink.new ≡ sink.old }
     ensures memory { result ≡ Err (GoFault.Run RunFault.Memory) → sink.new ≡ sink.old }

@@ -2,7 +2,7 @@
 ghost use Rattle.std.specs.Prelude.{◌≡◌, ◌≢◌, ◌<◌, ◌⊎◌, ℕ, List, Option, map, nat_eq, if◌then◌else◌};
 ghost use Rattle.base.specs.declared.faults.TheConstants.{MEMORY_REFUSED};
 ghost use Rattle.adarun.specs.Driving as driving;
-ghost use Rattle.adarun.specs.Driving.{AnswersStatus, KeepsSink, LeavesCompile, LeavesGo, LeavesList, LeavesRun};
+ghost use Rattle.adarun.specs.Driving.{AnswersStatus, KeepsSink, LeavesCompile, LeavesGo, LeavesList, LeavesRun, LeavesTrace};
 
 use crate::compilation::compile;
 use crate::files::{FileStore, ReadError, WriteError};
@@ -17,6 +17,7 @@ use itoa::Buffer;
 use lexer::Fault;
 use machine::{Outcome, RunFault, Sink, run, write_all};
 use std::alloc::Global;
+use tracing::trace;
 
 /// The program's exit statuses (docs/FORMATS.md, "Exit statuses").
 #[derive(Clone, Copy, PartialEq, Eq, Debug)]
@@ -33,10 +34,10 @@ pub enum Status {
 }
 
 /// Does what the words, without the program's name, ask for: reads files, writes one of them or to `out`, and where it stops early one
-/// line to `err`. It answers the exit status. Where a run came to an outcome, `out` was given its text (`go`, `run`); where an image was
-/// listed, its listing; and no write to `out` failed under any status but 1. Where a text, an image or a schedule was refused or memory was wanting, nothing was
-/// written; where a write to `out` failed, a beginning of what was to be written. `compile` writes the image's file, and nothing to `out`:
-/// that file stays as it was unless the bytes of the source's image were there to be written, and no other file changes.
+/// line to `err`. It answers the exit status. Where a run came to an outcome, `out` was given its text (`go`, `run`) or its trace (`trace`); where an image was
+/// listed, its listing; and no write to `out` failed under any status but 1. Where a text, an image or a schedule was refused or memory was wanting, nothing
+/// was written; where a write to `out` failed, a beginning of what was to be written. `compile` writes the image's file, and nothing to `out`: that file stays
+/// as it was unless the bytes of the source's image were there to be written, and no other file changes.
 pub fn drive<F: FileStore, O: Sink, E: Sink>(
     alloc: Global,
     words: &[&str],
@@ -68,6 +69,13 @@ pub fn drive<F: FileStore, O: Sink, E: Sink>(
                 limit,
             },
         ) => drive_go(alloc, files, source, schedule, limit, out, err),
+        Ok(
+            Request::Trace {
+                source,
+                schedule,
+                limit,
+            },
+        ) => drive_trace(alloc, files, source, schedule, limit, out, err),
         Err(WordsError::Usage) => tell(err, Status::Failed, &[b"usage"]),
         Err(WordsError::Memory) => no_memory(err),
     };
@@ -191,6 +199,41 @@ fn drive_go<F: FileStore, O: Sink, E: Sink>(
         Err(GoFault::Schedule(fault)) => refuse_schedule(err, &fault),
         Err(GoFault::Run(RunFault::Memory)) => no_memory(err),
         Err(GoFault::Run(RunFault::Write)) => cannot_write(err),
+    }
+}
+
+fn drive_trace<F: FileStore, O: Sink, E: Sink>(
+    alloc: Global,
+    files: &F,
+    source: &str,
+    schedule: &str,
+    limit: u64,
+    out: &mut O,
+    err: &mut E,
+) -> Status
+    ensures leaves { LeavesTrace (F.contents files.now) source.now schedule.now limit result (O.bytes out.old) (O.bytes out.new) }
+    ensures sink { KeepsSink result (out.new ≡ out.old) (O.failures out.old) (O.failures out.new) }
+{
+    let text = match files.read(alloc, source) {
+        Ok(text) => text,
+        Err(error) => return unread(err, error, source),
+    };
+    let lines = match files.read(alloc, schedule) {
+        Ok(lines) => lines,
+        Err(error) => return unread(err, error, schedule),
+    };
+    let image = match compile(alloc, &text) {
+        Ok(image) => image,
+        Err(fault) => return refuse_source(err, &text, &fault),
+    };
+    let schedule = match Schedule::read(alloc, &lines) {
+        Ok(schedule) => schedule,
+        Err(fault) => return refuse_schedule(err, &fault),
+    };
+    match trace(alloc, &image, &schedule, limit, out) {
+        Ok(outcome) => status_of(&outcome),
+        Err(RunFault::Memory) => no_memory(err),
+        Err(RunFault::Write) => cannot_write(err),
     }
 }
 

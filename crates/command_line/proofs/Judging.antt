@@ -1,4 +1,4 @@
--- What clap makes of all words, none of which begins with `-`: the four commands, and every other row of words is refused.
+-- What clap makes of all words, none of which begins with `-`: the five commands, and every other row of words is refused.
 use Rattle.std.proofs.Common.{◌≡◌, ◌∙◌, ap, ap₂, sym, subst, refl, inl, inr, Result, Err, Bool, true, false, List, [], ◌∷◌, ◌++◌, Option, Some, None, codes, bytes_eq}
 use Rattle.std.specs.Prelude.{◌&&◌, fold, is_some, option_map, ⊤}
 use Rattle.std.proofs.lemmas.Option.{none-some}
@@ -162,6 +162,19 @@ go_judged (a ∷ b ∷ c ∷ []) (na, (nb, (nc, none))) =
 go_judged (a ∷ b ∷ c ∷ d ∷ more) (na, (nb, (nc, (nd, others)))) =
     Refused (refused_whole (codes "go") (a ∷ b ∷ c ∷ d ∷ more) refl refl refl (go_refused_more (codes "go") a b c d more na nb nc nd)) refl
 
+trace_judged : (rest : List Text) → AreNoFlags rest → Judged (codes "trace" ∷ rest)
+unfolding walked
+trace_judged [] none = Refused (refused_whole (codes "trace") [] refl refl refl (go_refused_none (codes "trace"))) refl
+trace_judged (a ∷ []) (na, none) = Refused (refused_whole (codes "trace") (a ∷ []) refl refl refl (go_refused_one (codes "trace") a na)) refl
+trace_judged (a ∷ b ∷ []) (na, (nb, none)) = Refused (refused_whole (codes "trace") (a ∷ b ∷ []) refl refl refl (go_refused_two (codes "trace") a b na nb)) refl
+trace_judged (a ∷ b ∷ c ∷ []) (na, (nb, (nc, none))) =
+    Taken (codes "trace") _
+    (taken_whole (codes "trace") (a ∷ b ∷ c ∷ []) refl refl refl (go_taken (codes "trace") a b c na nb nc))
+    (found_is (codes "trace") (a ∷ b ∷ c ∷ []) refl refl _ (ap (λ rows. Some (codes "trace", rows)) (go_rows (codes "trace") a b c na nb nc)))
+    refl
+trace_judged (a ∷ b ∷ c ∷ d ∷ more) (na, (nb, (nc, (nd, others)))) =
+    Refused (refused_whole (codes "trace") (a ∷ b ∷ c ∷ d ∷ more) refl refl refl (go_refused_more (codes "trace") a b c d more na nb nc nd)) refl
+
 flip : (x y : Text) → bytes_eq x y ≡ false → bytes_eq y x ≡ false
 flip x y e = by (bytes_eq y x) refl
   where
@@ -178,9 +191,9 @@ help_judged (a ∷ b ∷ c ∷ []) = Refused Refuses refl
 help_judged (a ∷ b ∷ c ∷ d ∷ more) = Refused Refuses refl
 
 -- a word that names no command
-module _ (name : Text) (plain : IsNoFlag name) (compile : bytes_eq (codes "compile") name ≡ false) (list : bytes_eq (codes "list") name ≡ false) (run_too : bytes_eq (codes "run") name ≡ false) (go_too : bytes_eq (codes "go") name ≡ false) (help : bytes_eq (codes "help") name ≡ false) where
+module _ (name : Text) (plain : IsNoFlag name) (compile : bytes_eq (codes "compile") name ≡ false) (list : bytes_eq (codes "list") name ≡ false) (run_too : bytes_eq (codes "run") name ≡ false) (go_too : bytes_eq (codes "go") name ≡ false) (trace : bytes_eq (codes "trace") name ≡ false) (help : bytes_eq (codes "help") name ≡ false) where
   unmet : subcommand_met names idle name ≡ None
-  unmet = rw (compile, list, run_too, go_too, help) refl
+  unmet = rw (compile, list, run_too, go_too, trace, help) refl
 
   stray : (rest : List Text) → IsRefusal (fault_of program_app (name ∷ rest))
   stray rest =
@@ -191,7 +204,7 @@ module _ (name : Text) (plain : IsNoFlag name) (compile : bytes_eq (codes "compi
   stray_asked [] = refl
   stray_asked (a ∷ []) = rw (flip (codes "list") name list) refl
   stray_asked (a ∷ b ∷ []) = rw (flip (codes "compile") name compile) refl
-  stray_asked (a ∷ b ∷ c ∷ []) = rw (flip (codes "run") name run_too, flip (codes "go") name go_too) refl
+  stray_asked (a ∷ b ∷ c ∷ []) = rw (flip (codes "run") name run_too, flip (codes "go") name go_too, flip (codes "trace") name trace) refl
   stray_asked (a ∷ b ∷ c ∷ d ∷ more) = refl
 
 named : (name : Text) (rest : List Text) (n : Text) → bytes_eq n name ≡ true → Judged (n ∷ rest) → Judged (name ∷ rest)
@@ -200,21 +213,22 @@ named name rest n e j = subst (λ w. Judged (w ∷ rest)) ((bytes_eq-Decides n n
 pub judged : (words : List Text) → ArePlain words → Judged words
 unfolding clap_on_literals
 judged [] h = Refused Refuses refl
-judged (name ∷ rest) h = by _ _ _ _ _ refl refl refl refl refl
+judged (name ∷ rest) h = by _ _ _ _ _ _ refl refl refl refl refl refl
   where
     plain : AreNoFlags (name ∷ rest)
     plain = no_flags (name ∷ rest) h
 
-    by : (c l r g q : Bool)
+    by : (c l r g t q : Bool)
         → bytes_eq (codes "compile") name ≡ c → bytes_eq (codes "list") name ≡ l → bytes_eq (codes "run") name ≡ r → bytes_eq (codes "go") name ≡ g
-        → bytes_eq (codes "help") name ≡ q → Judged (name ∷ rest)
-    by true l r g q ec el er eg eq = named name rest _ ec (compile_judged rest plain.1)
-    by false true r g q ec el er eg eq = named name rest _ el (list_judged rest plain.1)
-    by false false true g q ec el er eg eq = named name rest _ er (run_judged rest plain.1)
-    by false false false true q ec el er eg eq = named name rest _ eg (go_judged rest plain.1)
-    by false false false false true ec el er eg eq = named name rest _ eq (help_judged rest)
-    by false false false false false ec el er eg eq =
-        Refused (stray name plain.0 ec el er eg eq rest) (stray_asked name plain.0 ec el er eg eq rest)
+        → bytes_eq (codes "trace") name ≡ t → bytes_eq (codes "help") name ≡ q → Judged (name ∷ rest)
+    by true l r g t q ec el er eg et eq = named name rest _ ec (compile_judged rest plain.1)
+    by false true r g t q ec el er eg et eq = named name rest _ el (list_judged rest plain.1)
+    by false false true g t q ec el er eg et eq = named name rest _ er (run_judged rest plain.1)
+    by false false false true t q ec el er eg et eq = named name rest _ eg (go_judged rest plain.1)
+    by false false false false true q ec el er eg et eq = named name rest _ et (trace_judged rest plain.1)
+    by false false false false false true ec el er eg et eq = named name rest _ eq (help_judged rest)
+    by false false false false false false ec el er eg et eq =
+        Refused (stray name plain.0 ec el er eg et eq rest) (stray_asked name plain.0 ec el er eg et eq rest)
 
 -- ---- what clap answers
 

@@ -2,7 +2,7 @@
 use Rattle.std.specs.Prelude.{ℕ, true, false, List, [], ◌∷◌, map, Option, Some, None, if◌then◌else◌, bytes_eq, codes}
 use Rattle.clap.specs.Words.{App, Row, Rule, Shape, Text, first_of, new_rule}
 use Rattle.clap.specs.Simple.{new_shape}
-use Rattle.command_line.specs.Words.{Command, CompileText, GoText, ListImage, Nothing, RunImage, limit_of, within}
+use Rattle.command_line.specs.Words.{Command, CompileText, GoText, ListImage, Nothing, RunImage, TraceText, limit_of, within}
 
 -- an argument that has to be given
 abbrev pub required_rule : Text → Rule
@@ -12,10 +12,14 @@ required_rule id = record (new_rule id) { required = true }
 abbrev pub command_app : Text → List Text → App
 command_app name ids = record { top = record (new_shape name) { rules = map required_rule ids }; subs = [] }
 
+-- the program before it has any command
+abbrev pub bare_app : App
+bare_app = record { top = record (new_shape (codes "adarun")) { no_binary_name = true; subcommand_required = true }; subs = [] }
+
 abbrev pub program_shape : Shape
 program_shape = record (new_shape (codes "adarun")) { no_binary_name = true; subcommand_required = true; is_leaf = false }
 
--- the four commands
+-- the five commands
 abbrev pub program_app : App
 program_app = record {
   top = program_shape;
@@ -23,6 +27,7 @@ program_app = record {
       ∷ (command_app (codes "list") (codes "IMG" ∷ [])).top
       ∷ (command_app (codes "run") (codes "IMG" ∷ codes "SCHED" ∷ codes "LIMIT" ∷ [])).top
       ∷ (command_app (codes "go") (codes "SRC" ∷ codes "SCHED" ∷ codes "LIMIT" ∷ [])).top
+      ∷ (command_app (codes "trace") (codes "SRC" ∷ codes "SCHED" ∷ codes "LIMIT" ∷ [])).top
       ∷ [];
 }
 
@@ -49,7 +54,8 @@ asked_in name value =
     else (if bytes_eq name (codes "list") then of_one ListImage (value (codes "IMG"))
     else (if bytes_eq name (codes "run") then of_three RunImage (value (codes "IMG")) (value (codes "SCHED")) (value (codes "LIMIT"))
     else (if bytes_eq name (codes "go") then of_three GoText (value (codes "SRC")) (value (codes "SCHED")) (value (codes "LIMIT"))
-    else Nothing)))
+    else (if bytes_eq name (codes "trace") then of_three TraceText (value (codes "SRC")) (value (codes "SCHED")) (value (codes "LIMIT"))
+    else Nothing))))
 
 -- what the command that clap found asks for, by its name and its matches
 abbrev pub asked_by : Option (Text × List Row) → Command

@@ -12,7 +12,7 @@ pub data Command : Type 0 where
   CompileText : (source image : List ℕ) → Command
   ListImage : (image : List ℕ) → Command
   RunImage : (image schedule : List ℕ) (limit : ℕ) → Command
-  GoText : (source schedule : List ℕ) (limit : ℕ) → Command
+  GoText TraceText : (source schedule : List ℕ) (limit : ℕ) → Command
   Nothing : Command
 
 abbrev pub is_digit : ℕ → Bool
@@ -28,13 +28,14 @@ abbrev pub within : (ℕ → Command) → Option ℕ → Command
 within command (Some limit) = command limit
 within command None = Nothing
 
--- the four commands
+-- the five commands
 abbrev pub asked : List (List ℕ) → Command
 asked (name ∷ image ∷ []) = if bytes_eq name (codes "list") then ListImage image else Nothing
 asked (name ∷ source ∷ image ∷ []) = if bytes_eq name (codes "compile") then CompileText source image else Nothing
 asked (name ∷ file ∷ schedule ∷ limit ∷ []) =
     if bytes_eq name (codes "run") then within (RunImage file schedule) (limit_of limit)
-    else (if bytes_eq name (codes "go") then within (GoText file schedule) (limit_of limit) else Nothing)
+    else (if bytes_eq name (codes "go") then within (GoText file schedule) (limit_of limit)
+    else (if bytes_eq name (codes "trace") then within (TraceText file schedule) (limit_of limit) else Nothing))
 asked words = Nothing
 
 -- a word that can be no option: it doesn't begin with `-`
@@ -47,6 +48,7 @@ command_of (requests.Compile source image) = CompileText source.now image.now
 command_of (requests.List image) = ListImage image.now
 command_of (requests.Run image schedule limit) = RunImage image.now schedule.now limit
 command_of (requests.Go source schedule limit) = GoText source.now schedule.now limit
+command_of (requests.Trace source schedule limit) = TraceText source.now schedule.now limit
 
 -- the request is that for the command; the words are refused where there is none; or memory was refused
 abbrev pub AnswersWords : Command → Result Request WordsError → Type 0

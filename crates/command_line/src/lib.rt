@@ -6,7 +6,7 @@ ghost use Rattle.std.specs.List.{list_all};
 ghost use Rattle.clap.specs.Words.{App, app_of, first_value, found_of, kind_of, subcommand_rows_of};
 ghost use Rattle.clap.specs.declared.builder.command.Command.TheViews.{out-Command};
 ghost use Rattle.command_line.specs.Words.{AnswersWords, asked, is_digit, is_plain};
-ghost use Rattle.command_line.specs.Finding.{asked_by, asked_in, command_app, program_app};
+ghost use Rattle.command_line.specs.Finding.{asked_by, asked_in, bare_app, command_app, program_app};
 ghost use Rattle.command_line.specs.Words as words_of;
 
 use clap::error::ErrorKind;
@@ -33,6 +33,12 @@ pub enum Request<'a> {
     },
     /// Compile a source and run it on a schedule, for at most this many steps.
     Go {
+        source: &'a str,
+        schedule: &'a str,
+        limit: u64,
+    },
+    /// Compile a source and write the trace of its run on a schedule, for at most this many steps.
+    Trace {
         source: &'a str,
         schedule: &'a str,
         limit: u64,
@@ -98,6 +104,11 @@ fn request_in<'a>(name: &str, found: &ArgMatches<'a>) -> Result<Request<'a>, Wor
             schedule: word(found, "SCHED")?,
             limit: limit_of(word(found, "LIMIT")?).ok_or(WordsError::Usage)?,
         }),
+        "trace" => Ok(Request::Trace {
+            source: word(found, "SRC")?,
+            schedule: word(found, "SCHED")?,
+            limit: limit_of(word(found, "LIMIT")?).ok_or(WordsError::Usage)?,
+        }),
         _ => Err(WordsError::Usage),
     }
 }
@@ -126,16 +137,24 @@ fn command_with<'a>(
     Ok(command)
 }
 
-fn command<'a>(alloc: Global) -> Result<Command<'a>, AllocError>
-    ensures { IfOk result (λ command. app_of command ≡ program_app) }
+// The program before it has any command.
+fn program<'a>(alloc: Global) -> Command<'a>
+    ensures { app_of result ≡ bare_app }
 {
     Command::new(alloc, "adarun")
         .no_binary_name(true)
         .subcommand_required(true)
+}
+
+fn command<'a>(alloc: Global) -> Result<Command<'a>, AllocError>
+    ensures { IfOk result (λ command. app_of command ≡ program_app) }
+{
+    program(alloc)
         .subcommand(command_with(alloc, "compile", &["SRC", "IMG"])?)?
         .subcommand(command_with(alloc, "list", &["IMG"])?)?
         .subcommand(command_with(alloc, "run", &["IMG", "SCHED", "LIMIT"])?)?
-        .subcommand(command_with(alloc, "go", &["SRC", "SCHED", "LIMIT"])?)
+        .subcommand(command_with(alloc, "go", &["SRC", "SCHED", "LIMIT"])?)?
+        .subcommand(command_with(alloc, "trace", &["SRC", "SCHED", "LIMIT"])?)
 }
 
 fn error_of(error: &Error) -> WordsError

@@ -1,4 +1,4 @@
 mod Inside
 mod Pieces
-mod Runs
+pub mod Runs
 mod Stepping

@@ -16,5 +16,7 @@ pub use processor::Steps;
 pub use reports::{Event, LINE_BYTES, LineText, Outcome};
 pub use running::{Machine, run, run_counted, run_over};
 pub use task_state::TaskState;
+pub use tasking::Place;
+pub use text::{exception_name, last_line, task_name};
 pub use writer_sink::WriterSink;
 pub use writing::{Sink, SinkError, write_all};

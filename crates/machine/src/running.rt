@@ -1,9 +1,9 @@
 //! The machine: one processor that runs the tasks of an image in virtual time.
 ghost use Rattle.std.specs.Prelude.{◌≡◌, None, Some, ℕ, ◌+◌, ◌-◌, ◌<◌, ◌≤◌, Err, IfErr, IfOk, IfSome, OnErr, OnOk, length};
 ghost use Rattle.std.specs.Io.KnownBytes.{Appends};
-ghost use Rattle.base.specs.declared.limits.TheConstants.{PRIORITIES};
+ghost use Rattle.base.specs.declared.limits.TheConstants.{OBJECTS, PRIORITIES, TASKS};
 ghost use Rattle.kernel.specs.Exclusion.{FourStatements};
-ghost use Rattle.kernel.specs.State.{active, inside, Outcome as KernelOutcome};
+ghost use Rattle.kernel.specs.State.{active, inside, is_object_open, Outcome as KernelOutcome};
 ghost use Rattle.kernel.specs.Text.{line_text as text_line, lines_text};
 ghost use Rattle.image.specs.Code.{code, code_text};
 ghost use Rattle.image.specs.Steps.{is_open};
@@ -12,7 +12,7 @@ ghost use Rattle.execution.specs.Held.{line_of, world_of};
 ghost use Rattle.machine.specs.Stands.{EndsBy, IsLast, ShowsText, HoldsWorld, kernel_outcome};
 ghost use Rattle.machine.specs.TaskStates.{state_of};
 ghost use Rattle.machine.specs.Written.{AppendsBeginning};
-ghost use Rattle.tasking.specs.Held.{kernel_of};
+ghost use Rattle.tasking.specs.Held.{kernel_of, place_of};
 
 use crate::fault::RunFault;
 use crate::reports::{Event, LineText, Outcome};
@@ -25,13 +25,13 @@ use clock::{Delays, HeapDelays, Schedule};
 use dispatch::{Ready, RingReady};
 use execution::{Execution, Line};
 use image::Image;
-use image_laws::{lines_grow_on, outcome_stays};
+use image_laws::{code_leads_on, lines_grow_on, outcome_stays};
 use kernel::laws::{four_statements_hold, left_unmoved};
 use processor::Steps;
 use std::alloc::Global;
 use std::marker::{Brand, Model};
 use std::sync::ledger::{Blank, Ledger};
-use tasking::Place;
+use tasking::{Place, Refusal};
 
 /// A machine that runs an image, over keepers of ready and of sleeping tasks. Memory is taken by `start` alone.
 #[derive(Drop)]
@@ -68,7 +68,9 @@ impl<'a, R: Ready, D: Delays> Machine<'a, R, D> {
     /// Does one step and tells what it has shown. It leads from the world of code after m steps to the one after m + 1. After the last
     /// step it tells the outcome again and changes nothing.
     pub fn step(&mut self) -> Event
-        ensures world { (m : ℕ) → HoldsWorld self.old (code self.old.image self.old.schedule m) → HoldsWorld self.new (code self.old.image self.old.schedule (m + 1)) × ShowsText self.old.image (code self.old.image self.old.schedule m).kernel (code self.old.image self.old.schedule (m + 1)).kernel result }
+        ensures world { (m : ℕ) → HoldsWorld self.old (code self.old.image self.old.schedule m) → HoldsWorld self.new
+            (code self.old.image self.old.schedule (m + 1)) × ShowsText self.old.image (code self.old.image self.old.schedule m).kernel
+            (code self.old.image self.old.schedule (m + 1)).kernel result }
         ensures image { self.new.image ≡ self.old.image }
         ensures schedule { self.new.schedule ≡ self.old.schedule }
         ensures done { (o : KernelOutcome) → (kernel_of self.old.tasking).outcome ≡ Some o → self.new ≡ self.old }
@@ -95,22 +97,29 @@ impl<'a, R: Ready, D: Delays> Machine<'a, R, D> {
 
     /// The number of the running task, if any.
     pub fn running(&self) -> Option<u8>
-        ensures { result ≡ (kernel_of self.now.tasking).running }
+        ensures same { result ≡ (kernel_of self.now.tasking).running }
+        ensures task { IfSome result (λ t. t < length self.now.image.tasks) }
     {
         self.execution.tasking().running()
     }
 
     /// The number of tasks.
     pub fn tasks(&self) -> u8
-        ensures { result ≡ length self.now.image.tasks }
+        ensures image { result ≡ length self.now.image.tasks }
+        ensures kernel { result ≡ (kernel_of self.now.tasking).partition.tasks }
+        ensures few { result ≤ TASKS }
     {
         self.execution.tasking().task_count()
     }
 
     /// The number of protected objects.
     pub fn objects(&self) -> u8
-        ensures { result ≡ length self.now.image.objects }
+        ensures image { result ≡ length self.now.image.objects }
+        ensures kernel { result ≡ (kernel_of self.now.tasking).partition.objects }
+        ensures few { result ≤ OBJECTS }
     {
+        code_leads_on();
+        let _objects = self.execution.image().objects();
         self.execution.tasking().object_count()
     }
 
@@ -125,6 +134,23 @@ impl<'a, R: Ready, D: Delays> Machine<'a, R, D> {
             Place::Queued(object) | Place::Served(object) => TaskState::Queued(object),
             Place::Finished => TaskState::Finished,
         }
+    }
+
+    /// Where a task is, as the kernel has it: a caller whose entry body another task runs is told apart from one that waits in the queue.
+    pub fn place(&self, task: u8) -> Place
+        ensures { place_of result ≡ (kernel_of self.now.tasking).place task }
+    {
+        self.execution.tasking().place(task)
+    }
+
+    /// Whether a task is inside an object (RM 9.5.1).
+    pub fn is_inside(&self, task: u8, object: u8) -> bool
+        requires task { task < length self.now.image.tasks }
+        requires object { object < length self.now.image.objects }
+        ensures { result ≡ is_object_open object ((kernel_of self.now.tasking).actions task) }
+    {
+        let refusal = self.execution.tasking().call_refusal(task, object);
+        matches!(refusal, Some(Refusal::SameObject))
     }
 
     /// The active priority of a task (RM D.3): the greatest of its base priority and the ceilings of its open actions; 0 for a number that
@@ -193,12 +219,14 @@ impl<'a, R: Ready, D: Delays> Machine<'a, R, D> {
         steps: &mut Steps<L>,
     ) -> Result<Outcome, RunFault>
         requires stands { HoldsWorld self.old (code self.old.image self.old.schedule 0) }
-        ensures lines { OnOk result (Appends (S.bytes sink.old) (S.bytes sink.new) (lines_text (names_of self.old.image) (code self.old.image self.old.schedule limit).kernel.lines)) }
+        ensures lines { OnOk result (Appends (S.bytes sink.old) (S.bytes sink.new)
+            (lines_text (names_of self.old.image) (code self.old.image self.old.schedule limit).kernel.lines)) }
         ensures ends { IfOk result (λ outcome. EndsBy outcome (code self.old.image self.old.schedule limit)) }
         ensures kept { OnOk result (S.failures sink.new ≡ S.failures sink.old) }
         ensures fault { IfErr result (λ fault. fault ≡ RunFault.Write) }
         ensures failed { OnErr result (S.failures sink.old < S.failures sink.new) }
-        ensures beginning { OnErr result (AppendsBeginning (S.bytes sink.old) (S.bytes sink.new) (lines_text (names_of self.old.image) (code self.old.image self.old.schedule limit).kernel.lines)) }
+        ensures beginning { OnErr result (AppendsBeginning (S.bytes sink.old) (S.bytes sink.new)
+            (lines_text (names_of self.old.image) (code self.old.image self.old.schedule limit).kernel.lines)) }
         ensures count { steps.new ≤ steps.old + limit }
     {
         outcome_stays();
@@ -222,8 +250,8 @@ impl<'a, R: Ready, D: Delays> Machine<'a, R, D> {
         Ok(self.outcome_or_limit())
     }
 
-    // The outcome, or that the limit on steps was reached.
-    fn outcome_or_limit(&self) -> Outcome
+    /// The outcome, or that the limit on steps was reached.
+    pub fn outcome_or_limit(&self) -> Outcome
         ensures { EndsBy result (world_of self.now) }
     {
         match self.outcome() {

@@ -44,8 +44,8 @@ fn text_at(texts: &[Text], number: usize) -> &[u8]
     }
 }
 
-// The text with this number, counted from 1; number 0 is none.
-fn text_from_one(texts: &[Text], number: u16) -> &[u8]
+/// The name of an exception among those of an image, counted from 1; number 0 has none.
+pub fn exception_name(texts: &[Text], number: u16) -> &[u8]
     ensures same { result.now ≡ text_from_one texts.now number }
     ensures short { length result.now ≤ NAME_LIMIT }
 {
@@ -55,12 +55,12 @@ fn text_from_one(texts: &[Text], number: u16) -> &[u8]
     }
 }
 
-// The name of the task with this number, or none where there isn't one.
-fn name_at(tasks: &[Task], number: usize) -> &[u8]
+/// The name of a task among those of an image, or none where there is no such task.
+pub fn task_name(tasks: &[Task], number: u8) -> &[u8]
     ensures same { result.now ≡ name_of (slice_get tasks.now number) }
     ensures short { length result.now ≤ NAME_LIMIT }
 {
-    match tasks.get(number) {
+    match tasks.get(usize::from(number)) {
         None => &[],
         Some(task) => task.name.as_bytes(),
     }
@@ -73,7 +73,7 @@ pub(crate) fn line_text(image: &Image, line: &Line) -> LineText
     let mut text = ArrayVec::new();
     put_number(&mut text, line.time);
     put(&mut text, b" ");
-    put(&mut text, name_at(image.tasks(), usize::from(line.task)));
+    put(&mut text, task_name(image.tasks(), line.task));
     put(&mut text, b" ");
     put(&mut text, text_at(image.labels(), usize::from(line.label)));
     put(&mut text, b" ");
@@ -83,7 +83,7 @@ pub(crate) fn line_text(image: &Image, line: &Line) -> LineText
 }
 
 /// The text of the last line of a run of the image.
-pub(crate) fn last_line(image: &Image, outcome: &Outcome) -> LineText
+pub fn last_line(image: &Image, outcome: &Outcome) -> LineText
     ensures { result.items ≡ last_line (names_of image.now) (ending_of outcome.now) (time_of outcome.now) }
 {
     let mut text = ArrayVec::new();
@@ -102,9 +102,9 @@ pub(crate) fn last_line(image: &Image, outcome: &Outcome) -> LineText
             time,
         } => {
             put(&mut text, b"unhandled ");
-            put(&mut text, text_from_one(image.exceptions(), *exception));
+            put(&mut text, exception_name(image.exceptions(), *exception));
             put(&mut text, b" in ");
-            put(&mut text, name_at(image.tasks(), usize::from(*task)));
+            put(&mut text, task_name(image.tasks(), *task));
             time
         }
         Outcome::ImageFault { time } => {

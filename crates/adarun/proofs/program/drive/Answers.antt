@@ -1,5 +1,5 @@
 use Rattle.std.proofs.Common.{inl, inr, refl, rules}
-use Rattle.command_line.specs.Words.{CompileText, GoText, ListImage, Nothing, RunImage}
+use Rattle.command_line.specs.Words.{CompileText, GoText, ListImage, Nothing, RunImage, TraceText}
 use Rattle.adarun.specs.declared.program.Status.TheVariants.{Failed, NoMemory}
 use Rattle.adarun.proofs.Driving.{asked_as, asked_nothing}
 use Rattle.adarun.proofs.program.drive.Goals as goal
@@ -42,6 +42,15 @@ returns-in-Ok-Go-clause-answers g c = record {
   answer_is = search rules;
   asked_for = λ plain. inl (asked_as _ _ _ c.in-Ok-Go.field-0-is (c.in-Ok-Go.ensures plain));
   leaves = (λ name. refl, c.drive_go-status.ensures.leaves);
+}
+
+pub returns-in-Ok-Trace-clause-answers : goal.returns-in-Ok-Trace-clause-answers
+returns-in-Ok-Trace-clause-answers g c = record {
+  work = TraceText c.in-Ok-Trace.source.now c.in-Ok-Trace.schedule.now c.in-Ok-Trace.limit;
+  status = c.drive_trace-status.result;
+  answer_is = search rules;
+  asked_for = λ plain. inl (asked_as _ _ _ c.in-Ok-Trace.field-0-is (c.in-Ok-Trace.ensures plain));
+  leaves = (λ name. refl, c.drive_trace-status.ensures.leaves);
 }
 
 pub returns-in-Err-Usage-clause-answers : goal.returns-in-Err-Usage-clause-answers

@@ -1,0 +1,105 @@
+-- Traces of images worked by computation: a preemption, delays, an entry with queue and service, an unhandled exception.
+use Rattle.std.proofs.Common.{◌≡◌, ℕ, List, [], ◌∷◌, ◌++◌, pos, Some, refl}
+use Rattle.std.specs.Prelude.{codes}
+use Rattle.std.specs.Fmt.{digits}
+use Rattle.base.specs.Names.{predefined}
+use Rattle.image.specs.ObjectTable.{ObjectRow}
+use Rattle.image.specs.Sections.{Sections}
+use Rattle.image.specs.declared.instruction.Instr.{Instr}
+use Rattle.image.specs.declared.instruction.Operation.{Operation}
+use Rattle.image.specs.declared.instruction.Operation.TheVariants as op
+use Rattle.image.specs.declared.objects.Barrier.TheVariants as barriers
+use Rattle.image.specs.declared.subprograms.Kind.{Kind}
+use Rattle.image.specs.declared.subprograms.Kind.TheVariants.{EntryBody, ProtectedProcedure, TaskBody}
+use Rattle.image.specs.declared.subprograms.Subprogram.{Subprogram}
+use Rattle.image.specs.declared.tasks.Task.{Task}
+use Rattle.tracing.specs.Traces.{trace_text}
+
+abbrev at : ℕ → Operation → Instr
+at depth operation = record { depth = depth; operation = operation }
+
+abbrev sub : Kind → ℕ → ℕ → Subprogram
+sub kind end_ stack = record { kind = kind; end_ = end_; parameters = 0; results = 0; locals = 0; stack = stack }
+
+abbrev task : List ℕ → ℕ → ℕ → Task
+task name priority n = record { name = name; priority = priority; subprogram = n }
+
+abbrev image_of : List ObjectRow → List Subprogram → List Task → List Instr → Sections
+image_of objects subprograms tasks instructions =
+    record { exceptions = predefined; labels = codes "got" ∷ []; plain_words = []; objects = objects; subprograms = subprograms; tasks = tasks; rows = []; instructions = instructions }
+
+abbrev delay_until : ℕ → List Instr
+delay_until time = at 0 (op.Push (pos time)) ∷ at 1 op.DelayUntil ∷ []
+
+-- CONS queues at a closed barrier; MAIN opens it, serves the call, and is preempted by the caller
+
+abbrev door : ObjectRow
+door = record { ceiling = 10; entry = Some 1; barrier = barriers.Word 0; words = pos 0 ∷ [] }
+
+abbrev served : Sections
+served =
+    image_of (door ∷ []) (sub (ProtectedProcedure 0) 3 1 ∷ sub (EntryBody 0) 4 0 ∷ sub TaskBody 8 1 ∷ sub TaskBody 10 0 ∷ []) (task (codes "CONS") 10 2 ∷ task (codes "MAIN") 5 3 ∷ [])
+    (at 0 (op.Push (pos 1)) ∷ at 1 (op.StoreObject 0) ∷ at 0 op.Return
+    ∷ at 0 op.Return
+    ∷ at 0 (op.EntryCall 0) ∷ at 0 (op.Push (pos 7)) ∷ at 1 (op.PutLine 0) ∷ at 0 op.Return
+    ∷ at 0 (op.ProtectedCall 0) ∷ at 0 op.Return ∷ [])
+
+served_trace : trace_text served [] 100
+    ≡ codes "0 0 CONS is ready\n0 0 MAIN is ready\n0 0 CONS runs at 10\n"
+    ++ codes "0 1 CONS queues at object 0\n0 1 MAIN runs at 5\n"
+    ++ codes "0 2 MAIN enters object 0 at 10\n"
+    ++ codes "0 5 CONS is served at object 0 by MAIN\n"
+    ++ codes "0 6 MAIN leaves object 0 at 5\n0 6 CONS has been served at object 0\n0 6 MAIN is preempted by CONS\n0 6 CONS runs at 10\n"
+    ++ codes "0 8 CONS writes 0 CONS got 7\n"
+    ++ codes "0 9 CONS ends\n0 9 MAIN runs at 5\n"
+    ++ codes "0 10 MAIN ends\nended at 0\n"
+unfolding digits
+served_trace = refl
+
+-- Two tasks sleep until the same time; the clock moves once both do
+
+abbrev sleepers : Sections
+sleepers =
+    image_of [] (sub TaskBody 3 1 ∷ sub TaskBody 6 1 ∷ []) (task (codes "T") 9 0 ∷ task (codes "MAIN") 5 1 ∷ [])
+    (delay_until 1000 ++ at 0 op.Return ∷ delay_until 1000 ++ at 0 op.Return ∷ [])
+
+abbrev until_both_sleep : List ℕ
+until_both_sleep =
+    codes "0 0 T is ready\n0 0 MAIN is ready\n0 0 T runs at 9\n"
+    ++ codes "0 2 T is delayed\n0 2 MAIN runs at 5\n"
+    ++ codes "0 4 MAIN is delayed\n1000 4 - the clock moves\n1000 4 T wakes\n1000 4 MAIN wakes\n1000 4 T runs at 9\n"
+
+sleepers_trace : trace_text sleepers [] 100 ≡ until_both_sleep ++ codes "1000 5 T ends\n1000 5 MAIN runs at 5\n1000 6 MAIN ends\nended at 1000\n"
+unfolding digits
+sleepers_trace = refl
+
+sleepers_cut : trace_text sleepers [] 4 ≡ until_both_sleep ++ codes "step limit at 1000\n"
+unfolding digits
+sleepers_cut = refl
+
+-- A task that sleeps alone wakes within its own step; an exception ends the run
+
+abbrev alone : Sections
+alone =
+    image_of [] (sub TaskBody 6 2 ∷ []) (task (codes "MAIN") 5 0 ∷ [])
+    (delay_until 500 ++ at 0 (op.Push (pos 1)) ∷ at 1 (op.Push (pos 0)) ∷ at 2 op.Divide ∷ at 1 op.Return ∷ [])
+
+alone_trace : trace_text alone [] 100
+    ≡ codes "0 0 MAIN is ready\n0 0 MAIN runs at 5\n"
+    ++ codes "0 2 MAIN is delayed\n500 2 - the clock moves\n500 2 MAIN wakes\n500 2 MAIN runs at 5\n"
+    ++ codes "500 5 MAIN is left by CONSTRAINT_ERROR\nunhandled CONSTRAINT_ERROR in MAIN at 500\n"
+unfolding digits
+alone_trace = refl
+
+-- A `delay until` that is due puts its task behind those of its priority
+
+abbrev due : Sections
+due =
+    image_of [] (sub TaskBody 3 1 ∷ sub TaskBody 4 0 ∷ []) (task (codes "T") 5 0 ∷ task (codes "MAIN") 5 1 ∷ [])
+    (delay_until 0 ++ at 0 op.Return ∷ at 0 op.Return ∷ [])
+
+due_trace : trace_text due [] 100
+    ≡ codes "0 0 T is ready\n0 0 MAIN is ready\n0 0 T runs at 5\n"
+    ++ codes "0 2 T gives way to MAIN\n0 2 MAIN runs at 5\n0 3 MAIN ends\n0 3 T runs at 5\n0 4 T ends\nended at 0\n"
+unfolding digits
+due_trace = refl

@@ -1,0 +1,4 @@
+mod Examples
+mod Parts
+mod Rows
+mod Traced

@@ -1,0 +1,101 @@
+-- Rows: their text, those of later steps, and the lines that they tell.
+use Rattle.std.proofs.Common.{◌≡◌, ℕ, zero, suc, ◌+◌, List, [], ◌∷◌, ◌++◌, Option, Some, None, drop, length, refl, sym, ap, subst, ◌∙◌, arith, append_assoc, append-nil}
+use Rattle.std.proofs.Math.Seq.{drop-append_seam}
+use Rattle.base.specs.declared.schedule.ScheduleLine.{ScheduleLine}
+use Rattle.kernel.specs.State.{Kernel, Line, Outcome}
+use Rattle.kernel.specs.RunLaws.{run_plus}
+use Rattle.kernel.specs.Text.{Names}
+use Rattle.kernel.specs.Laws.{LeftUnmoved}
+use Rattle.kernel.specs.Worlds.{Local, among, step, step_of}
+use Rattle.image.specs.Code.{CodeWorld, code, start}
+use Rattle.image.specs.Sections.{Sections}
+use Rattle.image.specs.Steps.{behaviour}
+use Rattle.image_laws.specs.Laws.{LinesGrowOn, OutcomeStays}
+use Rattle.machine.proofs.Runs.{starts_without_lines}
+use Rattle.tracing.specs.Changes.{since_clock, starts, until_clock}
+use Rattle.tracing.specs.Traces.{TraceRow, line_of, lines_told, row_text, rows, rows_of_step, rows_text, shown, wrote}
+use Rattle.tracing.specs.declared.event.Event.{Event}
+
+pub rows_text-append : (names : Names) (xs ys : List TraceRow) → rows_text names (xs ++ ys) ≡ rows_text names xs ++ rows_text names ys
+rows_text-append names [] ys = refl
+rows_text-append names (x ∷ xs) ys =
+    ap (λ v. row_text names x ++ v) (rows_text-append names xs ys) ∙ sym (append_assoc (row_text names x) (rows_text names xs) (rows_text names ys))
+
+pub after_length : {A : Type 0} (xs ys : List A) → drop (length xs) (xs ++ ys) ≡ ys
+after_length xs ys = drop-append_seam xs ys
+
+module _ (i : Sections) (schedule : List ScheduleLine) where
+  abbrev rows_at : ℕ → List TraceRow
+  rows_at n = let k = (code i schedule n).kernel in rows_of_step k (code i schedule (suc n)).kernel (suc n) k.outcome k.running
+
+  -- the rows of some steps begin those of more
+  pub rows_grow : (n j : ℕ) → (more : List TraceRow) × (rows i schedule (n + j) ≡ rows i schedule n ++ more)
+  rows_grow n zero = let e : n + zero ≡ n = omega arith in ([], ap (rows i schedule) e ∙ sym (append-nil (rows i schedule n)))
+  rows_grow n (suc j) =
+      let e : n + suc j ≡ suc (n + j) = omega arith in
+      let r = rows_grow n j in
+      (r.0 ++ rows_at (n + j), ap (rows i schedule) e ∙ ap (λ v. v ++ rows_at (n + j)) r.1 ∙ append_assoc (rows i schedule n) r.0 (rows_at (n + j)))
+
+  -- after an outcome there are no more
+  pub rows_stay : OutcomeStays → (n j : ℕ) (o : Outcome) → (code i schedule n).kernel.outcome ≡ Some o → rows i schedule (n + j) ≡ rows i schedule n
+  rows_stay stays n zero o is = let e : n + zero ≡ n = omega arith in ap (rows i schedule) e
+  rows_stay stays n (suc j) o is =
+      let e : n + suc j ≡ suc (n + j) = omega arith in
+      let over : (code i schedule (n + j)).kernel.outcome ≡ Some o = ap (λ w. w.kernel.outcome) (stays i schedule n j o is) ∙ is in
+      let none : rows_at (n + j) ≡ [] = ap (λ q. rows_of_step (code i schedule (n + j)).kernel (code i schedule (suc (n + j))).kernel (suc (n + j)) q (code i schedule (n + j)).kernel.running) over in
+      ap (rows i schedule) e ∙ ap (λ v. rows i schedule (n + j) ++ v) none ∙ append-nil (rows i schedule (n + j)) ∙ rows_stay stays n j o is
+
+-- Lines
+
+pub told-append : (xs ys : List TraceRow) → lines_told (xs ++ ys) ≡ lines_told xs ++ lines_told ys
+told-append [] ys = refl
+told-append (x ∷ xs) ys = ap (λ v. line_of x.telling ++ v) (told-append xs ys) ∙ sym (append_assoc (line_of x.telling) (lines_told xs) (lines_told ys))
+
+told_shown : (time : _) (n : ℕ) (events : List Event) → lines_told (shown time n events) ≡ []
+told_shown time n [] = refl
+told_shown time n (e ∷ events) = told_shown time n events
+
+told_wrote : (time : _) (n t : ℕ) (lines : List Line) → lines_told (wrote time n t lines) ≡ lines
+told_wrote time n t [] = refl
+told_wrote time n t (l ∷ lines) = ap (λ v. l ∷ v) (told_wrote time n t lines)
+
+-- the lines that a step has added are those that its rows tell
+step_tells : {D : Type 0} (f : Local D) (n : ℕ) (k : Kernel) (d : D) (o : Option Outcome) (r : Option ℕ) → (more : List Line) × ((step_of f k d o r).kernel.lines ≡ k.lines ++ more) →
+    (step_of f k d o r).kernel.lines ≡ k.lines ++ lines_told (rows_of_step k (step_of f k d o r).kernel n o r)
+step_tells f n k d (Some o) r grown = sym (append-nil k.lines)
+step_tells f n k d None None grown = sym (append-nil k.lines)
+step_tells f n k d None (Some t) grown =
+    let l = (step_of f k d None (Some t)).kernel in
+    let lines = drop (length k.lines) l.lines in
+    let until = shown k.now n (until_clock k l t) in
+    let since = shown l.now n (since_clock k l t) in
+    let none : lines_told since ≡ [] = told_shown l.now n (since_clock k l t) in
+    let told : lines_told (wrote k.now n t lines ++ until ++ since) ≡ lines =
+    told-append (wrote k.now n t lines ++ until) since
+    ∙ ap (λ v. lines_told (wrote k.now n t lines ++ until) ++ v) none
+    ∙ append-nil (lines_told (wrote k.now n t lines ++ until))
+    ∙ told-append (wrote k.now n t lines) until
+    ∙ ap (λ v. lines_told (wrote k.now n t lines) ++ v) (told_shown k.now n (until_clock k l t))
+    ∙ append-nil (lines_told (wrote k.now n t lines))
+    ∙ told_wrote k.now n t lines in
+    let more : lines ≡ grown.0 = ap (drop (length k.lines)) grown.1 ∙ after_length k.lines grown.0 in
+    grown.1 ∙ ap (λ v. k.lines ++ v) (sym (told ∙ more))
+
+module _ (i : Sections) (schedule : List ScheduleLine) where
+  next_code : (n : ℕ) → code i schedule (suc n) ≡ step (among (behaviour i schedule)) (code i schedule n)
+  next_code n = let e : suc n ≡ n + 1 = omega arith in ap (code i schedule) e ∙ run_plus (among (behaviour i schedule)) n 1 (start i)
+
+  next_lines : LinesGrowOn → (n : ℕ) → (code i schedule (suc n)).kernel.lines ≡ (code i schedule n).kernel.lines ++ lines_told (rows_at i schedule n)
+  next_lines grow n =
+      let w = code i schedule n in
+      let f = among (behaviour i schedule) in
+      let e : n + 1 ≡ suc n = omega arith in
+      let g = grow i schedule n 1 in
+      let grown : (step f w).kernel.lines ≡ w.kernel.lines ++ g.0 = ap (λ (v : CodeWorld). v.kernel.lines) (sym (ap (code i schedule) e ∙ next_code n)) ∙ g.1 in
+      subst (λ (v : CodeWorld). v.kernel.lines ≡ w.kernel.lines ++ lines_told (rows_of_step w.kernel v.kernel (suc n) w.kernel.outcome w.kernel.running)) (sym (next_code n))
+      (step_tells f (suc n) w.kernel w.rest w.kernel.outcome w.kernel.running (g.0, grown))
+
+  pub all_lines : LinesGrowOn → LeftUnmoved → (n : ℕ) → lines_told (rows i schedule n) ≡ (code i schedule n).kernel.lines
+  all_lines grow unmoved zero = let k = (code i schedule 0).kernel in told_shown k.now 0 (starts k) ∙ sym (starts_without_lines unmoved i)
+  all_lines grow unmoved (suc n) =
+      told-append (rows i schedule n) (rows_at i schedule n) ∙ ap (λ v. v ++ lines_told (rows_at i schedule n)) (all_lines grow unmoved n) ∙ sym (next_lines grow n)

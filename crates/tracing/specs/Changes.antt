@@ -1,0 +1,119 @@
+-- What a step changes of who runs, who waits and who is inside an object, told by the kernels before and after it.
+use Rattle.std.specs.Prelude.{ℕ, zero, suc, List, [], ◌∷◌, ◌++◌, Option, Some, None, Bool, true, false, int_lt, nat_eq, nat_lt, if◌then◌else◌}
+use Rattle.kernel.specs.State as kernel
+use Rattle.kernel.specs.State.{Kernel, TaskPlace, IsRunning, IsReady, IsAsleep, IsQueued, IsServed, IsFinished, active, is_object_open}
+use Rattle.tracing.specs.declared.event.Event.{Event}
+use Rattle.tracing.specs.declared.event.Event.TheVariants.{Ready, Runs, Preempted, GivesWay, Delayed, Wakes, Enters, Leaves, Queues, Served, Returns, Ends, Unhandled, ClockMoves}
+
+-- Throughout, a step leads from kernel k to kernel l, and t is the task that ran.
+
+abbrev pub list_of : {X : Type 0} → Option X → List X
+list_of None = []
+list_of (Some x) = x ∷ []
+
+-- what is told of the numbers below n, in their order
+abbrev pub each : {X : Type 0} → ℕ → (ℕ → Option X) → List X
+each zero told = []
+each (suc n) told = each n told ++ list_of (told n)
+
+-- the clock moves only where nobody runs or is ready: then each task that runs or is ready after the step has waited for that time
+abbrev pub is_later : Kernel → Kernel → Bool
+is_later k l = int_lt k.now l.now
+
+-- Objects
+
+-- by whether t was inside o, and whether it is
+abbrev pub crossed : Kernel → ℕ → ℕ → Bool → Bool → Option Event
+crossed l t o false true = Some (Enters t o (active l t))
+crossed l t o true false = Some (Leaves t o (active l t))
+crossed l t o _ _ = None
+
+abbrev pub crossing : Kernel → Kernel → ℕ → ℕ → Option Event
+crossing k l t o = crossed l t o (is_object_open o (k.actions t)) (is_object_open o (l.actions t))
+
+-- Callers
+
+-- by where u was, and where it is: only t can have begun or ended the body that is run for its call (RM 9.5.3)
+abbrev pub called : ℕ → ℕ → TaskPlace → TaskPlace → Option Event
+called t u (IsQueued o) (IsServed p) = Some (Served u o t)
+called t u (IsServed o) IsReady = Some (Returns u o)
+called t u (IsServed o) IsRunning = Some (Returns u o)
+called t u _ _ = None
+
+abbrev pub calling : Kernel → Kernel → ℕ → ℕ → Option Event
+calling k l t u = called t u (k.place u) (l.place u)
+
+-- The task that ran
+
+-- by who runs, where t is ready again though the clock hasn't moved
+abbrev pub outranked : Kernel → ℕ → Option ℕ → Option Event
+outranked l t None = None
+outranked l t (Some r) = Some (if nat_lt (active l t) (active l r) then Preempted t r else GivesWay t r)
+
+-- how it gave up the processor, if it did: by whether the clock has moved, and where t is
+abbrev pub gave_up : Kernel → ℕ → Bool → TaskPlace → Option Event
+gave_up l t later IsAsleep = Some (Delayed t)
+gave_up l t later (IsQueued o) = Some (Queues t o)
+gave_up l t later (IsServed o) = None
+gave_up l t later IsFinished = Some (Ends t)
+gave_up l t true IsRunning = Some (Delayed t)
+gave_up l t false IsRunning = None
+gave_up l t true IsReady = Some (Delayed t)
+gave_up l t false IsReady = outranked l t l.running
+
+-- what has happened when the clock may move: what t did, and what that made of callers
+abbrev pub until_clock : Kernel → Kernel → ℕ → List Event
+until_clock k l t =
+    each l.partition.objects (crossing k l t) ++ each l.partition.tasks (calling k l t) ++ list_of (gave_up l t (is_later k l) (l.place t))
+
+-- The clock
+
+abbrev pub clock_moved : Bool → Option Event
+clock_moved true = Some ClockMoves
+clock_moved false = None
+
+-- by whether it has moved, where u was, and where it is
+abbrev pub woken : Bool → ℕ → TaskPlace → TaskPlace → Option Event
+woken later u IsAsleep IsReady = Some (Wakes u)
+woken later u IsAsleep IsRunning = Some (Wakes u)
+woken true u IsRunning IsReady = Some (Wakes u)
+woken true u IsRunning IsRunning = Some (Wakes u)
+woken _ u _ _ = None
+
+abbrev pub waking : Kernel → Kernel → ℕ → Option Event
+waking k l u = woken (is_later k l) u (k.place u) (l.place u)
+
+-- Who runs
+
+abbrev pub runs_now : Kernel → ℕ → Event
+runs_now l r = Runs r (active l r)
+
+-- nothing is told where t runs on
+abbrev pub dispatched : Kernel → ℕ → Bool → Option ℕ → Option Event
+dispatched l t later None = None
+dispatched l t true (Some r) = Some (runs_now l r)
+dispatched l t false (Some r) = if nat_eq r t then None else Some (runs_now l r)
+
+abbrev pub stopped : Option kernel.Outcome → Option Event
+stopped (Some (kernel.Unhandled x u)) = Some (Unhandled u x)
+stopped _ = None
+
+-- and then: the clock moves, those due wake, told in the order of their numbers, and the highest runs
+abbrev pub since_clock : Kernel → Kernel → ℕ → List Event
+since_clock k l t =
+    list_of (clock_moved (is_later k l))
+    ++ each l.partition.tasks (waking k l)
+    ++ list_of (dispatched l t (is_later k l) l.running)
+    ++ list_of (stopped l.outcome)
+
+-- At the start all tasks are ready, in order of declaration, and the highest runs (RM 9.2, D.2.1)
+
+abbrev pub ready : ℕ → Option Event
+ready u = Some (Ready u)
+
+abbrev pub first_runs : Kernel → Option ℕ → Option Event
+first_runs k None = None
+first_runs k (Some r) = Some (runs_now k r)
+
+abbrev pub starts : Kernel → List Event
+starts k = each k.partition.tasks ready ++ list_of (first_runs k k.running)

@@ -1,0 +1,4 @@
+pub mod Changes
+pub mod Traces
+pub mod Writing
+pub mod Laws

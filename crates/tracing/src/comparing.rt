@@ -1,0 +1,244 @@
+//! What a step has changed, told by a machine that stands before it and one that stands after it.
+ghost use Rattle.std.specs.Prelude.{◌≡◌, ◌+◌, ◌<◌, ◌≤◌, ◌++◌, ℕ, [], length, Some, int_lt};
+ghost use Rattle.arrayvec.specs.ArrayVec.{array_vec_len};
+ghost use Rattle.base.specs.declared.limits.TheConstants.{OBJECTS, TASKS};
+ghost use Rattle.tasking.specs.Held.{kernel_of};
+ghost use Rattle.tracing.specs.Changes.{calling, crossing, dispatched, each, first_runs, gave_up, is_later, list_of, outranked, ready, since_clock, starts, stopped, until_clock, waking};
+ghost use Rattle.tracing.specs.declared.comparing.TheConstants.{EVENTS};
+
+use crate::event::Event;
+use arrayvec::ArrayVec;
+use base::limits::{OBJECTS, TASKS};
+use clock::Delays;
+use dispatch::Ready;
+use machine::{Machine, Outcome, Place};
+
+/// The most events of one step at one time.
+pub(crate) const EVENTS: usize = OBJECTS + TASKS + 1;
+
+/// Events of one step at one time, in their order.
+pub(crate) type Events = ArrayVec<Event, EVENTS>;
+
+// Adds an event, if there is one.
+fn add(events: &mut Events, event: Option<Event>)
+    requires { array_vec_len events.old < EVENTS }
+    ensures items { events.new.items ≡ events.old.items ++ list_of event }
+    ensures len { array_vec_len events.new ≤ array_vec_len events.old + 1 }
+{
+    if let Some(event) = event {
+        events.push(event);
+    }
+}
+
+// Whether the clock has moved.
+fn is_later<R: Ready, D: Delays>(before: &Machine<'_, R, D>, after: &Machine<'_, R, D>) -> bool
+    ensures { result ≡ is_later (kernel_of before.now.tasking) (kernel_of after.now.tasking) }
+{
+    before.now() < after.now()
+}
+
+// Whether the task that ran has entered or left an object.
+fn crossing<R: Ready, D: Delays>(
+    before: &Machine<'_, R, D>,
+    after: &Machine<'_, R, D>,
+    task: u8,
+    object: u8,
+) -> Option<Event>
+    requires image { before.now.image ≡ after.now.image }
+    requires task { task < length after.now.image.tasks }
+    requires object { object < length after.now.image.objects }
+    ensures { result ≡ crossing (kernel_of before.now.tasking) (kernel_of after.now.tasking) task object }
+{
+    let priority = after.active(task);
+    match (
+        before.is_inside(task, object),
+        after.is_inside(task, object),
+    ) {
+        (false, true) => Some(Event::Enters {
+            task,
+            object,
+            priority,
+        }),
+        (true, false) => Some(Event::Leaves {
+            task,
+            object,
+            priority,
+        }),
+        _ => None,
+    }
+}
+
+// What the task that ran, `by`, has made of a task's call.
+fn calling<R: Ready, D: Delays>(
+    before: &Machine<'_, R, D>,
+    after: &Machine<'_, R, D>,
+    by: u8,
+    task: u8,
+) -> Option<Event>
+    ensures { result ≡ calling (kernel_of before.now.tasking) (kernel_of after.now.tasking) by task }
+{
+    match (before.place(task), after.place(task)) {
+        (Place::Queued(object), Place::Served(_)) => Some(Event::Served { task, object, by }),
+        (Place::Served(object), Place::Ready | Place::Running) => {
+            Some(Event::Returns { task, object })
+        }
+        _ => None,
+    }
+}
+
+// Who runs in the place of a task that is ready again: one that preempts it, or one of its own priority.
+fn outranked<R: Ready, D: Delays>(after: &Machine<'_, R, D>, task: u8) -> Option<Event>
+    requires { task < length after.now.image.tasks }
+    ensures { result ≡ outranked (kernel_of after.now.tasking) task (kernel_of after.now.tasking).running }
+{
+    let by = after.running()?;
+    if after.active(task) < after.active(by) {
+        Some(Event::Preempted { task, by })
+    } else {
+        Some(Event::GivesWay { task, to: by })
+    }
+}
+
+// How the task that ran gave up the processor, if it did.
+fn gave_up<R: Ready, D: Delays>(
+    before: &Machine<'_, R, D>,
+    after: &Machine<'_, R, D>,
+    task: u8,
+) -> Option<Event>
+    requires { task < length after.now.image.tasks }
+    ensures { result ≡ gave_up (kernel_of after.now.tasking) task (is_later (kernel_of before.now.tasking) (kernel_of after.now.tasking))
+        ((kernel_of after.now.tasking).place task) }
+{
+    match (is_later(before, after), after.place(task)) {
+        (_, Place::Asleep) | (true, Place::Running | Place::Ready) => Some(Event::Delayed { task }),
+        (_, Place::Queued(object)) => Some(Event::Queues { task, object }),
+        (_, Place::Finished) => Some(Event::Ends { task }),
+        (false, Place::Ready) => outranked(after, task),
+        (false, Place::Running) | (_, Place::Served(_)) => None,
+    }
+}
+
+// Whether a task has woken.
+fn waking<R: Ready, D: Delays>(
+    before: &Machine<'_, R, D>,
+    after: &Machine<'_, R, D>,
+    task: u8,
+) -> Option<Event>
+    ensures { result ≡ waking (kernel_of before.now.tasking) (kernel_of after.now.tasking) task }
+{
+    match (
+        is_later(before, after),
+        before.place(task),
+        after.place(task),
+    ) {
+        (_, Place::Asleep, Place::Ready | Place::Running)
+        | (true, Place::Running, Place::Ready | Place::Running) => Some(Event::Wakes { task }),
+        _ => None,
+    }
+}
+
+// Who runs now, unless it is the task that ran and has run on.
+fn dispatched<R: Ready, D: Delays>(
+    before: &Machine<'_, R, D>,
+    after: &Machine<'_, R, D>,
+    ran: u8,
+) -> Option<Event>
+    ensures { result ≡ dispatched (kernel_of after.now.tasking) ran (is_later (kernel_of before.now.tasking) (kernel_of after.now.tasking))
+        (kernel_of after.now.tasking).running }
+{
+    let task = after.running()?;
+    if is_later(before, after) || task != ran {
+        let priority = after.active(task);
+        Some(Event::Runs { task, priority })
+    } else {
+        None
+    }
+}
+
+// The exception that has ended the run, if one has.
+fn stopped<R: Ready, D: Delays>(after: &Machine<'_, R, D>) -> Option<Event>
+    ensures { result ≡ stopped (kernel_of after.now.tasking).outcome }
+{
+    match after.outcome() {
+        Some(
+            Outcome::Unhandled {
+                exception,
+                task,
+                ..
+            },
+        ) => Some(Event::Unhandled { task, exception }),
+        _ => None,
+    }
+}
+
+// The objects that the task that ran has entered or left.
+fn crossings<R: Ready, D: Delays>(
+    before: &Machine<'_, R, D>,
+    after: &Machine<'_, R, D>,
+    task: u8,
+) -> Events
+    requires image { before.now.image ≡ after.now.image }
+    requires task { task < length after.now.image.tasks }
+    ensures items { result.items ≡ each (kernel_of after.now.tasking).partition.objects
+        (crossing (kernel_of before.now.tasking) (kernel_of after.now.tasking) task) }
+    ensures few { array_vec_len result ≤ OBJECTS }
+{
+    let mut events = ArrayVec::new();
+    for object in 0..after.objects() {
+        add(&mut events, crossing(before, after, task, object));
+    }
+    events
+}
+
+/// What has happened when the clock may move.
+pub(crate) fn until_clock<R: Ready, D: Delays>(
+    before: &Machine<'_, R, D>,
+    after: &Machine<'_, R, D>,
+    ran: u8,
+) -> Events
+    requires image { before.now.image ≡ after.now.image }
+    requires task { ran < length after.now.image.tasks }
+    ensures { result.items ≡ until_clock (kernel_of before.now.tasking) (kernel_of after.now.tasking) ran }
+{
+    let mut events = crossings(before, after, ran);
+    for task in 0..after.tasks() {
+        add(&mut events, calling(before, after, ran, task));
+    }
+    add(&mut events, gave_up(before, after, ran));
+    events
+}
+
+/// What has happened since: the clock has moved, tasks have woken, and the highest runs.
+pub(crate) fn since_clock<R: Ready, D: Delays>(
+    before: &Machine<'_, R, D>,
+    after: &Machine<'_, R, D>,
+    ran: u8,
+) -> Events
+    ensures { result.items ≡ since_clock (kernel_of before.now.tasking) (kernel_of after.now.tasking) ran }
+{
+    let mut events = ArrayVec::new();
+    if is_later(before, after) {
+        events.push(Event::ClockMoves);
+    }
+    for task in 0..after.tasks() {
+        add(&mut events, waking(before, after, task));
+    }
+    add(&mut events, dispatched(before, after, ran));
+    add(&mut events, stopped(after));
+    events
+}
+
+/// What is told of the start.
+pub(crate) fn starts<R: Ready, D: Delays>(machine: &Machine<'_, R, D>) -> Events
+    ensures { result.items ≡ starts (kernel_of machine.now.tasking) }
+{
+    let mut events = ArrayVec::new();
+    for task in 0..machine.tasks() {
+        events.push(Event::Ready { task });
+    }
+    if let Some(task) = machine.running() {
+        let priority = machine.active(task);
+        events.push(Event::Runs { task, priority });
+    }
+    events
+}

@@ -1,0 +1,11 @@
+//! Traces of runs: the same run as the machine's, told event by event (docs/FORMATS.md, "Traces").
+#![tactic(auto)]
+
+mod comparing;
+mod event;
+pub mod laws;
+mod text;
+mod tracing_of;
+
+pub use event::Event;
+pub use tracing_of::trace;

@@ -1,0 +1,174 @@
+//! The text of rows (docs/FORMATS.md, "Traces").
+ghost use Rattle.std.specs.Prelude.{◌≡◌, ◌+◌, ◌≤◌, ◌++◌, length, codes, decimal};
+ghost use Rattle.std.specs.Fmt.{signed_decimal};
+ghost use Rattle.arrayvec.specs.ArrayVec.{array_vec_len};
+ghost use Rattle.base.specs.declared.limits.TheConstants.{NAME_LIMIT};
+ghost use Rattle.image.specs.Texts.{names_of};
+ghost use Rattle.tracing.specs.Traces.{event_text, heading, task_of, telling_text, Shows};
+ghost use Rattle.tracing.specs.declared.text.TheConstants.{ROW_BYTES};
+
+use crate::event::Event;
+use arrayvec::ArrayVec;
+use image::Image;
+use itoa::Buffer;
+use machine::{exception_name, task_name};
+
+/// The most bytes of a row, its end included, but for a row that ends with a line of the run: this is how many bytes are in front of that.
+pub(crate) const ROW_BYTES: usize = 192;
+
+/// The text of a row, or its beginning.
+pub(crate) type RowText = ArrayVec<u8, ROW_BYTES>;
+
+// Appends the bytes, for which there is room.
+fn put(row: &mut RowText, bytes: &[u8])
+    requires { array_vec_len row.old + length bytes.now ≤ ROW_BYTES }
+    ensures items { row.new.items ≡ row.old.items ++ bytes.now }
+    ensures len { array_vec_len row.new ≡ array_vec_len row.old + length bytes.now }
+{
+    let _ = row.try_extend_from_slice(bytes);
+}
+
+// Appends a count in decimal.
+fn put_count(row: &mut RowText, count: u64)
+    requires { array_vec_len row.old + 20 ≤ ROW_BYTES }
+    ensures items { row.new.items ≡ row.old.items ++ decimal count }
+    ensures len { array_vec_len row.new ≤ array_vec_len row.old + 20 }
+{
+    put(row, Buffer::new().format(count).as_bytes());
+}
+
+// Appends a time in decimal.
+fn put_time(row: &mut RowText, time: i64)
+    requires { array_vec_len row.old + 20 ≤ ROW_BYTES }
+    ensures items { row.new.items ≡ row.old.items ++ signed_decimal time }
+    ensures len { array_vec_len row.new ≤ array_vec_len row.old + 20 }
+{
+    put(row, Buffer::new().format(time).as_bytes());
+}
+
+// Time, step and task.
+fn heading(time: i64, step: u64, task: &[u8]) -> RowText
+    requires { length task.now ≤ NAME_LIMIT }
+    ensures items { result.items ≡ heading time step task.now }
+    ensures len { array_vec_len result ≤ 83 }
+{
+    let mut row = ArrayVec::new();
+    put_time(&mut row, time);
+    put(&mut row, b" ");
+    put_count(&mut row, step);
+    put(&mut row, b" ");
+    put(&mut row, task);
+    put(&mut row, b" ");
+    row
+}
+
+// The name of the task that an event is told of, or a dash where it is the clock.
+fn task_of<'a>(image: &'a Image, event: &Event) -> &'a [u8]
+    ensures same { result.now ≡ task_of (names_of image.now) event.now }
+    ensures short { length result.now ≤ NAME_LIMIT }
+{
+    match event {
+        Event::ClockMoves => b"-",
+        Event::Ready { task }
+        | Event::Runs { task, .. }
+        | Event::Preempted { task, .. }
+        | Event::GivesWay { task, .. }
+        | Event::Delayed { task }
+        | Event::Wakes { task }
+        | Event::Enters { task, .. }
+        | Event::Leaves { task, .. }
+        | Event::Queues { task, .. }
+        | Event::Served { task, .. }
+        | Event::Returns { task, .. }
+        | Event::Ends { task }
+        | Event::Unhandled { task, .. } => task_name(image.tasks(), *task),
+    }
+}
+
+// Appends words and a number behind them.
+fn put_with(row: &mut RowText, words: &[u8], number: u8)
+    requires { array_vec_len row.old + length words.now + 20 ≤ ROW_BYTES }
+    ensures items { row.new.items ≡ row.old.items ++ (words.now ++ decimal number) }
+    ensures len { array_vec_len row.new ≤ array_vec_len row.old + length words.now + 20 }
+{
+    put(row, words);
+    put_count(row, u64::from(number));
+}
+
+// Appends words and the name of a task behind them.
+fn put_named(row: &mut RowText, words: &[u8], name: &[u8])
+    requires room { array_vec_len row.old + length words.now + NAME_LIMIT ≤ ROW_BYTES }
+    requires name { length name.now ≤ NAME_LIMIT }
+    ensures items { row.new.items ≡ row.old.items ++ (words.now ++ name.now) }
+    ensures len { array_vec_len row.new ≤ array_vec_len row.old + length words.now + NAME_LIMIT }
+{
+    put(row, words);
+    put(row, name);
+}
+
+// Appends what is told of an event.
+fn put_event(row: &mut RowText, image: &Image, event: &Event)
+    requires { array_vec_len row.old ≤ 83 }
+    ensures items { row.new.items ≡ row.old.items ++ event_text (names_of image.now) event.now }
+    ensures len { array_vec_len row.new ≤ array_vec_len row.old + 90 }
+{
+    let tasks = image.tasks();
+    match event {
+        Event::Ready { .. } => put(row, b"is ready"),
+        Event::Runs { priority, .. } => put_with(row, b"runs at ", *priority),
+        Event::Preempted { by, .. } => put_named(row, b"is preempted by ", task_name(tasks, *by)),
+        Event::GivesWay { to, .. } => put_named(row, b"gives way to ", task_name(tasks, *to)),
+        Event::Delayed { .. } => put(row, b"is delayed"),
+        Event::Wakes { .. } => put(row, b"wakes"),
+        Event::Enters {
+            object,
+            priority,
+            ..
+        } => {
+            put_with(row, b"enters object ", *object);
+            put_with(row, b" at ", *priority);
+        }
+        Event::Leaves {
+            object,
+            priority,
+            ..
+        } => {
+            put_with(row, b"leaves object ", *object);
+            put_with(row, b" at ", *priority);
+        }
+        Event::Queues { object, .. } => put_with(row, b"queues at object ", *object),
+        Event::Served { object, by, .. } => {
+            put_with(row, b"is served at object ", *object);
+            put_named(row, b" by ", task_name(tasks, *by));
+        }
+        Event::Returns { object, .. } => put_with(row, b"has been served at object ", *object),
+        Event::Ends { .. } => put(row, b"ends"),
+        Event::Unhandled { exception, .. } => {
+            put_named(
+                row,
+                b"is left by ",
+                exception_name(image.exceptions(), *exception),
+            );
+        }
+        Event::ClockMoves => put(row, b"the clock moves"),
+    }
+}
+
+/// The row of an event.
+pub(crate) fn event_row(image: &Image, time: i64, step: u64, event: &Event) -> RowText
+    ensures { result.items ≡ telling_text (names_of image.now) time step (Shows event.now) }
+{
+    let mut row = heading(time, step, task_of(image, event));
+    put_event(&mut row, image, event);
+    put(&mut row, b"\n");
+    row
+}
+
+/// What stands in front of a line that a task has written.
+pub(crate) fn line_heading(image: &Image, time: i64, step: u64, task: u8) -> RowText
+    ensures { result.items ≡ heading time step ((names_of image.now).task task) ++ codes "writes " }
+{
+    let mut row = heading(time, step, task_name(image.tasks(), task));
+    put(&mut row, b"writes ");
+    row
+}
