@@ -63,6 +63,7 @@ def listing(data):
         yield f"handler {start} {end} {exception} {target}"
 
 
-with open(sys.argv[1], "rb") as file:
-    for line in listing(file.read()):
-        print(line)
+if __name__ == "__main__":
+    with open(sys.argv[1], "rb") as file:
+        for line in listing(file.read()):
+            print(line)

@@ -4,7 +4,7 @@
     refusals.py PROGRAM REFUSING SCRATCH
 
 REFUSING is what refuses, and tells that it did (refuse.c). A call in which a request was refused writes nothing but `no memory`, ends with status 8, and leaves
-the files as they were; the others do what they do with ample memory.
+the files as they were, so that the same call with memory, made behind it, does what it should; the others do that too.
 """
 import os
 import subprocess
@@ -12,11 +12,20 @@ import sys
 from concurrent.futures import ThreadPoolExecutor
 
 import mnemonics
-from rows import framed, rows_of
+from rows import row_of
 
 HERE = os.path.dirname(os.path.abspath(__file__))
 MOST = 10_000
 JOBS = 2
+TERMS = ("programs", "a sign takes a whole term, mod and rem keep to their signs, division cuts towards zero")
+ROWS = [
+    TERMS,
+    ("programs", "an exception of a handler passes by the other handlers of its sequence"),
+    ("tasks", "a channel before its first line, at the very time of its line, and behind it"),
+    ("entries", "who is served runs as soon as the active priority falls below its own"),
+    ("entries", "a consumer that waits is served by the producer, before that goes on"),
+    ("entries", "a caller that nobody serves"),
+]
 
 
 def content(path):
@@ -39,14 +48,17 @@ class Call:
         self.name, self.words, self.files, self.leaves = name, words, files, dict(leaves)
         self.ample = (out.encode(), err.encode(), status)
 
-    def attempt(self, program, refusing, folder, number):
-        """Whether a request was refused in this call, and what went wrong, if anything did."""
+    def prepare(self, folder):
+        """Makes the files as they are before the call."""
         for name in {*self.files, *self.leaves}:
             path = os.path.join(folder, name)
             if os.path.exists(path):
                 os.remove(path)
             if name in self.files:
                 write(path, self.files[name])
+
+    def attempt(self, program, refusing, folder, number):
+        """Whether a request was refused in this call, 0 for none of them, and what went wrong, if anything did."""
         told = os.path.join(folder, "refused")
         if os.path.exists(told):
             os.remove(told)
@@ -64,22 +76,24 @@ class Call:
         return was_refused, None
 
     def attempt_all(self, program, refusing, folder):
-        """How many requests were refused, and what went wrong."""
+        """How many requests were refused, each with a call with memory behind it, and what went wrong."""
         os.makedirs(folder)
         wrong = []
         for number in range(1, MOST):
+            self.prepare(folder)
             was_refused, told = self.attempt(program, refusing, folder, number)
             wrong += [f"{self.name}: request {number}{' refused' if was_refused else ''}: {told}"] if told else []
             if not was_refused:
                 return number - 1, wrong
+            _, told = self.attempt(program, refusing, folder, 0)
+            wrong += [f"{self.name}: again with memory, behind refused request {number}: {told}"] if told else []
         return MOST, [*wrong, f"{self.name}: no call without a refused request"]
 
 
-def row_of(table, name):
-    """The source of a row of a table, and what it writes."""
-    with open(os.path.join(HERE, "rows", table + ".txt"), encoding="utf-8") as file:
-        row = next(row for row in rows_of(table, file.read().split("\n")) if row["name"] == name)
-    return framed(row["frame"], row), "".join(line + "\n" for line in row.get("out", []))
+def go_of(table, name):
+    """A call by `go` of a row of a table."""
+    source, schedule, limit, out, err, status = row_of(table, name)
+    return Call(f"go: {name}", ["go", "main.adb", "input", limit], {"main.adb": source, "input": schedule}, out.decode(), err.decode(), status)
 
 
 def example(name):
@@ -90,11 +104,10 @@ def example(name):
 def calls_of(program, folder):
     """The calls, each of which the program makes once with ample memory first where its image or listing is to be compared."""
     empty = {"empty": b""}
-    rows = ["a sign takes a whole term, mod and rem keep to their signs, division cuts towards zero", "an exception of a handler passes by the other handlers of its sequence"]
-    (terms, term_lines), (handled, handled_lines) = (row_of("programs", name) for name in rows)
+    terms, _, _, out, _, _ = row_of(*TERMS)
+    term_lines = out.decode()
     found = [
-        Call("go", ["go", "main.adb", "empty", "100000"], {"main.adb": terms, **empty}, term_lines),
-        Call("go with handlers", ["go", "main.adb", "empty", "100000"], {"main.adb": handled, **empty}, handled_lines, status=3),
+        *(go_of(*row) for row in ROWS),
         Call("go of a refused text", ["go", "main.adb", "empty", "1"], {"main.adb": b"procedure Main is begin null; end Main;", **empty}, "", "fault 39 at 1:1\n", 2),
         Call("go with a refused schedule", ["go", "main.adb", "faulty", "1"], {"main.adb": terms, "faulty": b"5 1 7\n4 1 7\n"}, "", "schedule fault 51 at line 2\n", 7),
     ]

@@ -11,6 +11,7 @@ import random
 import re
 import subprocess
 import sys
+from collections import Counter
 from concurrent.futures import ThreadPoolExecutor
 
 NUMBER = rb"0|[1-9][0-9]*"
@@ -42,6 +43,48 @@ def fault_of(text):
     return None
 
 
+# What a taken schedule has at the edge of a rule, and what the faulty line of a refused one has just past it.
+KEPT = {
+    "the last time": rb"^9223372036854775807 ",
+    "the least value": rb" -9223372036854775808$",
+    "the greatest value": rb" 9223372036854775807$",
+    "the first channel": rb"^\d+ 1 ",
+    "the last channel": rb"^\d+ 8 ",
+    "a value of 0": rb" 0$",
+    "two lines of one time": rb"^(\d+) .*\n\1 ",
+    "as many lines as there may be": rb"\A(.*\n){%d}\Z" % LINES,
+}
+BROKEN = {
+    "a time past the last one": (NO_LINE, rb"9223372036854775808 .*"),
+    "a value below the least": (NO_LINE, rb".* -9223372036854775809"),
+    "a value above the greatest": (NO_LINE, rb".* 9223372036854775808"),
+    "a leading zero": (NO_LINE, rb"0\d+ .*|.* -?0\d+ ?.*"),
+    "a minus in front of 0": (NO_LINE, rb".* -0"),
+    "no line feed": (NO_LINE, None),
+    "two spaces": (NO_LINE, rb".*  .*"),
+    "a carriage return": (NO_LINE, rb".*\r"),
+    "no characters": (NO_LINE, rb""),
+    "the channel 0": (CHANNEL, rb"\d+ 0 .*"),
+    "the channel 9": (CHANNEL, rb"\d+ 9 .*"),
+    "the time 0 behind another one": (BACK, rb"0 .*"),
+    "another time that goes back": (BACK, rb"[1-9]\d* .*"),
+    "a line more than there may be": (MANY, rb".*"),
+}
+
+
+def sides_of(text, fault):
+    """At which edges of rules a schedule stands."""
+    if not fault:
+        return [name for name, form in KEPT.items() if re.search(form, text, re.MULTILINE)]
+    rule, number = fault
+    lines = text.split(b"\n")
+    is_open = number == len(lines)
+    return [
+        name for name, (broken, form) in BROKEN.items()
+        if broken == rule and (is_open if form is None else not is_open and re.fullmatch(form, lines[number - 1]))
+    ]  # fmt: skip
+
+
 def part(chance, usual, edges):
     return chance.choice(edges) if chance.random() < 0.12 else str(usual).encode()
 
@@ -52,9 +95,11 @@ def line(chance, time):
     channels = [b"0", b"1", b"8", b"9", b"01", b"-1", b"", b"18446744073709551617", b"a"]
     values = [b"0", b"-0", b"00", b"-9223372036854775808", b"-9223372036854775809", b"9223372036854775807", b"9223372036854775808", b"", b"--1", b"1\r", b"1 1", b" 1"]
     ends = [b"", b"\r\n", b" \n", b"\n\n", b"\t\n", b"\x00\n"]
-    written = part(chance, max(time, 0), times) + b" " + part(chance, chance.randint(1, 8), channels)
-    written += b" " + part(chance, chance.randint(-99, 99), values)
-    return written + (chance.choice(ends) if chance.random() < 0.02 else b"\n")
+    between = [chance.choice([b"", b"  ", b"\t", b"_", b"\xa0"]) if chance.random() < 0.01 else b" " for _ in range(2)]
+    written = part(chance, max(time, 0), times) + between[0] + part(chance, chance.randint(1, 8), channels)
+    written += between[1] + part(chance, chance.randint(-99, 99), values)
+    before = chance.choice([b" ", b"\n", b"\xef\xbb\xbf"]) if chance.random() < 0.01 else b""
+    return before + written + (chance.choice(ends) if chance.random() < 0.02 else b"\n")
 
 
 def schedule(chance):
@@ -81,19 +126,21 @@ def main():
         wanted = (0, lines, b"") if not fault else (REFUSED, b"", b"schedule fault %d at line %d\n" % fault)
         if (call.returncode, call.stdout, call.stderr) == wanted:
             os.remove(path)
-            return fault and fault[0], None
-        return fault and fault[0], f"{path}: {call.stderr!r}, not {wanted[2]!r}"
+            return fault, None
+        return fault, f"{path}: {call.stderr!r}, not {wanted[2]!r}"
 
     texts = [schedule(chance) for _ in range(count)]
     with ThreadPoolExecutor(os.cpu_count()) as pool:
         found = list(pool.map(tried, range(count), texts))
     failed = [it for _, it in found if it]
+    sides = Counter(side for text, (fault, _) in zip(texts, found) for side in sides_of(text, fault))
+    failed += [f"no schedule has {side}" for side in [*KEPT, *BROKEN] if not sides[side]]
     for it in failed[:20]:
         print(f"schedules: {it}", file=sys.stderr)
-    rules = [rule for rule, _ in found]
+    rules = [fault and fault[0] for fault, _ in found]
     told = ", ".join(f"{rules.count(rule)} by {rule}" for rule in (NO_LINE, BACK, CHANNEL, MANY))
-    print(f"schedules: of {count} {rules.count(None)} are taken, and refused are {told}")
-    return 1 if failed or min(rules.count(rule) for rule in (None, NO_LINE, BACK, CHANNEL, MANY)) == 0 else 0
+    print(f"schedules: of {count} {rules.count(None)} are taken, and refused are {told}; each of {len(sides)} edges is met by {min(sides.values())} or more")
+    return 1 if failed else 0
 
 
 if __name__ == "__main__":

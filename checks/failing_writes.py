@@ -1,0 +1,121 @@
+#!/usr/bin/env python3
+"""Calls the program with each of its writes to standard output failing in turn, taking nothing or taking one byte: what went out is a beginning of what should.
+
+    failing_writes.py PROGRAM WRITING SCRATCH
+
+WRITING is what makes a write go wrong, and tells that it did (streams.c). Where the nth write fails, or takes nothing, the program says `cannot write` and ends with
+status 1, and standard output has a beginning of what the call writes, nothing where n is 1; the beginnings grow with n, up to the first n that no call comes to,
+whose call writes all. Where the nth write takes one byte, or each of them does, all of it is written. Where nobody reads the pipe that standard output is, it says
+`cannot write` too.
+"""
+import errno
+import os
+import subprocess
+import sys
+
+import mnemonics
+from rows import row_of
+
+FAILING = [str(number) for number in (errno.ENOSPC, errno.EIO, errno.EPIPE, errno.EAGAIN, errno.EFBIG)] + ["none"]
+MOST = 1_000
+CANNOT_WRITE = (b"cannot write\n", 1)
+ROWS = [
+    ("programs", "a sign takes a whole term, mod and rem keep to their signs, division cuts towards zero"),
+    ("entries", "who is served runs as soon as the active priority falls below its own"),
+    ("tasks", "a channel before its first line, at the very time of its line, and behind it"),
+    ("tasks", "the same without a step"),
+    ("entries", "a caller that nobody serves"),
+    ("programs", "an exception of a handler passes by the other handlers of its sequence"),
+]
+
+
+class Call:
+    """A call of the program in a folder: its words, and what it writes and its status where each write is taken."""
+
+    def __init__(self, name, words, ample):
+        self.name, self.words, self.ample, self.wrong, self.calls = name, words, ample, [], 0
+
+    def with_write(self, program, writing, folder, number, how):
+        """What the call leaves where this write goes wrong, 0 for each of them, and whether it came to it."""
+        told = os.path.join(folder, "reached")
+        if os.path.exists(told):
+            os.remove(told)
+        environment = {**os.environ, "LD_PRELOAD": writing, "WHERE": "out", "NUMBER": str(number), "HOW": how, "REACHED": told}
+        run = subprocess.run([program, *self.words], cwd=folder, env=environment, capture_output=True, check=False)
+        self.calls += 1
+        return (run.stdout, run.stderr, run.returncode), os.path.exists(told)
+
+    def expect(self, holds, number, how, left):
+        if not holds:
+            self.wrong.append(f"{self.name}: write {number or 'each'}, {how}: status {left[2]}, {left[0][-200:]!r}, {left[1]!r}")
+
+    def fails(self, program, writing, folder, how):
+        """Each write fails in turn, or takes nothing; how many there are."""
+        written = b""
+        for number in range(1, MOST):
+            left, is_reached = self.with_write(program, writing, folder, number, how)
+            if not is_reached:
+                self.expect(left == self.ample and number > 1, number, how, left)
+                return number - 1
+            is_beginning = self.ample[0].startswith(left[0]) and len(written) <= len(left[0]) < len(self.ample[0])
+            self.expect(is_beginning and left[1:] == CANNOT_WRITE and (number > 1 or not left[0]), number, how, left)
+            written = left[0]
+        self.expect(False, MOST, how, left)
+        return MOST
+
+    def is_short(self, program, writing, folder, writes):
+        """Each write takes one byte, and each in turn does."""
+        for number in range(writes + 1):
+            left, is_reached = self.with_write(program, writing, folder, number, "byte")
+            self.expect(is_reached and left == self.ample, number, "byte", left)
+
+    def is_unread(self, program, folder):
+        """Standard output is a pipe whose reader has gone."""
+        reader, writer = os.pipe()
+        os.close(reader)
+        run = subprocess.run([program, *self.words], cwd=folder, stdout=writer, stderr=subprocess.PIPE, check=False)
+        os.close(writer)
+        self.calls += 1
+        self.expect((run.stderr, run.returncode) == CANNOT_WRITE, "any", "unread", (b"", run.stderr, run.returncode))
+
+
+def write(folder, name, data):
+    with open(os.path.join(folder, name), "wb") as file:
+        file.write(data)
+
+
+def calls_of(folder):
+    """The calls, whose files are made in the folder."""
+    found = []
+    for number, row in enumerate(ROWS):
+        source, schedule, limit, *ample = row_of(*row)
+        write(folder, f"{number}.adb", source)
+        write(folder, f"{number}.schedule", schedule)
+        found.append(Call(f"go: {row[1]}", ["go", f"{number}.adb", f"{number}.schedule", limit], tuple(ample)))
+    write(folder, "thousand.img", mnemonics.image_of("thousand"))
+    write(folder, "empty", b"")
+    found.append(Call("run", ["run", "thousand.img", "empty", "3"], (b"0 MAIN x 1000\nended at 0\n", b"", 0)))
+    listing = os.path.join(os.path.dirname(os.path.abspath(__file__)), "listing.py")
+    lines = subprocess.run([sys.executable, listing, "thousand.img"], cwd=folder, capture_output=True, check=True).stdout
+    found.append(Call("list", ["list", "thousand.img"], (lines, b"", 0)))
+    return found
+
+
+def main():
+    program, writing, folder = (os.path.abspath(word) for word in sys.argv[1:])
+    os.makedirs(folder)
+    failed, calls = False, calls_of(folder)
+    for call in calls:
+        writes = [call.fails(program, writing, folder, how) for how in FAILING]
+        call.expect(len(set(writes)) == 1, "all", "differ in number", (b"", b"", writes))
+        call.is_short(program, writing, folder, writes[0])
+        call.is_unread(program, folder)
+        for told in call.wrong:
+            print(f"failing_writes: {told}", file=sys.stderr)
+        print(f"failing_writes: {call.name}: {writes[0]} writes, {call.calls} calls, {len(call.wrong)} wrong")
+        failed = failed or call.wrong
+    return 1 if failed else 0
+
+
+if __name__ == "__main__":
+    sys.exit(main())

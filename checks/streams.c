@@ -1,0 +1,63 @@
+/* Makes one call go wrong that the program makes of the system: the one whose number stands in NUMBER, counted from 1, or each of them where it is 0. WHERE says
+   which calls are counted: `out` those of write(2) to standard output, `files` those to files, `reads` those of read(2) from files. HOW says what such a call
+   does: `none` takes or gives nothing and answers 0, `byte` one byte, and a number is the error that it fails with. Where a call was made so, the file that
+   REACHED names is made. To be loaded before the C library. */
+#define _GNU_SOURCE
+#include <errno.h>
+#include <fcntl.h>
+#include <stdlib.h>
+#include <string.h>
+#include <sys/syscall.h>
+#include <unistd.h>
+
+static unsigned long calls;
+
+static void tell(void)
+{
+    const char *name = getenv("REACHED");
+    long file = name ? syscall(SYS_openat, AT_FDCWD, name, O_WRONLY | O_CREAT, 0600) : -1;
+    if (file < 0)
+        abort();
+    syscall(SYS_close, file);
+}
+
+/* Whether this call from such a place goes wrong. */
+static int goes_wrong(const char *place)
+{
+    const char *where = getenv("WHERE"), *number = getenv("NUMBER");
+    unsigned long wanted = number ? strtoul(number, NULL, 10) : 0;
+    if (!where || strcmp(where, place) != 0)
+        return 0;
+    calls++;
+    return wanted == 0 || wanted == calls;
+}
+
+/* The call, or what stands for it. */
+static ssize_t done(const char *place, long call, int file, void *bytes, size_t size)
+{
+    const char *how = getenv("HOW");
+    if (!how || !goes_wrong(place))
+        return syscall(call, file, bytes, size);
+    tell();
+    if (strcmp(how, "byte") == 0)
+        return syscall(call, file, bytes, size < 1 ? size : 1);
+    if (strcmp(how, "none") == 0)
+        return 0;
+    errno = atoi(how);
+    return -1;
+}
+
+ssize_t write(int file, const void *bytes, size_t size)
+{
+    return done(file == STDOUT_FILENO ? "out" : file > STDERR_FILENO ? "files" : "", SYS_write, file, (void *)bytes, size);
+}
+
+ssize_t __write(int file, const void *bytes, size_t size)
+{
+    return write(file, bytes, size);
+}
+
+ssize_t read(int file, void *bytes, size_t size)
+{
+    return done(file > STDERR_FILENO ? "reads" : "", SYS_read, file, bytes, size);
+}

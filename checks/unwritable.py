@@ -1,0 +1,211 @@
+#!/usr/bin/env python3
+"""Has the program compile to where nothing can be written, or not all of it, and read what can't be read, or not all of it: a message, status 1, and what
+docs/FORMATS.md says of what was there ("Commands").
+
+    unwritable.py PROGRAM STREAMS SCRATCH
+
+STREAMS is what makes a read or a write go wrong (streams.c). The bytes of the image are those that the program writes where it can, which checks/listing.py reads.
+"""
+import errno
+import os
+import resource
+import shutil
+import signal
+import subprocess
+import sys
+
+from rows import row_of
+
+NOBODY = 65_534
+OLD = b"what was there"
+CANNOT_WRITE = (b"", b"cannot write\n", 1)
+NO_MEMORY = (b"", b"no memory\n", 8)
+ROOM = 64 << 20
+MOST = 1_000
+DONE = (b"", b"", 0)
+ROW = ("entries", "a consumer that waits is served by the producer, before that goes on")
+HERE = os.path.dirname(os.path.abspath(__file__))
+
+
+class Folder:
+    """A folder with a source, in which the program is called, and what was wrong."""
+
+    def __init__(self, program, scratch):
+        self.scratch, self.program = scratch, os.path.join(scratch, "program")
+        self.wrong, self.calls = [], 0
+        os.makedirs(scratch)
+        os.chmod(scratch, 0o755)
+        shutil.copy(program, self.program)
+        self.source = row_of(*ROW)[0]
+        self.write("main.adb", self.source)
+
+    def path(self, name):
+        return os.path.join(self.scratch, name)
+
+    def write(self, name, data):
+        with open(self.path(name), "wb") as file:
+            file.write(data)
+
+    def read(self, name):
+        """The bytes of a file, None where there is none."""
+        if not os.path.isfile(self.path(name)):
+            return None
+        with open(self.path(name), "rb") as file:
+            return file.read()
+
+    def was_reached(self, what):
+        """A call that should go wrong was made; the file that tells it is removed."""
+        if os.path.exists(self.path("reached")):
+            os.remove(self.path("reached"))
+        else:
+            self.wrong.append(f"{what}: no call of the system went wrong")
+
+    def call(self, what, words, left, files, **others):
+        """Calls the program on the words; it leaves this, and these files."""
+        run = subprocess.run([self.program, *words], cwd=self.scratch, capture_output=True, check=False, **others)
+        self.calls += 1
+        found = (run.stdout, run.stderr, run.returncode)
+        if found != left:
+            self.wrong.append(f"{what}: {words} leaves {found}, not {left}")
+        for name, data in {"main.adb": self.source, **files}.items():
+            if self.read(name) != data:
+                self.wrong.append(f"{what}: {words} leaves {name} as {self.read(name)!r}")
+
+
+def as_nobody():
+    """Who may not do everything calls the program: where the tests run as root, nobody."""
+    return {"user": NOBODY, "group": NOBODY, "extra_groups": []} if os.getuid() == 0 else {}
+
+
+def try_places(folder):
+    """Places that can't be opened to write: what was there stays."""
+    compile_to = lambda name: ["compile", "main.adb", name]
+    os.mkdir(folder.path("folder"))
+    folder.call("a folder", compile_to("folder"), CANNOT_WRITE, {})
+    folder.call("a folder by its end", compile_to("folder/"), CANNOT_WRITE, {})
+    if os.listdir(folder.path("folder")):
+        folder.wrong.append("a folder: something was made in it")
+    folder.call("a file as a folder", compile_to("main.adb/new.img"), CANNOT_WRITE, {})
+    folder.call("a folder that isn't there", compile_to("none/new.img"), CANNOT_WRITE, {"none": None})
+    folder.call("a name that is too long", compile_to("n" * 256), CANNOT_WRITE, {})
+    folder.call("no name", compile_to(""), CANNOT_WRITE, {})
+    folder.call("the program that runs", compile_to("program"), CANNOT_WRITE, {"program": folder.read("program")})
+    folder.write("kept.img", OLD)
+    os.chmod(folder.path("kept.img"), 0o444)
+    folder.call("a file that may not be written", compile_to("kept.img"), CANNOT_WRITE, {"kept.img": OLD}, **as_nobody())
+    os.chmod(folder.path("folder"), 0o555)
+    folder.call("a folder that may not be written", compile_to("folder/new.img"), CANNOT_WRITE, {"folder/new.img": None}, **as_nobody())
+    folder.call("a full device", compile_to("/dev/full"), CANNOT_WRITE, {})
+    folder.call("a device that takes all", compile_to("/dev/null"), DONE, {})
+    os.symlink("nowhere", folder.path("round"))
+    os.symlink("round", folder.path("nowhere"))
+    folder.call("a link to itself", compile_to("round"), CANNOT_WRITE, {})
+
+
+def try_unreadable(folder):
+    """What can't be read is named, and nothing is written."""
+    os.chmod(folder.path("kept.img"), 0o644)
+    folder.call("a folder as a source", ["compile", "folder", "kept.img"], (b"", b"cannot read folder\n", 1), {"kept.img": OLD})
+    folder.call("a folder as a schedule", ["go", "main.adb", "folder", "9"], (b"", b"cannot read folder\n", 1), {})
+    folder.call("a folder as an image", ["list", "folder"], (b"", b"cannot read folder\n", 1), {})
+    folder.write("secret.adb", folder.source)
+    os.chmod(folder.path("secret.adb"), 0)
+    folder.call("a source that may not be read", ["compile", "secret.adb", "kept.img"], (b"", b"cannot read secret.adb\n", 1), {"kept.img": OLD}, **as_nobody())
+
+
+def try_endless(folder):
+    """A file without end takes all memory that there is, which is told; nothing is written."""
+
+    def confine():
+        resource.setrlimit(resource.RLIMIT_AS, (ROOM, ROOM))
+
+    folder.write("kept.img", OLD)
+    for words in (["compile", "/dev/zero", "kept.img"], ["go", "/dev/zero", "main.adb", "9"], ["go", "main.adb", "/dev/zero", "9"], ["list", "/dev/zero"], ["run", "/dev/zero", "main.adb", "9"]):
+        folder.call("a file without end", words, NO_MEMORY, {"kept.img": OLD}, preexec_fn=confine)
+
+
+def image_of(folder):
+    """The bytes of the source's image, which is compiled to a new file, over one that was longer, and by a link."""
+    folder.call("a new file", ["compile", "main.adb", "new.img"], DONE, {})
+    image = folder.read("new.img")
+    subprocess.run([sys.executable, os.path.join(HERE, "listing.py"), folder.path("new.img")], capture_output=True, check=True)
+    folder.write("long.img", OLD * 1_000)
+    folder.call("a longer file", ["compile", "main.adb", "long.img"], DONE, {"long.img": image})
+    folder.write("there.img", OLD)
+    os.symlink("there.img", folder.path("link.img"))
+    folder.call("a link", ["compile", "main.adb", "link.img"], DONE, {"there.img": image})
+    return image
+
+
+def try_same_name(folder, image):
+    """Where IMG is SRC too, the source is read first: a refused one stays, and of another one its image takes the place."""
+    refused = b"procedure Main is begin null; end Main;"
+    folder.write("refused.adb", refused)
+    folder.call("a refused source to its own name", ["compile", "refused.adb", "refused.adb"], (b"", b"fault 39 at 1:1\n", 2), {"refused.adb": refused})
+    folder.write("own.adb", folder.source)
+    folder.call("a source to its own name", ["compile", "own.adb", "./own.adb"], DONE, {"own.adb": image})
+
+
+def try_full(folder, image, streams):
+    """A file that takes only so many bytes: the old content is gone, and what stands there is a beginning of the image."""
+
+    def full(size):
+        def confine():
+            signal.signal(signal.SIGXFSZ, signal.SIG_IGN)
+            resource.setrlimit(resource.RLIMIT_FSIZE, (size, size))
+
+        return confine
+
+    for size in (0, 1, 50, len(image) - 1):
+        folder.write("full.img", OLD)
+        folder.call(f"room for {size} bytes", ["compile", "main.adb", "full.img"], CANNOT_WRITE, {"full.img": image[:size]}, preexec_fn=full(size))
+    folder.call("just room enough", ["compile", "main.adb", "full.img"], DONE, {"full.img": image}, preexec_fn=full(len(image)))
+    for how, left, data in [(str(errno.ENOSPC), CANNOT_WRITE, b""), (str(errno.EIO), CANNOT_WRITE, b""), ("none", CANNOT_WRITE, b""), ("byte", DONE, image)]:
+        folder.write("full.img", OLD)
+        folder.call(f"a write with {how}", ["compile", "main.adb", "full.img"], left, {"full.img": data}, env=failing(folder, streams, "files", how, how != "byte"))
+        folder.was_reached(f"a write with {how}")
+
+
+def failing(folder, streams, where, how, number):
+    """The environment of a call whose read or write of this number goes wrong."""
+    return {**os.environ, "LD_PRELOAD": streams, "WHERE": where, "NUMBER": str(int(number)), "HOW": how, "REACHED": folder.path("reached")}
+
+
+def try_reads(folder, streams):
+    """Each read of the source and of the schedule fails in turn, or gives one byte."""
+    lines = row_of(*ROW)[3]
+    folder.write("empty", b"")
+    words = ["go", "main.adb", "empty", "100000"]
+    folder.call("reads of one byte", words, (lines, b"", 0), {}, env=failing(folder, streams, "reads", "byte", 0))
+    folder.was_reached("reads of one byte")
+    told = []
+    for number in range(1, MOST):
+        run = subprocess.run([folder.program, *words], cwd=folder.scratch, capture_output=True, check=False, env=failing(folder, streams, "reads", str(errno.EIO), number))
+        folder.calls += 1
+        if not os.path.exists(folder.path("reached")):
+            break
+        folder.was_reached("")
+        told.append((run.stdout, run.stderr, run.returncode))
+    both = [(b"", b"cannot read %s\n" % name, 1) for name in (b"main.adb", b"empty")]
+    if set(told) != set(both) or told != sorted(told, key=both.index) or (run.stdout, run.returncode) != (lines, 0):
+        folder.wrong.append(f"a read that fails: {words} leaves {told}")
+
+
+def main():
+    program, streams, scratch = (os.path.abspath(word) for word in sys.argv[1:])
+    folder = Folder(program, scratch)
+    try_places(folder)
+    try_unreadable(folder)
+    try_endless(folder)
+    image = image_of(folder)
+    try_same_name(folder, image)
+    try_full(folder, image, streams)
+    try_reads(folder, streams)
+    for told in folder.wrong:
+        print(f"unwritable: {told}", file=sys.stderr)
+    print(f"unwritable: {folder.calls} calls where something can't be read or written, {len(folder.wrong)} wrong")
+    return 1 if folder.wrong else 0
+
+
+if __name__ == "__main__":
+    sys.exit(main())
