@@ -86,8 +86,8 @@ pub fn sections_mean_the_same()
     views_on();
 }
 
-/// Each subprogram of sections that were put together from a program has at most 20 instructions for each part of its text, and two for each word of an object that
-/// is declared in it.
+/// Each subprogram of sections that were put together from a program has at most 20 instructions for each part of its text, and two for each word of an object
+/// that is declared in it.
 pub fn sections_are_bounded()
     ensures { SectionsAreBounded }
 {}

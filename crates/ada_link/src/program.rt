@@ -33,7 +33,8 @@ use types::laws::{shapes_stay, values_have_words};
 // The row of main, whose subprogram has this number.
 fn main_task(accepted: &Accepted, number: usize) -> Result<Task, Refusal>
     ensures refused { IfErr result (λ why. IsRefused number 0 false why) }
-    ensures task { let t = program_tree accepted.now in IfOk result (λ task. task ≡ record { name = t.main.name.name; priority = base_priority (program_of t).scope t.main.aspect; subprogram = number }) }
+    ensures task { let t = program_tree accepted.now in IfOk result (λ task. task ≡ record
+        { name = t.main.name.name; priority = base_priority (program_of t).scope t.main.aspect; subprogram = number }) }
 {
     let subprogram = u16::try_from(number).map_err(|_| Refusal::Limit)?;
     let main = &accepted.program().main;
@@ -50,7 +51,8 @@ struct DeclaredTables {
 
 // Those of a program, in the order of its text.
 fn declarations(alloc: Global, accepted: &Accepted) -> Result<DeclaredTables, Refusal>
-    ensures globals { let t = program_tree accepted.now in IfOk result (λ told. AreGlobals (program_of t).scope (package_items t.package_) (record { slots = told.directory.slots; words = told.words; exceptions = told.exceptions })) }
+    ensures globals { let t = program_tree accepted.now in IfOk result (λ told. AreGlobals (program_of t).scope (package_items t.package_)
+        (record { slots = told.directory.slots; words = told.words; exceptions = told.exceptions })) }
     ensures directory { IfOk result (λ told. IsDirectory (program_tree accepted.now) told.directory) }
     ensures objects { IfOk result (λ told. HaveObjects (program_tree accepted.now) told.objects.items) }
     ensures made { let t = program_tree accepted.now in IfOk result (λ told. objects_have_words (program_of t).scope (package_items t.package_) ≡ true) }
@@ -184,13 +186,13 @@ fn within_tables(alloc: Global, accepted: &Accepted) -> Result<Parts, Refusal>
 }
 
 /// The sections of the image of an accepted program (docs/FORMATS.md): the code of its subprograms and tasks one behind another, in the order of their bodies,
-/// with their rows of handlers, that of main behind them, the variables, the protected objects and the tasks in the order of their declarations, and main as the
-/// last task (RM 10.2).
-/// They make a well-formed image (`sections_are_well_formed`).
+/// with their rows of handlers, that of main behind them, the variables, the protected objects and the tasks in the order of their declarations, and main as
+/// the last task (RM 10.2). They make a well-formed image (`sections_are_well_formed`).
 ///
 /// # Errors
 /// `Outside` where the program has what has no code yet (docs/CODEGEN.md), or a text that is no name or label; `Limit` where the bound on its
-/// instructions, the choices of its handlers, or the words of a frame or of an object, pass those of images (specs/Refusing); `Memory` where memory was refused.
+/// instructions, the choices of its handlers, or the words of a frame or of an object, pass those of images (specs/Refusing); `Memory` where memory was
+/// refused.
 pub(crate) fn sections(alloc: Global, accepted: &Accepted) -> Result<Parts, Refusal>
     ensures program { IfOk result (λ parts. HasProgram (program_tree accepted.now) parts) }
     ensures tables { IfOk result (λ parts. KeepsTables parts) }

@@ -5,7 +5,8 @@
 --   - the arguments of a name with their parentheses, the formals of a subprogram or an entry with theirs, and the index of an array type with its own;
 --   - an if statement, a case statement, a loop and a block;
 --   - an if expression, which opens two: one with its parenthesis, and in it one with its `if`.
--- Nothing else opens one: not the parentheses of a pragma, in which nothing can be nested, nor a declaration, a body, a select statement, operators or a list of statements.
+-- Nothing else opens one: not the parentheses of a pragma, in which nothing can be nested, nor a declaration, a body, a select statement, operators or a list
+-- of statements.
 use Rattle.std.specs.Prelude.{ℕ, suc, max, List, [], ◌∷◌, Option, Some, None}
 use Rattle.ada_tree.specs.ExpressionTree.{ExprTree, Number, Named, Parenthesized, Conditional, Unary, Binary, ElsifValueTrees, NoElsifValues, MoreElsifValues, SelectorTrees, NoSelectors, MoreSelectors, SelectorTree, Component, Arguments, Attribute, ArgumentTrees, NoArguments, MoreArguments, ArgumentTree, Value, Text, NameTree}
 use Rattle.ada_tree.specs.StatementTree.{AspectTree, ObjectTree, TaskTree, SubprogramTree, EntryTree, OperationTree, OfSubprogram, OfEntry, ProtectedComponentTree, ProtectedTree, DeclarationTree, LocalObject, LocalTask, LocalProtected, RangeTree, IterationTree, Forever, While, For, ChoicesTree, Values, OtherValues, StmtTree, Null, Assignment, Call, Exit, Return, Raise, Delay, DelayUntil, If, Case, Loop, Block, Abort, Requeue, Accept, Select, StmtTrees, NoStmts, MoreStmts, ElsifTrees, NoElsifs, MoreElsifs, AlternativeTrees, NoAlternatives, MoreAlternatives, HandlerTrees, NoHandlers, MoreHandlers}

@@ -132,9 +132,11 @@ abbrev mutual
   pub made : ExprTree → Limit → Tokens → Type 0
   made (Number value place) limit = token_at (kinds.Number value) place
   made (Named first selectors) limit = identifier first ⨾ spells_selectors selectors limit
-  made (Parenthesized place e) limit = inside limit (λ l. mark_at marks.LeftParenthesis place ⨾ where_true (stands_for (made_by e) Expression) (made e l) ⨾ mark marks.RightParenthesis)
+  made (Parenthesized place e) limit = inside limit (λ l. mark_at marks.LeftParenthesis place ⨾ where_true (stands_for (made_by e) Expression) (made e l) ⨾
+      mark marks.RightParenthesis)
   made (Conditional place condition value elsif_values else_value) limit =
-      inside limit (λ l. mark_at marks.LeftParenthesis place ⨾ inside l (λ l. word words.If ⨾ where_true (stands_for (made_by condition) Expression) (made condition l)
+      inside limit (λ l. mark_at marks.LeftParenthesis place ⨾
+      inside l (λ l. word words.If ⨾ where_true (stands_for (made_by condition) Expression) (made condition l)
       ⨾ word words.Then ⨾ where_true (stands_for (made_by value) Expression) (made value l) ⨾ spells_elsif_values elsif_values l
       ⨾ word words.Else ⨾ where_true (stands_for (made_by else_value) Expression) (made else_value l)) ⨾ mark marks.RightParenthesis)
   made (Unary o place operand) limit =

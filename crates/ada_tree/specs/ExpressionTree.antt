@@ -52,7 +52,8 @@ abbrev mutual
   expr_tree (declared.Number value place) = Number value place
   expr_tree (declared.Name' first shape row) = Named first (selectors_of_row row)
   expr_tree (declared.Parenthesized' place p inner) = Parenthesized place (expr_tree inner)
-  expr_tree (declared.Conditional' place p condition q value shape row r else_value) = Conditional place (expr_tree condition) (expr_tree value) (elsif_values_of_row row) (expr_tree else_value)
+  expr_tree (declared.Conditional' place p condition q value shape row r else_value) = Conditional place (expr_tree condition) (expr_tree value)
+      (elsif_values_of_row row) (expr_tree else_value)
   expr_tree (declared.Unary' operator place p operand) = Unary operator place (expr_tree operand)
   expr_tree (declared.Chain' p first q operator second shape row) = chain_of_row (Binary operator (expr_tree first) (expr_tree second)) row
 

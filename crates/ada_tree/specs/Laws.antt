@@ -50,14 +50,17 @@ ConditionalByParts =
 abbrev pub ChainsByParts : Type 0
 ChainsByParts =
     (first : Box Expr Global) (second : Box Operand Global) (more : Vec Operand Global)
-    → expr_tree (expressions.Chain first second more) ≡ chain_tree (Binary second.value.operator (expr_tree first.value) (expr_tree second.value.value)) more.items
+    → expr_tree (expressions.Chain first second more) ≡ chain_tree
+    (Binary second.value.operator (expr_tree first.value) (expr_tree second.value.value)) more.items
 
 pub record StatementsByParts : Type 0 where
   pub ifs : (place : ℕ) (condition : Expr) (then_part : Vec Stmt Global) (elsif_parts : Vec ElsifPart Global) (else_part : Vec Stmt Global)
-      → stmt_tree (statements.If place condition then_part elsif_parts else_part) ≡ If place (expr_tree condition) (stmt_trees then_part.items) (elsif_trees elsif_parts.items) (stmt_trees else_part.items)
+      → stmt_tree (statements.If place condition then_part elsif_parts else_part) ≡ If place (expr_tree condition) (stmt_trees then_part.items)
+      (elsif_trees elsif_parts.items) (stmt_trees else_part.items)
   pub cases : (place : ℕ) (value : Expr) (alternatives : Vec Alternative Global)
       → stmt_tree (statements.Case place value alternatives) ≡ Case place (expr_tree value) (alternative_trees alternatives.items)
   pub loops : (place : ℕ) (iteration : Iteration) (body : Vec Stmt Global)
       → stmt_tree (statements.Loop place iteration body) ≡ Loop place (iteration_tree iteration) (stmt_trees body.items)
   pub blocks : (place : ℕ) (declarations : Vec Declaration Global) (body : Vec Stmt Global) (handlers : Vec Handler Global)
-      → stmt_tree (statements.Block place declarations body handlers) ≡ Block place (map declaration_tree declarations.items) (stmt_trees body.items) (handler_trees handlers.items)
+      → stmt_tree (statements.Block place declarations body handlers) ≡ Block place (map declaration_tree declarations.items) (stmt_trees body.items)
+      (handler_trees handlers.items)

@@ -31,7 +31,8 @@ type_declaration_of limit name (Array i components) =
     word words.Type ⨾ identifier name ⨾ word words.Is ⨾ word words.Array
     ⨾ inside limit (λ l. mark marks.LeftParenthesis ⨾ index l i ⨾ mark marks.RightParenthesis) ⨾ word words.Of ⨾ identifier components ⨾ mark marks.Semicolon
 type_declaration_of limit name (Record components) =
-    word words.Type ⨾ identifier name ⨾ word words.Is ⨾ word words.Record ⨾ some record_component components ⨾ word words.End ⨾ word words.Record ⨾ mark marks.Semicolon
+    word words.Type ⨾ identifier name ⨾ word words.Is ⨾ word words.Record ⨾ some record_component components ⨾ word words.End ⨾ word words.Record ⨾
+    mark marks.Semicolon
 type_declaration_of limit name (Subtype parent r) =
     word words.Subtype ⨾ identifier name ⨾ word words.Is ⨾ identifier parent ⨾ optional (constraint limit) r ⨾ mark marks.Semicolon
 
@@ -47,7 +48,8 @@ item limit (OfTask d) = task limit d
 item limit (OfProtected d) = protected limit d
 
 abbrev pub body : Limit → BodyTree → Tokens → Type 0
-body limit b = each (declaration limit) b.declarations ⨾ word words.Begin ⨾ stmts b.statements limit ⨾ handlers b.handlers limit ⨾ word words.End ⨾ identifier b.end_name ⨾ mark marks.Semicolon
+body limit b = each (declaration limit) b.declarations ⨾ word words.Begin ⨾ stmts b.statements limit ⨾ handlers b.handlers limit ⨾ word words.End ⨾
+    identifier b.end_name ⨾ mark marks.Semicolon
 
 abbrev pub protected_item : Limit → ProtectedItemTree → Tokens → Type 0
 protected_item limit (OperationBody d b) = subprogram limit d ⨾ word words.Is ⨾ body limit b
@@ -58,7 +60,8 @@ body_item limit (OfItem d) = item limit d
 body_item limit (SubprogramBody d b) = subprogram limit d ⨾ word words.Is ⨾ body limit b
 body_item limit (TaskBody name b) = word words.Task ⨾ word words.Body ⨾ identifier name ⨾ word words.Is ⨾ body limit b
 body_item limit (ProtectedBody name items end_name) =
-    word words.Protected ⨾ word words.Body ⨾ identifier name ⨾ word words.Is ⨾ each (protected_item limit) items ⨾ word words.End ⨾ identifier end_name ⨾ mark marks.Semicolon
+    word words.Protected ⨾ word words.Body ⨾ identifier name ⨾ word words.Is ⨾ each (protected_item limit) items ⨾ word words.End ⨾ identifier end_name ⨾
+    mark marks.Semicolon
 
 abbrev pub unit_name : UnitName → Tokens → Type 0
 unit_name u = identifier u.first ⨾ optional component u.second
@@ -68,16 +71,19 @@ unit_clause c = word_at words.With c.place ⨾ unit_name c.unit ⨾ mark marks.S
 
 abbrev pub package_declaration : Limit → PackageDeclarationTree → Tokens → Type 0
 package_declaration limit d =
-    word_at words.Package d.place ⨾ identifier d.name ⨾ word words.Is ⨾ each (item limit) d.items ⨾ word words.End ⨾ identifier d.end_name ⨾ mark marks.Semicolon
+    word_at words.Package d.place ⨾ identifier d.name ⨾ word words.Is ⨾ each (item limit) d.items ⨾ word words.End ⨾ identifier d.end_name ⨾
+    mark marks.Semicolon
 
 abbrev pub package_body : Limit → PackageBodyTree → Tokens → Type 0
 package_body limit d =
-    word_at words.Package d.place ⨾ word words.Body ⨾ identifier d.name ⨾ word words.Is ⨾ each (body_item limit) d.items ⨾ word words.End ⨾ identifier d.end_name ⨾ mark marks.Semicolon
+    word_at words.Package d.place ⨾ word words.Body ⨾ identifier d.name ⨾ word words.Is ⨾ each (body_item limit) d.items ⨾ word words.End ⨾
+    identifier d.end_name ⨾ mark marks.Semicolon
 
 -- a package, and main's `with` of it
 abbrev pub package_part : Limit → PackageTree → Tokens → Type 0
 package_part limit p =
-    each unit_clause p.clauses ⨾ package_declaration limit p.declaration ⨾ package_body limit p.body ⨾ word words.With ⨾ identifier p.with_name ⨾ mark marks.Semicolon
+    each unit_clause p.clauses ⨾ package_declaration limit p.declaration ⨾ package_body limit p.body ⨾ word words.With ⨾ identifier p.with_name ⨾
+    mark marks.Semicolon
 
 abbrev pub main_statement : MainStatement → Tokens → Type 0
 main_statement (main_statements.Null place) = word_at words.Null place ⨾ mark marks.Semicolon

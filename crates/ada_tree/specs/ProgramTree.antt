@@ -59,7 +59,12 @@ pub record BodyTree : Type 0 where
   pub end_name : Identifier
 
 abbrev pub body_tree : Body → BodyTree
-body_tree b = record { declarations = map declaration_tree b.declarations.items; statements = stmt_trees b.statements.items; handlers = handler_trees b.handlers.items; end_name = b.end_name }
+body_tree b = record {
+  declarations = map declaration_tree b.declarations.items;
+  statements = stmt_trees b.statements.items;
+  handlers = handler_trees b.handlers.items;
+  end_name = b.end_name;
+}
 
 pub data ItemTree : Type 0 where
   OfType : TypeTree → ItemTree
@@ -122,7 +127,12 @@ pub record PackageTree : Type 0 where
   pub with_name : Identifier
 
 abbrev pub package_tree : Package → PackageTree
-package_tree p = record { clauses = p.clauses.items; declaration = package_declaration_tree p.declaration; body = package_body_tree p.body; with_name = p.with_name }
+package_tree p = record {
+  clauses = p.clauses.items;
+  declaration = package_declaration_tree p.declaration;
+  body = package_body_tree p.body;
+  with_name = p.with_name;
+}
 
 pub record MainTree : Type 0 where
   pub place : ℕ

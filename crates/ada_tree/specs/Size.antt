@@ -1,7 +1,7 @@
 -- How large a tree is: the count of its nodes.
 --
--- A node counts one if it has a token of its own wherever it stands; a comment names that token where it is not the node's first. Lists count what stands in them.
--- These have no token of their own, and count what stands in them:
+-- A node counts one if it has a token of its own wherever it stands; a comment names that token where it is not the node's first. Lists count what stands in
+-- them. These have no token of their own, and count what stands in them:
 --   - what only says of which kind a part is: a declaration that is an object, an item that is a task, an index that is a range;
 --   - the choices of an alternative, and a body with the specification before it;
 --   - a whole text, whose main procedure counts.

@@ -49,7 +49,8 @@ formal f = identifier f.name ⨾ mark marks.Colon ⨾ mode f.mode ⨾ identifier
 
 abbrev pub formals : Limit → List Formal → Tokens → Type 0
 formals limit [] = nothing
-formals limit (f ∷ rest) = inside limit (λ l. mark marks.LeftParenthesis ⨾ separated (kinds.Delimiter marks.Semicolon) formal (f ∷ rest) ⨾ mark marks.RightParenthesis)
+formals limit (f ∷ rest) = inside limit (λ l. mark marks.LeftParenthesis ⨾ separated (kinds.Delimiter marks.Semicolon) formal (f ∷ rest) ⨾
+    mark marks.RightParenthesis)
 
 -- a procedure, or a function with its result
 abbrev pub subprogram_with : Limit → ℕ → Identifier → List Formal → Option Identifier → Tokens → Type 0
@@ -90,7 +91,8 @@ private_part limit (c ∷ rest) = word words.Private ⨾ each (protected_compone
 -- what follows `protected`
 abbrev pub protected_rest : Limit → Identifier → Option AspectTree → List OperationTree → List ProtectedComponentTree → Identifier → Tokens → Type 0
 protected_rest limit name a operations components end_name =
-    identifier name ⨾ optional (aspect limit) a ⨾ word words.Is ⨾ each (operation limit) operations ⨾ private_part limit components ⨾ word words.End ⨾ identifier end_name ⨾ mark marks.Semicolon
+    identifier name ⨾ optional (aspect limit) a ⨾ word words.Is ⨾ each (operation limit) operations ⨾ private_part limit components ⨾ word words.End ⨾
+    identifier end_name ⨾ mark marks.Semicolon
 
 abbrev pub protected : Limit → ProtectedTree → Tokens → Type 0
 protected limit d = word_at words.Protected d.place ⨾ protected_rest limit d.name d.aspect d.operations d.components d.end_name
@@ -110,7 +112,8 @@ reversed true = word words.Reverse
 abbrev pub iteration : Limit → ℕ → IterationTree → Tokens → Type 0
 iteration limit place Forever = word_at words.Loop place
 iteration limit place (While condition) = word_at words.While place ⨾ expression limit condition ⨾ word words.Loop
-iteration limit place (For parameter is_reversed r) = word_at words.For place ⨾ identifier parameter ⨾ word words.In ⨾ reversed is_reversed ⨾ range limit r ⨾ word words.Loop
+iteration limit place (For parameter is_reversed r) = word_at words.For place ⨾ identifier parameter ⨾ word words.In ⨾ reversed is_reversed ⨾
+    range limit r ⨾ word words.Loop
 
 abbrev pub choices : Limit → ChoicesTree → Tokens → Type 0
 choices limit (Values all) = separated (kinds.Delimiter marks.VerticalLine) (expression limit) all
@@ -147,7 +150,8 @@ abbrev mutual
       inside limit (λ l. word_at words.If place ⨾ expression l condition ⨾ word words.Then ⨾ stmts then_part l ⨾ elsifs elsif_parts l ⨾ else_stmts else_part l
       ⨾ word words.End ⨾ word words.If ⨾ mark marks.Semicolon)
   stmt (Case place value all) limit =
-      inside limit (λ l. word_at words.Case place ⨾ expression l value ⨾ word words.Is ⨾ some_alternatives all l ⨾ word words.End ⨾ word words.Case ⨾ mark marks.Semicolon)
+      inside limit (λ l. word_at words.Case place ⨾ expression l value ⨾ word words.Is ⨾ some_alternatives all l ⨾ word words.End ⨾ word words.Case ⨾
+      mark marks.Semicolon)
   stmt (Loop place turns body) limit =
       inside limit (λ l. iteration l place turns ⨾ stmts body l ⨾ word words.End ⨾ word words.Loop ⨾ mark marks.Semicolon)
   stmt (Block place declarations body all) limit =
@@ -176,19 +180,23 @@ abbrev mutual
 
   pub some_alternatives : AlternativeTrees → Limit → Tokens → Type 0
   some_alternatives NoAlternatives limit = never
-  some_alternatives (MoreAlternatives place all body rest) limit = (word_at words.When place ⨾ choices limit all ⨾ mark marks.Arrow ⨾ stmts body limit) ⨾ alternatives rest limit
+  some_alternatives (MoreAlternatives place all body rest) limit = (word_at words.When place ⨾ choices limit all ⨾ mark marks.Arrow ⨾ stmts body limit) ⨾
+      alternatives rest limit
 
   pub alternatives : AlternativeTrees → Limit → Tokens → Type 0
   alternatives NoAlternatives limit = nothing
-  alternatives (MoreAlternatives place all body rest) limit = (word_at words.When place ⨾ choices limit all ⨾ mark marks.Arrow ⨾ stmts body limit) ⨾ alternatives rest limit
+  alternatives (MoreAlternatives place all body rest) limit = (word_at words.When place ⨾ choices limit all ⨾ mark marks.Arrow ⨾ stmts body limit) ⨾
+      alternatives rest limit
 
   -- after `exception`, if there are any
   pub handlers : HandlerTrees → Limit → Tokens → Type 0
   handlers NoHandlers limit = nothing
   handlers (MoreHandlers all body rest) limit =
-      word words.Exception ⨾ (word words.When ⨾ separated (kinds.Delimiter marks.VerticalLine) exception_choice all ⨾ mark marks.Arrow ⨾ stmts body limit) ⨾ further_handlers rest limit
+      word words.Exception ⨾ (word words.When ⨾ separated (kinds.Delimiter marks.VerticalLine) exception_choice all ⨾ mark marks.Arrow ⨾ stmts body limit) ⨾
+      further_handlers rest limit
 
   pub further_handlers : HandlerTrees → Limit → Tokens → Type 0
   further_handlers NoHandlers limit = nothing
   further_handlers (MoreHandlers all body rest) limit =
-      (word words.When ⨾ separated (kinds.Delimiter marks.VerticalLine) exception_choice all ⨾ mark marks.Arrow ⨾ stmts body limit) ⨾ further_handlers rest limit
+      (word words.When ⨾ separated (kinds.Delimiter marks.VerticalLine) exception_choice all ⨾ mark marks.Arrow ⨾ stmts body limit) ⨾
+      further_handlers rest limit

@@ -65,7 +65,12 @@ pub record TaskTree : Type 0 where
   pub definition : Option TaskDefinitionTree
 
 abbrev pub task_tree : TaskDeclaration → TaskTree
-task_tree d = record { place = d.place; name = d.name; aspect = optional_tree aspect_tree d.aspect; definition = optional_tree task_definition_tree d.definition }
+task_tree d = record {
+  place = d.place;
+  name = d.name;
+  aspect = optional_tree aspect_tree d.aspect;
+  definition = optional_tree task_definition_tree d.definition;
+}
 
 pub record SubprogramTree : Type 0 where
   pub place : ℕ
@@ -203,10 +208,12 @@ abbrev mutual
   stmt_tree (declared.Raise place name) = Raise place name
   stmt_tree (declared.Delay place value) = Delay place (expr_tree value)
   stmt_tree (declared.DelayUntil place value) = DelayUntil place (expr_tree value)
-  stmt_tree (declared.If' place condition s then_part t elsif_parts u else_part) = If place (expr_tree condition) (stmts_of_row then_part) (elsifs_of_row elsif_parts) (stmts_of_row else_part)
+  stmt_tree (declared.If' place condition s then_part t elsif_parts u else_part) = If place (expr_tree condition) (stmts_of_row then_part)
+      (elsifs_of_row elsif_parts) (stmts_of_row else_part)
   stmt_tree (declared.Case' place value s alternatives) = Case place (expr_tree value) (alternatives_of_row alternatives)
   stmt_tree (declared.Loop' place iteration s statements) = Loop place (iteration_tree iteration) (stmts_of_row statements)
-  stmt_tree (declared.Block' place declarations s statements t handlers) = Block place (map declaration_tree declarations.items) (stmts_of_row statements) (handlers_of_row handlers)
+  stmt_tree (declared.Block' place declarations s statements t handlers) = Block place (map declaration_tree declarations.items) (stmts_of_row statements)
+      (handlers_of_row handlers)
   stmt_tree (declared.Abort place name) = Abort place name
   stmt_tree (declared.Requeue place first second) = Requeue place first second
   stmt_tree (declared.Accept place name) = Accept place name
@@ -222,7 +229,8 @@ abbrev mutual
 
   pub alternatives_of_row : {m : _} → Row_of-Alternative m → AlternativeTrees
   alternatives_of_row end_of-Alternative = NoAlternatives
-  alternatives_of_row (more_of-Alternative place choices s statements rest) = MoreAlternatives place (choices_tree choices) (stmts_of_row statements) (alternatives_of_row rest)
+  alternatives_of_row (more_of-Alternative place choices s statements rest) = MoreAlternatives place (choices_tree choices) (stmts_of_row statements)
+      (alternatives_of_row rest)
 
   pub handlers_of_row : {m : _} → Row_of-Handler m → HandlerTrees
   handlers_of_row end_of-Handler = NoHandlers

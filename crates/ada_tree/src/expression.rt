@@ -177,7 +177,8 @@ impl Expr {
         elsif_values: Vec<ElsifValue>,
         else_value: Expr,
     ) -> Result<Expr, AllocError>
-        ensures { IfOk result (λ e. expr_tree e ≡ Conditional place (expr_tree condition) (expr_tree value) (elsif_value_trees elsif_values.items) (expr_tree else_value)) }
+        ensures { IfOk result (λ e. expr_tree e ≡ Conditional place (expr_tree condition) (expr_tree value) (elsif_value_trees elsif_values.items)
+            (expr_tree else_value)) }
     {
         let condition = Box::new(alloc, condition)?;
         let value = Box::new(alloc, value)?;

@@ -24,10 +24,12 @@ most_most x y z h k = le-ltb z x (le_trans (ltb-false y x h) (ltb-false z y k))
 -- b before a or not, c before b or not
 assoc_by : {X : Type 0} (order : X → ℕ) (a b c : X) (u v : Bool) → nat_lt (order b) (order a) ≡ u → nat_lt (order c) (order b) ≡ v
     → sooner_by order (cond u (Some b) (Some a)) (Some c) ≡ sooner_by order (Some a) (cond v (Some c) (Some b))
-assoc_by order a b c true true h k = ap (λ w. cond w (Some c) (Some b)) k ∙ sym (ap (λ w. cond w (Some c) (Some a)) (less_less (order a) (order b) (order c) h k))
+assoc_by order a b c true true h k = ap (λ w. cond w (Some c) (Some b)) k
+    ∙ sym (ap (λ w. cond w (Some c) (Some a)) (less_less (order a) (order b) (order c) h k))
 assoc_by order a b c true false h k = ap (λ w. cond w (Some c) (Some b)) k ∙ sym (ap (λ w. cond w (Some b) (Some a)) h)
 assoc_by order a b c false true h k = refl
-assoc_by order a b c false false h k = ap (λ w. cond w (Some c) (Some a)) (most_most (order a) (order b) (order c) h k) ∙ sym (ap (λ w. cond w (Some b) (Some a)) h)
+assoc_by order a b c false false h k = ap (λ w. cond w (Some c) (Some a)) (most_most (order a) (order b) (order c) h k)
+    ∙ sym (ap (λ w. cond w (Some b) (Some a)) h)
 
 pub sooner_assoc : {X : Type 0} (order : X → ℕ) (a b c : Option X) → sooner_by order (sooner_by order a b) c ≡ sooner_by order a (sooner_by order b c)
 sooner_assoc order None b c = refl
@@ -39,11 +41,13 @@ sooner_assoc order (Some a) (Some b) (Some c) = assoc_by order a b c _ _ refl re
 
 pub first_append : {X : Type 0} (order : X → ℕ) (xs ys : List X) → first_by order (xs ++ ys) ≡ sooner_by order (first_by order xs) (first_by order ys)
 first_append order [] ys = refl
-first_append order (x ∷ xs) ys = ap (sooner_by order (Some x)) (first_append order xs ys) ∙ sym (sooner_assoc order (Some x) (first_by order xs) (first_by order ys))
+first_append order (x ∷ xs) ys = ap (sooner_by order (Some x)) (first_append order xs ys)
+    ∙ sym (sooner_assoc order (Some x) (first_by order xs) (first_by order ys))
 
 -- a turn of a loop over what is left
 pub turn : {X Y : Type 0} (order : Y → ℕ) (left : List X → List Y) (all : List X) (n : ℕ) (x : X) (f one : Option Y) (first rest : List Y) (whole : Option Y)
-    → n < length all → x ≡ get_or all n x → left (x ∷ drop (n + 1) all) ≡ first ++ rest → sooner_by order f (first_by order (left (drop n all))) ≡ whole → one ≡ first_by order first
+    → n < length all → x ≡ get_or all n x → left (x ∷ drop (n + 1) all) ≡ first ++ rest → sooner_by order f (first_by order (left (drop n all))) ≡ whole
+    → one ≡ first_by order first
     → sooner_by order (sooner_by order f one) (first_by order rest) ≡ whole
 turn order left all n x f one first rest whole less is split h here =
     let next = at_drop_more left all n x less ∙ ap (λ y. left (y ∷ drop (n + 1) all)) (sym is) ∙ split in
@@ -60,7 +64,8 @@ pub record IsFirstOf {X : Type 0} (order : X → ℕ) (xs : List X) (f : X) : Ty
   pub least : (g : X) → Contains xs g → order f ≤ order g
 
 -- one of two is the sooner
-taken : {X : Type 0} (order : X → ℕ) (a b : X) (P : Option X → Type 0) → (order a ≤ order b → P (Some a)) → (order b ≤ order a → P (Some b)) → P (sooner_by order (Some a) (Some b))
+taken : {X : Type 0} (order : X → ℕ) (a b : X) (P : Option X → Type 0) → (order a ≤ order b → P (Some a)) → (order b ≤ order a → P (Some b))
+    → P (sooner_by order (Some a) (Some b))
 taken order a b P first second = by (nat_lt (order b) (order a)) refl
   where
     by : (u : Bool) → nat_lt (order b) (order a) ≡ u → P (cond u (Some b) (Some a))
@@ -94,7 +99,8 @@ later_leads order x y xs r le = record {
   least = λ g c. ⊎_elim (λ is. subst (λ v. order y ≤ order v) is le) (r.least g) (head_or_later x xs g c.0 c.1 c.2);
 }
 
-one_leads : {X : Type 0} (order : X → ℕ) (x : X) (xs : List X) (f : X) (o : Option X) → o ≡ first_by order xs → Some f ≡ sooner_by order (Some x) o → ((y : X) → o ≡ Some y → IsFirstOf order xs y) → IsFirstOf order (x ∷ xs) f
+one_leads : {X : Type 0} (order : X → ℕ) (x : X) (xs : List X) (f : X) (o : Option X) → o ≡ first_by order xs → Some f ≡ sooner_by order (Some x) o
+    → ((y : X) → o ≡ Some y → IsFirstOf order xs y) → IsFirstOf order (x ∷ xs) f
 one_leads order x xs f None e h rest =
     let none = ap length (none_first order xs e) in
     subst (IsFirstOf order (x ∷ xs)) (sym (same_Some f x h)) (head_leads order x xs (λ g c. absurd (grind (arith, none, c.1))))

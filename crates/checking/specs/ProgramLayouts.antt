@@ -66,7 +66,8 @@ WordsHaveRoom = (t : ProgramTree) → size_faults t ≡ [] → HaveRoom (program
 -- the words of a variable stand behind those of the variables in front of it
 abbrev pub VariablesStandInOrder : Type 0
 VariablesStandInOrder =
-    (s : Scope) (n : ℕ) (t : Subtype) → entity_at s n ≡ Some (Object role.Variable t) → slice_get (variables_words s s) (length (variables_words s (take n s))) ≡ Some (words_of s t)
+    (s : Scope) (n : ℕ) (t : Subtype) → entity_at s n ≡ Some (Object role.Variable t)
+    → slice_get (variables_words s s) (length (variables_words s (take n s))) ≡ Some (words_of s t)
 
 -- protected objects stand in the order of their numbers
 abbrev pub ObjectsStandAtTheirNumbers : Type 0

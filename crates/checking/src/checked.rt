@@ -45,7 +45,9 @@ impl Model for Checked {
 
     ghost view = { λ c. c.program };
 
-    ghost invariant = { λ c. IsLegal (program_tree c.program) × (c.scope ≡ program_scope (program_tree c.program)) × (c.variables ≡ variables_layout (program_scope (program_tree c.program))) × (c.objects.items ≡ object_layouts (program_scope (program_tree c.program))) };
+    ghost invariant = { λ c. IsLegal (program_tree c.program) × (c.scope ≡ program_scope (program_tree c.program))
+        × (c.variables ≡ variables_layout (program_scope (program_tree c.program)))
+        × (c.objects.items ≡ object_layouts (program_scope (program_tree c.program))) };
 }
 
 impl Checked {

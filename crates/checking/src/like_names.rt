@@ -176,7 +176,8 @@ fn open_body_item(
     ends: &mut Vec<usize>,
     item: &BodyItem,
 ) -> Result<(), AllocError>
-    ensures { (bodies : List (List ℕ × ℕ)) (whole : ℕ) (rest : List ℕ) → ends.old.items ≡ rest ++ own_end bodies whole (body_item_tree item.now) → OnOk result ((names.new ≡ with_body_item bodies whole names.old (body_item_tree item.now)) × (ends.new.items ≡ rest)) }
+    ensures { (bodies : List (List ℕ × ℕ)) (whole : ℕ) (rest : List ℕ) → ends.old.items ≡ rest ++ own_end bodies whole (body_item_tree item.now)
+        → OnOk result ((names.new ≡ with_body_item bodies whole names.old (body_item_tree item.now)) × (ends.new.items ≡ rest)) }
 {
     match item {
         BodyItem::Item(Item::Protected(object)) => match ends.pop() {

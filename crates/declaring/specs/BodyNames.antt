@@ -1,4 +1,5 @@
--- What is visible in bodies and loops (RM 6.1, 5.5, 8.2, 9.5.1; docs/LANGUAGE.md, "Rules of declarations"): formal parameters, loop parameters, the operations and components of
+-- What is visible in bodies and loops (RM 6.1, 5.5, 8.2, 9.5.1; docs/LANGUAGE.md, "Rules of declarations"): formal parameters, loop parameters, the operations
+-- and components of
 -- a protected object.
 use Rattle.std.specs.Prelude.{ℕ, Bool, true, false, List, [], ◌∷◌, ◌++◌, Option, Some, None}
 use Rattle.ada_tree.specs.declared.expression.Identifier.{Identifier}
@@ -62,7 +63,8 @@ last_rule s None own place = []
 -- the bounds need not be static, and the range may be null; the parameter is not visible in them
 abbrev pub loop_faults : Scope → Identifier → RangeTree → Faults
 loop_faults s parameter r =
-    faults_of s wanted.AnyInteger r.first ++ faults_of s wanted.AnyInteger r.last ++ last_rule s (loop_type s r) (own_of s r.last) (start_of r.last) ++ declared_twice s parameter
+    faults_of s wanted.AnyInteger r.first ++ faults_of s wanted.AnyInteger r.last ++ last_rule s (loop_type s r) (own_of s r.last) (start_of r.last)
+    ++ declared_twice s parameter
 
 abbrev pub parameter_entity : Option ℕ → Entity
 parameter_entity (Some n) = Object role.LoopParameter (base_range_of n)

@@ -121,11 +121,13 @@ abbrev pub default_ceiling : ℕ
 default_ceiling = 30
 
 abbrev pub object_with : (number ceiling : ℕ) → Option (List Operation) → Option (List RecordComponent) → Entity
-object_with number ceiling (Some operations) (Some components) = Protected (record { number = number; ceiling = ceiling; operations = operations; components = components; barrier = None })
+object_with number ceiling (Some operations) (Some components) = Protected
+    (record { number = number; ceiling = ceiling; operations = operations; components = components; barrier = None })
 object_with number ceiling operations components = Doubtful
 
 abbrev pub protected_entity : Scope → ProtectedTree → Entity
-protected_entity s d = object_with (protected_count s) (priority_of s TASK_PRIORITY default_ceiling d.aspect) (object_operations s d.operations) (object_components s d.components)
+protected_entity s d = object_with (protected_count s) (priority_of s TASK_PRIORITY default_ceiling d.aspect) (object_operations s d.operations)
+    (object_components s d.components)
 
 -- the name is visible from the end of the declaration
 abbrev pub protected_scope : Scope → ProtectedTree → Scope

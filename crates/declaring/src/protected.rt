@@ -115,7 +115,8 @@ fn part_fault(
     is_second: bool,
     component: &ProtectedComponent,
 ) -> Option<Fault>
-    ensures { result ≡ least (like_part_faults scope.now own.now (is_seen operations.now (protected_component_tree component.now).name.name) is_second (protected_component_tree component.now)) }
+    ensures { result ≡ least (like_part_faults scope.now own.now (is_seen operations.now (protected_component_tree component.now).name.name) is_second
+        (protected_component_tree component.now)) }
 {
     least_by_parts();
     let name = &component.name;
@@ -137,7 +138,8 @@ fn parts_fault(
     operations: &SeenNames,
     components: &[ProtectedComponent],
 ) -> Result<Option<Fault>, AllocError>
-    ensures { (all : List OperationTree) → AreNames operation_bytes all operations.now → IfOk result (λ f. f ≡ least (parts_faults scope.now own.now all [] (map protected_component_tree components.now))) }
+    ensures { (all : List OperationTree) → AreNames operation_bytes all operations.now → IfOk result
+        (λ f. f ≡ least (parts_faults scope.now own.now all [] (map protected_component_tree components.now))) }
 {
     least_by_parts();
     sooner_associates();
@@ -252,7 +254,8 @@ fn object_with(
     operations: Option<Vec<Operation>>,
     components: Option<Vec<RecordComponent>>,
 ) -> Result<Entity, AllocError>
-    ensures { IfOk result (λ e. entity_value e ≡ object_with number ceiling (option_map (λ v. map operation_value v.items) operations) (option_map (λ v. v.items) components)) }
+    ensures { IfOk result (λ e. entity_value e ≡ object_with number ceiling (option_map (λ v. map operation_value v.items) operations)
+        (option_map (λ v. v.items) components)) }
 {
     match (operations, components) {
         (Some(operations), Some(components)) => Ok(Entity::Protected(ProtectedObject {

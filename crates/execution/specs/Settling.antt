@@ -35,7 +35,8 @@ pub record Settles (before after_it : HeldWorld) (t : ℕ) (a : Act) (told : Lis
   pub shared : after_it.memory.shared ≡ before.memory.shared
   pub kernel : record (kernel_of after_it.tasking) { lines = told } ≡ after t (effect_of before.image a.effect) (kernel_of before.tasking)
   pub tasks : task_at after_it.image after_it.tasks
-      ≡ reached (behaviour before.image before.schedule) t (ending (kernel_of before.tasking) t (effect_of before.image a.effect)) (given_of before.memory.passed a.given) (task_at before.image before.tasks)
+      ≡ reached (behaviour before.image before.schedule) t (ending (kernel_of before.tasking) t (effect_of before.image a.effect))
+      (given_of before.memory.passed a.given) (task_at before.image before.tasks)
 
 -- task t can run the entry body of object o for the queued call of u
 pub record CanServe (i : Sections) (tasks : List TaskState) (t o u : ℕ) : Type 0 where

@@ -74,10 +74,16 @@ impl<'a, R: Ready, D: Delays> State<'a, R, D> {
     pub(crate) fn go<L: Ledger>(&mut self, task: u8, limit: u64, steps: &mut Steps<L>) -> Went
         requires whole { IsWhole self.old.image (world_of self.old) }
         requires runs { IsRunner (kernel_of self.old.tasking) task }
-        ensures went { ComesToAct self.old.image self.old.schedule (kernel_of self.old.tasking) task limit result.left (solo_in self.old.image self.old.memory (task_at self.old.image self.old.tasks task)) result.act self.new.memory (task_at self.new.image self.new.tasks task) }
+        ensures went { ComesToAct self.old.image self.old.schedule (kernel_of self.old.tasking) task limit result.left
+            (solo_in self.old.image self.old.memory (task_at self.old.image self.old.tasks task)) result.act self.new.memory
+            (task_at self.new.image self.new.tasks task) }
         ensures count { steps.new ≡ steps.old + (limit - result.left) }
         ensures well_formed { IsWellFormed self.old.image }
-        ensures moved { self.new ≡ record self.old { memory = self.new.memory; tasks = slice_set self.old.tasks task (task_at self.new.image self.new.tasks task) } }
+        ensures moved { self.new ≡ record self.old {
+          memory = self.new.memory;
+          tasks = slice_set self.old.tasks task
+              (task_at self.new.image self.new.tasks task);
+        } }
     {
         steps_whole();
         runner_is_calm();

@@ -31,7 +31,8 @@ IsPassedLegally s f a = argument_faults s (formal_slot f) a ≡ []
 
 -- ... in those for the first formals
 abbrev pub ArePassedLegally : Scope → List FormalParameter → List ArgumentTree → Type 0
-ArePassedLegally s formals all = (k : ℕ) (f : FormalParameter) (a : ArgumentTree) → slice_get formals k ≡ Some f → slice_get all k ≡ Some a → IsPassedLegally s f a
+ArePassedLegally s formals all = (k : ℕ) (f : FormalParameter) (a : ArgumentTree) → slice_get formals k ≡ Some f → slice_get all k ≡ Some a
+    → IsPassedLegally s f a
 
 -- a name with one expression behind it, in parentheses
 abbrev pub applied_to : Identifier → ExprTree → ExprTree

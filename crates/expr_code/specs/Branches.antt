@@ -55,13 +55,15 @@ pub record EmitsBranches (v : Visible) (old : Code) (depth width : ℕ) (all : L
       → (g : Package) (rest : ElsifValueTrees) (e : ExprTree)
       → ComputesElse i (library_of g) (Sees g v) (here new) end rest e
       → ComputesElse i (library_of g) (Sees g v) (here old) end (in_front all rest) e
-  pub flows : (i : Sections) (s : Subprogram) (end : ℕ) → here new ≤ end → Joins i (here old) waiting end (depth + width) new → Suits v i s → new.deepest ≤ s.stack → depth + width ≤ s.stack
+  pub flows : (i : Sections) (s : Subprogram) (end : ℕ) → here new ≤ end → Joins i (here old) waiting end (depth + width) new → Suits v i s
+      → new.deepest ≤ s.stack → depth + width ≤ s.stack
       → has_depth i end (depth + width) ≡ true → has_depth i (here new) depth ≡ true → AreKeptBetween i s (here old) end (here old) (here new) depth
 
 -- the jumps at these places lead to `end`, and nothing else changes
 pub record Rejoins (old : Code) (places : List ℕ) (end : ℕ) (new : Code) : Type 0 where
   pub others : (k : ℕ) → is_among places k ≡ false → slice_get new.instructions.items k ≡ slice_get old.instructions.items k
-  pub jumps : (k : ℕ) (x : Instr) → is_among places k ≡ true → slice_get old.instructions.items k ≡ Some x → slice_get new.instructions.items k ≡ Some (record { depth = x.depth; operation = op.Jump end })
+  pub jumps : (k : ℕ) (x : Instr) → is_among places k ≡ true → slice_get old.instructions.items k ≡ Some x
+      → slice_get new.instructions.items k ≡ Some (record { depth = x.depth; operation = op.Jump end })
   pub long : here new ≡ here old
   pub deepest : new.deepest ≡ old.deepest
 

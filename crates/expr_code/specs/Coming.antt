@@ -1,4 +1,5 @@
--- What it is that code comes to a value (RM 4): the frame comes from its place to another one with the value on its operand stack, or to an instruction that raises.
+-- What it is that code comes to a value (RM 4): the frame comes from its place to another one with the value on its operand stack, or to an instruction that
+-- raises.
 use Rattle.std.specs.Prelude.{◌≡◌, ℕ, suc, ◌+◌, ◌-◌, ◌≤◌, ◌<◌, ℤ, List, [], ◌∷◌, ◌++◌, length, reverse}
 use Rattle.base.specs.declared.schedule.ScheduleLine.{ScheduleLine}
 use Rattle.kernel.specs.State.{Kernel}
@@ -46,7 +47,8 @@ module _ (i : Sections) where
     -- most n + 1 with this one: what a function of a protected object raises comes to its caller in a step of its own, once the action has ended. The step
     -- that raises may be one of a frame above. Every task, word and line stays. Of what has no meaning nothing is said: legal programs have none.
     abbrev pub Comes : {A : Type 0} → Frame → List Frame → (n to : ℕ) → (stack : A → List ℤ) → Val A → Type 0
-    Comes f fs n to stack (Gives a) = Spends (behaviour i schedule) t frames_of most_steps (suc (length fs)) n k (in_frame m f fs) k (in_frame m (placed f to (stack a)) fs)
+    Comes f fs n to stack (Gives a) = Spends (behaviour i schedule) t frames_of most_steps (suc (length fs)) n k (in_frame m f fs) k
+        (in_frame m (placed f to (stack a)) fs)
     Comes f fs n to stack (Raises x) =
         (c : TaskState) × (place : ℕ) × (left : List ℤ)
         × Takes (behaviour i schedule) t frames_of most_steps (suc (length fs)) (suc n) k (in_frame m f fs) k (record { memory = m; task = c })

@@ -95,7 +95,8 @@ module _ (i : Sections) (library : Library) where
 
   -- a truth value, wherever the expression has a value
   abbrev pub IsTruth : Sight → ExprTree → Type 0
-  IsTruth sight e = (calls : Calls) (p : Place) (view : View) (v : Value) → library.sound calls → sight p view → value_with calls p e ≡ Gives v → (b : Bool) × (v ≡ Truth b)
+  IsTruth sight e = (calls : Calls) (p : Place) (view : View) (v : Value) → library.sound calls → sight p view → value_with calls p e ≡ Gives v → (b : Bool)
+      × (v ≡ Truth b)
 
   -- a check against a subtype
   abbrev pub Checks : ℕ → Subtype → Type 0
@@ -123,10 +124,12 @@ module _ (i : Sections) (library : Library) where
 
   -- wherever the expression has a value, it is a number; or it lies in the subtype, and no check is needed
   abbrev pub ComesToNumber : Sight → ExprTree → Type 0
-  ComesToNumber sight e = (calls : Calls) (p : Place) (view : View) (v : Value) → library.sound calls → sight p view → value_with calls p e ≡ Gives v → (z : ℤ) × (v ≡ Number z)
+  ComesToNumber sight e = (calls : Calls) (p : Place) (view : View) (v : Value) → library.sound calls → sight p view → value_with calls p e ≡ Gives v
+      → (z : ℤ) × (v ≡ Number z)
 
   abbrev pub AlwaysPasses : Sight → Subtype → ExprTree → Type 0
-  AlwaysPasses sight t e = (calls : Calls) (p : Place) (view : View) (v : Value) → library.sound calls → sight p view → value_with calls p e ≡ Gives v → passed t v ≡ Gives v
+  AlwaysPasses sight t e = (calls : Calls) (p : Place) (view : View) (v : Value) → library.sound calls → sight p view → value_with calls p e ≡ Gives v
+      → passed t v ≡ Gives v
 
   -- The name stands for a call of a function by this operation, which has these subtypes of its formals; so much stands behind the function's own name.
   pub record NamesFunction (first : Identifier) (selectors behind : SelectorTrees) (operation : Operation) (ts : List Subtype) (p : Place)
@@ -168,7 +171,8 @@ module _ (i : Sections) (library : Library) where
     pub within : suc mid ≤ s.end_
     pub bare : (place x : ℕ) → first_place i number ≤ place → place ≤ mid → handler_of i.rows place x ≡ None
     -- its result has the words that are returned
-    pub sized : (calls : Calls) (p : Place) (view : View) (v : Value) → library.sound calls → sight p view → and_then (value_with calls p function.value) (passed function.result) ≡ Gives v → length (value_words v) ≡ s.results
+    pub sized : (calls : Calls) (p : Place) (view : View) (v : Value) → library.sound calls → sight p view
+        → and_then (value_with calls p function.value) (passed function.result) ≡ Gives v → length (value_words v) ≡ s.results
     -- what it sees when it is entered
     pub enters : (p : Place) (view inner : View) (args : List Value) (left : ℕ) (locals : List ℤ)
         → library.shared p view

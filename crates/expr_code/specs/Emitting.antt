@@ -76,7 +76,8 @@ pub record EmitsChecked (v : Visible) (old : Code) (depth : ℕ) (t : Subtype) (
   pub known : (form : TypeForm) × (form_at v.scope t.type_number ≡ Some form)
   pub single : words_of v.scope t ≡ 1
   -- its value, where there is one, is of the subtype's type
-  pub typed : (calls : Calls) (p : Place) → Agrees v.scope p → CallsAnswer calls p → (x : Value) → value_with calls p e ≡ Gives x → has_shape (shape_of v.scope t) x ≡ true
+  pub typed : (calls : Calls) (p : Place) → Agrees v.scope p → CallsAnswer calls p → (x : Value) → value_with calls p e ≡ Gives x
+      → has_shape (shape_of v.scope t) x ≡ true
 
 -- ... of whatever words
 pub record EmitsFitting (v : Visible) (old : Code) (depth : ℕ) (t : Subtype) (e : ExprTree) (new : Code) : Type 0 where
@@ -85,8 +86,10 @@ pub record EmitsFitting (v : Visible) (old : Code) (depth : ℕ) (t : Subtype) (
   pub computes : (i : Sections) → Holds i (here old) new → (g : Package) → ComputesChecked i (library_of g) (Sees g v) (here old) (here new) t e
   pub flows : Flows (Suits v) old depth new (depth + words_of v.scope t)
   pub known : (form : TypeForm) × (form_at v.scope t.type_number ≡ Some form)
-  pub typed : (calls : Calls) (p : Place) → Agrees v.scope p → CallsAnswer calls p → (x : Value) → value_with calls p e ≡ Gives x → has_shape (shape_of v.scope t) x ≡ true
+  pub typed : (calls : Calls) (p : Place) → Agrees v.scope p → CallsAnswer calls p → (x : Value) → value_with calls p e ≡ Gives x
+      → has_shape (shape_of v.scope t) x ≡ true
 
 -- The code that was added makes of an expression's value of one word, computed by the code before it, that of the operators and operands behind it.
 pub record EmitsOperands (v : Visible) (old : Code) (depth : ℕ) (all : List Operand) (new : Code) : Type 0 where
-  pub emits : (start : Code) (left : ExprTree) → EmitsExpression v start depth 1 left old → IsLegalExpression v.scope (chain_tree left all) → EmitsExpression v start depth 1 (chain_tree left all) new
+  pub emits : (start : Code) (left : ExprTree) → EmitsExpression v start depth 1 left old → IsLegalExpression v.scope (chain_tree left all)
+      → EmitsExpression v start depth 1 (chain_tree left all) new

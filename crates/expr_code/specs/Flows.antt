@@ -1,4 +1,5 @@
--- What added code owes to the rules of images (docs/FORMATS.md, 43 to 46), in every image that holds it: operands, jumps, names, and the depth of the operand stack.
+-- What added code owes to the rules of images (docs/FORMATS.md, 43 to 46), in every image that holds it: operands, jumps, names, and the depth of the operand
+-- stack.
 use Rattle.std.specs.Prelude.{◌≡◌, ℕ, ◌≤◌, ◌<◌, true, Some, slice_get}
 use Rattle.image.specs.Sections.{Sections}
 use Rattle.image.specs.Operations.{jump_target}
@@ -15,7 +16,8 @@ pub record KeepsInstructionRules (i : Sections) (s : Subprogram) (low high : ℕ
   pub depth : keeps_depth i place x s ≡ true
   pub jumps : (a : ℕ) → jump_target x.operation ≡ Some a → (low ≤ a) × (a ≤ high)
 
--- what is found of code between two places: the depth in front of it, within the subprogram's, and that its instructions keep the rules, and jump from `low` to `high`
+-- what is found of code between two places: the depth in front of it, within the subprogram's, and that its instructions keep the rules, and jump from `low` to
+-- `high`
 pub record AreKeptBetween (i : Sections) (s : Subprogram) (low high : ℕ) (from to : ℕ) (depth : ℕ) : Type 0 where
   pub begins : has_depth i from depth ≡ true
   pub shallow : depth ≤ s.stack

@@ -51,8 +51,8 @@ abbrev pub path_size : List SelectorTree → ℕ
 path_size [] = 0
 path_size (x ∷ all) = selector_size x + path_size all
 
--- The code that was added goes from the address of an object or part of this subtype, above so many words on the operand stack, to that of its part, in front of
--- whatever path goes on from there.
+-- The code that was added goes from the address of an object or part of this subtype, above so many words on the operand stack, to that of its part, in front
+-- of whatever path goes on from there.
 pub record EmitsPath (v : Visible) (old : Code) (depth : ℕ) (t : Subtype) (all : List SelectorTree) (last : Subtype) (new : Code) : Type 0 where
   pub extends : Extends old new
   pub sized : here new ≤ here old + 20 * path_size all
@@ -72,7 +72,8 @@ pub record EmitsAddress (v : Visible) (old : Code) (depth offset : ℕ) (t : Sub
       → IsPath i (library_of g) (Sees g v) (suc (here old)) (here new) t (shape_of v.scope t) all last (shape_of v.scope last)
   pub flows : Flows (Suits v) old depth new (depth + 1)
 
--- what makes of an address and an index that was checked, both on the operand stack, the address of the component: from the first index on, by the words of each
+-- what makes of an address and an index that was checked, both on the operand stack, the address of the component: from the first index on, by the words of
+-- each
 pub record AddsOffset (old : Code) (depth : ℕ) (first : ℤ) (words : ℕ) (new : Code) : Type 0 where
   pub pushed : Code
   pub counted : Code

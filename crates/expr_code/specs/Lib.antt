@@ -14,3 +14,4 @@ pub mod Going
 pub mod Actuals
 pub mod Widths
 pub mod Refusing
+pub mod NameForms

@@ -36,7 +36,8 @@ shape_in NoShapes name = None
 shape_in (MoreShapes own x rest) name = if bytes_eq own name then Some x else shape_in rest name
 
 module _ (i : Sections) (schedule : List ScheduleLine) (k : Kernel) (t : ℕ) (m : Words) where
-  -- in at most n steps of its own the frame comes to the place `to` with the address of an object or part of this subtype and shape in this region on its stack, or raises
+  -- in at most n steps of its own the frame comes to the place `to` with the address of an object or part of this subtype and shape in this region on its
+  -- stack, or raises
   abbrev pub Finds : Frame → List Frame → Region → Subtype → Shape → (n to : ℕ) → (base : List ℤ) → Val Meaning → Type 0
   Finds f fs region r x n to base (Gives (IsObject s v)) =
       (address : ℕ)

@@ -47,7 +47,8 @@ IsFixed sight first selectors v = (p : Place) (view : View) → sight p view →
 
 -- a name with this meaning, and with no value by types and constants alone
 abbrev pub NamesMeaning : Sight → Identifier → SelectorTrees → Meaning → Type 0
-NamesMeaning sight first selectors meaning = (p : Place) (view : View) → sight p view → (fixed_name p first selectors ≡ None) × (meaning_of p first.name ≡ meaning)
+NamesMeaning sight first selectors meaning = (p : Place) (view : View) → sight p view → (fixed_name p first selectors ≡ None)
+    × (meaning_of p first.name ≡ meaning)
 
 -- the time and the inputs are those of the run
 abbrev pub SeesTime : Sight → Type 0

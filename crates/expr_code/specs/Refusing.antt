@@ -141,7 +141,8 @@ abbrev mutual
   is_outside v (Parenthesized place e) = is_outside v e
   is_outside v (Unary operator place e) = is_outside v e
   is_outside v (Binary operator a b) = is_outside v a || is_outside v b
-  is_outside v (Conditional place condition value elsifs last) = is_outside v condition || (is_outside v value || (elsifs_outside v elsifs || is_outside v last))
+  is_outside v (Conditional place condition value elsifs last) = is_outside v condition
+      || (is_outside v value || (elsifs_outside v elsifs || is_outside v last))
 
   pub elsifs_outside : Visible → ElsifValueTrees → Bool
   elsifs_outside v NoElsifValues = false
@@ -214,7 +215,8 @@ RefusesExpression v old depth e = IsRefusedBeside (HasUnfitObject v) (here old +
 -- ... that of an expression and its check
 abbrev pub RefusesChecked : Visible → Code → (depth : ℕ) → Subtype → ExprTree → Refusal → Type 0
 RefusesChecked v old depth t e =
-    IsRefusedBeside (HasUnfitObject v) (here old + (20 * expr_size e + 3)) (depth + checked_peak (peak v.scope e)) (not (is_passable v.scope t) || is_outside v e)
+    IsRefusedBeside (HasUnfitObject v) (here old + (20 * expr_size e + 3)) (depth + checked_peak (peak v.scope e)) (not (is_passable v.scope t)
+    || is_outside v e)
 
 -- ... where the subtype may have more words; values of arrays and records need no check
 abbrev pub RefusesFitting : Visible → Code → (depth : ℕ) → Subtype → ExprTree → Refusal → Type 0
@@ -230,12 +232,14 @@ RefusesPath v old depth t all =
 -- ... that of the address of an object, and of these selectors
 abbrev pub RefusesAddress : Visible → Code → (depth : ℕ) → Subtype → SelectorTrees → Refusal → Type 0
 RefusesAddress v old depth t all =
-    IsRefusedBeside (HasUnfitObject v ⊎ IsUnfit v.scope t) (here old + (20 * selectors_size all + 1)) (depth + selectors_peak v.scope 1 all) (selectors_outside v all)
+    IsRefusedBeside (HasUnfitObject v ⊎ IsUnfit v.scope t) (here old + (20 * selectors_size all + 1)) (depth + selectors_peak v.scope 1 all)
+    (selectors_outside v all)
 
 -- ... that of actual parameters, and of one
 abbrev pub RefusesActuals : Visible → Code → (depth : ℕ) → List FormalParameter → ArgumentTrees → Refusal → Type 0
 RefusesActuals v old depth formals all =
-    IsRefusedBeside (HasUnfitObject v) (here old + 20 * arguments_size all) (depth + arguments_peak v.scope all) (not (are_passable v.scope formals) || arguments_outside v all)
+    IsRefusedBeside (HasUnfitObject v) (here old + 20 * arguments_size all) (depth + arguments_peak v.scope all) (not (are_passable v.scope formals)
+    || arguments_outside v all)
 
 abbrev pub RefusesActual : Visible → Code → (depth : ℕ) → Subtype → ArgumentTree → Refusal → Type 0
 RefusesActual v old depth t a =
@@ -255,7 +259,8 @@ operands_outside v [] = false
 operands_outside v (o ∷ rest) = is_outside v (expr_tree o.value) || operands_outside v rest
 
 abbrev pub RefusesOperands : Visible → Code → (depth : ℕ) → List Operand → Refusal → Type 0
-RefusesOperands v old depth all = IsRefusedBeside (HasUnfitObject v) (here old + 20 * operands_size all) (depth + operands_peak v.scope all) (operands_outside v all)
+RefusesOperands v old depth all = IsRefusedBeside (HasUnfitObject v) (here old + 20 * operands_size all) (depth + operands_peak v.scope all)
+    (operands_outside v all)
 
 -- ... that of parts of an if expression, whose values take so many words
 abbrev pub branches_peak : Scope → List Branch → ℕ
@@ -267,4 +272,5 @@ branches_outside v [] = false
 branches_outside v (b ∷ rest) = is_outside v b.condition || (is_outside v b.value || branches_outside v rest)
 
 abbrev pub RefusesBranches : Visible → Code → (depth width : ℕ) → List Branch → Refusal → Type 0
-RefusesBranches v old depth width all = IsRefusedBeside (HasUnfitObject v) (here old + 20 * branches_size all) (depth + max width (branches_peak v.scope all)) (branches_outside v all)
+RefusesBranches v old depth width all = IsRefusedBeside (HasUnfitObject v) (here old + 20 * branches_size all)
+    (depth + max width (branches_peak v.scope all)) (branches_outside v all)

@@ -115,7 +115,8 @@ pub record Package : Type 0 where
 -- names mean there what they stand for, and the words of each object are those of its value
 pub record SeesScope (s : Scope) (slots : List ℕ → Option Slot) (p : Place) (view : View) : Type 0 where
   pub agrees : Agrees s p
-  pub objects : (name : List ℕ) (slot : Slot) (t : Subtype) (value : Value) → slots name ≡ Some slot → meaning_of p name ≡ IsObject t value → Lies (view.words slot.region) slot.offset value
+  pub objects : (name : List ℕ) (slot : Slot) (t : Subtype) (value : Value) → slots name ≡ Some slot → meaning_of p name ≡ IsObject t value
+      → Lies (view.words slot.region) slot.offset value
 
 -- the same place without the objects of the running activation, outside of protected objects
 abbrev pub outside : Place → Place

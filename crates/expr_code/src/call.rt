@@ -1,6 +1,7 @@
-//! The code of calls of functions (RM 6.4). Of one of the program: the actual parameters in order, each checked against the subtype of its formal, and the call.
+//! The code of calls of functions (RM 6.4). Of one of the program: the actual parameters in order, each checked against the subtype of its formal, and the
+//! call.
 ghost use Rattle.std.specs.Prelude.{◌≡◌, ◌+◌, map, None, not, take, length, IfErr, IfOk, OnOk};
-ghost use Rattle.ada_tree.specs.ExpressionTree.{argument_tree, argument_trees, Arguments, MoreSelectors, Named, NoSelectors};
+ghost use Rattle.ada_tree.specs.ExpressionTree.{argument_tree, argument_trees, Named, NoSelectors};
 ghost use Rattle.ada_tree.specs.declared.declaration.Mode.TheVariants.{In};
 ghost use Rattle.image.specs.declared.instruction.Operation.TheVariants.{Call, ProtectedCall};
 ghost use Rattle.types.specs.declared.standing.Callee.{Callee};
@@ -17,6 +18,7 @@ ghost use Rattle.expr_code.specs.Refusing.{is_called, IsRefused, RefusesActual, 
 ghost use Rattle.expr_code.specs.Seeing.{external_of, NamesProfile, subprogram_of};
 ghost use Rattle.expr_code.specs.Widths.{width_of};
 ghost use Rattle.expr_soundness.specs.SoundScopes.{AreIn, SoundScope};
+ghost use Rattle.expr_code.specs.NameForms.{applied, arguments_alone};
 
 use crate::code::{Code, above};
 use crate::refusal::Refusal;
@@ -40,13 +42,13 @@ impl Code {
     ) -> Result<(), Refusal>
         requires sound { SoundScope visible.now.scope }
         requires stands { (f : Callee) × (stands_first visible.now.scope (number_of visible.now.scope first.now.name) ≡ standing.Callee f) }
-        requires legal { IsLegalExpression visible.now.scope (Named first.now (MoreSelectors (Arguments (argument_trees arguments.now)) NoSelectors)) }
-        requires valueless { fixed_value (standing_of visible.now.scope first.now (MoreSelectors (Arguments (argument_trees arguments.now)) NoSelectors)) ≡ None }
-        ensures width { OnOk result (width_of visible.now.scope (Named first.now (MoreSelectors (Arguments (argument_trees arguments.now)) NoSelectors)) ≡ 1) }
-        ensures refused { IfErr result (λ why. RefusesExpression visible.now self.old depth (Named first.now (MoreSelectors (Arguments (argument_trees arguments.now)) NoSelectors)) why) }
+        requires legal { IsLegalExpression visible.now.scope (applied first.now arguments.now) }
+        requires valueless { fixed_value (standing_of visible.now.scope first.now (arguments_alone arguments.now)) ≡ None }
+        ensures width { OnOk result (width_of visible.now.scope (applied first.now arguments.now) ≡ 1) }
+        ensures refused { IfErr result (λ why. RefusesExpression visible.now self.old depth (applied first.now arguments.now) why) }
         ensures kept { IfErr result (λ why. Extends self.old self.new) }
-        ensures shallow { OnOk result (IsShallow self.old self.new (depth + peak visible.now.scope (Named first.now (MoreSelectors (Arguments (argument_trees arguments.now)) NoSelectors)))) }
-        ensures emits { OnOk result (EmitsExpression visible.now self.old depth 1 (Named first.now (MoreSelectors (Arguments (argument_trees arguments.now)) NoSelectors)) self.new) }
+        ensures shallow { OnOk result (IsShallow self.old self.new (depth + peak visible.now.scope (applied first.now arguments.now))) }
+        ensures emits { OnOk result (EmitsExpression visible.now self.old depth 1 (applied first.now arguments.now) self.new) }
     {
         match visible.predefined(&first.name) {
             Some(operation) => self.predefined(visible, depth, operation, first, arguments),
@@ -95,12 +97,12 @@ impl Code {
     ) -> Result<(), Refusal>
         requires sound { SoundScope visible.now.scope }
         requires names { NamesProfile visible.now.scope first.now.name (profile_value profile.now) }
-        requires legal { IsLegalExpression visible.now.scope (Named first.now (MoreSelectors (Arguments (argument_trees arguments.now)) NoSelectors)) }
-        ensures width { OnOk result (width_of visible.now.scope (Named first.now (MoreSelectors (Arguments (argument_trees arguments.now)) NoSelectors)) ≡ 1) }
-        ensures refused { IfErr result (λ why. RefusesExpression visible.now self.old depth (Named first.now (MoreSelectors (Arguments (argument_trees arguments.now)) NoSelectors)) why) }
+        requires legal { IsLegalExpression visible.now.scope (applied first.now arguments.now) }
+        ensures width { OnOk result (width_of visible.now.scope (applied first.now arguments.now) ≡ 1) }
+        ensures refused { IfErr result (λ why. RefusesExpression visible.now self.old depth (applied first.now arguments.now) why) }
         ensures kept { IfErr result (λ why. Extends self.old self.new) }
-        ensures shallow { OnOk result (IsShallow self.old self.new (depth + peak visible.now.scope (Named first.now (MoreSelectors (Arguments (argument_trees arguments.now)) NoSelectors)))) }
-        ensures emits { OnOk result (EmitsExpression visible.now self.old depth 1 (Named first.now (MoreSelectors (Arguments (argument_trees arguments.now)) NoSelectors)) self.new) }
+        ensures shallow { OnOk result (IsShallow self.old self.new (depth + peak visible.now.scope (applied first.now arguments.now))) }
+        ensures emits { OnOk result (EmitsExpression visible.now self.old depth 1 (applied first.now arguments.now) self.new) }
     {
         quiet_stays();
         let height = self.actuals(visible, depth, &profile.formals, arguments)?;
@@ -135,7 +137,8 @@ impl Code {
         first: &Identifier,
         profile: &Profile,
     ) -> Result<(), Refusal>
-        ensures refused { IfErr result (λ why. IsRefused (here self.old + 1) height (not (is_called visible.now.scope (subprogram_of visible.now first.now.name) (profile_value profile.now))) why) }
+        ensures refused { IfErr result (λ why. IsRefused (here self.old + 1) height
+            (not (is_called visible.now.scope (subprogram_of visible.now first.now.name) (profile_value profile.now))) why) }
         ensures kept { IfErr result (λ why. Extends self.old self.new) }
         ensures adds { OnOk result (AddsCall visible.now (subprogram_of visible.now first.now.name) Call (profile_value profile.now) self.old height self.new) }
     {
@@ -159,9 +162,11 @@ impl Code {
         operation: &Identifier,
         profile: &Profile,
     ) -> Result<(), Refusal>
-        ensures refused { IfErr result (λ why. IsRefused (here self.old + 1) height (not (is_called visible.now.scope (external_of visible.now object.now.name operation.now.name) (profile_value profile.now))) why) }
+        ensures refused { IfErr result (λ why. IsRefused (here self.old + 1) height
+            (not (is_called visible.now.scope (external_of visible.now object.now.name operation.now.name) (profile_value profile.now))) why) }
         ensures kept { IfErr result (λ why. Extends self.old self.new) }
-        ensures adds { OnOk result (AddsCall visible.now (external_of visible.now object.now.name operation.now.name) ProtectedCall (profile_value profile.now) self.old height self.new) }
+        ensures adds { OnOk result (AddsCall visible.now (external_of visible.now object.now.name operation.now.name) ProtectedCall
+            (profile_value profile.now) self.old height self.new) }
     {
         let Some(number) = visible.external(&object.name, &operation.name) else {
             return Err(Refusal::Outside);
@@ -191,7 +196,8 @@ impl Code {
         ensures kept { IfErr result (λ why. Extends self.old self.new) }
         ensures shallow { OnOk result (IsShallow self.old self.new (depth + arguments_peak visible.now.scope (argument_trees arguments.now))) }
         ensures high { IfOk result (λ height. height ≡ depth + length arguments.now) }
-        ensures emits { IfOk result (λ height. EmitsActuals visible.now self.old depth (map parameter_subtype (take (length arguments.now) formals.now)) (map argument_tree arguments.now) height self.new) }
+        ensures emits { IfOk result (λ height. EmitsActuals visible.now self.old depth
+            (map parameter_subtype (take (length arguments.now) formals.now)) (map argument_tree arguments.now) height self.new) }
     {
         quiet_stays();
         values_have_words();

@@ -19,7 +19,8 @@ use image::Operation;
 use kernel::laws::quiet_stays;
 
 impl Code {
-    /// Adds the code of an expression, and tells how many words its value takes, as its own type says. A refusal leaves what was added, behind what stood there.
+    /// Adds the code of an expression, and tells how many words its value takes, as its own type says. A refusal leaves what was added, behind what stood
+    /// there.
     #[cycle(expression)]
     pub(crate) fn expression(
         &mut self,
@@ -132,7 +133,8 @@ impl Code {
         }
     }
 
-    // Adds that of `and then` or `or else`: a copy of the left operand's value; where that decides, a jump behind the right operand, which else takes its place.
+    // Adds that of `and then` or `or else`: a copy of the left operand's value; where that decides, a jump behind the right operand, which else takes its
+    // place.
     #[cycle(expression)]
     fn short_circuit(
         &mut self,

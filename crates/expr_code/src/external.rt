@@ -1,6 +1,6 @@
 //! The code of calls of functions through the names of protected objects (RM 9.4, 9.5).
 ghost use Rattle.std.specs.Prelude.{◌≡◌, ◌+◌, ℕ, None, IfErr, IfOk, OnOk};
-ghost use Rattle.ada_tree.specs.ExpressionTree.{argument_trees, Arguments, Component, MoreSelectors, Named, NoSelectors, selector_trees};
+ghost use Rattle.ada_tree.specs.ExpressionTree.{Arguments, Component, Named, selector_trees};
 ghost use Rattle.types.specs.declared.standing.Standing.TheVariants as standing;
 ghost use Rattle.types.specs.Evaluating.{fixed_value};
 ghost use Rattle.types.specs.Scopes.{number_of};
@@ -10,6 +10,7 @@ ghost use Rattle.expr_code.specs.Emitting.{EmitsExpression, IsLegalExpression};
 ghost use Rattle.expr_code.specs.Refusing.{RefusesExpression, peak};
 ghost use Rattle.expr_code.specs.Widths.{width_of};
 ghost use Rattle.expr_soundness.specs.SoundScopes.{SoundScope};
+ghost use Rattle.expr_code.specs.NameForms.{component_alone, component_with, selected, selected_with};
 
 use crate::code::Code;
 use crate::refusal::Refusal;
@@ -68,13 +69,13 @@ impl Code {
     ) -> Result<(), Refusal>
         requires sound { SoundScope visible.now.scope }
         requires stands { (n : ℕ) × (stands_first visible.now.scope (number_of visible.now.scope first.now.name) ≡ standing.Protected n) }
-        requires legal { IsLegalExpression visible.now.scope (Named first.now (MoreSelectors (Component operation.now) NoSelectors)) }
-        requires valueless { fixed_value (standing_of visible.now.scope first.now (MoreSelectors (Component operation.now) NoSelectors)) ≡ None }
-        ensures width { OnOk result (width_of visible.now.scope (Named first.now (MoreSelectors (Component operation.now) NoSelectors)) ≡ 1) }
-        ensures refused { IfErr result (λ why. RefusesExpression visible.now self.old depth (Named first.now (MoreSelectors (Component operation.now) NoSelectors)) why) }
+        requires legal { IsLegalExpression visible.now.scope (selected first.now operation.now) }
+        requires valueless { fixed_value (standing_of visible.now.scope first.now (component_alone operation.now)) ≡ None }
+        ensures width { OnOk result (width_of visible.now.scope (selected first.now operation.now) ≡ 1) }
+        ensures refused { IfErr result (λ why. RefusesExpression visible.now self.old depth (selected first.now operation.now) why) }
         ensures kept { IfErr result (λ why. Extends self.old self.new) }
-        ensures shallow { OnOk result (IsShallow self.old self.new (depth + peak visible.now.scope (Named first.now (MoreSelectors (Component operation.now) NoSelectors)))) }
-        ensures emits { OnOk result (EmitsExpression visible.now self.old depth 1 (Named first.now (MoreSelectors (Component operation.now) NoSelectors)) self.new) }
+        ensures shallow { OnOk result (IsShallow self.old self.new (depth + peak visible.now.scope (selected first.now operation.now))) }
+        ensures emits { OnOk result (EmitsExpression visible.now self.old depth 1 (selected first.now operation.now) self.new) }
     {
         quiet_stays();
         match visible.external_profile(&first.name, &operation.name) {
@@ -95,13 +96,13 @@ impl Code {
     ) -> Result<(), Refusal>
         requires sound { SoundScope visible.now.scope }
         requires stands { (n : ℕ) × (stands_first visible.now.scope (number_of visible.now.scope first.now.name) ≡ standing.Protected n) }
-        requires legal { IsLegalExpression visible.now.scope (Named first.now (MoreSelectors (Component operation.now) (MoreSelectors (Arguments (argument_trees arguments.now)) NoSelectors))) }
-        requires valueless { fixed_value (standing_of visible.now.scope first.now (MoreSelectors (Component operation.now) (MoreSelectors (Arguments (argument_trees arguments.now)) NoSelectors))) ≡ None }
-        ensures width { OnOk result (width_of visible.now.scope (Named first.now (MoreSelectors (Component operation.now) (MoreSelectors (Arguments (argument_trees arguments.now)) NoSelectors))) ≡ 1) }
-        ensures refused { IfErr result (λ why. RefusesExpression visible.now self.old depth (Named first.now (MoreSelectors (Component operation.now) (MoreSelectors (Arguments (argument_trees arguments.now)) NoSelectors))) why) }
+        requires legal { IsLegalExpression visible.now.scope (selected_with first.now operation.now arguments.now) }
+        requires valueless { fixed_value (standing_of visible.now.scope first.now (component_with operation.now arguments.now)) ≡ None }
+        ensures width { OnOk result (width_of visible.now.scope (selected_with first.now operation.now arguments.now) ≡ 1) }
+        ensures refused { IfErr result (λ why. RefusesExpression visible.now self.old depth (selected_with first.now operation.now arguments.now) why) }
         ensures kept { IfErr result (λ why. Extends self.old self.new) }
-        ensures shallow { OnOk result (IsShallow self.old self.new (depth + peak visible.now.scope (Named first.now (MoreSelectors (Component operation.now) (MoreSelectors (Arguments (argument_trees arguments.now)) NoSelectors))))) }
-        ensures emits { OnOk result (EmitsExpression visible.now self.old depth 1 (Named first.now (MoreSelectors (Component operation.now) (MoreSelectors (Arguments (argument_trees arguments.now)) NoSelectors))) self.new) }
+        ensures shallow { OnOk result (IsShallow self.old self.new (depth + peak visible.now.scope (selected_with first.now operation.now arguments.now))) }
+        ensures emits { OnOk result (EmitsExpression visible.now self.old depth 1 (selected_with first.now operation.now arguments.now) self.new) }
     {
         quiet_stays();
         match visible.external_profile(&first.name, &operation.name) {

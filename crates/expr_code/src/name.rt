@@ -2,7 +2,7 @@
 ghost use Rattle.std.specs.Prelude.{◌≡◌, ◌+◌, None, Some, false, true, IfErr, IfOk, OnOk};
 ghost use Rattle.image.specs.Rules.{is_block};
 ghost use Rattle.image.specs.declared.instruction.Operation.TheVariants.{LoadBlock};
-ghost use Rattle.ada_tree.specs.ExpressionTree.{argument_trees, Arguments, bare_name, MoreSelectors, Named, name_tree, NoSelectors, selector_trees};
+ghost use Rattle.ada_tree.specs.ExpressionTree.{Arguments, bare_name, Named, NoSelectors, selector_trees};
 ghost use Rattle.types.specs.declared.entity.Role.{Role};
 ghost use Rattle.types.specs.declared.standing.Callee.{Callee};
 ghost use Rattle.types.specs.Evaluating.{fixed_value};
@@ -16,6 +16,7 @@ ghost use Rattle.expr_code.specs.Seeing.{slot_of};
 ghost use Rattle.expr_code.specs.Refusing.{IsRefusedBeside, RefusesExpression, peak};
 ghost use Rattle.expr_code.specs.Widths.{width_of};
 ghost use Rattle.expr_soundness.specs.SoundScopes.{SoundScope};
+ghost use Rattle.expr_code.specs.NameForms.{applied, value_named};
 
 use crate::code::{Code, above};
 use crate::refusal::Refusal;
@@ -71,12 +72,12 @@ impl Code {
         name: &NameExpr,
     ) -> Result<u16, Refusal>
         requires sound { SoundScope visible.now.scope }
-        requires legal { IsLegalExpression visible.now.scope (Named (name_tree name.now).first (name_tree name.now).selectors) }
-        ensures width { IfOk result (λ width. width ≡ width_of visible.now.scope (Named (name_tree name.now).first (name_tree name.now).selectors)) }
-        ensures refused { IfErr result (λ why. RefusesExpression visible.now self.old depth (Named (name_tree name.now).first (name_tree name.now).selectors) why) }
+        requires legal { IsLegalExpression visible.now.scope (value_named name.now) }
+        ensures width { IfOk result (λ width. width ≡ width_of visible.now.scope (value_named name.now)) }
+        ensures refused { IfErr result (λ why. RefusesExpression visible.now self.old depth (value_named name.now) why) }
         ensures kept { IfErr result (λ why. Extends self.old self.new) }
-        ensures shallow { OnOk result (IsShallow self.old self.new (depth + peak visible.now.scope (Named (name_tree name.now).first (name_tree name.now).selectors))) }
-        ensures emits { IfOk result (λ width. EmitsExpression visible.now self.old depth width (Named (name_tree name.now).first (name_tree name.now).selectors) self.new) }
+        ensures shallow { OnOk result (IsShallow self.old self.new (depth + peak visible.now.scope (value_named name.now))) }
+        ensures emits { IfOk result (λ width. EmitsExpression visible.now self.old depth width (value_named name.now) self.new) }
     {
         quiet_stays();
         match fixed_value(visible.scope.standing(name)) {
@@ -200,12 +201,12 @@ impl Code {
     ) -> Result<(), Refusal>
         requires sound { SoundScope visible.now.scope }
         requires stands { stands_first visible.now.scope (number_of visible.now.scope first.now.name) ≡ standing.Named subtype }
-        requires legal { IsLegalExpression visible.now.scope (Named first.now (MoreSelectors (Arguments (argument_trees arguments.now)) NoSelectors)) }
-        ensures width { OnOk result (width_of visible.now.scope (Named first.now (MoreSelectors (Arguments (argument_trees arguments.now)) NoSelectors)) ≡ 1) }
-        ensures refused { IfErr result (λ why. RefusesExpression visible.now self.old depth (Named first.now (MoreSelectors (Arguments (argument_trees arguments.now)) NoSelectors)) why) }
+        requires legal { IsLegalExpression visible.now.scope (applied first.now arguments.now) }
+        ensures width { OnOk result (width_of visible.now.scope (applied first.now arguments.now) ≡ 1) }
+        ensures refused { IfErr result (λ why. RefusesExpression visible.now self.old depth (applied first.now arguments.now) why) }
         ensures kept { IfErr result (λ why. Extends self.old self.new) }
-        ensures shallow { OnOk result (IsShallow self.old self.new (depth + peak visible.now.scope (Named first.now (MoreSelectors (Arguments (argument_trees arguments.now)) NoSelectors)))) }
-        ensures emits { OnOk result (EmitsExpression visible.now self.old depth 1 (Named first.now (MoreSelectors (Arguments (argument_trees arguments.now)) NoSelectors)) self.new) }
+        ensures shallow { OnOk result (IsShallow self.old self.new (depth + peak visible.now.scope (applied first.now arguments.now))) }
+        ensures emits { OnOk result (EmitsExpression visible.now self.old depth 1 (applied first.now arguments.now) self.new) }
     {
         quiet_stays();
         let [argument] = arguments else {

@@ -3,9 +3,8 @@ ghost use Rattle.std.specs.Prelude.{◌≡◌, ◌+◌, ◌∷◌, [], false, ma
 ghost use Rattle.ada_tree.specs.ExpressionTree.{Arguments, argument_trees, bare_name, Component, MoreSelectors, Named, NoSelectors, selector_tree, selector_trees};
 ghost use Rattle.types.specs.declared.entity.Role.{Role};
 ghost use Rattle.types.specs.declared.standing.Standing.TheVariants as standing;
-ghost use Rattle.types.specs.Entities.{Arrays};
 ghost use Rattle.types.specs.Evaluating.{fixed_value};
-ghost use Rattle.types.specs.Scopes.{form_at, number_of};
+ghost use Rattle.types.specs.Scopes.{number_of};
 ghost use Rattle.types.specs.Standings.{standing_of, stands_first};
 ghost use Rattle.expr_code.specs.Emitting.{EmitsExpression, IsLegalExpression};
 ghost use Rattle.expr_code.specs.Going.{AddsOffset, EmitsAddress, EmitsPath, EndsAt, IsLegalPart, IsLegalPath, Selects, SelectsAll};
@@ -14,6 +13,7 @@ ghost use Rattle.expr_code.specs.Refusing.{IsRefused, KeepsFit, RefusesAddress, 
 ghost use Rattle.expr_code.specs.Seeing.{slot_of};
 ghost use Rattle.expr_code.specs.Widths.{width_of};
 ghost use Rattle.expr_soundness.specs.SoundScopes.{SoundScope};
+ghost use Rattle.expr_code.specs.NameForms.{arguments_alone, component_alone};
 
 use crate::code::{Code, above};
 use crate::refusal::Refusal;
@@ -28,7 +28,8 @@ use types::laws::{parts_have_places, values_have_words};
 use types::{Subtype, TypeForm};
 
 impl Code {
-    /// Adds the code of the address of an object that stands there and has this subtype, or of the part of it behind these selectors, and tells the part's subtype.
+    /// Adds the code of the address of an object that stands there and has this subtype, or of the part of it behind these selectors, and tells the part's
+    /// subtype.
     pub fn address(
         &mut self,
         visible: &Visible,
@@ -121,7 +122,8 @@ impl Code {
         requires legal { IsLegalPart visible.now.scope subtype (selector_tree selector.now) }
         ensures refused { IfErr result (λ why. RefusesPath visible.now self.old depth subtype (MoreSelectors (selector_tree selector.now) NoSelectors) why) }
         ensures kept { IfErr result (λ why. Extends self.old self.new) }
-        ensures shallow { OnOk result (IsShallow self.old self.new (depth + selectors_peak visible.now.scope 1 (MoreSelectors (selector_tree selector.now) NoSelectors))) }
+        ensures shallow { OnOk result (IsShallow self.old self.new (depth + selectors_peak visible.now.scope 1
+            (MoreSelectors (selector_tree selector.now) NoSelectors))) }
         ensures stands { IfOk result (λ last. Selects visible.now.scope subtype (selector_tree selector.now) last) }
         ensures emits { IfOk result (λ last. EmitsPath visible.now self.old depth subtype (selector_tree selector.now ∷ []) last self.new) }
     {
@@ -143,9 +145,9 @@ impl Code {
     ) -> Result<Subtype, Refusal>
         requires sound { SoundScope visible.now.scope }
         requires legal { IsLegalPart visible.now.scope subtype (Component name.now) }
-        ensures refused { IfErr result (λ why. RefusesPath visible.now self.old depth subtype (MoreSelectors (Component name.now) NoSelectors) why) }
+        ensures refused { IfErr result (λ why. RefusesPath visible.now self.old depth subtype (component_alone name.now) why) }
         ensures kept { IfErr result (λ why. Extends self.old self.new) }
-        ensures shallow { OnOk result (IsShallow self.old self.new (depth + selectors_peak visible.now.scope 1 (MoreSelectors (Component name.now) NoSelectors))) }
+        ensures shallow { OnOk result (IsShallow self.old self.new (depth + selectors_peak visible.now.scope 1 (component_alone name.now))) }
         ensures stands { IfOk result (λ last. Selects visible.now.scope subtype (Component name.now) last) }
         ensures emits { IfOk result (λ last. EmitsPath visible.now self.old depth subtype (Component name.now ∷ []) last self.new) }
     {
@@ -181,9 +183,9 @@ impl Code {
     ) -> Result<Subtype, Refusal>
         requires sound { SoundScope visible.now.scope }
         requires legal { IsLegalPart visible.now.scope subtype (Arguments (argument_trees arguments.now)) }
-        ensures refused { IfErr result (λ why. RefusesPath visible.now self.old depth subtype (MoreSelectors (Arguments (argument_trees arguments.now)) NoSelectors) why) }
+        ensures refused { IfErr result (λ why. RefusesPath visible.now self.old depth subtype (arguments_alone arguments.now) why) }
         ensures kept { IfErr result (λ why. Extends self.old self.new) }
-        ensures shallow { OnOk result (IsShallow self.old self.new (depth + selectors_peak visible.now.scope 1 (MoreSelectors (Arguments (argument_trees arguments.now)) NoSelectors))) }
+        ensures shallow { OnOk result (IsShallow self.old self.new (depth + selectors_peak visible.now.scope 1 (arguments_alone arguments.now))) }
         ensures stands { IfOk result (λ last. Selects visible.now.scope subtype (Arguments (argument_trees arguments.now)) last) }
         ensures emits { IfOk result (λ last. EmitsPath visible.now self.old depth subtype (Arguments (argument_trees arguments.now) ∷ []) last self.new) }
     {

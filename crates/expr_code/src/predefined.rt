@@ -1,6 +1,6 @@
 //! The code of calls of functions of the language: those of Ada.Real_Time (RM D.8), and Read of Control_IO.
 ghost use Rattle.std.specs.Prelude.{◌≡◌, ◌≢◌, ◌+◌, false, pos, IfErr, OnOk};
-ghost use Rattle.ada_tree.specs.ExpressionTree.{argument_trees, Arguments, expr_tree, MoreSelectors, Named, NoSelectors};
+ghost use Rattle.ada_tree.specs.ExpressionTree.{expr_tree, Named, NoSelectors};
 ghost use Rattle.image.specs.declared.instruction.Operation.TheVariants.{Push};
 ghost use Rattle.types.specs.declared.entity.PredefinedOperation.TheVariants.{Clock, Milliseconds, Read};
 ghost use Rattle.expr_code.specs.Actuals.{applied_to};
@@ -10,6 +10,7 @@ ghost use Rattle.expr_code.specs.Refusing.{IsRefused, peak, RefusesExpression};
 ghost use Rattle.expr_code.specs.Seeing.{NamesOperation};
 ghost use Rattle.expr_code.specs.Widths.{width_of};
 ghost use Rattle.expr_soundness.specs.SoundScopes.{SoundScope};
+ghost use Rattle.expr_code.specs.NameForms.{applied};
 
 use crate::code::{Code, above};
 use crate::refusal::Refusal;
@@ -33,12 +34,12 @@ impl Code {
     ) -> Result<(), Refusal>
         requires sound { SoundScope visible.now.scope }
         requires names { NamesOperation visible.now.scope first.now.name operation }
-        requires legal { IsLegalExpression visible.now.scope (Named first.now (MoreSelectors (Arguments (argument_trees arguments.now)) NoSelectors)) }
-        ensures width { OnOk result (width_of visible.now.scope (Named first.now (MoreSelectors (Arguments (argument_trees arguments.now)) NoSelectors)) ≡ 1) }
-        ensures refused { IfErr result (λ why. RefusesExpression visible.now self.old depth (Named first.now (MoreSelectors (Arguments (argument_trees arguments.now)) NoSelectors)) why) }
+        requires legal { IsLegalExpression visible.now.scope (applied first.now arguments.now) }
+        ensures width { OnOk result (width_of visible.now.scope (applied first.now arguments.now) ≡ 1) }
+        ensures refused { IfErr result (λ why. RefusesExpression visible.now self.old depth (applied first.now arguments.now) why) }
         ensures kept { IfErr result (λ why. Extends self.old self.new) }
-        ensures shallow { OnOk result (IsShallow self.old self.new (depth + peak visible.now.scope (Named first.now (MoreSelectors (Arguments (argument_trees arguments.now)) NoSelectors)))) }
-        ensures emits { OnOk result (EmitsExpression visible.now self.old depth 1 (Named first.now (MoreSelectors (Arguments (argument_trees arguments.now)) NoSelectors)) self.new) }
+        ensures shallow { OnOk result (IsShallow self.old self.new (depth + peak visible.now.scope (applied first.now arguments.now))) }
+        ensures emits { OnOk result (EmitsExpression visible.now self.old depth 1 (applied first.now arguments.now) self.new) }
     {
         quiet_stays();
         match operation {
@@ -84,12 +85,12 @@ impl Code {
         requires sound { SoundScope visible.now.scope }
         requires names { NamesOperation visible.now.scope first.now.name operation }
         requires takes { operation ≢ Clock }
-        requires legal { IsLegalExpression visible.now.scope (Named first.now (MoreSelectors (Arguments (argument_trees arguments.now)) NoSelectors)) }
-        ensures width { OnOk result (width_of visible.now.scope (Named first.now (MoreSelectors (Arguments (argument_trees arguments.now)) NoSelectors)) ≡ 1) }
-        ensures refused { IfErr result (λ why. RefusesExpression visible.now self.old depth (Named first.now (MoreSelectors (Arguments (argument_trees arguments.now)) NoSelectors)) why) }
+        requires legal { IsLegalExpression visible.now.scope (applied first.now arguments.now) }
+        ensures width { OnOk result (width_of visible.now.scope (applied first.now arguments.now) ≡ 1) }
+        ensures refused { IfErr result (λ why. RefusesExpression visible.now self.old depth (applied first.now arguments.now) why) }
         ensures kept { IfErr result (λ why. Extends self.old self.new) }
-        ensures shallow { OnOk result (IsShallow self.old self.new (depth + peak visible.now.scope (Named first.now (MoreSelectors (Arguments (argument_trees arguments.now)) NoSelectors)))) }
-        ensures emits { OnOk result (EmitsExpression visible.now self.old depth 1 (Named first.now (MoreSelectors (Arguments (argument_trees arguments.now)) NoSelectors)) self.new) }
+        ensures shallow { OnOk result (IsShallow self.old self.new (depth + peak visible.now.scope (applied first.now arguments.now))) }
+        ensures emits { OnOk result (EmitsExpression visible.now self.old depth 1 (applied first.now arguments.now) self.new) }
     {
         let [argument] = arguments else {
             return Err(Refusal::Outside);

@@ -8,7 +8,7 @@ pub enum Refusal {
     Limit,
     /// Memory was refused.
     Memory,
-    /// It isn't made yet.
+    /// The tree has something of which no code is made. The tree of no accepted text has.
     Outside,
 }
 

@@ -77,8 +77,8 @@ impl<T: Copy> Entries<T> {
     }
 }
 
-/// The numbers of the subprograms of operations, by the number of their protected object among all, and by their place in its declaration (RM 9.4). Contracts see
-/// lists.
+/// The numbers of the subprograms of operations, by the number of their protected object among all, and by their place in its declaration (RM 9.4). Contracts
+/// see lists.
 #[derive(Drop)]
 pub struct OperationNumbers {
     objects: Vec<Entries<u16>>,
@@ -123,8 +123,8 @@ impl OperationNumbers {
 }
 
 /// The names that are visible in a part of a program. For each of them, by its number: where its words stand, if it is an object that has words, and the number
-/// of its subprogram, if it is one that may be called. And for each protected object, by its number among them, the numbers of the subprograms of its operations
-/// in the order of their declarations (RM 9.4).
+/// of its subprogram, if it is one that may be called. And for each protected object, by its number among them, the numbers of the subprograms of its
+/// operations in the order of their declarations (RM 9.4).
 #[derive(Drop)]
 pub struct Visible {
     pub scope: Scope,

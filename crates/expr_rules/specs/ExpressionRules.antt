@@ -79,12 +79,15 @@ abbrev mutual
   faults_in s wanted (Parenthesized place e) = faults_in s wanted e
   faults_in s wanted (Unary operator place e) = faults_in s (below operator wanted) e ++ unary_rule s operator place (own_of s e)
   faults_in s wanted (Binary operator a b) =
-      faults_in s (beside s operator (own_of s b)) a ++ faults_in s (beside s operator (own_of s a)) b ++ binary_rule s operator (start_of a) (own_of s a) (own_of s b)
+      faults_in s (beside s operator (own_of s b)) a ++ faults_in s (beside s operator (own_of s a)) b
+      ++ binary_rule s operator (start_of a) (own_of s a) (own_of s b)
   faults_in s wanted (Conditional place condition value elsifs else_value) =
       (faults_in s boolean_wanted condition ++ mismatch s boolean_wanted (own_of s condition) (start_of condition))
-      ++ (faults_in s (conditional_wanted s wanted value elsifs else_value) value ++ mismatch s (conditional_wanted s wanted value elsifs else_value) (own_of s value) (start_of value))
+      ++ (faults_in s (conditional_wanted s wanted value elsifs else_value) value
+      ++ mismatch s (conditional_wanted s wanted value elsifs else_value) (own_of s value) (start_of value))
       ++ elsif_faults s (conditional_wanted s wanted value elsifs else_value) elsifs
-      ++ (faults_in s (conditional_wanted s wanted value elsifs else_value) else_value ++ mismatch s (conditional_wanted s wanted value elsifs else_value) (own_of s else_value) (start_of else_value))
+      ++ (faults_in s (conditional_wanted s wanted value elsifs else_value) else_value
+      ++ mismatch s (conditional_wanted s wanted value elsifs else_value) (own_of s else_value) (start_of else_value))
 
   pub elsif_faults : Scope → Wanted → ElsifValueTrees → Faults
   elsif_faults s wanted NoElsifValues = []
@@ -123,7 +126,8 @@ part_faults s wanted condition value = faults_of s boolean_wanted condition ++ f
 
 -- what is broken in a name, whatever it is to stand for
 abbrev pub name_faults : Scope → Identifier → SelectorTrees → Faults
-name_faults s first selectors = rule NAME_NOT_VISIBLE first.place (not (is_visible s first.name)) ++ selectors_faults s first.place (stands_first s (number_of s first.name)) selectors
+name_faults s first selectors = rule NAME_NOT_VISIBLE first.place (not (is_visible s first.name))
+    ++ selectors_faults s first.place (stands_first s (number_of s first.name)) selectors
 
 -- a call of a procedure or entry, or of Put (RM 6.4, 9.5.3)
 abbrev pub call_faults : Scope → Identifier → SelectorTrees → Faults

@@ -1,4 +1,5 @@
--- What one walk finds of an expression: its own type, the least fault in it, and its place; for chains of operators operand by operand. Serves the proofs of the walks.
+-- What one walk finds of an expression: its own type, the least fault in it, and its place; for chains of operators operand by operand. Serves the proofs of
+-- the walks.
 use Rattle.std.specs.Prelude.{List, [], ◌∷◌}
 use Rattle.ada_tree.specs.declared.expression.BinaryOperator.{BinaryOperator}
 use Rattle.ada_tree.specs.declared.expression.Operand.{Operand}

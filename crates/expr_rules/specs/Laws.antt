@@ -36,7 +36,8 @@ pub record IsTyped (s : Scope) (own : Own) (v : Val Value) : Type 0 where
   pub known : is_known own ≡ true
   pub suited : suits s own v ≡ true
 
--- What the law asks of names: Boolean is the type with its number, Time_Span stands behind Time, and each name that breaks no rule comes to a value of its type.
+-- What the law asks of names: Boolean is the type with its number, Time_Span stands behind Time, and each name that breaks no rule comes to a value of its
+-- type.
 pub record AreTyped (s : Scope) (calls : Calls) (p : Place) : Type 0 where
   pub boolean : form_at s boolean_type ≡ Some Booleans
   pub span : (n : ℕ) → is_times (form_at s n) ≡ true → is_spans (form_at s (suc n)) ≡ true
@@ -44,4 +45,5 @@ pub record AreTyped (s : Scope) (calls : Calls) (p : Place) : Type 0 where
       → IsTyped s (own_of s (Named first selectors)) (value_with calls p (Named first selectors))
 
 abbrev pub TypedValues : Type 0
-TypedValues = (s : Scope) (calls : Calls) (p : Place) → AreTyped s calls p → (e : ExprTree) (w : Wanted) → faults_in s w e ≡ [] → IsTyped s (own_of s e) (value_with calls p e)
+TypedValues = (s : Scope) (calls : Calls) (p : Place) → AreTyped s calls p → (e : ExprTree) (w : Wanted) → faults_in s w e ≡ []
+    → IsTyped s (own_of s e) (value_with calls p e)

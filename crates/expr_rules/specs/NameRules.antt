@@ -108,7 +108,12 @@ end_rule s place w = []
 
 -- the actual for a formal: an expression of its type, or a variable of its type that the call may change
 abbrev pub formal_slot : FormalParameter → Slot
-formal_slot f = elim f.mode [ mode.In ↦ Expects (OfType f.subtype.type_number) | mode.Out ↦ Takes f.subtype.type_number | mode.InOut ↦ Takes f.subtype.type_number ]
+formal_slot f = elim f.mode [
+  | mode.In ↦ Expects (OfType f.subtype.type_number)
+  | mode.Out ↦ Takes f.subtype.type_number
+  | mode.InOut ↦ Takes
+      f.subtype.type_number
+]
 
 abbrev pub formal_slot_or : Option FormalParameter → Slot
 formal_slot_or (Some f) = formal_slot f

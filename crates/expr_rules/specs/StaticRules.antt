@@ -36,7 +36,8 @@ if_unbroken faults later = []
 -- what is broken in an expression that must be static: 14 also beside other faults, 15 only where nothing else is broken in it
 abbrev pub static_faults : Scope → Wanted → Option Subtype → ExprTree → Faults
 static_faults s wanted within e =
-    faults_of s wanted e ++ form_rule (start_of e) (static_form s e) ++ if_unbroken (faults_of s wanted e) (value_rule (start_of e) within (static_form s e) (static_value s e))
+    faults_of s wanted e ++ form_rule (start_of e) (static_form s e)
+    ++ if_unbroken (faults_of s wanted e) (value_rule (start_of e) within (static_form s e) (static_value s e))
 
 -- its value, where nothing is broken and it is known
 abbrev pub scalar_if_known : StaticForm → Val Value → Option Value

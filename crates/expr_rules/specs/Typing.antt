@@ -122,7 +122,8 @@ has_unary s operator own = is_integral s own
 
 abbrev pub has_binary : Scope → BinaryOperator → Own → Own → Bool
 has_binary s operator a b =
-    if is_logical operator then is_boolean s (join s a b) else (if is_relation operator then is_scalar s (join s a b) else is_known (arithmetic_own s operator a b))
+    if is_logical operator then is_boolean s (join s a b) else
+    (if is_relation operator then is_scalar s (join s a b) else is_known (arithmetic_own s operator a b))
 
 -- ---- expressions
 

@@ -27,7 +27,8 @@ walk_turn parts associates tree walk first split all n x f one whole less at h h
     let before = map tree (take n all) in
     let rest = map tree (drop (n + 1) all) in
     let taken : map tree (take (n + 1) all) ≡ before ++ tree x ∷ [] =
-    ap (map tree) (ap (λ m. take m all) (add-one n) ∙ take-suc all n x less ∙ ap (λ y. take n all ++ y ∷ []) (sym at)) ∙ map-append tree (take n all) (x ∷ []) in
+    ap (map tree) (ap (λ m. take m all) (add-one n) ∙ take-suc all n x less ∙ ap (λ y. take n all ++ y ∷ []) (sym at))
+    ∙ map-append tree (take n all) (x ∷ []) in
     let left = walk (map tree (take (n + 1) all)) rest in
     let step : walk before (map tree (drop n all)) ≡ first before (tree x) rest ++ left =
     at_drop_more (λ r. walk before (map tree r)) all n x less
@@ -58,7 +59,8 @@ own_walk_turn parts associates walk first split all n x f one whole less at h he
     ap (λ m. take m all) (add-one n) ∙ take-suc all n x less ∙ ap (λ y. before ++ y ∷ []) (sym at) in
     let left = walk (take (n + 1) all) rest in
     let step : walk before (drop n all) ≡ first before x ++ left =
-    at_drop_more (walk before) all n x less ∙ ap (λ y. walk before (y ∷ rest)) (sym at) ∙ split before x rest ∙ ap (λ b. first before x ++ walk b rest) (sym taken) in
+    at_drop_more (walk before) all n x less ∙ ap (λ y. walk before (y ∷ rest)) (sym at) ∙ split before x rest
+    ∙ ap (λ b. first before x ++ walk b rest) (sym taken) in
     associates f one (least left)
     ∙ ap (λ o. sooner f (sooner o (least left))) here
     ∙ ap (sooner f) (sym (parts (first before x) left))

@@ -33,7 +33,8 @@ fn is_outside(within: Option<Subtype>, value: Value) -> bool
 }
 
 fn value_rule(scope: &Scope, within: Option<Subtype>, e: &Expr) -> Option<Fault>
-    ensures { result ≡ least (value_rule (start_of (expr_tree e.now)) within (static_form scope.now (expr_tree e.now)) (static_value scope.now (expr_tree e.now))) }
+    ensures { result ≡ least (value_rule (start_of (expr_tree e.now)) within (static_form scope.now (expr_tree e.now))
+        (static_value scope.now (expr_tree e.now))) }
 {
     match static_value(scope, e) {
         Ok(value) => rule(WRONG_STATIC_VALUE, start_of(e), is_outside(within, value)),

@@ -20,18 +20,22 @@ LieWellAround inner place exception outer =
 -- rows that take nothing change nothing, wherever they stand
 abbrev pub RowsElsewhere : Type 0
 RowsElsewhere =
-    (before more after : List Row) (place exception : ℕ) → All (λ r. takes place exception r ≡ false) more → handler_of (before ++ (more ++ after)) place exception ≡ handler_of (before ++ after) place exception
+    (before more after : List Row) (place exception : ℕ) → All (λ r. takes place exception r ≡ false) more
+    → handler_of (before ++ (more ++ after)) place exception ≡ handler_of (before ++ after) place exception
 
 -- where the inner rows have a handler, rows around them change nothing
 abbrev pub RowsInside : Type 0
 RowsInside =
-    (inner outer : List Row) (place exception target : ℕ) → handler_of inner place exception ≡ Some target → LieAround inner place exception outer → handler_of (inner ++ outer) place exception ≡ Some target
+    (inner outer : List Row) (place exception target : ℕ) → handler_of inner place exception ≡ Some target → LieAround inner place exception outer
+    → handler_of (inner ++ outer) place exception ≡ Some target
 
 -- nor where they come first, if their regions are longer
 abbrev pub RowsInsideLast : Type 0
 RowsInsideLast =
-    (outer inner : List Row) (place exception target : ℕ) → handler_of inner place exception ≡ Some target → LieWellAround inner place exception outer → handler_of (outer ++ inner) place exception ≡ Some target
+    (outer inner : List Row) (place exception target : ℕ) → handler_of inner place exception ≡ Some target → LieWellAround inner place exception outer
+    → handler_of (outer ++ inner) place exception ≡ Some target
 
 -- where the inner rows have no handler, the others decide
 abbrev pub RowsAround : Type 0
-RowsAround = (inner outer : List Row) (place exception : ℕ) → handler_of inner place exception ≡ None → handler_of (inner ++ outer) place exception ≡ handler_of outer place exception
+RowsAround = (inner outer : List Row) (place exception : ℕ) → handler_of inner place exception ≡ None
+    → handler_of (inner ++ outer) place exception ≡ handler_of outer place exception

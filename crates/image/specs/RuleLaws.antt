@@ -33,11 +33,13 @@ none_or-at o test x is e = subst (λ v. none_or v test ≡ true) is e
 one_later : (p n : ℕ) → (p + 1) + n ≡ p + suc n
 one_later p n = sym (ap (λ m. m + n) (suc-eq-add-one p)) ∙ (suc-add p n ∙ sym (add-suc p n))
 
-pub all_placed-at : {X : Type 0} (test : ℕ → X → Bool) (xs : List X) (p n : ℕ) (x : X) → all_placed test p xs ≡ true → slice_get xs n ≡ Some x → test (p + n) x ≡ true
+pub all_placed-at : {X : Type 0} (test : ℕ → X → Bool) (xs : List X) (p n : ℕ) (x : X) → all_placed test p xs ≡ true → slice_get xs n ≡ Some x
+    → test (p + n) x ≡ true
 all_placed-at test [] p n x all is = absurd (none-some x is)
 all_placed-at test (y ∷ xs) p zero x all is =
     subst (λ m. test m x ≡ true) (sym (add-zero p)) (subst (λ v. test p v ≡ true) (same_Some y x is) (and_parts (test p y) _ all).0)
-all_placed-at test (y ∷ xs) p (suc n) x all is = subst (λ m. test m x ≡ true) (one_later p n) (all_placed-at test xs (p + 1) n x (and_parts (test p y) _ all).1 is)
+all_placed-at test (y ∷ xs) p (suc n) x all is = subst (λ m. test m x ≡ true) (one_later p n)
+    (all_placed-at test xs (p + 1) n x (and_parts (test p y) _ all).1 is)
 
 pub placed-at : {X : Type 0} (test : ℕ → X → Bool) (xs : List X) (n : ℕ) (x : X) → all_placed test 0 xs ≡ true → slice_get xs n ≡ Some x → test n x ≡ true
 placed-at test xs n x all is = subst (λ m. test m x ≡ true) (zero-add n) (all_placed-at test xs 0 n x all is)
@@ -66,7 +68,8 @@ pub begin_of-next : (first n : ℕ) (s : Subprogram) (subprograms : List Subprog
 begin_of-next first zero s subprograms = refl
 begin_of-next first (suc n) s subprograms = refl
 
-pub all_begun-at : (test : ℕ → Subprogram → Bool) (subprograms : List Subprogram) (first n : ℕ) (s : Subprogram) → all_begun test first subprograms ≡ true → slice_get subprograms n ≡ Some s → test (begin_of first subprograms n) s ≡ true
+pub all_begun-at : (test : ℕ → Subprogram → Bool) (subprograms : List Subprogram) (first n : ℕ) (s : Subprogram) → all_begun test first subprograms ≡ true
+    → slice_get subprograms n ≡ Some s → test (begin_of first subprograms n) s ≡ true
 all_begun-at test [] first n s all is = absurd (none-some s is)
 all_begun-at test (x ∷ subprograms) first zero s all is = subst (λ v. test first v ≡ true) (same_Some x s is) (and_parts (test first x) _ all).0
 all_begun-at test (x ∷ subprograms) first (suc n) s all is =

@@ -98,9 +98,11 @@ pub enum Operation {
     JumpIfNotZero(u16),
     /// 25 CALL: takes the parameters and calls the subprogram of this number; Storage_Error at the 33rd frame.
     Call(u16),
-    /// 26 PCALL: an external call of a procedure or function of an object, whose action it opens; Program_Error for the same object or the ceiling (RM 9.5.1, D.3).
+    /// 26 PCALL: an external call of a procedure or function of an object, whose action it opens; Program_Error for the same object or the ceiling (RM 9.5.1,
+    /// D.3).
     ProtectedCall(u16),
-    /// 27 ECALL: calls the entry of the object of this number; runs, queues, or Program_Error inside any action, for the ceiling, or where a call is queued (RM 9.5.3, D.7).
+    /// 27 ECALL: calls the entry of the object of this number; runs, queues, or Program_Error inside any action, for the ceiling, or where a call is queued (RM
+    /// 9.5.3, D.7).
     EntryCall(u16),
     /// 28 RET: gives the results to the caller, and ends the call, the action or the task.
     Return,

@@ -29,5 +29,14 @@ impl Model for Parts {
 
     ghost Value = { Sections };
 
-    ghost view = { λ p. record { exceptions = p.exceptions.items; labels = p.labels.items; plain_words = p.plain_words.items; objects = p.objects.items; subprograms = p.subprograms.items; tasks = p.tasks.items; rows = p.rows.items; instructions = p.instructions.items } };
+    ghost view = { λ p. record {
+      exceptions = p.exceptions.items;
+      labels = p.labels.items;
+      plain_words = p.plain_words.items;
+      objects = p.objects.items;
+      subprograms = p.subprograms.items;
+      tasks = p.tasks.items;
+      rows = p.rows.items;
+      instructions = p.instructions.items;
+    } };
 }

@@ -93,17 +93,20 @@ barrier_fields Open = field (codes " barrier ") 1 ++ field (codes " word ") 0
 barrier_fields (Word a) = field (codes " barrier ") 2 ++ field (codes " word ") a
 
 abbrev pub object_line : ℕ → ObjectRow → List ℕ
-object_line n o = field (codes "object ") n ++ field (codes " ceiling ") o.ceiling ++ optional_field (codes " entry ") o.entry ++ barrier_fields o.barrier ++ field (codes " size ") (length o.words) ++ codes "\n"
+object_line n o = field (codes "object ") n ++ field (codes " ceiling ") o.ceiling ++ optional_field (codes " entry ") o.entry ++ barrier_fields o.barrier
+    ++ field (codes " size ") (length o.words) ++ codes "\n"
 
 abbrev pub task_line : Task → List ℕ
 task_line t = codes "task " ++ t.name ++ field (codes " priority ") t.priority ++ field (codes " sub ") t.subprogram ++ codes "\n"
 
 -- the words of a frame
 unfoldable pub frame_fields : Subprogram → List ℕ
-frame_fields s = field (codes " params ") s.parameters ++ field (codes " results ") s.results ++ field (codes " locals ") s.locals ++ field (codes " stack ") s.stack ++ codes "\n"
+frame_fields s = field (codes " params ") s.parameters ++ field (codes " results ") s.results ++ field (codes " locals ") s.locals
+    ++ field (codes " stack ") s.stack ++ codes "\n"
 
 abbrev pub subprogram_line : ℕ → Subprogram → List ℕ
-subprogram_line n s = field (codes "sub ") n ++ field (codes " kind ") (kind_number s.kind) ++ optional_field (codes " object ") (object_of s.kind) ++ frame_fields s
+subprogram_line n s = field (codes "sub ") n ++ field (codes " kind ") (kind_number s.kind) ++ optional_field (codes " object ") (object_of s.kind)
+    ++ frame_fields s
 
 abbrev pub row_line : Row → List ℕ
 row_line r = field (codes "handler ") r.start ++ field (codes " ") r.end_ ++ field (codes " ") r.exception ++ field (codes " ") r.target ++ codes "\n"

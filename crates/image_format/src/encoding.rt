@@ -324,7 +324,8 @@ fn put_halves(out: &mut Vec<u8>, numbers: &[u16]) -> Result<(), AllocError>
 
 // How many there are of each, in the order of the header.
 fn counts(image: &Image) -> [u16; 8]
-    ensures { result ≡ length image.now.instructions ∷ length image.now.subprograms ∷ length image.now.objects ∷ length image.now.tasks ∷ length image.now.exceptions ∷ length image.now.rows ∷ length image.now.labels ∷ length image.now.plain_words ∷ [] }
+    ensures { result ≡ length image.now.instructions ∷ length image.now.subprograms ∷ length image.now.objects ∷ length image.now.tasks ∷ length
+        image.now.exceptions ∷ length image.now.rows ∷ length image.now.labels ∷ length image.now.plain_words ∷ [] }
 {
     [
         image.instructions().len() as u16,

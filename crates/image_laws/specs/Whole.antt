@@ -36,11 +36,13 @@ abbrev pub UnseenWhole : Type 0
 UnseenWhole =
     (i : Sections) → IsWellFormed i → (schedule : List ScheduleLine) (t n : ℕ) (k l : Kernel) (d : Tasks Words TaskState) (s : Solo Words TaskState) →
     Unseen (behaviour i schedule) t n k (solo_of t d) l s → IsWhole i (record { kernel = k; rest = d }) →
-    IsWhole i (record { kernel = l; rest = put_back t d s }) × (run (among (behaviour i schedule)) n (record { kernel = k; rest = d }) ≡ record { kernel = l; rest = put_back t d s })
+    IsWhole i (record { kernel = l; rest = put_back t d s })
+    × (run (among (behaviour i schedule)) n (record { kernel = k; rest = d }) ≡ record { kernel = l; rest = put_back t d s })
 
 -- the running task is one of the image, and its frames have their shape
 abbrev pub RunnerSound : Type 0
-RunnerSound = (i : Sections) → IsWellFormed i → (w : CodeWorld) (t : ℕ) → IsWhole i w → w.kernel.running ≡ Some t → (t < length i.tasks) × IsSound i (w.rest.tasks t)
+RunnerSound = (i : Sections) → IsWellFormed i → (w : CodeWorld) (t : ℕ) → IsWhole i w → w.kernel.running ≡ Some t → (t < length i.tasks)
+    × IsSound i (w.rest.tasks t)
 
 -- what the step of the running task owes to other tasks
 abbrev pub RunnerOwes : Type 0
@@ -63,9 +65,11 @@ IsNamed n _ = Unit {0}
 
 -- a step asks the kernel for objects of the image alone
 abbrev pub EffectsNamed : Type 0
-EffectsNamed = (i : Sections) → IsWellFormed i → (schedule : List ScheduleLine) (k : Kernel) (t : ℕ) (s : Solo Words TaskState) → IsNamed (length i.objects) (act i schedule k t s).effect
+EffectsNamed = (i : Sections) → IsWellFormed i → (schedule : List ScheduleLine) (k : Kernel) (t : ℕ) (s : Solo Words TaskState)
+    → IsNamed (length i.objects) (act i schedule k t s).effect
 
 -- a step does not depend on the lines that were written
 abbrev pub LinesUnread : Type 0
 LinesUnread =
-    (i : Sections) (schedule : List ScheduleLine) (k : Kernel) (lines : List Line) (t : ℕ) (s : Solo Words TaskState) → act i schedule (record k { lines = lines }) t s ≡ act i schedule k t s
+    (i : Sections) (schedule : List ScheduleLine) (k : Kernel) (lines : List Line) (t : ℕ) (s : Solo Words TaskState)
+    → act i schedule (record k { lines = lines }) t s ≡ act i schedule k t s

@@ -31,7 +31,8 @@ block_from (negsuc n) = 0
 abbrev pub operations : ℕ → ℤ → List Operation
 operations a k =
     Push k ∷ Drop ∷ Duplicate ∷ LoadLocal a ∷ StoreLocal a ∷ LoadPlain a ∷ StorePlain a ∷ LoadObject a
-    ∷ StoreObject a ∷ LoadIndexed (region_from a) ∷ StoreIndexed (region_from a) ∷ LoadBlock (region_from a) (block_from k) ∷ StoreBlock (region_from a) (block_from k) ∷ Copy (region_from (a / 3)) (region_from (a % 3)) (block_from k) ∷ Negate ∷ Absolute
+    ∷ StoreObject a ∷ LoadIndexed (region_from a) ∷ StoreIndexed (region_from a) ∷ LoadBlock (region_from a) (block_from k) ∷ StoreBlock (region_from a)
+    (block_from k) ∷ Copy (region_from (a / 3)) (region_from (a % 3)) (block_from k) ∷ Negate ∷ Absolute
     ∷ Add ∷ Subtract ∷ Multiply ∷ Divide ∷ Modulo ∷ Remainder ∷ CheckRange ∷ Equal
     ∷ NotEqual ∷ Less ∷ LessOrEqual ∷ Greater ∷ GreaterOrEqual ∷ And ∷ Or ∷ ExclusiveOr
     ∷ Not ∷ Jump a ∷ JumpIfZero a ∷ JumpIfNotZero a ∷ Call a ∷ ProtectedCall a ∷ EntryCall a ∷ Return
@@ -64,7 +65,14 @@ kind_from n object =
     else (if nat_eq n 2 then ProtectedFunction object else (if nat_eq n 3 then EntryBody object else (if nat_eq n 4 then TaskBody else Plain)))
 
 abbrev pub subprogram_from : RawSubprogram → Subprogram
-subprogram_from s = record { kind = kind_from s.kind s.object; end_ = s.end_; parameters = s.parameters; results = s.results; locals = s.locals; stack = s.stack }
+subprogram_from s = record {
+  kind = kind_from s.kind s.object;
+  end_ = s.end_;
+  parameters = s.parameters;
+  results = s.results;
+  locals = s.locals;
+  stack = s.stack;
+}
 
 -- a text, or none where it is too long for one
 abbrev pub text_from : List ℕ → List ℕ

@@ -247,7 +247,8 @@ may_use_object s _ = true
 -- at a jump back or to itself its own depth stands later, else its target's
 abbrev pub jump_faults : Sections → ℕ → ℕ → ℕ → ℕ → Option ℕ → ImageFaults
 jump_faults i code place byte depth None = []
-jump_faults i code place byte depth (Some a) = rule DEPTHS_DISAGREE (if nat_lt place a then after code (13 * a + 1) else after byte 1) (not (has_depth i a depth))
+jump_faults i code place byte depth (Some a) = rule DEPTHS_DISAGREE (if nat_lt place a then after code (13 * a + 1) else after byte 1)
+    (not (has_depth i a depth))
 
 abbrev pub effect_faults : Sections → ℕ → ℕ → ℕ → Instr → Subprogram → ImageFaults
 effect_faults i code place byte x s =

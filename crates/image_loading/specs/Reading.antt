@@ -66,7 +66,15 @@ read_object bytes = and_then (read_bytes 8 bytes) (λ row left. made (object_row
 
 abbrev pub subprogram_row : List ℕ → RawSubprogram
 subprogram_row row =
-    record { kind = byte_at row 0; object = half_at row 1; end_ = half_at row 3; parameters = half_at row 5; results = half_at row 7; locals = half_at row 9; stack = half_at row 11 }
+    record {
+      kind = byte_at row 0;
+      object = half_at row 1;
+      end_ = half_at row 3;
+      parameters = half_at row 5;
+      results = half_at row 7;
+      locals = half_at row 9;
+      stack = half_at row 11;
+    }
 
 unfoldable pub read_subprogram : ByteReading RawSubprogram
 read_subprogram bytes = made subprogram_row (read_bytes 13 bytes)
@@ -91,7 +99,16 @@ read_instruction bytes = made instruction_row (read_bytes 13 bytes)
 -- how many there are of each, behind magic and version
 abbrev pub counts_row : List ℕ → Counts
 counts_row row =
-    record { instructions = half_at row 6; subprograms = half_at row 8; objects = half_at row 10; tasks = half_at row 12; exceptions = half_at row 14; rows = half_at row 16; labels = half_at row 18; plain_words = half_at row 20 }
+    record {
+      instructions = half_at row 6;
+      subprograms = half_at row 8;
+      objects = half_at row 10;
+      tasks = half_at row 12;
+      exceptions = half_at row 14;
+      rows = half_at row 16;
+      labels = half_at row 18;
+      plain_words = half_at row 20;
+    }
 
 unfoldable pub read_counts : ByteReading Counts
 read_counts bytes = made counts_row (read_bytes 22 bytes)
@@ -107,7 +124,16 @@ read_raw c bytes =
     (λ subprograms b5. and_then (read_many read_task c.tasks b5)
     (λ tasks b6. and_then (read_many read_row c.rows b6)
     (λ rows b7. made
-    (λ instructions. record { exceptions = exceptions; labels = labels; plain_words = plain_words; objects = objects; subprograms = subprograms; tasks = tasks; rows = rows; instructions = instructions })
+    (λ instructions. record {
+      exceptions = exceptions;
+      labels = labels;
+      plain_words = plain_words;
+      objects = objects;
+      subprograms = subprograms;
+      tasks = tasks;
+      rows = rows;
+      instructions = instructions;
+    })
     (read_many read_instruction c.instructions b7))))))))
 
 unfoldable pub read_image : ByteReading Raw

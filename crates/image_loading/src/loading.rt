@@ -105,7 +105,8 @@ impl RawSections {
     }
 
     fn all_subprograms_fault(&self, parts: &Parts) -> Option<ImageFault>
-        ensures { result ≡ first_of (each (behind_row 13) (subprogram_faults parts.now (has_ends parts.now) (code_start self.now)) 0 (subprograms_start self.now) self.now.subprograms) }
+        ensures { result ≡ first_of (each (behind_row 13) (subprogram_faults parts.now (has_ends parts.now) (code_start self.now)) 0
+            (subprograms_start self.now) self.now.subprograms) }
     {
         subprograms_fault(
             parts,
@@ -135,7 +136,8 @@ impl RawSections {
     }
 
     fn all_rows_fault(&self, draft: &Draft) -> Option<ImageFault>
-        ensures { result ≡ first_of (each (behind_row 8) (row_faults draft.now (has_ends draft.now) (code_start self.now)) 0 (rows_start self.now) self.now.rows) }
+        ensures { result ≡ first_of (each (behind_row 8) (row_faults draft.now (has_ends draft.now) (code_start self.now)) 0 (rows_start self.now)
+            self.now.rows) }
     {
         rows_fault(
             draft,
@@ -153,7 +155,8 @@ impl RawSections {
     }
 
     fn all_places_fault(&self, draft: &Draft) -> Option<ImageFault>
-        ensures { result ≡ first_of (if has_ends draft.now then each (behind_row 13) (place_faults draft.now (code_start self.now)) 0 (code_start self.now) self.now.instructions else []) }
+        ensures { result ≡ first_of (if has_ends draft.now then each (behind_row 13) (place_faults draft.now (code_start self.now)) 0
+            (code_start self.now) self.now.instructions else []) }
     {
         let code = self.code_start();
         if draft.parts().has_ends() {

@@ -89,5 +89,14 @@ impl Model for RawSections {
 
     ghost Value = { Raw };
 
-    ghost view = { λ r. record { exceptions = r.exceptions.items; labels = r.labels.items; plain_words = r.plain_words.items; objects = r.objects.items; subprograms = r.subprograms.items; tasks = r.tasks.items; rows = r.rows.items; instructions = r.instructions.items } };
+    ghost view = { λ r. record {
+      exceptions = r.exceptions.items;
+      labels = r.labels.items;
+      plain_words = r.plain_words.items;
+      objects = r.objects.items;
+      subprograms = r.subprograms.items;
+      tasks = r.tasks.items;
+      rows = r.rows.items;
+      instructions = r.instructions.items;
+    } };
 }

@@ -93,7 +93,18 @@ after t Breaks k = effect t Breaks k
 after t e k = clock (dispatch (effect t e k))
 
 abbrev pub blank : Partition → Kernel
-blank p = record { partition = p; running = None; ready = λ h. []; sleepers = []; queued = λ o. None; actions = λ t. []; place = λ t. IsFinished; now = pos 0; lines = []; outcome = None }
+blank p = record {
+  partition = p;
+  running = None;
+  ready = λ h. [];
+  sleepers = [];
+  queued = λ o. None;
+  actions = λ t. [];
+  place = λ t. IsFinished;
+  now = pos 0;
+  lines = [];
+  outcome = None;
+}
 
 -- the first n tasks become ready, in order
 abbrev pub activated : ℕ → Kernel → Kernel

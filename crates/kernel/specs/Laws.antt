@@ -15,7 +15,8 @@ abbrev pub BeginsKept : Type 0
 BeginsKept = (barrier : ℕ → Bool) (p : Partition) → Fits p → Kept barrier (begin p)
 
 abbrev pub KeptByEvery : Type 0
-KeptByEvery = (before later : ℕ → Bool) (k : Kernel) (t : ℕ) (e : Effect) → k.running ≡ Some t → IsBarrierHeld before later k t → Passed later k t e → Kept before k → Kept later (after t e k)
+KeptByEvery = (before later : ℕ → Bool) (k : Kernel) (t : ℕ) (e : Effect) → k.running ≡ Some t → IsBarrierHeld before later k t → Passed later k t e
+    → Kept before k → Kept later (after t e k)
 
 abbrev pub FourHold : Type 0
 FourHold = (barrier : ℕ → Bool) (k : Kernel) → Kept barrier k → FourStatements barrier k
@@ -23,14 +24,16 @@ FourHold = (barrier : ℕ → Bool) (k : Kernel) → Kept barrier k → FourStat
 -- the kernels, with the barriers, that steps whose refusals were passed can lead to, whatever code takes them
 pub data Course (p : Partition) : (ℕ → Bool) → Kernel → Type 0 where
   Starts : (barrier : ℕ → Bool) → Course p barrier (begin p)
-  Goes : (before later : ℕ → Bool) (k : Kernel) (t : ℕ) (e : Effect) → Course p before k → k.running ≡ Some t → IsBarrierHeld before later k t → Passed later k t e → Course p later (after t e k)
+  Goes : (before later : ℕ → Bool) (k : Kernel) (t : ℕ) (e : Effect) → Course p before k → k.running ≡ Some t → IsBarrierHeld before later k t
+      → Passed later k t e → Course p later (after t e k)
 
 abbrev pub FourAlways : Type 0
 FourAlways = (p : Partition) (barrier : ℕ → Bool) (k : Kernel) → Fits p → Course p barrier k → FourStatements barrier k
 
 -- the list of the tasks inside an object has just those
 abbrev pub InsideLists : Type 0
-InsideLists = (k : Kernel) (o t : ℕ) → (StandsIn (inside k o) t → (t < k.partition.tasks) × IsInside k o t) × (t < k.partition.tasks → IsInside k o t → StandsIn (inside k o) t)
+InsideLists = (k : Kernel) (o t : ℕ) → (StandsIn (inside k o) t → (t < k.partition.tasks) × IsInside k o t)
+    × (t < k.partition.tasks → IsInside k o t → StandsIn (inside k o) t)
 
 -- Dispatching and the clock
 
@@ -72,7 +75,8 @@ abbrev pub QuietStays : Type 0
 QuietStays = (k : Kernel) (t : ℕ) → Calm k t → after t Quiet k ≡ k
 
 abbrev pub SaysOn : Type 0
-SaysOn = (k : Kernel) (t : ℕ) (label : List ℕ) (value : ℤ) → Calm k t → (after t (Says label value) k ≡ effect t (Says label value) k) × Calm (effect t (Says label value) k) t
+SaysOn = (k : Kernel) (t : ℕ) (label : List ℕ) (value : ℤ) → Calm k t → (after t (Says label value) k ≡ effect t (Says label value) k)
+    × Calm (effect t (Says label value) k) t
 
 abbrev pub OpensOn : Type 0
 OpensOn = (k : Kernel) (t o : ℕ) → Calm k t → (after t (Opens o) k ≡ effect t (Opens o) k) × Calm (effect t (Opens o) k) t
@@ -100,4 +104,5 @@ ReachesCallers = (barrier : ℕ → Bool) (k : Kernel) (t : ℕ) (e : Effect) �
 
 -- while a body is run for a queued caller, the caller waits for it and no other call is queued at its object: one service an action
 abbrev pub OneService : Type 0
-OneService = (barrier : ℕ → Bool) (k : Kernel) (t o u : ℕ) (outer : List Action) → k.actions t ≡ Serves o u ∷ outer → Kept barrier k → (k.place u ≡ IsServed o) × (k.queued o ≡ None)
+OneService = (barrier : ℕ → Bool) (k : Kernel) (t o u : ℕ) (outer : List Action) → k.actions t ≡ Serves o u ∷ outer → Kept barrier k
+    → (k.place u ≡ IsServed o) × (k.queued o ≡ None)

@@ -17,7 +17,8 @@ run_plus f zero j w = let e : zero + j ≡ j = omega arith in ap (λ n. run f n 
 run_plus f (suc i) j w = let e : suc i + j ≡ suc (i + j) = omega arith in ap (λ n. run f n w) e ∙ run_plus f i j (step f w)
 
 -- the step where a task runs
-pub step_running : {D : Type 0} (f : Local D) (k : Kernel) (t : ℕ) (d : D) → IsRunner k t → step f (record { kernel = k; rest = d }) ≡ record { kernel = after t (f k t d).effect k; rest = (f k t d).rest }
+pub step_running : {D : Type 0} (f : Local D) (k : Kernel) (t : ℕ) (d : D) → IsRunner k t
+    → step f (record { kernel = k; rest = d }) ≡ record { kernel = after t (f k t d).effect k; rest = (f k t d).rest }
 step_running f k t d runs = ap (λ o. step_of f k d o k.running) runs.on ∙ ap (λ r. step_of f k d None r) runs.running
 
 step_over : {D : Type 0} (f : Local D) (w : World D) (o : Outcome) → w.kernel.outcome ≡ Some o → step f w ≡ w
@@ -28,7 +29,8 @@ pub run_over : {D : Type 0} (f : Local D) (n : ℕ) (w : World D) (o : Outcome) 
 run_over f zero w o e = refl
 run_over f (suc n) w o e = ap (run f n) (step_over f w o e) ∙ run_over f n w o e
 
-step_lines : {D : Type 0} (f : Local D) → LinesGrow → (k : Kernel) (d : D) (o : Option Outcome) (r : Option ℕ) → (more : List Line) × ((step_of f k d o r).kernel.lines ≡ k.lines ++ more)
+step_lines : {D : Type 0} (f : Local D) → LinesGrow → (k : Kernel) (d : D) (o : Option Outcome) (r : Option ℕ) → (more : List Line)
+    × ((step_of f k d o r).kernel.lines ≡ k.lines ++ more)
 step_lines f grow k d (Some o) r = ([], sym (append-nil k.lines))
 step_lines f grow k d None None = ([], sym (append-nil k.lines))
 step_lines f grow k d None (Some t) = grow t (f k t d).effect k
@@ -49,8 +51,10 @@ pub record Behaves {D : Type 0} (f : Local D) (barrier : D → ℕ → Bool) (Ow
   pub passed : Passed (barrier (f k t d).rest) k t (f k t d).effect
   pub own : Own (record { kernel = after t (f k t d).effect k; rest = (f k t d).rest })
 
-module _ {D : Type 0} (f : Local D) (barrier : D → ℕ → Bool) (Own : World D → Type 0) (every : KeptByEvery) (behaves : (k : Kernel) (t : ℕ) (d : D) → Own (record { kernel = k; rest = d }) → Kept (barrier d) k → IsRunner k t → Behaves f barrier Own k t d) where
-  step_kept : (k : Kernel) (d : D) (o : Option Outcome) (r : Option ℕ) → k.outcome ≡ o → k.running ≡ r → Own (record { kernel = k; rest = d }) → Kept (barrier d) k → (let w = step_of f k d o r in Own w × Kept (barrier w.rest) w.kernel)
+module _ {D : Type 0} (f : Local D) (barrier : D → ℕ → Bool) (Own : World D → Type 0) (every : KeptByEvery) (behaves : (k : Kernel) (t : ℕ) (d : D)
+    → Own (record { kernel = k; rest = d }) → Kept (barrier d) k → IsRunner k t → Behaves f barrier Own k t d) where
+  step_kept : (k : Kernel) (d : D) (o : Option Outcome) (r : Option ℕ) → k.outcome ≡ o → k.running ≡ r → Own (record { kernel = k; rest = d })
+      → Kept (barrier d) k → (let w = step_of f k d o r in Own w × Kept (barrier w.rest) w.kernel)
   step_kept k d (Some o) r on running own kept = (own, kept)
   step_kept k d None None on running own kept = (own, kept)
   step_kept k d None (Some t) on running own kept =
@@ -77,18 +81,22 @@ back_self t d = λ i. record { memory = d.memory; tasks = λ u. put_self t d.tas
 
 module _ {M T G : Type 0} (b : Behaviour M T G) (t : ℕ) where
   -- a step that reaches no other task changes what the task itself holds
-  pub among_alone : (k : Kernel) (d : Tasks M T) → ending k t (b.act k t (solo_of t d)).effect ≡ Closes → (among b k t d).rest ≡ put_back t d (b.act k t (solo_of t d)).solo
+  pub among_alone : (k : Kernel) (d : Tasks M T) → ending k t (b.act k t (solo_of t d)).effect ≡ Closes
+      → (among b k t d).rest ≡ put_back t d (b.act k t (solo_of t d)).solo
   among_alone k d e =
       let a = b.act k t (solo_of t d) in
       ap (λ x. record { memory = a.solo.memory; tasks = reached b t x a.given (put_back t d a.solo).tasks }) e
 
-  pub unseen_trans : (i j : ℕ) (k : Kernel) (s : Solo M T) (l : Kernel) (r : Solo M T) (m : Kernel) (v : Solo M T) → Unseen b t i k s l r → Unseen b t j l r m v → Unseen b t (i + j) k s m v
-  unseen_trans zero j k s l r m v p q = let e : zero + j ≡ j = omega arith in subst (λ n. Unseen b t n k s m v) (sym e) (subst (λ x. Unseen b t j x s m v) (sym p.0) (subst (λ x. Unseen b t j l x m v) (sym p.1) q))
+  pub unseen_trans : (i j : ℕ) (k : Kernel) (s : Solo M T) (l : Kernel) (r : Solo M T) (m : Kernel) (v : Solo M T) → Unseen b t i k s l r
+      → Unseen b t j l r m v → Unseen b t (i + j) k s m v
+  unseen_trans zero j k s l r m v p q = let e : zero + j ≡ j = omega arith in subst
+      (λ n. Unseen b t n k s m v) (sym e) (subst (λ x. Unseen b t j x s m v) (sym p.0) (subst (λ x. Unseen b t j l x m v) (sym p.1) q))
   unseen_trans (suc i) j k s l r m v p q =
       let e : suc i + j ≡ suc (i + j) = omega arith in
       subst (λ n. Unseen b t n k s m v) (sym e) (p.0, unseen_trans i j (next_kernel b t k s) (next_solo b t k s) l r m v p.1 q)
 
-  unseen_from : (j : ℕ) (d : Tasks M T) (k : Kernel) (s : Solo M T) (l : Kernel) (r : Solo M T) → Unseen b t j k s l r → run (among b) j (record { kernel = k; rest = put_back t d s }) ≡ record { kernel = l; rest = put_back t d r }
+  unseen_from : (j : ℕ) (d : Tasks M T) (k : Kernel) (s : Solo M T) (l : Kernel) (r : Solo M T) → Unseen b t j k s l r
+      → run (among b) j (record { kernel = k; rest = put_back t d s }) ≡ record { kernel = l; rest = put_back t d r }
   unseen_from zero d k s l r p = λ i. record { kernel = p.0 i; rest = put_back t d (p.1 i) }
   unseen_from (suc j) d k s l r p =
       let e = put_back t d s in
@@ -102,7 +110,8 @@ module _ {M T G : Type 0} (b : Behaviour M T G) (t : ℕ) where
       ap (run (among b) j) one ∙ unseen_from j d (next_kernel b t k s) (next_solo b t k s) l r p.1
 
   -- unseen steps of a task are steps of the run
-  pub unseen_run : (j : ℕ) (d : Tasks M T) (k l : Kernel) (r : Solo M T) → Unseen b t j k (solo_of t d) l r → run (among b) j (record { kernel = k; rest = d }) ≡ record { kernel = l; rest = put_back t d r }
+  pub unseen_run : (j : ℕ) (d : Tasks M T) (k l : Kernel) (r : Solo M T) → Unseen b t j k (solo_of t d) l r
+      → run (among b) j (record { kernel = k; rest = d }) ≡ record { kernel = l; rest = put_back t d r }
   unseen_run j d k l r p = ap (λ x. run (among b) j (record { kernel = k; rest = x })) (sym (back_self t d)) ∙ unseen_from j d k (solo_of t d) l r p
 
   -- Counted steps
@@ -123,9 +132,11 @@ module _ {M T G : Type 0} (b : Behaviour M T G) (t : ℕ) where
     spends_more zero le (Calls alone here above low rest) = absurd (omega arith)
     spends_more (suc m) le (Calls alone here above low rest) = Calls alone here above low (spends_more m (omega arith) rest)
 
-    pub spends_trans : {d n : ℕ} {k l : Kernel} {s r : Solo M T} (m : ℕ) (o : Kernel) (v : Solo M T) → Spends b t frames limit d n k s l r → Spends b t frames limit d m l r o v → Spends b t frames limit d (n + m) k s o v
+    pub spends_trans : {d n : ℕ} {k l : Kernel} {s r : Solo M T} (m : ℕ) (o : Kernel) (v : Solo M T) → Spends b t frames limit d n k s l r
+        → Spends b t frames limit d m l r o v → Spends b t frames limit d (n + m) k s o v
     spends_trans {n = n} m o v Done q = spends_more (n + m) (omega arith) q
     spends_trans {d = d} {k = k} {s = s} m o v (Own {n = n} alone here rest) q =
         let e : suc (n + m) ≡ suc n + m = omega arith in subst (λ x. Spends b t frames limit d x k s o v) e (Own alone here (spends_trans m o v rest q))
     spends_trans {d = d} {k = k} {s = s} m o v (Calls {n = n} alone here above low rest) q =
-        let e : suc (n + m) ≡ suc n + m = omega arith in subst (λ x. Spends b t frames limit d x k s o v) e (Calls alone here above low (spends_trans m o v rest q))
+        let e : suc (n + m) ≡ suc n + m = omega arith in subst
+        (λ x. Spends b t frames limit d x k s o v) e (Calls alone here above low (spends_trans m o v rest q))

@@ -30,7 +30,8 @@ fn operation_body_fault(
     subprogram: &Subprogram,
     body: &Body,
 ) -> Result<Option<Fault>, AllocError>
-    ensures fault { IfOk result (λ f. f ≡ least (subprogram_body_faults (operation_sees scope.old components.now (subprogram_tree subprogram.now)) (subprogram_tree subprogram.now) (body_tree body.now))) }
+    ensures fault { IfOk result (λ f. f ≡ least (subprogram_body_faults (operation_sees scope.old components.now (subprogram_tree subprogram.now))
+        (subprogram_tree subprogram.now) (body_tree body.now))) }
     ensures scope { OnOk result (scope.new ≡ scope.old) }
 {
     names_are_added();
@@ -87,7 +88,8 @@ fn entry_body_fault(
     barrier: &Expr,
     body: &Body,
 ) -> Result<Option<Fault>, AllocError>
-    ensures fault { IfOk result (λ f. f ≡ least (entry_body_faults (components_scope scope.old false components.now) (entry_tree entry.now) (expr_tree barrier.now) (body_tree body.now))) }
+    ensures fault { IfOk result (λ f. f ≡ least (entry_body_faults (components_scope scope.old false components.now) (entry_tree entry.now)
+        (expr_tree barrier.now) (body_tree body.now))) }
     ensures scope { OnOk result (scope.new ≡ scope.old) }
 {
     names_are_added();
@@ -168,7 +170,8 @@ fn object_body_fault(
     components: &[RecordComponent],
     items: &[ProtectedBodyItem],
 ) -> Result<Option<Fault>, AllocError>
-    ensures fault { IfOk result (λ f. f ≡ least (protected_items_faults (object_body_scope scope.old number) components.now (map protected_item_tree items.now))) }
+    ensures fault { IfOk result (λ f. f ≡ least (protected_items_faults (object_body_scope scope.old number) components.now
+        (map protected_item_tree items.now))) }
     ensures scope { OnOk result (scope.new ≡ scope.old) }
 {
     names_are_added();

@@ -1,4 +1,5 @@
--- What is read at the front of a text, by its first characters. The code computes this, and it is proved to agree with Spelling: it defines nothing that a reader has to believe.
+-- What is read at the front of a text, by its first characters. The code computes this, and it is proved to agree with Spelling: it defines nothing that a
+-- reader has to believe.
 use Rattle.std.specs.Prelude.{ℕ, ◌+◌, ◌*◌, ◌-◌, pos, if◌then◌else◌, not, ◌&&◌, ◌==◌, nat_lt, nat_le, List, [], ◌∷◌, take, drop, find, bytes_eq, Option, Some, None, Result, Ok, Err}
 use Rattle.std.specs.List.{list_all, prefix_len}
 use Rattle.std.specs.Char.{is_ascii_alphabetic, is_ascii_digit}
@@ -112,7 +113,8 @@ compound_of c d =
     else (if c == 46 then (if d == 46 then Some (compounds.Delimiter delimiters.DoubleDot) else None)
     else (if c == 47 then (if d == 61 then Some (compounds.Delimiter delimiters.Inequality) else None)
     else (if c == 58 then (if d == 61 then Some (compounds.Delimiter delimiters.Assignment) else None)
-    else (if c == 60 then (if d == 60 then Some compounds.LeftOut else (if d == 61 then Some (compounds.Delimiter delimiters.LessOrEqual) else (if d == 62 then Some compounds.LeftOut else None)))
+    else (if c == 60 then (if d == 60 then Some compounds.LeftOut else
+    (if d == 61 then Some (compounds.Delimiter delimiters.LessOrEqual) else (if d == 62 then Some compounds.LeftOut else None)))
     else (if c == 61 then (if d == 62 then Some (compounds.Delimiter delimiters.Arrow) else None)
     else (if c == 62 then (if d == 61 then Some (compounds.Delimiter delimiters.GreaterOrEqual) else (if d == 62 then Some compounds.LeftOut else None))
     else None))))))

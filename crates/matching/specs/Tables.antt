@@ -168,6 +168,7 @@ SeesFront specified before keys table =
     × ((k : Key) (p : ProfileTree) → is_unlike (declared_at table k) p ≡ any_declared (declares_unlike k p) specified before)
 
 -- 18, at the body of an operation, where it is known whether it is a second one
-abbrev pub known_operation_rule : (specified : List ItemTree) → (before : List BodyItemTree) → (object : Identifier) → (is_second : Bool) → ProtectedItemTree → Faults
+abbrev pub known_operation_rule : (specified : List ItemTree) → (before : List BodyItemTree) → (object : Identifier) → (is_second : Bool)
+    → ProtectedItemTree → Faults
 known_operation_rule specified before object is_second i =
     rule UNMATCHED_BODY (operation_name i).place (is_second || any_declared (has_unlike_operation object i) specified before)

@@ -76,7 +76,8 @@ impl<'a> Profiles<'a> {
     }
 
     fn declare(&mut self, key: Key<'a>, profile: Profile<'a>) -> Result<(), AllocError>
-        ensures { OnOk result (Declares self.old.table.entries self.new.table.entries (λ k p. is_same_key key.entry k && not (are_alike (profile_tree profile.entry) p))) }
+        ensures { OnOk result (Declares self.old.table.entries self.new.table.entries
+            (λ k p. is_same_key key.entry k && not (are_alike (profile_tree profile.entry) p))) }
     {
         let declared = declared_again(self.declared(key), profile);
         self.table.insert(key, declared)?;
@@ -88,7 +89,8 @@ impl<'a> Profiles<'a> {
         object: &'a Identifier,
         operation: &'a Operation,
     ) -> Result<(), AllocError>
-        ensures { OnOk result (Declares self.old.table.entries self.new.table.entries (λ k p. declares_unlike_operation k p object.now (operation_tree operation.now))) }
+        ensures { OnOk result (Declares self.old.table.entries self.new.table.entries
+            (λ k p. declares_unlike_operation k p object.now (operation_tree operation.now))) }
     {
         match operation {
             Operation::Subprogram(subprogram) => {
@@ -107,7 +109,8 @@ impl<'a> Profiles<'a> {
         object: &'a Identifier,
         operations: &'a [Operation],
     ) -> Result<(), AllocError>
-        ensures { OnOk result (Declares self.old.table.entries self.new.table.entries (λ k p. list_any (declares_unlike_operation k p object.now) (map operation_tree operations.now))) }
+        ensures { OnOk result (Declares self.old.table.entries self.new.table.entries
+            (λ k p. list_any (declares_unlike_operation k p object.now) (map operation_tree operations.now))) }
     {
         for operation in operations {
             self.declare_operation(object, operation)?;

@@ -39,11 +39,13 @@ impl<'a> Model for Front<'a> {
 
     ghost view = { λ f. (f.specified.now, (f.items.now, f.count)) };
 
-    ghost invariant = { λ f. SeesFront (map item_tree f.specified.now) (map body_item_tree (take f.count f.items.now)) f.bodies.set.keys f.profiles.table.entries };
+    ghost invariant = { λ f. SeesFront (map item_tree f.specified.now) (map body_item_tree (take f.count f.items.now)) f.bodies.set.keys
+        f.profiles.table.entries };
 }
 
 fn declare_inner<'a>(profiles: &mut Profiles<'a>, item: &'a BodyItem) -> Result<(), AllocError>
-    ensures { OnOk result (Declares profiles.old.table.entries profiles.new.table.entries (λ k p. passes_declared (declares_unlike k p) (body_item_tree item.now))) }
+    ensures { OnOk result (Declares profiles.old.table.entries profiles.new.table.entries
+        (λ k p. passes_declared (declares_unlike k p) (body_item_tree item.now))) }
 {
     match item {
         BodyItem::Item(item) => profiles.declare_item(item),

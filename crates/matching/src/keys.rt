@@ -79,7 +79,8 @@ impl<'a> Key<'a> {
 
     /// The key of what this is the body of.
     pub(crate) fn of_operation_body(object: &'a Identifier, body: &'a ProtectedBodyItem) -> Key<'a>
-        ensures { IsKeyOf result (operation_kind (operation_is_entry (protected_item_tree body.now))) object.now.name (operation_name (protected_item_tree body.now)).name }
+        ensures { IsKeyOf result (operation_kind (operation_is_entry (protected_item_tree body.now))) object.now.name
+            (operation_name (protected_item_tree body.now)).name }
     {
         match body {
             ProtectedBodyItem::Subprogram(subprogram, _) => {

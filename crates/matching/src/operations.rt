@@ -43,7 +43,8 @@ fn operation_bodies_fault<'a>(
     object: &'a Identifier,
     bodies: &'a [ProtectedBodyItem],
 ) -> Result<Option<Fault>, AllocError>
-    ensures { IfOk result (λ f. f ≡ least (operation_bodies_faults (front_specified front.now) (front_before front.now) object.now [] (map protected_item_tree bodies.now))) }
+    ensures { IfOk result (λ f. f ≡ least (operation_bodies_faults (front_specified front.now) (front_before front.now) object.now []
+        (map protected_item_tree bodies.now))) }
 {
     least_by_parts();
     sooner_associates();
@@ -63,7 +64,8 @@ fn item_matching_fault<'a>(
     behind: usize,
     item: &'a BodyItem,
 ) -> Result<Option<Fault>, AllocError>
-    ensures { IfOk result (λ f. f ≡ least (item_matching (front_specified front.now) (front_before front.now) (map body_item_tree (drop behind bodies.now)) (body_item_tree item.now))) }
+    ensures { IfOk result (λ f. f ≡ least (item_matching (front_specified front.now) (front_before front.now)
+        (map body_item_tree (drop behind bodies.now)) (body_item_tree item.now))) }
 {
     least_by_parts();
     match item {

@@ -64,7 +64,8 @@ impl<'a> Places<'a> {
         bodies: &'a [ProtectedBodyItem],
         place: usize,
     ) -> Result<(), AllocError>
-        ensures { OnOk result (PutsPlace self.old.table.entries self.new.table.entries (λ k. list_any (has_operation_key k object.now) (map protected_item_tree bodies.now)) place) }
+        ensures { OnOk result (PutsPlace self.old.table.entries self.new.table.entries
+            (λ k. list_any (has_operation_key k object.now) (map protected_item_tree bodies.now)) place) }
     {
         for body in bodies {
             self.put(Key::of_operation_body(object, body), place)?;

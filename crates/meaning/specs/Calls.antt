@@ -42,7 +42,8 @@ abbrev pub callee_by : Program → (within : Option ℕ) → Identifier → Sele
 callee_by p within first NoSelectors = callee_with (procedure_here p within first.name) None NoArguments
 callee_by p within first (MoreSelectors (Arguments a) NoSelectors) = callee_with (procedure_here p within first.name) None a
 callee_by p within first (MoreSelectors (Component name) NoSelectors) = callee_through p (object_numbered p.scope first) name.name NoArguments
-callee_by p within first (MoreSelectors (Component name) (MoreSelectors (Arguments a) NoSelectors)) = callee_through p (object_numbered p.scope first) name.name a
+callee_by p within first (MoreSelectors (Component name) (MoreSelectors (Arguments a) NoSelectors)) = callee_through p
+    (object_numbered p.scope first) name.name a
 callee_by p within first other = None
 
 -- ---- actual parameters, from left to right (RM 6.4.1): what is copied in is checked before the next one is evaluated; of what is copied out the name is

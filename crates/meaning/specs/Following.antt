@@ -10,18 +10,23 @@ use Rattle.meaning.specs.Same.{Covers, ShowSame}
 -- What one run shows, its later worlds show too
 
 pub covers_same : (a b : Kernel) → a ≡ b → Covers a b
-covers_same a b e = record { begins = ([], ap (λ k. k.lines) (sym e) ∙ sym (append-nil a.lines)); ends = λ o h. record { outcome_is = ap (λ k. k.outcome) (sym e) ∙ h; now_is = ap (λ k. k.now) (sym e); lines_are = ap (λ k. k.lines) (sym e) } }
+covers_same a b e = record {
+  begins = ([], ap (λ k. k.lines) (sym e) ∙ sym (append-nil a.lines));
+  ends = λ o h. record { outcome_is = ap (λ k. k.outcome) (sym e) ∙ h; now_is = ap (λ k. k.now) (sym e); lines_are = ap (λ k. k.lines) (sym e) };
+}
 
 covers_plus : {D : Type 0} (f : Local D) → LinesGrow → (i n : ℕ) (w : World D) → Covers (run f i w).kernel (run f (i + n) w).kernel
 covers_plus f grow i n w =
     let there : run f n (run f i w) ≡ run f (i + n) w = sym (run_plus f i n w) in
     subst (λ v. Covers (run f i w).kernel v.kernel) there (record {
       begins = run_lines f grow n (run f i w);
-      ends = λ o h. let same = run_over f n (run f i w) o h in (covers_same (run f i w).kernel (run f n (run f i w)).kernel (ap (λ v. v.kernel) (sym same))).ends o h;
+      ends = λ o h. let same = run_over f n (run f i w) o h in
+          (covers_same (run f i w).kernel (run f n (run f i w)).kernel (ap (λ v. v.kernel) (sym same))).ends o h;
     })
 
 pub covers_later : {D : Type 0} (f : Local D) → LinesGrow → (i j : ℕ) (w : World D) → i ≤ j → Covers (run f i w).kernel (run f j w).kernel
-covers_later f grow i j w le = let e : i + (j - i) ≡ j = omega arith in subst (λ n. Covers (run f i w).kernel (run f n w).kernel) e (covers_plus f grow i (j - i) w)
+covers_later f grow i j w le = let e : i + (j - i) ≡ j = omega arith in subst
+    (λ n. Covers (run f i w).kernel (run f n w).kernel) e (covers_plus f grow i (j - i) w)
 
 -- How many steps of the one run those of the other take
 
@@ -68,14 +73,18 @@ module _ {D E : Type 0} (f : Local D) (g : Local E) (Related : World D → World
   pub last_step : (n : ℕ) (v : World D) → run f (suc n) v ≡ step f (run f n v)
   last_step n v = let e : suc n ≡ n + 1 = omega arith in ap (λ i. run f i v) e ∙ run_plus f n 1 v
 
-  module _ (same : (v : World D) (w : World E) → Related v w → v.kernel ≡ w.kernel) (follows : (v : World D) (w : World E) → Related v w → IsFollowed v w) (v : World D) (w : World E) (start : Related v w) where
+  module _ (same : (v : World D) (w : World E) → Related v w → v.kernel ≡ w.kernel) (follows : (v : World D) (w : World E) → Related v w → IsFollowed v w)
+      (v : World D) (w : World E) (start : Related v w) where
     abbrev pub chase : (n : ℕ) → (m : ℕ) × Related (run f n v) (run g m w)
     chase zero = (0, start)
     chase (suc n) =
         let x = chase n in
         let y = follows (run f n v) (run g x.0 w) x.1 in
-        let j = jump (run f n v) (run g x.0 w) y in
-        (x.0 + j, subst (λ u. Related u (run g (x.0 + j) w)) (sym (last_step n v)) (subst (λ u. Related (step f (run f n v)) u) (sym (run_plus g x.0 j w)) (jumped (run f n v) (run g x.0 w) y)))
+        let j = jump (run f n v) (run g x.0 w) y in (
+          x.0 + j,
+          subst (λ u. Related u (run g (x.0 + j) w)) (sym (last_step n v))
+              (subst (λ u. Related (step f (run f n v)) u) (sym (run_plus g x.0 j w)) (jumped (run f n v) (run g x.0 w) y)),
+        )
 
     -- how many steps of g the first n steps of f take
     abbrev pub steps_for : ℕ → ℕ

@@ -14,11 +14,13 @@ use Rattle.meaning.specs.SameMeaning.{SameNames, SameMeaning, KeepsCount}
 
 -- a world with an outcome does not change
 abbrev pub SourceStays : Type 0
-SourceStays = (p : ProgramTree) (schedule : List ScheduleLine) (n j : ℕ) (o : Outcome) → (source p schedule n).kernel.outcome ≡ Some o → source p schedule (n + j) ≡ source p schedule n
+SourceStays = (p : ProgramTree) (schedule : List ScheduleLine) (n j : ℕ) (o : Outcome) → (source p schedule n).kernel.outcome ≡ Some o
+    → source p schedule (n + j) ≡ source p schedule n
 
 -- the lines of a world begin those of each later one
 abbrev pub SourceLinesGrow : Type 0
-SourceLinesGrow = (p : ProgramTree) (schedule : List ScheduleLine) (n j : ℕ) → (more : List Line) × ((source p schedule (n + j)).kernel.lines ≡ (source p schedule n).kernel.lines ++ more)
+SourceLinesGrow = (p : ProgramTree) (schedule : List ScheduleLine) (n j : ℕ) → (more : List Line)
+    × ((source p schedule (n + j)).kernel.lines ≡ (source p schedule n).kernel.lines ++ more)
 
 -- an image fault is no outcome of a source run
 abbrev pub SourceNeverFaults : Type 0
@@ -27,7 +29,8 @@ SourceNeverFaults = (p : ProgramTree) (schedule : List ScheduleLine) (n : ℕ) �
 -- so it is none of an image with the meaning of a program
 abbrev pub MeaningNeverFaults : Type 0
 MeaningNeverFaults =
-    (p : ProgramTree) (i : Sections) → SameMeaning p i → (schedule : List ScheduleLine) → is_schedule schedule ≡ true → (m : ℕ) → (code i schedule m).kernel.outcome ≢ Some ImageFault
+    (p : ProgramTree) (i : Sections) → SameMeaning p i → (schedule : List ScheduleLine) → is_schedule schedule ≡ true → (m : ℕ)
+    → (code i schedule m).kernel.outcome ≢ Some ImageFault
 
 -- a count of steps gives both directions
 abbrev pub CountGivesMeaning : Type 0
@@ -37,7 +40,8 @@ CountGivesMeaning = (p : ProgramTree) (i : Sections) (limit : TaskState → ℕ)
 pub record WriteSame (p : ProgramTree) (i : Sections) (schedule : List ScheduleLine) : Type 0 where
   pub forth : (n : ℕ) (o : Outcome) → (source p schedule n).kernel.outcome ≡ Some o → (m : ℕ) × (code_text i schedule m ≡ source_text p schedule n)
   pub back : (m : ℕ) (o : Outcome) → (code i schedule m).kernel.outcome ≡ Some o → (n : ℕ) × (code_text i schedule m ≡ source_text p schedule n)
-  pub cut : (m : ℕ) → (n : ℕ) × (more : List ℕ) × (lines_text (source_names p) (source p schedule n).kernel.lines ≡ lines_text (names_of i) (code i schedule m).kernel.lines ++ more)
+  pub cut : (m : ℕ) → (n : ℕ) × (more : List ℕ) × (lines_text (source_names p) (source p schedule n).kernel.lines ≡ lines_text (names_of i)
+      (code i schedule m).kernel.lines ++ more)
 
 abbrev pub MeaningIsWritten : Type 0
 MeaningIsWritten = (p : ProgramTree) (i : Sections) → SameMeaning p i → (schedule : List ScheduleLine) → is_schedule schedule ≡ true → WriteSame p i schedule

@@ -18,8 +18,11 @@ module _ {N T H : Type 0} (g : Behaviour N T H) (t : ℕ) (frames limit : T → 
   pub spent_unseen : {d n : ℕ} {k l : Kernel} {s r : Solo N T} (x : Spends g t frames limit d n k s l r) → Unseen g t (spent g t frames limit x) k s l r
   spent_unseen Done = (refl, refl)
   spent_unseen (Own alone here rest) = (alone, spent_unseen rest)
-  spent_unseen {k = k} {s = s} (Calls {l = l} {o = o} {r = r} {v = v} alone here above low rest) =
-      (alone, unseen_trans g t (spent g t frames limit above) (spent g t frames limit rest) (next_kernel g t k s) (next_solo g t k s) l r o v (spent_unseen above) (spent_unseen rest))
+  spent_unseen {k = k} {s = s} (Calls {l = l} {o = o} {r = r} {v = v} alone here above low rest) = (
+    alone,
+    unseen_trans g t (spent g t frames limit above) (spent g t frames limit rest) (next_kernel g t k s) (next_solo g t k s) l r o v
+        (spent_unseen above) (spent_unseen rest),
+  )
 
   -- all but the last one are unseen
   pub taken_unseen :
@@ -35,17 +38,28 @@ module _ {N T H : Type 0} (g : Behaviour N T H) (t : ℕ) (frames limit : T → 
 
   -- a step from a state that was put back
   abbrev did_back : Kernel → Tasks N T → Solo N T → Did (Tasks N T)
-  did_back k d s = let a = g.act k t s in record { effect = a.effect; rest = record { memory = a.solo.memory; tasks = reached g t (ending k t a.effect) a.given (put t a.solo.task d.tasks) } }
+  did_back k d s = let a = g.act k t s in record {
+    effect = a.effect;
+    rest = record { memory = a.solo.memory; tasks = reached g t (ending k t a.effect) a.given (put t a.solo.task d.tasks) };
+  }
 
   among_back : (k : Kernel) (d : Tasks N T) (s : Solo N T) → among g k t (put_back t d s) ≡ did_back k d s
   among_back k d s =
-      ap (λ x. let a = g.act k t x in record { effect = a.effect; rest = record { memory = a.solo.memory; tasks = reached g t (ending k t a.effect) a.given (put_back t (put_back t d s) a.solo).tasks } }) (solo_back t d s)
-      ∙ (let a = g.act k t s in ap (λ x. record { effect = a.effect; rest = record { memory = a.solo.memory; tasks = reached g t (ending k t a.effect) a.given x.tasks } }) (back_back t d s a.solo))
+      ap (λ x. let a = g.act k t x in record {
+        effect = a.effect;
+        rest = record { memory = a.solo.memory; tasks = reached g t (ending k t a.effect) a.given (put_back t (put_back t d s) a.solo).tasks };
+      })
+      (solo_back t d s)
+      ∙ (let a = g.act k t s in ap (λ x. record {
+        effect = a.effect;
+        rest = record { memory = a.solo.memory; tasks = reached g t (ending k t a.effect) a.given x.tasks };
+      }) (back_back t d s a.solo))
 
   abbrev world_back : Kernel → Tasks N T → Solo N T → World (Tasks N T)
   world_back k d s = record { kernel = after t (did_back k d s).effect k; rest = (did_back k d s).rest }
 
-  pub taken_run : (j : ℕ) (k : Kernel) (d : Tasks N T) (s : Solo N T) → IsRunner k t → Unseen g t j k (solo_of t d) k s → run (among g) (suc j) (record { kernel = k; rest = d }) ≡ world_back k d s
+  pub taken_run : (j : ℕ) (k : Kernel) (d : Tasks N T) (s : Solo N T) → IsRunner k t → Unseen g t j k (solo_of t d) k s
+      → run (among g) (suc j) (record { kernel = k; rest = d }) ≡ world_back k d s
   taken_run j k d s runs unseen =
       let one : suc j ≡ j + 1 = omega arith in
       ap (λ n. run (among g) n (record { kernel = k; rest = d })) one
@@ -168,7 +182,8 @@ module _ {Note M S G N T H : Type 0} (f : Behaviour M S G) (g : Behaviour N T H)
             (put_at (rel.stands r.note k u) t u s.task (d.tasks t) c.tasks d.tasks (λ same. subst (λ n. rel.stands r.note k n s.task (d.tasks t)) (sym same) st)
             (λ ne. r.stands u)) in
             let ones = subst Ones there (meets.kept_ones one r.ones) in
-            let lighter = subst (λ o. weight_of o (put_back t c s) < weight_of o c) (sym runs.running) (subst (λ x. rel.size x < rel.size (c.tasks t)) (sym (put_same t t s.task c.tasks refl)) less) in
+            let lighter = subst (λ o. weight_of o (put_back t c s) < weight_of o c) (sym runs.running)
+            (subst (λ x. rel.size x < rel.size (c.tasks t)) (sym (put_same t t s.task c.tasks refl)) less) in
             Waits
             (subst (λ v. Rel v other) (sym there)
             (record { same = refl; ones = ones; others = r.others; shared = sh; note = r.note; stands = stand }))
@@ -215,7 +230,8 @@ module _ {Note M S G N T H : Type 0} (f : Behaviour M S G) (g : Behaviour N T H)
             (record { same = refl; ones = ones; others = others; shared = sh; note = r.note; stands = stand })))
 
       next_at : (o : Option Outcome) (u : Option ℕ) → k.outcome ≡ o → k.running ≡ u → Rel one other → Next one other
-      next_at (Some o) u e h r = idle r (λ t runs. cc (e, runs.on)) (ap (λ x. step_of (among f) k c x k.running) e) (ap (λ x. step_of (among g) k d x k.running) e)
+      next_at (Some o) u e h r = idle r (λ t runs. cc (e, runs.on)) (ap (λ x. step_of (among f) k c x k.running) e)
+          (ap (λ x. step_of (among g) k d x k.running) e)
       next_at None None e h r =
           idle r (λ t runs. cc (h, runs.running)) (ap (λ x. step_of (among f) k c x k.running) e ∙ ap (λ x. step_of (among f) k c None x) h)
           (ap (λ x. step_of (among g) k d x k.running) e ∙ ap (λ x. step_of (among g) k d None x) h)
@@ -224,7 +240,8 @@ module _ {Note M S G N T H : Type 0} (f : Behaviour M S G) (g : Behaviour N T H)
           met_next t runs r (meets.met r.note k t c d (reached_by runs r))
 
     pub next : (v : World (Tasks M S)) (w : World (Tasks N T)) → Rel v w → Next v w
-    next v w r = subst (λ k. (r : Rel v (record { kernel = k; rest = w.rest })) → Next v (record { kernel = k; rest = w.rest })) r.same (λ s. next_at v.kernel v.rest w.rest v.kernel.outcome v.kernel.running refl refl s) r
+    next v w r = subst (λ k. (r : Rel v (record { kernel = k; rest = w.rest }))
+        → Next v (record { kernel = k; rest = w.rest })) r.same (λ s. next_at v.kernel v.rest w.rest v.kernel.outcome v.kernel.running refl refl s) r
 
     -- from related worlds on the kernels are equal after n steps of f and `steps_of_other n` of g, counted as `Counted` says
     module _ (v : World (Tasks M S)) (w : World (Tasks N T)) (start : Rel v w) where

@@ -1,4 +1,5 @@
--- What it is that each step of a task on one side is met by steps of the task on the other, counted for each frame; and what is owed where a step reaches other tasks.
+-- What it is that each step of a task on one side is met by steps of the task on the other, counted for each frame; and what is owed where a step reaches other
+-- tasks.
 use Rattle.std.specs.Prelude.{◌≡◌, ◌≢◌, ℕ, suc, ◌+◌, ◌<◌, ◌≤◌, Option, Some, None}
 use Rattle.kernel.specs.State.{Kernel, put}
 use Rattle.kernel.specs.Effects.{Effect, Quiet, Ending, Closes, TakesOver, HandsBack, after}

@@ -42,13 +42,16 @@ module _ {N T H : Type 0} (g : Behaviour N T H) (t : ℕ) (frames limit : T → 
     same_kernel = ap (λ y. after t y k) e ∙ quiet k t calm
 
     -- a quiet step of the frame, and what comes then
-    pub quiet_spends : {d n : ℕ} {l : Kernel} {r : Solo N T} → frames s.task ≡ d → Spends g t frames limit d n k x l r → Spends g t frames limit d (suc n) k s l r
+    pub quiet_spends : {d n : ℕ} {l : Kernel} {r : Solo N T} → frames s.task ≡ d → Spends g t frames limit d n k x l r
+        → Spends g t frames limit d (suc n) k s l r
     quiet_spends {d = d} {n = n} {l = l} {r = r} here rest =
-        Own (quiet_alone k s calm.runs e) here (subst (λ y. Spends g t frames limit d n y (next_solo g t k s) l r) (sym same_kernel) (subst (λ y. Spends g t frames limit d n k y l r) (sym there) rest))
+        Own (quiet_alone k s calm.runs e) here (subst (λ y. Spends g t frames limit d n y (next_solo g t k s) l r) (sym same_kernel)
+        (subst (λ y. Spends g t frames limit d n k y l r) (sym there) rest))
 
     pub quiet_takes : {d n : ℕ} {l : Kernel} {r : Solo N T} → frames s.task ≡ d → Takes g t frames limit d n k x l r → Takes g t frames limit d (suc n) k s l r
     quiet_takes {d = d} {n = n} {l = l} {r = r} here rest =
-        OwnStep (quiet_alone k s calm.runs e) here (subst (λ y. Takes g t frames limit d n y (next_solo g t k s) l r) (sym same_kernel) (subst (λ y. Takes g t frames limit d n k y l r) (sym there) rest))
+        OwnStep (quiet_alone k s calm.runs e) here (subst (λ y. Takes g t frames limit d n y (next_solo g t k s) l r) (sym same_kernel)
+        (subst (λ y. Takes g t frames limit d n k y l r) (sym there) rest))
 
     -- a call that comes to its end, and what comes then
     pub call_spends :
@@ -59,7 +62,8 @@ module _ {N T H : Type 0} (g : Behaviour N T H) (t : ℕ) (frames limit : T → 
         → Spends g t frames limit d n o v l r
         → Spends g t frames limit d (suc n) k s l r
     call_spends {d = d} {m = m} {o = o} {v = v} here above low rest =
-        Calls (quiet_alone k s calm.runs e) here (subst (λ y. Spends g t frames limit (suc d) m y (next_solo g t k s) o v) (sym same_kernel) (subst (λ y. Spends g t frames limit (suc d) m k y o v) (sym there) above)) (subst (λ y. m ≤ limit y.task) (sym there) low) rest
+        Calls (quiet_alone k s calm.runs e) here (subst (λ y. Spends g t frames limit (suc d) m y (next_solo g t k s) o v) (sym same_kernel)
+        (subst (λ y. Spends g t frames limit (suc d) m k y o v) (sym there) above)) (subst (λ y. m ≤ limit y.task) (sym there) low) rest
 
     -- a call within which the last step is taken
     pub call_takes :
@@ -69,7 +73,8 @@ module _ {N T H : Type 0} (g : Behaviour N T H) (t : ℕ) (frames limit : T → 
         → m ≤ limit x.task
         → Takes g t frames limit d (suc n) k s l r
     call_takes {d = d} {m = m} {l = l} {r = r} here above low =
-        Within (quiet_alone k s calm.runs e) here (subst (λ y. Takes g t frames limit (suc d) m y (next_solo g t k s) l r) (sym same_kernel) (subst (λ y. Takes g t frames limit (suc d) m k y l r) (sym there) above)) (subst (λ y. m ≤ limit y.task) (sym there) low)
+        Within (quiet_alone k s calm.runs e) here (subst (λ y. Takes g t frames limit (suc d) m y (next_solo g t k s) l r) (sym same_kernel)
+        (subst (λ y. Takes g t frames limit (suc d) m k y l r) (sym there) above)) (subst (λ y. m ≤ limit y.task) (sym there) low)
 
 -- met steps, where what the two sides do is known by equations
 module _ {Note M S G N T H : Type 0} (f : Behaviour M S G) (g : Behaviour N T H) (rel : Relation Note M S G N T H) (frames limit : T → ℕ) (note : Note)

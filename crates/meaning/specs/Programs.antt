@@ -137,7 +137,13 @@ returned (MoreStmts (Return place value) NoStmts) = value
 returned statements = None
 
 abbrev pub function_with : Scope → Option ℕ → SubprogramTree → Identifier → Option ExprTree → List Function
-function_with s object d result (Some e) = record { object = object; name = d.name.name; formals = map (formal s) d.formals; result = subtype_named s result; value = e } ∷ []
+function_with s object d result (Some e) = record {
+  object = object;
+  name = d.name.name;
+  formals = map (formal s) d.formals;
+  result = subtype_named s result;
+  value = e;
+} ∷ []
 function_with s object d result None = []
 
 abbrev pub function_of : Scope → Option ℕ → SubprogramTree → BodyTree → List Function
@@ -145,7 +151,16 @@ function_of s object d b = elim d.result [ Some result ↦ function_with s objec
 
 abbrev pub procedure_of : Scope → Option ℕ → SubprogramTree → BodyTree → List Procedure
 procedure_of s object d b =
-    elim d.result [ Some result ↦ [] | None ↦ record { object = object; name = d.name.name; parameters = map (parameter s) d.formals; barrier = None; body = b } ∷ [] ]
+    elim d.result [
+      | Some result ↦ []
+      | None ↦ record {
+        object = object;
+        name = d.name.name;
+        parameters = map (parameter s) d.formals;
+        barrier = None;
+        body = b;
+      } ∷ []
+    ]
 
 -- the number of the protected object of this name
 abbrev pub object_numbered : Scope → Identifier → Option ℕ
@@ -160,7 +175,13 @@ abbrev pub operation_procedures : Scope → Option ℕ → List ProtectedItemTre
 operation_procedures s object [] = []
 operation_procedures s object (OperationBody d b ∷ rest) = procedure_of s object d b ++ operation_procedures s object rest
 operation_procedures s object (EntryBody d barrier b ∷ rest) =
-    record { object = object; name = d.name.name; parameters = map (parameter s) d.formals; barrier = Some barrier; body = b } ∷ operation_procedures s object rest
+    record {
+      object = object;
+      name = d.name.name;
+      parameters = map (parameter s) d.formals;
+      barrier = Some barrier;
+      body = b;
+    } ∷ operation_procedures s object rest
 
 abbrev pub functions_among : Scope → List BodyItemTree → List Function
 functions_among s [] = []

@@ -35,4 +35,5 @@ abbrev pub KeepsCount : ProgramTree → Sections → (TaskState → ℕ) → Typ
 KeepsCount p i limit =
     (schedule : List ScheduleLine)
     → is_schedule schedule ≡ true
-    → (at : ℕ → ℕ) × Paced (among (source_behaviour p schedule)) (among (behaviour i schedule)) (Counted (behaviour i schedule) frames_of limit) (source_start p) (start i) at
+    → (at : ℕ → ℕ) × Paced (among (source_behaviour p schedule)) (among (behaviour i schedule)) (Counted (behaviour i schedule) frames_of limit)
+    (source_start p) (start i) at

@@ -26,7 +26,13 @@ abbrev pub SourceWorld : Type 0
 SourceWorld = World (Tasks Store TaskWork)
 
 abbrev pub start_of : Program → SourceWorld
-start_of p = record { kernel = begin (program_partition p); rest = record { memory = record { variables = p.variables; components = p.components }; tasks = initial_work p } }
+start_of p = record {
+  kernel = begin (program_partition p);
+  rest = record {
+    memory = record { variables = p.variables; components = p.components };
+    tasks = initial_work p;
+  };
+}
 
 -- the world after n steps
 abbrev pub run_of : Program → List ScheduleLine → ℕ → SourceWorld

@@ -182,15 +182,33 @@ module _ (h : Here) where
   -- the running activation with this object in front
   abbrev pub with_object : Object → List Item → SourceStepped
   with_object x items =
-      record { effect = Quiet; solo = record { memory = h.memory; task = record { work = Goes items; own = record h.own { locals = x ∷ h.own.locals }; callers = h.callers } }; given = None }
+      record {
+        effect = Quiet;
+        solo = record {
+          memory = h.memory;
+          task = record { work = Goes items; own = record h.own { locals = x ∷ h.own.locals }; callers = h.callers };
+        };
+        given = None;
+      }
 
   -- a value is stored, and the task goes on with this work
   abbrev pub stores : Target → Value → Work → SourceStepped
-  stores x v w = record { effect = Quiet; solo = record { memory = store_with x v h.memory; task = record { work = w; own = activation_with x v h.own; callers = h.callers } }; given = None }
+  stores x v w = record {
+    effect = Quiet;
+    solo = record {
+      memory = store_with x v h.memory;
+      task = record { work = w; own = activation_with x v h.own; callers = h.callers };
+    };
+    given = None;
+  }
 
   -- a body begins
   abbrev pub enters : Effect → Activation → List Item → SourceStepped
-  enters e a items = record { effect = e; solo = record { memory = h.memory; task = record { work = Goes items; own = a; callers = h.own ∷ h.callers } }; given = None }
+  enters e a items = record {
+    effect = e;
+    solo = record { memory = h.memory; task = record { work = Goes items; own = a; callers = h.own ∷ h.callers } };
+    given = None;
+  }
 
   -- the running activation is gone, and the task goes on with this work
   abbrev pub leaves : Effect → List Activation → Work → Option GivenToCaller → SourceStepped
@@ -210,7 +228,11 @@ module _ (h : Here) where
 
   abbrev pub declare : DeclarationTree → List Item → SourceStepped
   declare (LocalObject d) items =
-      with_value (declared_value items d d.value) items (λ v. with_object (record { name = d.name.name; subtype = subtype_named h.program.scope d.subtype; value = v }) items)
+      with_value (declared_value items d d.value) items (λ v. with_object (record {
+        name = d.name.name;
+        subtype = subtype_named h.program.scope d.subtype;
+        value = v;
+      }) items)
   declare d items = means_nothing items
 
   abbrev pub declare_parameter : Parameter → List Item → SourceStepped
@@ -236,7 +258,8 @@ module _ (h : Here) where
   -- a turn of a loop over a range; the parameter is a constant, of which only the value matters in a run
   abbrev pub for_turn : List ℕ → Bool → (now last : ℤ) → StmtTrees → List Item → SourceStepped
   for_turn parameter reversed now last body items =
-      with_object (record { name = parameter; subtype = integer; value = values.Number now }) (before body (RepeatsFor parameter reversed now last body ∷ items))
+      with_object (record { name = parameter; subtype = integer; value = values.Number now })
+      (before body (RepeatsFor parameter reversed now last body ∷ items))
 
   abbrev pub for_range : Identifier → Bool → StmtTrees → List Item → Value → Value → SourceStepped
   for_range parameter reversed body items (values.Number a) (values.Number b) =
@@ -278,7 +301,8 @@ module _ (h : Here) where
   unless_refused (Some r) items go = raises_predefined ProgramError items
 
   abbrev pub external_call : ℕ → Procedure → Actuals → List Item → SourceStepped
-  external_call o q a items = unless_refused (call_refusal h.kernel h.task o) items (if_frame_left (frames_left items) items (run_body (Opens o) (Some o) q a items))
+  external_call o q a items = unless_refused (call_refusal h.kernel h.task o) items
+      (if_frame_left (frames_left items) items (run_body (Opens o) (Some o) q a items))
 
   -- with a closed barrier the call waits, where none does
   abbrev pub queue_call : ℕ → Procedure → Actuals → List Item → SourceStepped
@@ -299,7 +323,8 @@ module _ (h : Here) where
   -- inside an action nothing of an entry call is evaluated (H.5)
   abbrev pub entry_call_of : Callee → Option ℕ → List Item → SourceStepped
   entry_call_of c None items = means_nothing items
-  entry_call_of c (Some o) items = if is_inside_any h.kernel h.task then raises_predefined ProgramError items else with_actuals_of c items (λ a. entry_call o c.procedure a items)
+  entry_call_of c (Some o) items = if is_inside_any h.kernel h.task then raises_predefined ProgramError items else with_actuals_of c items
+      (λ a. entry_call o c.procedure a items)
 
   abbrev pub call_of : Callee → Option ExprTree → List Item → SourceStepped
   call_of c (Some barrier) items = entry_call_of c c.procedure.object items
@@ -427,7 +452,11 @@ items_of (Raising x items) = items
 
 abbrev pub serves : ℕ → Work → TaskWork → TaskWork
 serves o (Goes (Queued q vs xs ∷ items)) t =
-    record { work = Goes (body_items q (EndsServed o (results q.parameters) (completion_of t.work)) (items_of t.work)); own = activation_of q vs; callers = t.own ∷ t.callers }
+    record {
+      work = Goes (body_items q (EndsServed o (results q.parameters) (completion_of t.work)) (items_of t.work));
+      own = activation_of q vs;
+      callers = t.own ∷ t.callers;
+    }
 serves o w t = t
 
 -- the task t runs the entry's body for the caller u, with the caller's parameters, before it does what it has still to do

@@ -28,7 +28,8 @@ own_component p None name = None
 
 -- the object of this name: local, of the running body's protected object, or of the package
 abbrev pub object_named : Place → List ℕ → Option Target
-object_named p name = first_of (whole InActivation (object_of p.locals name)) (first_of (own_component p p.within name) (whole InPackage (object_of p.variables name)))
+object_named p name = first_of (whole InActivation (object_of p.locals name))
+    (first_of (own_component p p.within name) (whole InPackage (object_of p.variables name)))
 
 abbrev pub part_of : Target → Part → Option Subtype → Val Target
 part_of x part (Some t) = Gives (record x { parts = x.parts ++ part ∷ []; subtype = t })
@@ -77,7 +78,8 @@ changed_element (suc n) change (MoreValues v rest) = MoreValues v (changed_eleme
 
 abbrev pub changed_field : List ℕ → (Value → Value) → Fields → Fields
 changed_field name change NoFields = NoFields
-changed_field name change (MoreFields own v rest) = if bytes_eq own name then MoreFields own (change v) rest else MoreFields own v (changed_field name change rest)
+changed_field name change (MoreFields own v rest) = if bytes_eq own name then MoreFields own (change v) rest else MoreFields own v
+    (changed_field name change rest)
 
 abbrev pub changed_part : Part → (Value → Value) → Value → Value
 changed_part (Element n) change (Array vs) = Array (changed_element n change vs)

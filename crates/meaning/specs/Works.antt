@@ -62,7 +62,8 @@ pub data Item : Type 0 where
   -- a queued entry call with the values of its parameters, and where its results are copied to (RM 9.5.3)
   Queued : Procedure → (parameters : List values.Value) → (targets : List Target) → Item
 
--- A task goes on with its items; or results of a call are still to be copied back, and then it goes on (RM 6.4.1); or an exception is raised and looks for a handler (RM 11.4).
+-- A task goes on with its items; or results of a call are still to be copied back, and then it goes on (RM 6.4.1); or an exception is raised and looks for a
+-- handler (RM 11.4).
 pub data Work : Type 0 where
   Goes : List Item → Work
   Copies : List values.Value → List Target → List Item → Work

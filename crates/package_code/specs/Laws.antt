@@ -69,8 +69,8 @@ abbrev pub VariablesArePlaced : Type 0
 VariablesArePlaced = (t : ProgramTree) → IsLegal t → IsRestricted t → refuses_items (program_of t).scope [] (package_items t.package_) ≡ true
     → (program_needs t).outside ≡ true
 
--- a program has no more labels, subprograms and tasks, main's among them, exceptions and protected objects, and its variables and components no more words, than
--- an image
+-- a program has no more labels, subprograms and tasks, main's among them, exceptions and protected objects, and its variables and components no more words,
+-- than an image
 pub record HasFew (t : ProgramTree) : Type 0 where
   pub labels : length (program_labels t) ≤ LABELS
   pub words : program_words t ≤ WORDS

@@ -12,11 +12,13 @@ use Rattle.package_code.specs.Linked.{IsLinkedProgram}
 
 -- a well-formed image that has the code of an accepted program has its meaning
 abbrev pub LinkedMeansTheSame : Type 0
-LinkedMeansTheSame = (p : ProgramTree) (i : Sections) (g : Package) (numbers : Numbers) → IsWellFormed i → IsLegal p → IsRestricted p → IsLinkedProgram p i g numbers
+LinkedMeansTheSame = (p : ProgramTree) (i : Sections) (g : Package) (numbers : Numbers) → IsWellFormed i → IsLegal p → IsRestricted p
+    → IsLinkedProgram p i g numbers
     → SameMeaning p i
 
 -- and it keeps the count: for one step of the program, or one call within it, each frame takes at most twice as many steps as its subprogram has instructions,
 -- and one
 abbrev pub LinkedKeepsCount : Type 0
-LinkedKeepsCount = (p : ProgramTree) (i : Sections) (g : Package) (numbers : Numbers) → IsWellFormed i → IsLegal p → IsRestricted p → IsLinkedProgram p i g numbers
+LinkedKeepsCount = (p : ProgramTree) (i : Sections) (g : Package) (numbers : Numbers) → IsWellFormed i → IsLegal p → IsRestricted p
+    → IsLinkedProgram p i g numbers
     → KeepsCount p i (most_steps i)

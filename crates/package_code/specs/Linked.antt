@@ -18,8 +18,8 @@ use Rattle.step_simulation.specs.Standing.{Around, Follows, Note}
 use Rattle.step_simulation.specs.part_code.specs.Resting.{RestsWith, StandsFor}
 use Rattle.step_simulation.specs.part_code.specs.Statements.{Numbers}
 
--- The row of the image's table is that of the task: it has its name and its base priority, and the code of its subprogram begins with the work that the task has
--- to do, with no frame below, where a frame whose words are all 0 stands for what is visible.
+-- The row of the image's table is that of the task: it has its name and its base priority, and the code of its subprogram begins with the work that the task
+-- has to do, with no frame below, where a frame whose words are all 0 stands for what is visible.
 pub record IsLinkedTask (program : Program) (i : Sections) (g : Package) (numbers : Numbers) (task : Task) (row : rows.Task) : Type 0 where
   pub name : row.name ≡ task.name
   pub priority : row.priority ≡ task.priority

@@ -1,4 +1,5 @@
--- What it is that a package of code is that of a program: where its variables stand, and what is visible in front of bodies and behind the parameters of a call.
+-- What it is that a package of code is that of a program: where its variables stand, and what is visible in front of bodies and behind the parameters of a
+-- call.
 use Rattle.std.specs.Prelude.{◌≡◌, ℕ, ◌+◌, ℤ, List, [], ◌∷◌, ◌++◌, bytes_eq, length, option_map, Option, Some, None, if◌then◌else◌}
 use Rattle.ada_tree.specs.declared.declaration.Mode.{Mode}
 use Rattle.ada_tree.specs.declared.declaration.Mode.TheVariants as mode
@@ -36,8 +37,8 @@ pub record BeginsAs (words : List ℤ) (g : Package) (owner : Option ℕ) (name 
   pub lies : Lies words slot.offset value
 
 -- The package is that of the program: it has its names and its functions, and each variable has words among the plain ones, and each component of a protected
--- object among those of the object, which begin as those of its initial value. What has words of the package's names is an object that is visible behind it, and
--- so a variable: constants are none (RM 3.3.1).
+-- object among those of the object, which begin as those of its initial value. What has words of the package's names is an object that is visible behind it,
+-- and so a variable: constants are none (RM 3.3.1).
 pub record IsPackageOf (t : ProgramTree) (i : Sections) (g : Package) : Type 0 where
   pub scope : g.scope ≡ (program_of t).scope
   pub functions : g.functions ≡ (program_of t).functions

@@ -231,9 +231,9 @@ IsMisspelt t why = ⊥
 abbrev pub RefusesSections : ProgramTree → Refusal → Type 0
 RefusesSections t why = RefusesCode t why ⊎ (HasManyWords t why ⊎ (HasMany t why ⊎ (HasManyRows t why ⊎ IsMisspelt t why)))
 
--- Why an accepted program is refused. Memory may always be refused. It is outside where it has what code isn't made of, or a text is misspelt. It passes a limit
--- where all its code may have more instructions than an image, where a frame and its operand stack need more words together than a frame has, where an object
--- takes no words, or more than an image has, or where it has more rows of handlers than an image. No legal program has too many labels, words of variables and
--- components, subprograms, exceptions or protected objects.
+-- Why an accepted program is refused. Memory may always be refused. It is outside where it has what code isn't made of, or a text is misspelt. It passes a
+-- limit where all its code may have more instructions than an image, where a frame and its operand stack need more words together than a frame has, where an
+-- object takes no words, or more than an image has, or where it has more rows of handlers than an image. No legal program has too many labels, words of
+-- variables and components, subprograms, exceptions or protected objects.
 abbrev pub RefusesLinking : ProgramTree → Refusal → Type 0
 RefusesLinking t why = IsNeeding (program_bound t) (program_needs t) why ⊎ (HasManyRows t why ⊎ IsMisspelt t why)

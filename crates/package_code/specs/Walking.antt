@@ -43,7 +43,8 @@ StandFrom whole from part = (n : ℕ) (item : BodyItemTree) → slice_get part n
 -- ---- one body
 
 -- the code of a function was added, which returns the value of one expression
-pub record AddsValueFunction (t : ProgramTree) (d : SubprogramTree) (b : BodyTree) (r : Identifier) (v : Visible) (old : Draft) (words : SubprogramWords) (new : Draft)
+pub record AddsValueFunction (t : ProgramTree) (d : SubprogramTree) (b : BodyTree) (r : Identifier) (v : Visible) (old : Draft) (words : SubprogramWords)
+    (new : Draft)
     : Type 0 where
   pub value : ExprTree
   pub returns : returned b.statements ≡ Some value
@@ -226,7 +227,8 @@ HasObjectBody t place name items = (end_name : Identifier) × (slice_get (declar
 
 -- The walk is at the body of the object with this number and these components, behind the first of its bodies: each of these has its code too. In front of the
 -- first the names `s` are visible.
-pub record IsInObjectBody (t : ProgramTree) (directory : Directory) (o : ℕ) (s : Scope) (components : List RecordComponent) (items : List ProtectedItemTree) (k : ℕ)
+pub record IsInObjectBody (t : ProgramTree) (directory : Directory) (o : ℕ) (s : Scope) (components : List RecordComponent) (items : List ProtectedItemTree)
+    (k : ℕ)
     (w : Walk) : Type 0 where
   pub item : BodyItemTree
   pub at : slice_get (declared_in t.package_) w.place ≡ Some item

@@ -19,8 +19,8 @@ use lexer::Text;
 use std::alloc::Global;
 use types::{Operation, RecordComponent, Scope};
 
-/// What is told of the names of a package, by their numbers: where variables stand, and which subprogram is that of a body; and of the operations and components
-/// of its protected objects.
+/// What is told of the names of a package, by their numbers: where variables stand, and which subprogram is that of a body; and of the operations and
+/// components of its protected objects.
 #[derive(Drop)]
 pub struct Directory {
     pub slots: Vec<Option<Slot>>,
@@ -196,8 +196,10 @@ impl Directory {
     ) -> Result<Directory, Refusal>
         ensures slots { IfOk result (λ directory. directory.slots ≡ slots) }
         ensures components { IfOk result (λ directory. directory.components ≡ components) }
-        ensures numbers { IfOk result (λ directory. HaveBodyNumbers scope.now (package_bodies (optional_tree package_tree package_.now)) directory.numbers.items) }
-        ensures operations { IfOk result (λ directory. directory.operations.items ≡ entries_among scope.now 0 (package_bodies (optional_tree package_tree package_.now))) }
+        ensures numbers { IfOk result (λ directory. HaveBodyNumbers scope.now (package_bodies (optional_tree package_tree package_.now))
+            directory.numbers.items) }
+        ensures operations { IfOk result (λ directory. directory.operations.items ≡ entries_among scope.now 0
+            (package_bodies (optional_tree package_tree package_.now))) }
         ensures refused { IfErr result (λ why. HasManyBodies (package_bodies (optional_tree package_tree package_.now)) why) }
     {
         let numbers = number_bodies(alloc, scope, package_)?;
@@ -228,7 +230,8 @@ impl Directory {
         object: usize,
         operations: &[Operation],
     ) -> Result<Entries<u16>, Refusal>
-        ensures numbers { IfOk result (λ numbers. numbers ≡ map (told_operation (operation_told self.now.operations.items object)) (map operation_value operations.now)) }
+        ensures numbers { IfOk result (λ numbers. numbers ≡ map (told_operation (operation_told self.now.operations.items object))
+            (map operation_value operations.now)) }
         ensures refused { IfErr result (λ why. IsRefused 0 0 false why) }
     {
         let mut numbers = Entries::new(alloc);

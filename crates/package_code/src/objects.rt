@@ -84,7 +84,8 @@ fn push_component(
 ) -> Result<(), Refusal>
     requires sound { SoundScope scope.now }
     ensures words { OnOk result (words.new.items ≡ words.old.items ++ first_words_of (component scope.now (protected_component_tree part.now) ∷ [])) }
-    ensures slots { OnOk result (slots.new.items ≡ slots.old.items ++ slots_of object (length words.old.items) (component scope.now (protected_component_tree part.now) ∷ [])) }
+    ensures slots { OnOk result (slots.new.items ≡ slots.old.items ++ slots_of object (length words.old.items)
+        (component scope.now (protected_component_tree part.now) ∷ [])) }
     ensures made { OnOk result (have_words (component scope.now (protected_component_tree part.now) ∷ []) ≡ true) }
     ensures refused { IfErr result (λ why. RefusesComponent scope.now (length words.old.items) (protected_component_tree part.now) why) }
 {
@@ -117,7 +118,8 @@ fn component_words(
 ) -> Result<Vec<i64>, Refusal>
     requires sound { SoundScope scope.now }
     ensures words { IfOk result (λ words. words.items ≡ first_words_of (map (component scope.now) (map protected_component_tree components.now))) }
-    ensures slots { OnOk result (slots.new.items ≡ slots.old.items ++ slots_of object 0 (map (component scope.now) (map protected_component_tree components.now))) }
+    ensures slots { OnOk result (slots.new.items ≡ slots.old.items ++ slots_of object 0
+        (map (component scope.now) (map protected_component_tree components.now))) }
     ensures made { IfOk result (λ words. have_words (map (component scope.now) (map protected_component_tree components.now)) ≡ true) }
     ensures refused { IfErr result (λ why. RefusesComponents scope.now (map protected_component_tree components.now) why) }
 {
@@ -237,7 +239,8 @@ pub fn protected_objects(
 ) -> Result<ProtectedObjects, Refusal>
     requires sound { SoundScope scope.now }
     ensures declared { IfOk result (λ objects. objects.declared.items ≡ bare_objects scope.now (package_items (optional_tree package_tree package_.now))) }
-    ensures components { IfOk result (λ objects. objects.components.items ≡ component_slots scope.now 0 (package_items (optional_tree package_tree package_.now))) }
+    ensures components { IfOk result (λ objects. objects.components.items ≡ component_slots scope.now 0
+        (package_items (optional_tree package_tree package_.now))) }
     ensures made { IfOk result (λ objects. objects_have_words scope.now (package_items (optional_tree package_tree package_.now)) ≡ true) }
     ensures refused { IfErr result (λ why. RefusesObjects scope.now (package_items (optional_tree package_tree package_.now)) why) }
 {

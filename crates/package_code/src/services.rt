@@ -82,7 +82,11 @@ fn service_by(
     barrier: &Expr,
 ) -> Service
     requires directory { IsDirectory (program_tree accepted.now) directory.now }
-    ensures { let t = program_tree accepted.now in result ≡ record { entry = number_in t (Some object) entry.now.name.name; barrier = barrier_row t object (Some (expr_tree barrier.now)) } }
+    ensures { let t = program_tree accepted.now in result ≡ record {
+      entry = number_in t (Some object) entry.now.name.name;
+      barrier = barrier_row t
+          object (Some (expr_tree barrier.now));
+    } }
 {
     let slot = barrier_slot(accepted, directory, object, barrier);
     Service {
@@ -99,7 +103,8 @@ fn service_among(
     items: &[ProtectedBodyItem],
 ) -> Option<Service>
     requires directory { IsDirectory (program_tree accepted.now) directory.now }
-    ensures { let t = program_tree accepted.now in result ≡ option_map (λ q. service_of t object (Some q)) (entry_of (operation_procedures (program_of t).scope (Some object) (map protected_item_tree items.now)) object) }
+    ensures { let t = program_tree accepted.now in result ≡ option_map (λ q. service_of t object (Some q))
+        (entry_of (operation_procedures (program_of t).scope (Some object) (map protected_item_tree items.now)) object) }
 {
     for item in items {
         match item {
@@ -130,7 +135,8 @@ fn service_in(
     item: &BodyItem,
 ) -> Option<Service>
     requires directory { IsDirectory (program_tree accepted.now) directory.now }
-    ensures { let t = program_tree accepted.now in result ≡ option_map (λ q. service_of t object (Some q)) (entry_of (procedures_among (program_of t).scope (body_item_tree item.now ∷ [])) object) }
+    ensures { let t = program_tree accepted.now in result ≡ option_map (λ q. service_of t object (Some q))
+        (entry_of (procedures_among (program_of t).scope (body_item_tree item.now ∷ [])) object) }
 {
     match item {
         BodyItem::Protected(name, items, _) => {
@@ -154,7 +160,8 @@ fn service_within(
     items: &[BodyItem],
 ) -> Service
     requires directory { IsDirectory (program_tree accepted.now) directory.now }
-    ensures { let t = program_tree accepted.now in result ≡ service_of t object (entry_of (procedures_among (program_of t).scope (map body_item_tree items.now)) object) }
+    ensures { let t = program_tree accepted.now in result ≡ service_of t object (entry_of
+        (procedures_among (program_of t).scope (map body_item_tree items.now)) object) }
 {
     for item in items {
         if let Some(service) = service_in(accepted, directory, object, item) {

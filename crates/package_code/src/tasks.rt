@@ -28,7 +28,11 @@ pub fn task_row(
     aspect: &Option<Aspect>,
     subprogram: u16,
 ) -> Result<Task, Refusal>
-    ensures row { IfOk result (λ row. row ≡ record { name = name.now.name; priority = base_priority scope.now (optional_tree aspect_tree aspect.now); subprogram = subprogram }) }
+    ensures row { IfOk result (λ row. row ≡ record {
+      name = name.now.name;
+      priority = base_priority scope.now (optional_tree aspect_tree aspect.now);
+      subprogram = subprogram;
+    }) }
     ensures refused { IfErr result (λ why. IsRefused 0 0 false why) }
 {
     Ok(Task {

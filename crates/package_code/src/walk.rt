@@ -191,14 +191,17 @@ impl Walk {
         requires added { MayBeAdded (program_tree accepted.now) self.old.visible.scope (subprogram_tree subprogram.now) (body_tree body.now) }
         requires entries { HasEntries self.old.visible }
         requires subtype { (subprogram_tree subprogram.now).result ≡ Some subtype.now }
-        ensures adds { IfOk result (λ words. AddsValueFunction (program_tree accepted.now) (subprogram_tree subprogram.now) (body_tree body.now) subtype.now self.old.visible self.old.draft words self.new.draft) }
-        ensures called { IfOk result (λ words. IsCalledFunction self.old.visible.scope (subprogram_tree subprogram.now).formals (subtype_named (program_of (program_tree accepted.now)).scope subtype.now) words) }
+        ensures adds { IfOk result (λ words. AddsValueFunction (program_tree accepted.now) (subprogram_tree subprogram.now) (body_tree body.now)
+            subtype.now self.old.visible self.old.draft words self.new.draft) }
+        ensures called { IfOk result (λ words. IsCalledFunction self.old.visible.scope (subprogram_tree subprogram.now).formals
+            (subtype_named (program_of (program_tree accepted.now)).scope subtype.now) words) }
         ensures keeps { IfOk result (λ words. KeepsRules false self.old.visible self.old.draft words self.new.draft) }
         ensures visible { OnOk result (self.new.visible ≡ self.old.visible) }
         ensures place { OnOk result (self.new.place ≡ self.old.place) }
         ensures subprograms { OnOk result (self.new.subprograms ≡ self.old.subprograms) }
         ensures told { OnOk result (AddsAsTold self.old.draft (subprogram_tree subprogram.now) (body_tree body.now) self.new.draft) }
-        ensures refused { IfErr result (λ why. RefusesBody (program_tree accepted.now) self.old.visible self.old.draft (subprogram_tree subprogram.now) (body_tree body.now) why) }
+        ensures refused { IfErr result (λ why. RefusesBody (program_tree accepted.now) self.old.visible self.old.draft
+            (subprogram_tree subprogram.now) (body_tree body.now) why) }
     {
         let value = returned(&body.statements)?;
         let result = result_subtype(accepted.scope(), subtype);
@@ -215,14 +218,17 @@ impl Walk {
     ) -> Result<SubprogramWords, Refusal>
         requires added { MayBeAdded (program_tree accepted.now) self.old.visible.scope (subprogram_tree subprogram.now) (body_tree body.now) }
         requires entries { HasEntries self.old.visible }
-        ensures adds { IfOk result (λ words. AddsSubprogram (program_tree accepted.now) (subprogram_tree subprogram.now) (body_tree body.now) self.old.visible self.old.draft words self.new.draft) }
+        ensures adds { IfOk result (λ words. AddsSubprogram (program_tree accepted.now) (subprogram_tree subprogram.now) (body_tree body.now)
+            self.old.visible self.old.draft words self.new.draft) }
         ensures called { IfOk result (λ words. IsCalledSubprogram (program_tree accepted.now) (subprogram_tree subprogram.now) self.old.visible.scope words) }
-        ensures keeps { IfOk result (λ words. KeepsRules (is_none (subprogram_tree subprogram.now).result) self.old.visible self.old.draft words self.new.draft) }
+        ensures keeps { IfOk result (λ words. KeepsRules (is_none (subprogram_tree subprogram.now).result) self.old.visible self.old.draft words
+            self.new.draft) }
         ensures visible { OnOk result (self.new.visible ≡ self.old.visible) }
         ensures place { OnOk result (self.new.place ≡ self.old.place) }
         ensures subprograms { OnOk result (self.new.subprograms ≡ self.old.subprograms) }
         ensures told { OnOk result (AddsAsTold self.old.draft (subprogram_tree subprogram.now) (body_tree body.now) self.new.draft) }
-        ensures refused { IfErr result (λ why. RefusesBody (program_tree accepted.now) self.old.visible self.old.draft (subprogram_tree subprogram.now) (body_tree body.now) why) }
+        ensures refused { IfErr result (λ why. RefusesBody (program_tree accepted.now) self.old.visible self.old.draft
+            (subprogram_tree subprogram.now) (body_tree body.now) why) }
     {
         match &subprogram.result {
             Some(subtype) => self.function(accepted, subprogram, body, subtype),
@@ -242,10 +248,13 @@ impl Walk {
     ) -> Result<(), Refusal>
         requires added { MayBeAdded (program_tree accepted.now) self.old.visible.scope (subprogram_tree subprogram.now) (body_tree body.now) }
         requires entries { HasEntries self.old.visible }
-        requires numbered { told_of (program_of (program_tree accepted.now)).scope directory.now.numbers.items (subprogram_tree subprogram.now).name.name ≡ Some (length self.old.subprograms.items) }
-        ensures adds { OnOk result (AddsBody (program_tree accepted.now) directory.now (of_subprogram self.old.visible.scope (subprogram_tree subprogram.now) (body_tree body.now)) self.old self.new) }
+        requires numbered { told_of (program_of (program_tree accepted.now)).scope directory.now.numbers.items
+            (subprogram_tree subprogram.now).name.name ≡ Some (length self.old.subprograms.items) }
+        ensures adds { OnOk result (AddsBody (program_tree accepted.now) directory.now
+            (of_subprogram self.old.visible.scope (subprogram_tree subprogram.now) (body_tree body.now)) self.old self.new) }
         ensures told { OnOk result (AddsAsTold self.old.draft (subprogram_tree subprogram.now) (body_tree body.now) self.new.draft) }
-        ensures refused { IfErr result (λ why. RefusesBody (program_tree accepted.now) self.old.visible self.old.draft (subprogram_tree subprogram.now) (body_tree body.now) why) }
+        ensures refused { IfErr result (λ why. RefusesBody (program_tree accepted.now) self.old.visible self.old.draft
+            (subprogram_tree subprogram.now) (body_tree body.now) why) }
     {
         let words = self.code(accepted, subprogram, body)?;
         self.subprograms
@@ -261,12 +270,17 @@ impl Walk {
         name: &Identifier,
         body: &Body,
     ) -> Result<(), Refusal>
-        requires added { MayBeAdded (program_tree accepted.now) self.old.visible.scope (of_task self.old.visible.scope name.now (body_tree body.now)).head (body_tree body.now) }
+        requires added { MayBeAdded (program_tree accepted.now) self.old.visible.scope
+            (of_task self.old.visible.scope name.now (body_tree body.now)).head (body_tree body.now) }
         requires entries { HasEntries self.old.visible }
-        requires numbered { told_of (program_of (program_tree accepted.now)).scope directory.now.numbers.items name.now.name ≡ Some (length self.old.subprograms.items) }
-        ensures adds { OnOk result (AddsBody (program_tree accepted.now) directory.now (of_task self.old.visible.scope name.now (body_tree body.now)) self.old self.new) }
-        ensures told { OnOk result (AddsAsTold self.old.draft (of_task self.old.visible.scope name.now (body_tree body.now)).head (body_tree body.now) self.new.draft) }
-        ensures refused { IfErr result (λ why. RefusesBody (program_tree accepted.now) self.old.visible self.old.draft (of_task self.old.visible.scope name.now (body_tree body.now)).head (body_tree body.now) why) }
+        requires numbered { told_of (program_of (program_tree accepted.now)).scope directory.now.numbers.items name.now.name ≡ Some
+            (length self.old.subprograms.items) }
+        ensures adds { OnOk result (AddsBody (program_tree accepted.now) directory.now (of_task self.old.visible.scope name.now (body_tree body.now))
+            self.old self.new) }
+        ensures told { OnOk result (AddsAsTold self.old.draft (of_task self.old.visible.scope name.now (body_tree body.now)).head (body_tree body.now)
+            self.new.draft) }
+        ensures refused { IfErr result (λ why. RefusesBody (program_tree accepted.now) self.old.visible self.old.draft
+            (of_task self.old.visible.scope name.now (body_tree body.now)).head (body_tree body.now) why) }
     {
         let words = self.draft.procedure(&mut self.visible, &[], body)?;
         self.subprograms
@@ -280,16 +294,22 @@ impl Walk {
         accepted: &Accepted,
         item: &ProtectedBodyItem,
     ) -> Result<SubprogramWords, Refusal>
-        requires added { MayBeAdded (program_tree accepted.now) self.old.visible.scope (own_head (protected_item_tree item.now)) (own_body (protected_item_tree item.now)) }
+        requires added { MayBeAdded (program_tree accepted.now) self.old.visible.scope (own_head (protected_item_tree item.now))
+            (own_body (protected_item_tree item.now)) }
         requires entries { HasEntries self.old.visible }
-        ensures adds { IfOk result (λ words. AddsSubprogram (program_tree accepted.now) (own_head (protected_item_tree item.now)) (own_body (protected_item_tree item.now)) self.old.visible self.old.draft words self.new.draft) }
-        ensures called { IfOk result (λ words. IsCalledSubprogram (program_tree accepted.now) (own_head (protected_item_tree item.now)) self.old.visible.scope words) }
-        ensures keeps { IfOk result (λ words. KeepsRules (is_none (own_head (protected_item_tree item.now)).result) self.old.visible self.old.draft words self.new.draft) }
+        ensures adds { IfOk result (λ words. AddsSubprogram (program_tree accepted.now) (own_head (protected_item_tree item.now))
+            (own_body (protected_item_tree item.now)) self.old.visible self.old.draft words self.new.draft) }
+        ensures called { IfOk result (λ words. IsCalledSubprogram (program_tree accepted.now) (own_head (protected_item_tree item.now))
+            self.old.visible.scope words) }
+        ensures keeps { IfOk result (λ words. KeepsRules (is_none (own_head (protected_item_tree item.now)).result) self.old.visible self.old.draft
+            words self.new.draft) }
         ensures visible { OnOk result (self.new.visible ≡ self.old.visible) }
         ensures place { OnOk result (self.new.place ≡ self.old.place) }
         ensures subprograms { OnOk result (self.new.subprograms ≡ self.old.subprograms) }
-        ensures told { OnOk result (AddsAsTold self.old.draft (own_head (protected_item_tree item.now)) (own_body (protected_item_tree item.now)) self.new.draft) }
-        ensures refused { IfErr result (λ why. RefusesBody (program_tree accepted.now) self.old.visible self.old.draft (own_head (protected_item_tree item.now)) (own_body (protected_item_tree item.now)) why) }
+        ensures told { OnOk result (AddsAsTold self.old.draft (own_head (protected_item_tree item.now)) (own_body (protected_item_tree item.now))
+            self.new.draft) }
+        ensures refused { IfErr result (λ why. RefusesBody (program_tree accepted.now) self.old.visible self.old.draft
+            (own_head (protected_item_tree item.now)) (own_body (protected_item_tree item.now)) why) }
     {
         match item {
             ProtectedBodyItem::Subprogram(subprogram, body) => {
@@ -310,12 +330,17 @@ impl Walk {
         object: u16,
         item: &ProtectedBodyItem,
     ) -> Result<(), Refusal>
-        requires added { MayBeAdded (program_tree accepted.now) self.old.visible.scope (own_head (protected_item_tree item.now)) (own_body (protected_item_tree item.now)) }
+        requires added { MayBeAdded (program_tree accepted.now) self.old.visible.scope (own_head (protected_item_tree item.now))
+            (own_body (protected_item_tree item.now)) }
         requires entries { HasEntries self.old.visible }
-        requires numbered { number_told (program_of (program_tree accepted.now)).scope directory.now (Some object) (own_name (protected_item_tree item.now)) ≡ Some (length self.old.subprograms.items) }
-        ensures adds { OnOk result (AddsBody (program_tree accepted.now) directory.now (of_object object self.old.visible.scope (protected_item_tree item.now)) self.old self.new) }
-        ensures told { OnOk result (AddsAsTold self.old.draft (own_head (protected_item_tree item.now)) (own_body (protected_item_tree item.now)) self.new.draft) }
-        ensures refused { IfErr result (λ why. RefusesBody (program_tree accepted.now) self.old.visible self.old.draft (own_head (protected_item_tree item.now)) (own_body (protected_item_tree item.now)) why) }
+        requires numbered { number_told (program_of (program_tree accepted.now)).scope directory.now (Some object)
+            (own_name (protected_item_tree item.now)) ≡ Some (length self.old.subprograms.items) }
+        ensures adds { OnOk result (AddsBody (program_tree accepted.now) directory.now
+            (of_object object self.old.visible.scope (protected_item_tree item.now)) self.old self.new) }
+        ensures told { OnOk result (AddsAsTold self.old.draft (own_head (protected_item_tree item.now)) (own_body (protected_item_tree item.now))
+            self.new.draft) }
+        ensures refused { IfErr result (λ why. RefusesBody (program_tree accepted.now) self.old.visible self.old.draft
+            (own_head (protected_item_tree item.now)) (own_body (protected_item_tree item.now)) why) }
     {
         let words = self.inside_code(accepted, item)?;
         let kind = inside_kind(object, item);
@@ -332,11 +357,16 @@ impl Walk {
         components: &[RecordComponent],
         item: &ProtectedBodyItem,
     ) -> Result<(), Refusal>
-        requires added { let c = of_operation object self.old.visible.scope components.now (protected_item_tree item.now) in MayBeAdded (program_tree accepted.now) c.front c.head c.body }
+        requires added { let c = of_operation object self.old.visible.scope components.now (protected_item_tree item.now) in MayBeAdded
+            (program_tree accepted.now) c.front c.head c.body }
         requires entries { HasEntries self.old.visible }
-        requires numbered { number_told (program_of (program_tree accepted.now)).scope directory.now (Some object) (own_name (protected_item_tree item.now)) ≡ Some (length self.old.subprograms.items) }
-        ensures adds { OnOk result (AddsOperation (program_tree accepted.now) directory.now object components.now (protected_item_tree item.now) self.old self.new) }
-        ensures refused { IfErr result (λ why. RefusesBody (program_tree accepted.now) (operation_visible (program_of (program_tree accepted.now)).scope directory.now object components.now (protected_item_tree item.now) self.old.visible) self.old.draft (own_head (protected_item_tree item.now)) (own_body (protected_item_tree item.now)) why) }
+        requires numbered { number_told (program_of (program_tree accepted.now)).scope directory.now (Some object)
+            (own_name (protected_item_tree item.now)) ≡ Some (length self.old.subprograms.items) }
+        ensures adds { OnOk result (AddsOperation (program_tree accepted.now) directory.now object components.now (protected_item_tree item.now)
+            self.old self.new) }
+        ensures refused { IfErr result (λ why. RefusesBody (program_tree accepted.now)
+            (operation_visible (program_of (program_tree accepted.now)).scope directory.now object components.now (protected_item_tree item.now)
+            self.old.visible) self.old.draft (own_head (protected_item_tree item.now)) (own_body (protected_item_tree item.now)) why) }
     {
         let whole = accepted.scope();
         let inside = usize::from(object);
@@ -375,8 +405,11 @@ impl Walk {
         requires legal { IsLegal (program_tree accepted.now) }
         requires restricted { IsRestricted (program_tree accepted.now) }
         requires directory { IsDirectory (program_tree accepted.now) directory.now }
-        requires within { IsInObjectBody (program_tree accepted.now) directory.now object (object_body_scope (front (program_tree accepted.now) self.old.place) place) components.now (map protected_item_tree items.now) 0 self.old }
-        ensures within { OnOk result (IsInObjectBody (program_tree accepted.now) directory.now object (object_body_scope (front (program_tree accepted.now) self.old.place) place) components.now (map protected_item_tree items.now) (length items.now) self.new) }
+        requires within { IsInObjectBody (program_tree accepted.now) directory.now object
+            (object_body_scope (front (program_tree accepted.now) self.old.place) place) components.now (map protected_item_tree items.now) 0 self.old }
+        ensures within { OnOk result (IsInObjectBody (program_tree accepted.now) directory.now object
+            (object_body_scope (front (program_tree accepted.now) self.old.place) place) components.now (map protected_item_tree items.now)
+            (length items.now) self.new) }
         ensures place { OnOk result (self.new.place ≡ self.old.place) }
         ensures refused { IfErr result (λ why. RefusesCode (program_tree accepted.now) why) }
     {
@@ -500,7 +533,8 @@ impl Walk {
         requires walked { IsWalked (program_tree accepted.now) directory.now self.old }
         requires directory { IsDirectory (program_tree accepted.now) directory.now }
         requires told { IsAsTold (program_tree accepted.now) self.old }
-        requires at { slice_get (declared_in (program_tree accepted.now).package_) self.old.place ≡ Some (SubprogramBody (subprogram_tree subprogram.now) (body_tree body.now)) }
+        requires at { slice_get (declared_in (program_tree accepted.now).package_) self.old.place ≡ Some
+            (SubprogramBody (subprogram_tree subprogram.now) (body_tree body.now)) }
         ensures walked { OnOk result (IsWalked (program_tree accepted.now) directory.now self.new) }
         ensures place { OnOk result (self.new.place ≡ self.old.place + 1) }
         ensures told { OnOk result (IsAsTold (program_tree accepted.now) self.new) }

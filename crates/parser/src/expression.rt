@@ -277,7 +277,8 @@ impl<'a> Parser<'a> {
     #[cycle(expression)]
     #[inline(never)]
     fn elsif_values(&mut self, levels: u8) -> Result<Vec<ElsifValue>, Refusal>
-        ensures { Gives (λ all. map elsif_value_tree all.items) result self.new.rest.now (reading.elsif_values_in (reading.values_at levels) self.old.rest.now) }
+        ensures { Gives (λ all. map elsif_value_tree all.items) result self.new.rest.now
+            (reading.elsif_values_in (reading.values_at levels) self.old.rest.now) }
     {
         let mut all = Vec::new(self.alloc);
         while self.at_word(Word::Elsif) {
@@ -416,7 +417,8 @@ impl<'a> Parser<'a> {
     #[cycle(expression)]
     #[inline(never)]
     fn product(&mut self, levels: u8, first: Expr) -> Result<Expr, Refusal>
-        ensures { Gives expr_tree result self.new.rest.now (reading.chained reading.multiplying (reading.factor_in (reading.values levels)) (expr_tree first) self.old.rest.now) }
+        ensures { Gives expr_tree result self.new.rest.now (reading.chained reading.multiplying (reading.factor_in (reading.values levels))
+            (expr_tree first) self.old.rest.now) }
     {
         let mut left = first;
         while let Some(operator) = self.multiplying() {
@@ -463,7 +465,8 @@ impl<'a> Parser<'a> {
     #[cycle(expression)]
     #[inline(never)]
     fn sum(&mut self, levels: u8, first: Expr) -> Result<Expr, Refusal>
-        ensures { Gives expr_tree result self.new.rest.now (reading.chained reading.adding (reading.term_in (reading.values levels)) (expr_tree first) self.old.rest.now) }
+        ensures { Gives expr_tree result self.new.rest.now (reading.chained reading.adding (reading.term_in (reading.values levels)) (expr_tree first)
+            self.old.rest.now) }
     {
         let mut left = first;
         while let Some(operator) = self.adding() {
@@ -504,7 +507,8 @@ impl<'a> Parser<'a> {
     #[cycle(expression)]
     #[inline(never)]
     fn related(&mut self, levels: u8, left: Expr) -> Result<Expr, Refusal>
-        ensures { Gives expr_tree result self.new.rest.now (closed (reading.begins reading.relational) (reading.compared_in (reading.values levels) (expr_tree left)) self.old.rest.now) }
+        ensures { Gives expr_tree result self.new.rest.now (closed (reading.begins reading.relational)
+            (reading.compared_in (reading.values levels) (expr_tree left)) self.old.rest.now) }
     {
         let relation = self.compared(levels, left)?;
         self.ended(relation, self.at_relational())
@@ -597,7 +601,8 @@ impl<'a> Parser<'a> {
     #[cycle(expression)]
     #[inline(never)]
     fn completed(&mut self, levels: u8, left: Expr) -> Result<Expr, Refusal>
-        ensures { Gives expr_tree result self.new.rest.now (closed reading.begins_logical (reading.logical_in (reading.values levels) (expr_tree left)) self.old.rest.now) }
+        ensures { Gives expr_tree result self.new.rest.now (closed reading.begins_logical
+            (reading.logical_in (reading.values levels) (expr_tree left)) self.old.rest.now) }
     {
         let all = self.combined(levels, left)?;
         self.ended(all, self.at_logical())

@@ -458,7 +458,8 @@ impl<'a> Parser<'a> {
 
     #[cycle(statement)]
     fn handler_list(&mut self, levels: u8) -> Result<Vec<Handler>, Refusal>
-        ensures { Gives (λ all. map handler_tree all.items) result self.new.rest.now (reading.handler_list_at (readers_at levels).statements self.old.rest.now) }
+        ensures { Gives (λ all. map handler_tree all.items) result self.new.rest.now
+            (reading.handler_list_at (readers_at levels).statements self.old.rest.now) }
     {
         let mut all = Vec::new(self.alloc);
         let head = self.handler(levels)?;

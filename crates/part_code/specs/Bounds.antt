@@ -1,4 +1,5 @@
--- How many instructions the code of statements and declarations has at most: 20 for each part of the tree, and two for each word of an object that is declared in
+-- How many instructions the code of statements and declarations has at most: 20 for each part of the tree, and two for each word of an object that is declared
+-- in
 -- it. The words of an object are those of its subtype by the names that are visible in front of it (RM 3.3.1, 5.6).
 use Rattle.std.specs.Prelude.{ℕ, suc, ◌+◌, ◌*◌, List, [], ◌∷◌, length, Option, Some, None}
 use Rattle.ada_tree.specs.declared.declaration.Formal.{Formal}

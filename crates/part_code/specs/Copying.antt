@@ -1,4 +1,5 @@
--- What a call passes and copies back (RM 6.4.1). With each parameter that is copied back the address of its target is passed; at the end of the body the address
+-- What a call passes and copies back (RM 6.4.1). With each parameter that is copied back the address of its target is passed; at the end of the body the
+-- address
 -- and the value come back together, those of the first parameter on top, so each is stored where it stands.
 use Rattle.std.specs.Prelude.{◌≡◌, ◌≤◌, ◌+◌, ◌-◌, ℕ, suc, ℤ, pos, true, List, [], ◌∷◌, ◌++◌, drop, length, reverse, Option, Some, None, ⊤, if◌then◌else◌}
 use Rattle.base.specs.declared.schedule.ScheduleLine.{ScheduleLine}

@@ -56,7 +56,8 @@ turn_last reversed first last = if reversed then first else last
 
 module _ (i : Sections) (g : Package) where
   -- The frame goes on at a place with an empty operand stack, after at most n steps of its own: its locals stand for the activation, and hold these words.
-  pub record GoesOn (schedule : List ScheduleLine) (k : Kernel) (t : ℕ) (m : Words) (f : Frame) (fs : List Frame) (n to : ℕ) (later : Framed) (held : List HeldWord)
+  pub record GoesOn (schedule : List ScheduleLine) (k : Kernel) (t : ℕ) (m : Words) (f : Frame) (fs : List Frame) (n to : ℕ) (later : Framed)
+      (held : List HeldWord)
       (a : Activation) : Type 0 where
     pub locals : List ℤ
     pub spends : Spends (behaviour i schedule) t frames_of (most_steps i) (suc (length fs)) n k (in_frame m f fs) k
@@ -79,7 +80,8 @@ module _ (i : Sections) (g : Package) where
         → bounds range (call p.frames_left) p ≡ Gives (number_bounds x y)
         → int_lt y x ≡ true
         → GoesOn schedule k t m (placed f mid (stack [] (number_bounds x y))) fs (start - mid) to v held a
-    pub begins : (schedule : List ScheduleLine) (k : Kernel) (t : ℕ) (m : Words) (f : Frame) (fs : List Frame) (held : List HeldWord) (a : Activation) (p : Place)
+    pub begins : (schedule : List ScheduleLine) (k : Kernel) (t : ℕ) (m : Words) (f : Frame) (fs : List Frame) (held : List HeldWord) (a : Activation)
+        (p : Place)
         (x y : ℤ)
         → Calm k t
         → p.locals ≡ a.locals
@@ -93,7 +95,8 @@ module _ (i : Sections) (g : Package) where
 
   -- The end of a turn: behind the loop after the last one; else its value is the next one, and the frame comes to the jump back.
   pub record IsTurnEnd (inner : Framed) (counter limit from turn to : ℕ) (parameter : List ℕ) (reversed : Bool) : Type 0 where
-    pub ends : (schedule : List ScheduleLine) (k : Kernel) (t : ℕ) (m : Words) (f : Frame) (fs : List Frame) (held : List HeldWord) (a : Activation) (now last : ℤ)
+    pub ends : (schedule : List ScheduleLine) (k : Kernel) (t : ℕ) (m : Words) (f : Frame) (fs : List Frame) (held : List HeldWord) (a : Activation)
+        (now last : ℤ)
         → Calm k t
         → RestsWith g inner (in_turn counter limit now last held) a f.locals
         → are_same now last ≡ true
@@ -103,12 +106,15 @@ module _ (i : Sections) (g : Package) where
     pub up : from ≤ mid
     pub over : mid ≤ turn
     pub stack : ℤ → List ℤ
-    pub counts : (schedule : List ScheduleLine) (k : Kernel) (t : ℕ) (m : Words) (f : Frame) (fs : List Frame) (held : List HeldWord) (a : Activation) (now last : ℤ)
+    pub counts : (schedule : List ScheduleLine) (k : Kernel) (t : ℕ) (m : Words) (f : Frame) (fs : List Frame) (held : List HeldWord) (a : Activation)
+        (now last : ℤ)
         → Calm k t
         → RestsWith g inner (in_turn counter limit now last held) a f.locals
         → are_same now last ≡ false
-        → Comes i schedule k t m (placed f from []) fs (mid - from) mid stack (number_computed (if reversed then difference_of now (pos 1) else sum_of now (pos 1)))
-    pub goes : (schedule : List ScheduleLine) (k : Kernel) (t : ℕ) (m : Words) (f : Frame) (fs : List Frame) (held : List HeldWord) (a : Activation) (now last next : ℤ)
+        → Comes i schedule k t m (placed f from []) fs (mid - from) mid stack
+        (number_computed (if reversed then difference_of now (pos 1) else sum_of now (pos 1)))
+    pub goes : (schedule : List ScheduleLine) (k : Kernel) (t : ℕ) (m : Words) (f : Frame) (fs : List Frame) (held : List HeldWord) (a : Activation)
+        (now last next : ℤ)
         → Calm k t
         → RestsWith g inner (in_turn counter limit now last held) a f.locals
         → GoesOn schedule k t m (placed f mid (stack next)) fs (turn - mid) turn inner (in_turn counter limit next last held) (with_parameter parameter next a)

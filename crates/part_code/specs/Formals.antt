@@ -1,4 +1,5 @@
--- Where the words of formal parameters stand in the frame of a body: those that are passed stand first, in the order of the text, and behind them those of `out`
+-- Where the words of formal parameters stand in the frame of a body: those that are passed stand first, in the order of the text, and behind them those of
+-- `out`
 -- parameters (RM 6.4.1; docs/CODEGEN.md).
 use Rattle.std.specs.Prelude.{◌≡◌, ℕ, suc, ◌+◌, ◌*◌, ◌<◌, ◌≤◌, ◌⊎◌, pos, ℤ, List, [], ◌∷◌, ◌++◌, length, map, Bool, true, false, Option, Some, None, if◌then◌else◌, ⊤}
 use Rattle.std.specs.List.{All}
@@ -98,8 +99,8 @@ outs_end s out (x ∷ xs) = if is_out x.0.mode then outs_end s (out + words_of s
 abbrev pub passed_for : Scope → Formal → ℕ
 passed_for s f = elim f.mode [ mode.In ↦ words_named s f.subtype | mode.Out ↦ 1 | mode.InOut ↦ suc (words_named s f.subtype) ]
 
--- One that is copied in stands where it is passed, behind the address of its target, where it is copied back; one that is not stands at `out`. What is passed next
--- begins at `next`, and those that are not copied in go on at `behind`.
+-- One that is copied in stands where it is passed, behind the address of its target, where it is copied back; one that is not stands at `out`. What is passed
+-- next begins at `next`, and those that are not copied in go on at `behind`.
 abbrev pub StandsAt : Mode → (many from out : ℕ) → PlacedFormal → (next behind : ℕ) → Type 0
 StandsAt mode.In many from out x next behind = (x.address ≡ None) × (x.offset ≡ from) × (next ≡ from + many) × (behind ≡ out)
 StandsAt mode.Out many from out x next behind = (x.address ≡ Some from) × (x.offset ≡ out) × (next ≡ from + 1) × (behind ≡ out + many)

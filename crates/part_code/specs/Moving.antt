@@ -43,7 +43,8 @@ source_by w x = None
 -- the variable that is named, or a part of which is
 abbrev pub source_at : Visible → NameTree → Option Source
 source_at v name =
-    source_by (standing_of v.scope name.first name.selectors) (variable_at (stands_first v.scope (number_of v.scope name.first.name)) (slot_of v name.first.name))
+    source_by (standing_of v.scope name.first name.selectors)
+    (variable_at (stands_first v.scope (number_of v.scope name.first.name)) (slot_of v name.first.name))
 
 -- what is told of it
 pub record IsSource (v : Visible) (name : NameTree) (x : Source) : Type 0 where

@@ -48,8 +48,8 @@ use Rattle.part_code.specs.declared.formals.PlacedFormal.{PlacedFormal}
 
 -- ---- what code needs
 
--- The words on the operand stack, and those of the frame with all that are taken in front of it, where they are most; whether a value of its expressions may have
--- words that no image has; and whether code isn't made for a part.
+-- The words on the operand stack, and those of the frame with all that are taken in front of it, where they are most; whether a value of its expressions may
+-- have words that no image has; and whether code isn't made for a part.
 pub record Needs : Type 0 where
   pub stack : ℕ
   pub frame : ℕ
@@ -146,7 +146,13 @@ lacks_single form = true
 
 abbrev pub single_needs : Visible → Subtype → Option ExprTree → Needs
 single_needs v t None = stacked_unless (lacks_single (form_at v.scope t.type_number)) 1
-single_needs v t (Some e) = record { stack = checked_peak (peak v.scope e); frame = 0; unfit = has_unfit v; outside = not (is_passable v.scope t) || is_outside v e }
+single_needs v t (Some e) = record {
+  stack = checked_peak (peak v.scope e);
+  frame = 0;
+  unfit = has_unfit v;
+  outside = not (is_passable v.scope t)
+      || is_outside v e;
+}
 
 -- That of an initial value of a subtype, above the place of several words.
 abbrev pub initial_needs : Visible → Subtype → Option ExprTree → Needs
@@ -395,8 +401,8 @@ choices_needs s (OtherValues place) = stacked 1
 
 -- ---- refusals
 
--- Why code is refused that would end behind so many instructions and needs this: memory may always be refused, and the words of the frame are as few as those of
--- the operand stack may be.
+-- Why code is refused that would end behind so many instructions and needs this: memory may always be refused, and the words of the frame are as few as those
+-- of the operand stack may be.
 abbrev pub IsNeeding : (instructions : ℕ) → Needs → Refusal → Type 0
 IsNeeding instructions n why = IsRefusedBeside (n.unfit ≡ true) instructions (max n.stack n.frame) n.outside why
 

@@ -61,8 +61,8 @@ ArePushed i from [] = ⊤
 ArePushed i from (w ∷ ws) = At i from (op.Push w) × ArePushed i (suc from) ws
 
 module _ (i : Sections) (program : Program) (g : Package) where
-  -- The instruction at a place takes words off this operand stack, leaves the others on it, and stores them: the words stand for this store then, and the locals
-  -- for this activation.
+  -- The instruction at a place takes words off this operand stack, leaves the others on it, and stores them: the words stand for this store then, and the
+  -- locals for this activation.
   pub record Puts (schedule : List ScheduleLine) (k : Kernel) (t : ℕ) (m : Words) (f : Frame) (fs : List Frame) (place : ℕ) (stack left : List ℤ)
       (later : Framed) (store : Store) (a : Activation) : Type 0 where
     pub words : Words

@@ -131,8 +131,8 @@ fn give_back_if_any(
     }
 }
 
-/// Adds the end of a body: what is copied back, from the last parameter to the first, each an address and a value, and the return. Tells how many words it gives
-/// back.
+/// Adds the end of a body: what is copied back, from the last parameter to the first, each an address and a value, and the return. Tells how many words it
+/// gives back.
 pub fn return_all(code: &mut Code, scope: &Scope, formals: &[PlacedFormal]) -> Result<u16, Refusal>
     ensures returns { IfOk result (λ height. Returns scope.now code.old formals.now height code.new) }
     ensures few { OnOk result (here code.new ≤ INSTRUCTIONS) }

@@ -143,7 +143,8 @@ fn add_check(
     subtype: Subtype,
 ) -> Result<(), Refusal>
     ensures adds { OnOk result (AddsCheck (form_at visible.now.scope subtype.type_number) code.old depth subtype code.new) }
-    ensures refused { IfErr result (λ why. IsRefused (here code.old + 3) (depth + check_words (form_at visible.now.scope subtype.type_number)) (not (is_taken visible.now.scope subtype)) why) }
+    ensures refused { IfErr result (λ why. IsRefused (here code.old + 3) (depth + check_words (form_at visible.now.scope subtype.type_number))
+        (not (is_taken visible.now.scope subtype)) why) }
 {
     match visible.scope.form(subtype.type_number) {
         Some(TypeForm::Integer) => add_range(code, depth, subtype),
@@ -166,11 +167,15 @@ fn add_named(
 ) -> Result<Destination, Refusal>
     requires sound { SoundScope visible.now.scope }
     requires legal { expressions.IsLegalExpression visible.now.scope (Named (name_tree name.now).first (name_tree name.now).selectors) }
-    ensures emits { IfOk result (λ destination. EmitsTarget visible.now code.old depth (Named (name_tree name.now).first (name_tree name.now).selectors) destination code.new) }
+    ensures emits { IfOk result (λ destination. EmitsTarget visible.now code.old depth
+        (Named (name_tree name.now).first (name_tree name.now).selectors) destination code.new) }
     ensures told { IfOk result (λ destination. destinations.new.items ≡ destinations.old.items ++ destination ∷ []) }
     ensures fits { IfOk result (λ destination. IsPartFit visible.now destination) }
-    ensures refused { IfErr result (λ why. IsNeeding (here code.old + 20 * expr_size (Named (name_tree name.now).first (name_tree name.now).selectors)) (target_needs depth visible.now (Named (name_tree name.now).first (name_tree name.now).selectors)) why) }
-    ensures shallow { OnOk result (IsShallow code.old code.new (target_needs depth visible.now (Named (name_tree name.now).first (name_tree name.now).selectors)).stack) }
+    ensures refused { IfErr result (λ why. IsNeeding (here code.old + 20 * expr_size
+        (Named (name_tree name.now).first (name_tree name.now).selectors)) (target_needs depth visible.now
+        (Named (name_tree name.now).first (name_tree name.now).selectors)) why) }
+    ensures shallow { OnOk result (IsShallow code.old code.new (target_needs depth visible.now
+        (Named (name_tree name.now).first (name_tree name.now).selectors)).stack) }
 {
     let Standing::Part(_, whole) = visible.scope.stands_first(&name.first) else {
         return Err(Refusal::Outside);
@@ -200,7 +205,8 @@ fn add_target(
     ensures emits { IfOk result (λ destination. EmitsTarget visible.now code.old depth (expr_tree e.now) destination code.new) }
     ensures told { IfOk result (λ destination. destinations.new.items ≡ destinations.old.items ++ destination ∷ []) }
     ensures fits { IfOk result (λ destination. IsPartFit visible.now destination) }
-    ensures refused { IfErr result (λ why. IsNeeding (here code.old + 20 * expr_size (expr_tree e.now)) (target_needs depth visible.now (expr_tree e.now)) why) }
+    ensures refused { IfErr result (λ why. IsNeeding (here code.old + 20 * expr_size (expr_tree e.now))
+        (target_needs depth visible.now (expr_tree e.now)) why) }
     ensures shallow { OnOk result (IsShallow code.old code.new (target_needs depth visible.now (expr_tree e.now)).stack) }
 {
     chains_by_parts();
@@ -226,7 +232,8 @@ fn add_value(
 ) -> Result<u16, Refusal>
     requires fits { IsPartFit visible.now destination }
     ensures adds { IfOk result (λ height. AddsValue visible.now code.old depth destination subtype height code.new) }
-    ensures refused { IfErr result (λ why. IsNeeding (here code.old + 5) (copied_needs depth visible.now (words_of visible.now.scope destination.subtype) subtype) why) }
+    ensures refused { IfErr result (λ why. IsNeeding (here code.old + 5) (copied_needs depth visible.now
+        (words_of visible.now.scope destination.subtype) subtype) why) }
 {
     let words = words_of(visible, destination.subtype)?;
     let one = raised(depth, 1)?;
@@ -249,10 +256,12 @@ fn add_actual(
     requires sound { SoundScope visible.now.scope }
     requires known { IsKnown visible.now.scope formal.now.subtype }
     requires legal { IsPassedLegally visible.now.scope formal.now (argument_tree argument.now) }
-    ensures emits { IfOk result (λ height. AddsActuals visible.now code.old depth (formal.now ∷ []) (argument_tree argument.now ∷ []) destinations.old.items destinations.new.items height code.new) }
+    ensures emits { IfOk result (λ height. AddsActuals visible.now code.old depth (formal.now ∷ []) (argument_tree argument.now ∷ [])
+        destinations.old.items destinations.new.items height code.new) }
     ensures told { OnOk result (destinations.new.items ≡ destinations.old.items ++ destinations_for visible.now formal.now (argument_tree argument.now)) }
     ensures fits { OnOk result (All (IsPartFit visible.now) (destinations_for visible.now formal.now (argument_tree argument.now))) }
-    ensures refused { IfErr result (λ why. IsNeeding (here code.old + 20 * argument_size (argument_tree argument.now)) (actual_needs depth visible.now formal.now (argument_tree argument.now)) why) }
+    ensures refused { IfErr result (λ why. IsNeeding (here code.old + 20 * argument_size (argument_tree argument.now))
+        (actual_needs depth visible.now formal.now (argument_tree argument.now)) why) }
     ensures shallow { OnOk result (IsShallow code.old code.new (actual_needs depth visible.now formal.now (argument_tree argument.now)).stack) }
 {
     arguments_by_parts();
@@ -286,10 +295,14 @@ pub fn add_actuals(
     requires sound { SoundScope visible.now.scope }
     requires known { AreKnown visible.now.scope formals.now }
     requires legal { ArePassedLegally visible.now.scope formals.now (map argument_tree arguments.now) }
-    ensures emits { IfOk result (λ height. AddsActuals visible.now code.old 0 (take (length arguments.now) formals.now) (map argument_tree arguments.now) destinations.old.items destinations.new.items height code.new) }
-    ensures told { OnOk result (destinations.new.items ≡ destinations.old.items ++ destinations_of visible.now (take (length arguments.now) formals.now) (argument_trees arguments.now)) }
-    ensures fits { OnOk result (All (IsPartFit visible.now) (destinations_of visible.now (take (length arguments.now) formals.now) (argument_trees arguments.now))) }
-    ensures refused { IfErr result (λ why. IsNeeding (here code.old + 20 * total argument_size (map argument_tree arguments.now)) (actuals_needs 0 visible.now formals.now (argument_trees arguments.now)) why) }
+    ensures emits { IfOk result (λ height. AddsActuals visible.now code.old 0 (take (length arguments.now) formals.now)
+        (map argument_tree arguments.now) destinations.old.items destinations.new.items height code.new) }
+    ensures told { OnOk result (destinations.new.items ≡ destinations.old.items ++ destinations_of visible.now
+        (take (length arguments.now) formals.now) (argument_trees arguments.now)) }
+    ensures fits { OnOk result (All (IsPartFit visible.now) (destinations_of visible.now (take (length arguments.now) formals.now)
+        (argument_trees arguments.now))) }
+    ensures refused { IfErr result (λ why. IsNeeding (here code.old + 20 * total argument_size (map argument_tree arguments.now))
+        (actuals_needs 0 visible.now formals.now (argument_trees arguments.now)) why) }
     ensures shallow { OnOk result (IsShallow code.old code.new (actuals_needs 0 visible.now formals.now (argument_trees arguments.now)).stack) }
 {
     let mut height = 0;

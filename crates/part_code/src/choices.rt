@@ -40,7 +40,8 @@ fn behind_tests(code: &Code, tests: usize) -> Result<u16, Refusal>
 // Adds the tests of choices by their static values.
 fn add_tests(code: &mut Code, scope: &Scope, label: u16, choices: &[Expr]) -> Result<(), Refusal>
     ensures tests { OnOk result (TestsAll scope.now label code.old (map expr_tree choices.now) code.new) }
-    ensures refused { IfErr result (λ why. IsNeeding (here code.old + 4 * length choices.now) (stacked_unless (choices_fault scope.now (map expr_tree choices.now)) 3) why) }
+    ensures refused { IfErr result (λ why. IsNeeding (here code.old + 4 * length choices.now)
+        (stacked_unless (choices_fault scope.now (map expr_tree choices.now)) 3) why) }
 {
     for choice in choices {
         let Ok(value) = static_value(scope, choice) else {
@@ -73,7 +74,8 @@ pub fn add_choices(
     choices: &CaseChoices,
 ) -> Result<Vec<usize>, Refusal>
     ensures adds { IfOk result (λ next. AddsChoices scope.now code.old (choices_tree choices.now) next.items code.new) }
-    ensures refused { IfErr result (λ why. RefusesChoices scope.now code.old (choices_tree choices.now) (20 * choices_size (choices_tree choices.now) + 2) why) }
+    ensures refused { IfErr result (λ why. RefusesChoices scope.now code.old (choices_tree choices.now)
+        (20 * choices_size (choices_tree choices.now) + 2) why) }
 {
     match choices {
         CaseChoices::Values(choices) => add_values(code, scope, choices),

@@ -31,7 +31,13 @@ impl Extent {
 
     /// Takes what became visible since then out of sight, and gives back the words that were taken.
     pub fn restore(self, visible: &mut Visible, words: &mut FrameWords)
-        ensures visible { visible.new ≡ record { scope = take self.names visible.old.scope; slots = take self.slots visible.old.slots; subprograms = take self.subprograms visible.old.subprograms; operations = visible.old.operations } }
+        ensures visible { visible.new ≡ record {
+          scope = take self.names visible.old.scope;
+          slots = take self.slots visible.old.slots;
+          subprograms =
+              take self.subprograms visible.old.subprograms;
+          operations = visible.old.operations;
+        } }
         ensures words { words.new ≡ record words.old { taken = self.taken } }
     {
         visible.scope.truncate(self.names);

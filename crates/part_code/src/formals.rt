@@ -54,7 +54,8 @@ pub fn take_passed(words: &mut FrameWords, scope: &Scope, formals: &[Formal]) ->
     requires most { words.old.taken ≤ words.old.most }
     ensures taken { OnOk result (words.new.taken ≡ words.old.taken + total (passed_for scope.now) formals.now) }
     ensures most { OnOk result (words.new.taken ≤ words.new.most) }
-    ensures refused { IfErr result (λ why. IsNeeding 0 (stacked_unless (are_wordless scope.now formals.now) (words.old.taken + total (passed_for scope.now) formals.now)) why) }
+    ensures refused { IfErr result (λ why. IsNeeding 0 (stacked_unless (are_wordless scope.now formals.now)
+        (words.old.taken + total (passed_for scope.now) formals.now)) why) }
     ensures same { OnOk result (words.old.most ≡ words.old.taken → words.new.most ≡ words.new.taken) }
 {
     for formal in formals {
@@ -113,7 +114,8 @@ pub fn place_all(
     ensures stand { IfOk result (λ placed. StandInTurn scope.now 0 words.old.taken formals.now placed.formals.items placed.passed words.new.taken) }
     ensures some { IfOk result (λ placed. All (HasValue scope.now) placed.formals.items) }
     ensures most { OnOk result (words.new.taken ≤ words.new.most) }
-    ensures refused { IfErr result (λ why. IsNeeding 0 (stacked_unless (are_wordless scope.now formals.now) (max (total (passed_for scope.now) formals.now) (words.old.taken + total (out_for scope.now) formals.now))) why) }
+    ensures refused { IfErr result (λ why. IsNeeding 0 (stacked_unless (are_wordless scope.now formals.now)
+        (max (total (passed_for scope.now) formals.now) (words.old.taken + total (out_for scope.now) formals.now))) why) }
     ensures same { OnOk result (words.old.most ≡ words.old.taken → words.new.most ≡ words.new.taken) }
 {
     let mut placed = Vec::new(alloc);

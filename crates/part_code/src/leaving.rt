@@ -3,8 +3,8 @@ ghost use Rattle.std.specs.Prelude.{◌≡◌};
 ghost use Rattle.part_code.specs.Emitting.{ways_of};
 ghost use Rattle.part_code.specs.Statements.{within_handler, within_loop};
 
-/// The ways out of a statement, as places of code: behind the innermost loop (RM 5.7), and to the end of the body (RM 6.5); and the word of the frame that holds the
-/// exception of the innermost handler (RM 11.3). Each is None where there is none.
+/// The ways out of a statement, as places of code: behind the innermost loop (RM 5.7), and to the end of the body (RM 6.5); and the word of the frame that
+/// holds the exception of the innermost handler (RM 11.3). Each is None where there is none.
 #[derive(Clone, Copy, PartialEq, Eq, Debug)]
 pub struct Leaving {
     pub exit: Option<u16>,

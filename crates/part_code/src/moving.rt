@@ -124,7 +124,8 @@ fn add_named(code: &mut Code, visible: &Visible, to: Moved, name: &NameExpr) -> 
     requires holds { HasPlaceIn visible.now to.region }
     ensures emits { OnOk result (EmitsMove visible.now to code.old (Named (name_tree name.now).first (name_tree name.now).selectors) code.new) }
     ensures refused { IfErr result (λ why. RefusesMove visible.now code.old (Named (name_tree name.now).first (name_tree name.now).selectors) why) }
-    ensures shallow { OnOk result (IsShallow code.old code.new (move_needs visible.now (Named (name_tree name.now).first (name_tree name.now).selectors)).stack) }
+    ensures shallow { OnOk result (IsShallow code.old code.new (move_needs visible.now
+        (Named (name_tree name.now).first (name_tree name.now).selectors)).stack) }
 {
     let Some(source) = source_of(visible, name) else {
         unreachable!();
@@ -186,9 +187,12 @@ fn add_branch(
     requires moved { is_moved visible.now (expr_tree value.now) ≡ true }
     requires block { is_block to.words ≡ true }
     requires holds { HasPlaceIn visible.now to.region }
-    ensures adds { OnOk result (AddsMoves visible.now to code.old (record { condition = expr_tree condition.now; value = expr_tree value.now } ∷ []) waiting.old.items waiting.new.items code.new) }
-    ensures refused { IfErr result (λ why. RefusesMoves visible.now code.old (record { condition = expr_tree condition.now; value = expr_tree value.now } ∷ []) why) }
-    ensures shallow { OnOk result (IsShallow code.old code.new (moves_needs visible.now (alone (record { condition = expr_tree condition.now; value = expr_tree value.now } ∷ []))).stack) }
+    ensures adds { OnOk result (AddsMoves visible.now to code.old (record { condition = expr_tree condition.now; value = expr_tree value.now } ∷ [])
+        waiting.old.items waiting.new.items code.new) }
+    ensures refused { IfErr result (λ why. RefusesMoves visible.now code.old (record
+        { condition = expr_tree condition.now; value = expr_tree value.now } ∷ []) why) }
+    ensures shallow { OnOk result (IsShallow code.old code.new (moves_needs visible.now
+        (alone (record { condition = expr_tree condition.now; value = expr_tree value.now } ∷ []))).stack) }
 {
     code.of_width(visible, 1, 1, condition)?;
     let test = code.test(1)?;

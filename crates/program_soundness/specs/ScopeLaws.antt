@@ -28,7 +28,8 @@ pub record DeclarationsAreSound : Type 0 where
   pub items : (s : Scope) (ds : List ItemTree) → SoundScope s → items_faults s ds ≡ [] → SoundScope (items_scope s ds)
   pub subprogram : (s : Scope) (d : SubprogramTree) → SoundScope s → profile_faults s d ≡ [] → SoundScope (subprogram_scope s d)
   -- formals are judged in front of the first of them and of the subprogram's name
-  pub formals : (s later : Scope) (fs : List Formal) → SoundScope s → StandsFirst s later → SoundScope later → formals_faults s [] fs ≡ [] → SoundScope (formals_scope later fs)
+  pub formals : (s later : Scope) (fs : List Formal) → SoundScope s → StandsFirst s later → SoundScope later → formals_faults s [] fs ≡ []
+      → SoundScope (formals_scope later fs)
   pub locals : (s : Scope) (ds : List DeclarationTree) → SoundScope s → locals_faults s ds ≡ [] → SoundScope (locals_scope s ds)
   pub fixed_locals : (s : Scope) (ds : List DeclarationTree) → SoundScope s → fixed_locals_faults s ds ≡ [] → SoundScope (locals_scope s ds)
   pub object : (s : Scope) (name : Identifier) (items : List ProtectedItemTree) (end_name : Identifier) → SoundScope s

@@ -102,7 +102,8 @@ module _ (program : Program) where
       (condition_faults s e ≡ []) × AreFaultless s (in_loop a) body × (later : Scope) × (b : Bool) × Narrows program s later
       × Judged later outer (record a { in_loop = b }) items
   Judged s outer a (RepeatsFor parameter reversed now last body ∷ items) =
-      (outside : Scope) × (n : ℕ) × Narrows program s outside × IsLoopParameter outside parameter n × AreFaultless (turn_scope outside parameter n) (in_loop a) body
+      (outside : Scope) × (n : ℕ) × Narrows program s outside × IsLoopParameter outside parameter n
+      × AreFaultless (turn_scope outside parameter n) (in_loop a) body
       × Narrows program (turn_scope outside parameter n) outside × (later : Scope) × (b : Bool) × Narrows program outside later
       × Judged later outer (record a { in_loop = b }) items
   Judged s outer a (Handles all ∷ items) = AreFaultlessHandlers s a all × (later : Scope) × Narrows program s later × Judged later outer a items

@@ -45,7 +45,8 @@ BarriersAreOwn program = (o : ℕ) (before after : Store) → after.components o
 abbrev pub EffectsPass : Type 0
 EffectsPass = (h : Here) (opened : List Opened) (x : SourceStepped) → BarriersAreOwn h.program → Matches (h.kernel.actions h.task) opened
     → IsHeld h.own.within opened → IsSoundStep h opened x
-    → IsBarrierHeld (is_open h.program h.memory) (is_open h.program x.solo.memory) h.kernel h.task × Passed (is_open h.program x.solo.memory) h.kernel h.task x.effect
+    → IsBarrierHeld (is_open h.program h.memory) (is_open h.program x.solo.memory) h.kernel h.task
+    × Passed (is_open h.program x.solo.memory) h.kernel h.task x.effect
 
 -- ---- tasks
 

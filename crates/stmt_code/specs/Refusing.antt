@@ -24,8 +24,8 @@ needs_if_any v (Some e) = value_needs v e
 
 -- ---- where a statement stands
 
--- what is visible there, the words of the frame that are taken, whether a loop stands around it, whether a return may be left by, whether a handler stands around
--- it, and the program's exceptions
+-- what is visible there, the words of the frame that are taken, whether a loop stands around it, whether a return may be left by, whether a handler stands
+-- around it, and the program's exceptions
 pub record Standpoint : Type 0 where
   pub visible : Visible
   pub taken : ℕ

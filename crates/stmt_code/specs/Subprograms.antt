@@ -63,7 +63,8 @@ pub record AddsProcedure (v : Visible) (old : Draft) (fs : List Formal) (b : Bod
   pub fits : words.locals + words.stack ≤ FRAME_WORDS
 
 -- The code of a function was added that returns this value: the value, checked, and the return.
-pub record AddsFunction (v : Visible) (old : Draft) (fs : List Formal) (result : Subtype) (value : ExprTree) (words : SubprogramWords) (new : Draft) : Type 0 where
+pub record AddsFunction (v : Visible) (old : Draft) (fs : List Formal) (result : Subtype) (value : ExprTree) (words : SubprogramWords)
+    (new : Draft) : Type 0 where
   pub sized : here new.code ≤ here old.code + function_bound fs value
   pub placed : PlacedFormals
   pub later : Visible
@@ -135,9 +136,10 @@ abbrev pub SuitsBody : (stores : Bool) → Visible → Sections → code.Subprog
 SuitsBody true v i s = SuitsStatements v i s
 SuitsBody false v i s = Suits v i s
 
--- The code that was added keeps the rules of images on one subprogram (docs/FORMATS.md, 43 to 47): its words are within a frame, and what is passed within those
--- of its names; it ends with a return; the rows that were added are rows of its code; and in every image that holds it, in a subprogram with these words and
--- whatever has what is visible in front of it, each instruction keeps the rules, jumps within the subprogram, and the first one finds an empty operand stack.
+-- The code that was added keeps the rules of images on one subprogram (docs/FORMATS.md, 43 to 47): its words are within a frame, and what is passed within
+-- those of its names; it ends with a return; the rows that were added are rows of its code; and in every image that holds it, in a subprogram with these words
+-- and whatever has what is visible in front of it, each instruction keeps the rules, jumps within the subprogram, and the first one finds an empty operand
+-- stack.
 pub record KeepsRules (stores : Bool) (v : Visible) (old : Draft) (words : SubprogramWords) (new : Draft) : Type 0 where
   pub extends : Extends (fresh old.code) new.code
   pub labels : StandsFrom 0 old.labels new.labels

@@ -1,4 +1,5 @@
--- Subprograms whose code keeps the rules of images, one behind another, make an image that keeps those on code (docs/FORMATS.md, 43 to 47); the contract of a public
+-- Subprograms whose code keeps the rules of images, one behind another, make an image that keeps those on code (docs/FORMATS.md, 43 to 47); the contract of a
+-- public
 -- function.
 use Rattle.std.specs.Prelude.{◌≡◌, ℕ, suc, Bool, ◌+◌, ◌≤◌, List, [], ◌∷◌, length, true, ⊤}
 use Rattle.std.specs.List.{list_all}

@@ -37,8 +37,10 @@ impl Draft {
         requires sound { SoundScope visible.now.scope }
         requires legal { IsLegalStatement visible.now.scope (Assignment (name_tree name.now) (expr_tree value.now)) }
         ensures emits { (w : Ways) → OnOk result (EmitsStatement visible.now w self.old (Assignment (name_tree name.now) (expr_tree value.now)) self.new) }
-        ensures refused { IfErr result (λ why. Refuses self.old self.old.labels (stmt_bound visible.now.scope (Assignment (name_tree name.now) (expr_tree value.now))) (assignment_needs visible.now (name_tree name.now) (expr_tree value.now)) why) }
-        ensures stays { OnOk result (Stays self.old (assignment_needs visible.now (name_tree name.now) (expr_tree value.now)) self.old.labels (length self.old.rows.items) self.new) }
+        ensures refused { IfErr result (λ why. Refuses self.old self.old.labels (stmt_bound visible.now.scope
+            (Assignment (name_tree name.now) (expr_tree value.now))) (assignment_needs visible.now (name_tree name.now) (expr_tree value.now)) why) }
+        ensures stays { OnOk result (Stays self.old (assignment_needs visible.now (name_tree name.now) (expr_tree value.now)) self.old.labels
+            (length self.old.rows.items) self.new) }
     {
         let Standing::Part(_, subtype) = visible.scope.stands_first(&name.first) else {
             return Err(Refusal::Outside);
@@ -69,13 +71,16 @@ impl Draft {
     ) -> Result<(), Refusal>
         requires sound { SoundScope visible.now.scope }
         requires legal { IsLegalStatement visible.now.scope (Assignment (name_tree name.now) (expr_tree value.now)) }
-        requires stands { (r : Role) × (stands_first visible.now.scope (number_of visible.now.scope (name_tree name.now).first.name) ≡ standing.Part r subtype) }
+        requires stands { (r : Role) × (stands_first visible.now.scope (number_of visible.now.scope (name_tree name.now).first.name) ≡ standing.Part r
+            subtype) }
         requires there { slot_of visible.now (name_tree name.now).first.name ≡ Some slot }
         requires whole { (name_tree name.now).selectors ≡ NoSelectors }
         requires single { words_of visible.now.scope subtype ≡ 1 }
         ensures emits { (w : Ways) → OnOk result (EmitsStatement visible.now w self.old (Assignment (name_tree name.now) (expr_tree value.now)) self.new) }
-        ensures refused { IfErr result (λ why. Refuses self.old self.old.labels (stmt_bound visible.now.scope (Assignment (name_tree name.now) (expr_tree value.now))) (stored_needs visible.now (name_tree name.now) (expr_tree value.now)) why) }
-        ensures stays { OnOk result (Stays self.old (stored_needs visible.now (name_tree name.now) (expr_tree value.now)) self.old.labels (length self.old.rows.items) self.new) }
+        ensures refused { IfErr result (λ why. Refuses self.old self.old.labels (stmt_bound visible.now.scope
+            (Assignment (name_tree name.now) (expr_tree value.now))) (stored_needs visible.now (name_tree name.now) (expr_tree value.now)) why) }
+        ensures stays { OnOk result (Stays self.old (stored_needs visible.now (name_tree name.now) (expr_tree value.now)) self.old.labels
+            (length self.old.rows.items) self.new) }
     {
         agreement_is_kept();
         calls_are_typed();
@@ -96,11 +101,14 @@ impl Draft {
     ) -> Result<(), Refusal>
         requires sound { SoundScope visible.now.scope }
         requires legal { IsLegalStatement visible.now.scope (Assignment (name_tree name.now) (expr_tree value.now)) }
-        requires stands { (r : Role) × (stands_first visible.now.scope (number_of visible.now.scope (name_tree name.now).first.name) ≡ standing.Part r subtype) }
+        requires stands { (r : Role) × (stands_first visible.now.scope (number_of visible.now.scope (name_tree name.now).first.name) ≡ standing.Part r
+            subtype) }
         requires there { slot_of visible.now (name_tree name.now).first.name ≡ Some slot }
         ensures emits { (w : Ways) → OnOk result (EmitsStatement visible.now w self.old (Assignment (name_tree name.now) (expr_tree value.now)) self.new) }
-        ensures refused { IfErr result (λ why. Refuses self.old self.old.labels (stmt_bound visible.now.scope (Assignment (name_tree name.now) (expr_tree value.now))) (stored_needs visible.now (name_tree name.now) (expr_tree value.now)) why) }
-        ensures stays { OnOk result (Stays self.old (stored_needs visible.now (name_tree name.now) (expr_tree value.now)) self.old.labels (length self.old.rows.items) self.new) }
+        ensures refused { IfErr result (λ why. Refuses self.old self.old.labels (stmt_bound visible.now.scope
+            (Assignment (name_tree name.now) (expr_tree value.now))) (stored_needs visible.now (name_tree name.now) (expr_tree value.now)) why) }
+        ensures stays { OnOk result (Stays self.old (stored_needs visible.now (name_tree name.now) (expr_tree value.now)) self.old.labels
+            (length self.old.rows.items) self.new) }
     {
         agreement_is_kept();
         calls_are_typed();

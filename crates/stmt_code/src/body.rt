@@ -27,9 +27,12 @@ impl Draft {
         requires sound { SoundScope visible.old.scope }
         requires entries { HasEntries visible.old }
         requires legal { IsLegalRun visible.old.scope (map declaration_tree declarations.now) (stmt_trees statements.now) (handler_trees all.now) }
-        ensures emits { OnOk result (EmitsRun visible.old self.old (map declaration_tree declarations.now) (stmt_trees statements.now) (handler_trees all.now) self.new) }
-        ensures refused { IfErr result (λ why. RefusesRun visible.old self.old (map declaration_tree declarations.now) (stmt_trees statements.now) (handler_trees all.now) why) }
-        ensures stays { OnOk result (StaysRun visible.old self.old (map declaration_tree declarations.now) (stmt_trees statements.now) (handler_trees all.now) self.new) }
+        ensures emits { OnOk result (EmitsRun visible.old self.old (map declaration_tree declarations.now) (stmt_trees statements.now)
+            (handler_trees all.now) self.new) }
+        ensures refused { IfErr result (λ why. RefusesRun visible.old self.old (map declaration_tree declarations.now) (stmt_trees statements.now)
+            (handler_trees all.now) why) }
+        ensures stays { OnOk result (StaysRun visible.old self.old (map declaration_tree declarations.now) (stmt_trees statements.now)
+            (handler_trees all.now) self.new) }
         ensures same { OnOk result (visible.new ≡ visible.old) }
     {
         names_are_added();

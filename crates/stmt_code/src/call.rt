@@ -39,7 +39,8 @@ fn add_invocation(
     requires as_many { length arguments.now ≡ length formals.now }
     requires legal { ArePassedLegally visible.now.scope formals.now (map argument_tree arguments.now) }
     ensures adds { OnOk result (AddsInvocation visible.now code.old formals.now (map argument_tree arguments.now) call code.new) }
-    ensures refused { IfErr result (λ why. IsNeeding (here code.old + (20 * total argument_size (map argument_tree arguments.now) + 1)) (passed_needs visible.now formals.now (Some (argument_trees arguments.now))) why) }
+    ensures refused { IfErr result (λ why. IsNeeding (here code.old + (20 * total argument_size (map argument_tree arguments.now) + 1))
+        (passed_needs visible.now formals.now (Some (argument_trees arguments.now))) why) }
     ensures shallow { OnOk result (IsShallow code.old code.new (passed_needs visible.now formals.now (Some (argument_trees arguments.now))).stack) }
 {
     let mut destinations = Vec::new(code.alloc);
@@ -90,8 +91,10 @@ impl Draft {
         requires names { NamesProfile visible.now.scope name.now.first.name (profile_value profile.now) }
         requires legal { IsLegalStatement visible.now.scope (Call (name_tree name.now)) }
         ensures emits { (w : Ways) → OnOk result (EmitsStatement visible.now w self.old (Call (name_tree name.now)) self.new) }
-        ensures refused { IfErr result (λ why. RefusesCall visible.now self.old (name_tree name.now) (invoked_needs visible.now (name_tree name.now) (profile_value profile.now)) why) }
-        ensures stays { OnOk result (StaysCall self.old (name_tree name.now) (invoked_needs visible.now (name_tree name.now) (profile_value profile.now)) self.new) }
+        ensures refused { IfErr result (λ why. RefusesCall visible.now self.old (name_tree name.now)
+            (invoked_needs visible.now (name_tree name.now) (profile_value profile.now)) why) }
+        ensures stays { OnOk result (StaysCall self.old (name_tree name.now) (invoked_needs visible.now (name_tree name.now)
+            (profile_value profile.now)) self.new) }
     {
         quiet_stays();
         let Some(number) = visible.subprogram(&name.first.name) else {
@@ -113,11 +116,16 @@ impl Draft {
         arguments: &[Argument],
     ) -> Result<(), Refusal>
         requires sound { SoundScope visible.now.scope }
-        requires behind { operation_behind (name_tree name.now).selectors ≡ Some (record { operation = operation.now; arguments = argument_trees arguments.now }) }
+        requires behind { operation_behind (name_tree name.now).selectors ≡ Some
+            (record { operation = operation.now; arguments = argument_trees arguments.now }) }
         requires legal { IsLegalStatement visible.now.scope (Call (name_tree name.now)) }
         ensures emits { (w : Ways) → OnOk result (EmitsStatement visible.now w self.old (Call (name_tree name.now)) self.new) }
-        ensures refused { IfErr result (λ why. RefusesCall visible.now self.old (name_tree name.now) (external_needs visible.now name.now.first.name (record { operation = operation.now; arguments = argument_trees arguments.now }) (external_profile visible.now.scope name.now.first.name operation.now.name)) why) }
-        ensures stays { OnOk result (StaysCall self.old (name_tree name.now) (external_needs visible.now name.now.first.name (record { operation = operation.now; arguments = argument_trees arguments.now }) (external_profile visible.now.scope name.now.first.name operation.now.name)) self.new) }
+        ensures refused { IfErr result (λ why. RefusesCall visible.now self.old (name_tree name.now)
+            (external_needs visible.now name.now.first.name (record { operation = operation.now; arguments = argument_trees arguments.now })
+            (external_profile visible.now.scope name.now.first.name operation.now.name)) why) }
+        ensures stays { OnOk result (StaysCall self.old (name_tree name.now) (external_needs visible.now name.now.first.name
+            (record { operation = operation.now; arguments = argument_trees arguments.now })
+            (external_profile visible.now.scope name.now.first.name operation.now.name)) self.new) }
     {
         quiet_stays();
         let Some(profile) = visible.external_profile(&name.first.name, &operation.name) else {
@@ -141,12 +149,17 @@ impl Draft {
         object: u16,
     ) -> Result<(), Refusal>
         requires sound { SoundScope visible.now.scope }
-        requires behind { operation_behind (name_tree name.now).selectors ≡ Some (record { operation = operation.now; arguments = argument_trees arguments.now }) }
+        requires behind { operation_behind (name_tree name.now).selectors ≡ Some
+            (record { operation = operation.now; arguments = argument_trees arguments.now }) }
         requires entry { entry_behind visible.now.scope name.now.first.name operation.now.name ≡ Some object }
         requires legal { IsLegalStatement visible.now.scope (Call (name_tree name.now)) }
         ensures emits { (w : Ways) → OnOk result (EmitsStatement visible.now w self.old (Call (name_tree name.now)) self.new) }
-        ensures refused { IfErr result (λ why. RefusesCall visible.now self.old (name_tree name.now) (entry_needs visible.now (record { operation = operation.now; arguments = argument_trees arguments.now }) (external_profile visible.now.scope name.now.first.name operation.now.name)) why) }
-        ensures stays { OnOk result (StaysCall self.old (name_tree name.now) (entry_needs visible.now (record { operation = operation.now; arguments = argument_trees arguments.now }) (external_profile visible.now.scope name.now.first.name operation.now.name)) self.new) }
+        ensures refused { IfErr result (λ why. RefusesCall visible.now self.old (name_tree name.now)
+            (entry_needs visible.now (record { operation = operation.now; arguments = argument_trees arguments.now })
+            (external_profile visible.now.scope name.now.first.name operation.now.name)) why) }
+        ensures stays { OnOk result (StaysCall self.old (name_tree name.now) (entry_needs visible.now
+            (record { operation = operation.now; arguments = argument_trees arguments.now })
+            (external_profile visible.now.scope name.now.first.name operation.now.name)) self.new) }
     {
         quiet_stays();
         let Some(profile) = visible.external_profile(&name.first.name, &operation.name) else {

@@ -34,9 +34,12 @@ impl Draft {
         requires sound { SoundScope visible.old.scope }
         requires entries { HasEntries visible.old }
         requires legal { IsLegalStatement visible.old.scope (Case place (expr_tree value.now) (alternative_trees alternatives.now)) }
-        ensures emits { OnOk result (EmitsStatement visible.old (ways_of leaving) self.old (Case place (expr_tree value.now) (alternative_trees alternatives.now)) self.new) }
-        ensures refused { IfErr result (λ why. RefusesStatement visible.old (ways_of leaving) self.old (Case place (expr_tree value.now) (alternative_trees alternatives.now)) why) }
-        ensures stays { OnOk result (StaysStatement visible.old (ways_of leaving) self.old (Case place (expr_tree value.now) (alternative_trees alternatives.now)) self.new) }
+        ensures emits { OnOk result (EmitsStatement visible.old (ways_of leaving) self.old
+            (Case place (expr_tree value.now) (alternative_trees alternatives.now)) self.new) }
+        ensures refused { IfErr result (λ why. RefusesStatement visible.old (ways_of leaving) self.old
+            (Case place (expr_tree value.now) (alternative_trees alternatives.now)) why) }
+        ensures stays { OnOk result (StaysStatement visible.old (ways_of leaving) self.old
+            (Case place (expr_tree value.now) (alternative_trees alternatives.now)) self.new) }
         ensures same { OnOk result (visible.new ≡ visible.old) }
     {
         let mut waiting = Vec::new(self.code.alloc);
@@ -60,7 +63,8 @@ impl Draft {
         requires entries { HasEntries visible.old }
         requires selecting { selecting_faults visible.old.scope (expr_tree value.now) ≡ [] }
         requires legal { AreLegalAlternatives visible.old.scope (expr_tree value.now) (alternative_trees all.now) }
-        ensures adds { OnOk result (AddsAlternatives visible.old (ways_of leaving) (expr_tree value.now) self.old (map alternative_tree all.now) waiting.old.items waiting.new.items self.new) }
+        ensures adds { OnOk result (AddsAlternatives visible.old (ways_of leaving) (expr_tree value.now) self.old (map alternative_tree all.now)
+            waiting.old.items waiting.new.items self.new) }
         ensures refused { IfErr result (λ why. RefusesAlternatives visible.old (ways_of leaving) self.old (alternative_trees all.now) why) }
         ensures stays { OnOk result (StaysAlternatives visible.old (ways_of leaving) self.old (alternative_trees all.now) self.new) }
         ensures same { OnOk result (visible.new ≡ visible.old) }
@@ -86,9 +90,12 @@ impl Draft {
         requires selecting { selecting_faults visible.old.scope (expr_tree value.now) ≡ [] }
         requires choices { AreLegalChoices visible.old.scope (expr_tree value.now) (choices_tree alternative.now.choices) }
         requires legal { AreLegalStatements visible.old.scope (stmt_trees alternative.now.statements.items) }
-        ensures adds { OnOk result (AddsAlternatives visible.old (ways_of leaving) (expr_tree value.now) self.old (alternative_tree alternative.now ∷ []) waiting.old.items waiting.new.items self.new) }
-        ensures refused { IfErr result (λ why. RefusesAlternatives visible.old (ways_of leaving) self.old (alternatives_of (alternative_tree alternative.now ∷ [])) why) }
-        ensures stays { OnOk result (StaysAlternatives visible.old (ways_of leaving) self.old (alternatives_of (alternative_tree alternative.now ∷ [])) self.new) }
+        ensures adds { OnOk result (AddsAlternatives visible.old (ways_of leaving) (expr_tree value.now) self.old
+            (alternative_tree alternative.now ∷ []) waiting.old.items waiting.new.items self.new) }
+        ensures refused { IfErr result (λ why. RefusesAlternatives visible.old (ways_of leaving) self.old
+            (alternatives_of (alternative_tree alternative.now ∷ [])) why) }
+        ensures stays { OnOk result (StaysAlternatives visible.old (ways_of leaving) self.old
+            (alternatives_of (alternative_tree alternative.now ∷ [])) self.new) }
         ensures same { OnOk result (visible.new ≡ visible.old) }
     {
         calls_are_typed();

@@ -16,7 +16,8 @@ use expr_code::{Refusal, Visible};
 use image::Operation;
 
 impl Draft {
-    /// Adds the code of a delay: a test that the task is inside no protected action, so that nothing is evaluated where it is (RM 9.5.1), the time, and the delay.
+    /// Adds the code of a delay: a test that the task is inside no protected action, so that nothing is evaluated where it is (RM 9.5.1), the time, and the
+    /// delay.
     pub(crate) fn delay_until(
         &mut self,
         visible: &Visible,
@@ -26,7 +27,8 @@ impl Draft {
         requires sound { SoundScope visible.now.scope }
         requires legal { IsLegalStatement visible.now.scope (DelayUntil place (expr_tree until.now)) }
         ensures emits { (w : Ways) → OnOk result (EmitsStatement visible.now w self.old (DelayUntil place (expr_tree until.now)) self.new) }
-        ensures refused { IfErr result (λ why. Refuses self.old self.old.labels (stmt_bound visible.now.scope (DelayUntil place (expr_tree until.now))) (value_needs visible.now (expr_tree until.now)) why) }
+        ensures refused { IfErr result (λ why. Refuses self.old self.old.labels (stmt_bound visible.now.scope
+            (DelayUntil place (expr_tree until.now))) (value_needs visible.now (expr_tree until.now)) why) }
         ensures stays { OnOk result (Stays self.old (value_needs visible.now (expr_tree until.now)) self.old.labels (length self.old.rows.items) self.new) }
     {
         self.code.emit(0, Operation::CheckBlocking)?;

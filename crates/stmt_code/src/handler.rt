@@ -124,7 +124,8 @@ impl Draft {
         requires sound { SoundScope visible.old.scope }
         requires entries { HasEntries visible.old }
         requires legal { AreLegalHandlers visible.old.scope (handler_trees all.now) }
-        ensures adds { OnOk result (AddsHandlers visible.old (ways_of leaving) region self.old (map handler_tree all.now) waiting.old.items waiting.new.items own.old.items own.new.items self.new) }
+        ensures adds { OnOk result (AddsHandlers visible.old (ways_of leaving) region self.old (map handler_tree all.now) waiting.old.items
+            waiting.new.items own.old.items own.new.items self.new) }
         ensures refused { IfErr result (λ why. RefusesHandlers visible.old (ways_of leaving) self.old (handler_trees all.now) why) }
         ensures stays { OnOk result (StaysHandlers visible.old (ways_of leaving) self.old (handler_trees all.now) self.new) }
         ensures many { OnOk result (length own.new.items ≡ length own.old.items + choices_many (handler_trees all.now)) }
@@ -136,7 +137,8 @@ impl Draft {
         Ok(())
     }
 
-    // Adds that of a handler: it keeps the exception in a word of the frame, which is free again behind it; its statements; and a jump whose place waits for the end.
+    // Adds that of a handler: it keeps the exception in a word of the frame, which is free again behind it; its statements; and a jump whose place waits for
+    // the end.
     #[cycle(statement)]
     fn handler(
         &mut self,
@@ -150,7 +152,8 @@ impl Draft {
         requires sound { SoundScope visible.old.scope }
         requires entries { HasEntries visible.old }
         requires legal { AreLegalStatements visible.old.scope (stmt_trees handler.now.statements.items) }
-        ensures adds { OnOk result (AddsHandlers visible.old (ways_of leaving) region self.old (handler_tree handler.now ∷ []) waiting.old.items waiting.new.items own.old.items own.new.items self.new) }
+        ensures adds { OnOk result (AddsHandlers visible.old (ways_of leaving) region self.old (handler_tree handler.now ∷ []) waiting.old.items
+            waiting.new.items own.old.items own.new.items self.new) }
         ensures refused { IfErr result (λ why. RefusesHandlers visible.old (ways_of leaving) self.old (handlers_of (handler_tree handler.now ∷ [])) why) }
         ensures stays { OnOk result (StaysHandlers visible.old (ways_of leaving) self.old (handlers_of (handler_tree handler.now ∷ [])) self.new) }
         ensures many { OnOk result (length own.new.items ≡ length own.old.items + length handler.now.choices.items) }

@@ -1,4 +1,5 @@
-//! Assignments of arrays and records from variables, or from parts of them, one of which an if expression may choose: one instruction moves their words (RM 5.2).
+//! Assignments of arrays and records from variables, or from parts of them, one of which an if expression may choose: one instruction moves their words (RM
+//! 5.2).
 ghost use Rattle.std.specs.Prelude.{◌≡◌, length, true, IfErr, OnOk, Some};
 ghost use Rattle.ada_tree.specs.ExpressionTree.{expr_tree, name_tree};
 ghost use Rattle.ada_tree.specs.StatementTree.{Assignment};
@@ -38,13 +39,16 @@ impl Draft {
     ) -> Result<(), Refusal>
         requires sound { SoundScope visible.now.scope }
         requires legal { IsLegalStatement visible.now.scope (Assignment (name_tree name.now) (expr_tree value.now)) }
-        requires stands { (r : Role) × (stands_first visible.now.scope (number_of visible.now.scope (name_tree name.now).first.name) ≡ standing.Part r subtype) }
+        requires stands { (r : Role) × (stands_first visible.now.scope (number_of visible.now.scope (name_tree name.now).first.name) ≡ standing.Part r
+            subtype) }
         requires there { slot_of visible.now (name_tree name.now).first.name ≡ Some slot }
         requires composite { let n = name_tree name.now in names_composite visible.now.scope (standing_of visible.now.scope n.first n.selectors) ≡ true }
         requires whole { is_composite (form_at visible.now.scope subtype.type_number) ≡ true }
         ensures emits { (w : Ways) → OnOk result (EmitsStatement visible.now w self.old (Assignment (name_tree name.now) (expr_tree value.now)) self.new) }
-        ensures refused { IfErr result (λ why. Refuses self.old self.old.labels (stmt_bound visible.now.scope (Assignment (name_tree name.now) (expr_tree value.now))) (assignment_needs visible.now (name_tree name.now) (expr_tree value.now)) why) }
-        ensures stays { OnOk result (Stays self.old (assignment_needs visible.now (name_tree name.now) (expr_tree value.now)) self.old.labels (length self.old.rows.items) self.new) }
+        ensures refused { IfErr result (λ why. Refuses self.old self.old.labels (stmt_bound visible.now.scope
+            (Assignment (name_tree name.now) (expr_tree value.now))) (assignment_needs visible.now (name_tree name.now) (expr_tree value.now)) why) }
+        ensures stays { OnOk result (Stays self.old (assignment_needs visible.now (name_tree name.now) (expr_tree value.now)) self.old.labels
+            (length self.old.rows.items) self.new) }
     {
         if is_moved(visible, value) {
             return self.move_words(visible, slot, subtype, name, value);
@@ -63,13 +67,16 @@ impl Draft {
     ) -> Result<(), Refusal>
         requires sound { SoundScope visible.now.scope }
         requires legal { IsLegalStatement visible.now.scope (Assignment (name_tree name.now) (expr_tree value.now)) }
-        requires stands { (r : Role) × (stands_first visible.now.scope (number_of visible.now.scope (name_tree name.now).first.name) ≡ standing.Part r subtype) }
+        requires stands { (r : Role) × (stands_first visible.now.scope (number_of visible.now.scope (name_tree name.now).first.name) ≡ standing.Part r
+            subtype) }
         requires there { slot_of visible.now (name_tree name.now).first.name ≡ Some slot }
         requires composite { let n = name_tree name.now in names_composite visible.now.scope (standing_of visible.now.scope n.first n.selectors) ≡ true }
         requires moved { is_moved visible.now (expr_tree value.now) ≡ true }
         ensures emits { (w : Ways) → OnOk result (EmitsStatement visible.now w self.old (Assignment (name_tree name.now) (expr_tree value.now)) self.new) }
-        ensures refused { IfErr result (λ why. Refuses self.old self.old.labels (stmt_bound visible.now.scope (Assignment (name_tree name.now) (expr_tree value.now))) (moved_needs visible.now (name_tree name.now) (expr_tree value.now)) why) }
-        ensures stays { OnOk result (Stays self.old (moved_needs visible.now (name_tree name.now) (expr_tree value.now)) self.old.labels (length self.old.rows.items) self.new) }
+        ensures refused { IfErr result (λ why. Refuses self.old self.old.labels (stmt_bound visible.now.scope
+            (Assignment (name_tree name.now) (expr_tree value.now))) (moved_needs visible.now (name_tree name.now) (expr_tree value.now)) why) }
+        ensures stays { OnOk result (Stays self.old (moved_needs visible.now (name_tree name.now) (expr_tree value.now)) self.old.labels
+            (length self.old.rows.items) self.new) }
     {
         agreement_is_kept();
         calls_are_typed();

@@ -31,7 +31,8 @@ impl Draft {
     ) -> Result<(Turns, usize), Refusal>
         requires sound { SoundScope visible.old.scope }
         requires legal { loop_faults visible.old.scope parameter.now (range_tree range.now) ≡ [] }
-        ensures begins { IfOk result (λ begun. BeginsRange visible.old self.old parameter.now reversed (range_tree range.now) begun.0 begun.1 visible.new self.new) }
+        ensures begins { IfOk result (λ begun. BeginsRange visible.old self.old parameter.now reversed (range_tree range.now) begun.0 begun.1
+            visible.new self.new) }
         ensures refused { IfErr result (λ why. RefusesRange visible.old self.old parameter.now reversed (range_tree range.now) why) }
         ensures stays { OnOk result (StaysRange visible.old self.old parameter.now reversed (range_tree range.now) self.new) }
     {
@@ -68,9 +69,12 @@ impl Draft {
         requires sound { SoundScope visible.old.scope }
         requires entries { HasEntries visible.old }
         requires legal { IsLegalStatement visible.old.scope (Loop place (For parameter.now reversed (range_tree range.now)) (stmt_trees body.now)) }
-        ensures emits { OnOk result (EmitsStatement visible.old (ways_of leaving) self.old (Loop place (For parameter.now reversed (range_tree range.now)) (stmt_trees body.now)) self.new) }
-        ensures refused { IfErr result (λ why. RefusesStatement visible.old (ways_of leaving) self.old (Loop place (For parameter.now reversed (range_tree range.now)) (stmt_trees body.now)) why) }
-        ensures stays { OnOk result (StaysStatement visible.old (ways_of leaving) self.old (Loop place (For parameter.now reversed (range_tree range.now)) (stmt_trees body.now)) self.new) }
+        ensures emits { OnOk result (EmitsStatement visible.old (ways_of leaving) self.old
+            (Loop place (For parameter.now reversed (range_tree range.now)) (stmt_trees body.now)) self.new) }
+        ensures refused { IfErr result (λ why. RefusesStatement visible.old (ways_of leaving) self.old
+            (Loop place (For parameter.now reversed (range_tree range.now)) (stmt_trees body.now)) why) }
+        ensures stays { OnOk result (StaysStatement visible.old (ways_of leaving) self.old
+            (Loop place (For parameter.now reversed (range_tree range.now)) (stmt_trees body.now)) self.new) }
         ensures same { OnOk result (visible.new ≡ visible.old) }
     {
         agreement_is_kept();

@@ -30,7 +30,8 @@ impl Draft {
         requires sound { SoundScope visible.now.scope }
         requires legal { IsLegalStatement visible.now.scope (Exit place (optional_tree expr_tree condition.now)) }
         ensures emits { OnOk result (EmitsStatement visible.now (ways_of leaving) self.old (Exit place (optional_tree expr_tree condition.now)) self.new) }
-        ensures refused { IfErr result (λ why. RefusesStatement visible.now (ways_of leaving) self.old (Exit place (optional_tree expr_tree condition.now)) why) }
+        ensures refused { IfErr result (λ why. RefusesStatement visible.now (ways_of leaving) self.old
+            (Exit place (optional_tree expr_tree condition.now)) why) }
         ensures stays { OnOk result (StaysStatement visible.now (ways_of leaving) self.old (Exit place (optional_tree expr_tree condition.now)) self.new) }
     {
         let Some(exit) = leaving.exit else {
@@ -157,9 +158,12 @@ impl Draft {
         requires entries { HasEntries visible.old }
         requires condition { condition_faults visible.old.scope (expr_tree condition.now) ≡ [] }
         requires legal { AreLegalStatements visible.old.scope (stmt_trees body.now) }
-        ensures adds { OnOk result (AddsParts visible.old (ways_of leaving) self.old ((expr_tree condition.now, stmt_trees body.now) ∷ []) waiting.old.items waiting.new.items self.new) }
-        ensures refused { IfErr result (λ why. RefusesParts visible.old (ways_of leaving) self.old (elsifs_of ((expr_tree condition.now, stmt_trees body.now) ∷ [])) why) }
-        ensures stays { OnOk result (StaysParts visible.old (ways_of leaving) self.old (elsifs_of ((expr_tree condition.now, stmt_trees body.now) ∷ [])) self.new) }
+        ensures adds { OnOk result (AddsParts visible.old (ways_of leaving) self.old ((expr_tree condition.now, stmt_trees body.now) ∷ [])
+            waiting.old.items waiting.new.items self.new) }
+        ensures refused { IfErr result (λ why. RefusesParts visible.old (ways_of leaving) self.old
+            (elsifs_of ((expr_tree condition.now, stmt_trees body.now) ∷ [])) why) }
+        ensures stays { OnOk result (StaysParts visible.old (ways_of leaving) self.old
+            (elsifs_of ((expr_tree condition.now, stmt_trees body.now) ∷ [])) self.new) }
         ensures same { OnOk result (visible.new ≡ visible.old) }
     {
         self.code.of_width(visible, 0, 1, condition)?;
@@ -204,9 +208,12 @@ impl Draft {
         requires sound { SoundScope visible.old.scope }
         requires entries { HasEntries visible.old }
         requires legal { IsLegalStatement visible.old.scope (Loop place (iteration_tree iteration.now) (stmt_trees body.now)) }
-        ensures emits { OnOk result (EmitsStatement visible.old (ways_of leaving) self.old (Loop place (iteration_tree iteration.now) (stmt_trees body.now)) self.new) }
-        ensures refused { IfErr result (λ why. RefusesStatement visible.old (ways_of leaving) self.old (Loop place (iteration_tree iteration.now) (stmt_trees body.now)) why) }
-        ensures stays { OnOk result (StaysStatement visible.old (ways_of leaving) self.old (Loop place (iteration_tree iteration.now) (stmt_trees body.now)) self.new) }
+        ensures emits { OnOk result (EmitsStatement visible.old (ways_of leaving) self.old
+            (Loop place (iteration_tree iteration.now) (stmt_trees body.now)) self.new) }
+        ensures refused { IfErr result (λ why. RefusesStatement visible.old (ways_of leaving) self.old
+            (Loop place (iteration_tree iteration.now) (stmt_trees body.now)) why) }
+        ensures stays { OnOk result (StaysStatement visible.old (ways_of leaving) self.old
+            (Loop place (iteration_tree iteration.now) (stmt_trees body.now)) self.new) }
         ensures same { OnOk result (visible.new ≡ visible.old) }
     {
         match iteration {
@@ -244,9 +251,12 @@ impl Draft {
         requires sound { SoundScope visible.old.scope }
         requires entries { HasEntries visible.old }
         requires legal { IsLegalStatement visible.old.scope (Block place (map declaration_tree declarations.now) (stmt_trees body.now) NoHandlers) }
-        ensures emits { OnOk result (EmitsStatement visible.old (ways_of leaving) self.old (Block place (map declaration_tree declarations.now) (stmt_trees body.now) NoHandlers) self.new) }
-        ensures refused { IfErr result (λ why. RefusesStatement visible.old (ways_of leaving) self.old (Block place (map declaration_tree declarations.now) (stmt_trees body.now) NoHandlers) why) }
-        ensures stays { OnOk result (StaysStatement visible.old (ways_of leaving) self.old (Block place (map declaration_tree declarations.now) (stmt_trees body.now) NoHandlers) self.new) }
+        ensures emits { OnOk result (EmitsStatement visible.old (ways_of leaving) self.old
+            (Block place (map declaration_tree declarations.now) (stmt_trees body.now) NoHandlers) self.new) }
+        ensures refused { IfErr result (λ why. RefusesStatement visible.old (ways_of leaving) self.old
+            (Block place (map declaration_tree declarations.now) (stmt_trees body.now) NoHandlers) why) }
+        ensures stays { OnOk result (StaysStatement visible.old (ways_of leaving) self.old
+            (Block place (map declaration_tree declarations.now) (stmt_trees body.now) NoHandlers) self.new) }
         ensures same { OnOk result (visible.new ≡ visible.old) }
     {
         names_are_added();

@@ -57,7 +57,8 @@ impl Draft {
         requires sound { SoundScope (formals_scope visible.old.scope formals.now) }
         requires entries { HasEntries visible.old }
         requires new_names { length (formals_scope visible.old.scope formals.now) ≡ length visible.old.scope + length formals.now }
-        requires legal { IsLegalRun (formals_scope visible.old.scope formals.now) (body_tree body.now).declarations (body_tree body.now).statements (body_tree body.now).handlers }
+        requires legal { IsLegalRun (formals_scope visible.old.scope formals.now) (body_tree body.now).declarations (body_tree body.now).statements
+            (body_tree body.now).handlers }
         ensures adds { IfOk result (λ words. AddsProcedure visible.old self.old formals.now (body_tree body.now) words self.new) }
         ensures called { IfOk result (λ words. IsCalledProcedure visible.old.scope formals.now words) }
         ensures refused { IfErr result (λ why. RefusesProcedure visible.old self.old formals.now (body_tree body.now) why) }
@@ -90,7 +91,8 @@ impl Draft {
         Ok(words)
     }
 
-    /// Adds the code of a function that returns the value of an expression, which is checked against the subtype of its result, where the names in front of its parameters are visible.
+    /// Adds the code of a function that returns the value of an expression, which is checked against the subtype of its result, where the names in front of its
+    /// parameters are visible.
     pub fn function(
         &mut self,
         visible: &mut Visible,

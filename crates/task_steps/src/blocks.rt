@@ -121,7 +121,8 @@ fn keep_block(
 ) -> bool
     requires { length state.now.frame.locals ≤ WORDS }
     ensures shared { memory.new.shared ≡ memory.old.shared }
-    ensures kept { IsBlockKept (words_at (region_words program.now region (words_in program.now memory.old.shared) state.now.frame) index count) result memory.new.passed }
+    ensures kept { IsBlockKept (words_at (region_words program.now region (words_in program.now memory.old.shared) state.now.frame) index count)
+        result memory.new.passed }
 {
     let words = region_words(program, state, memory, region);
     let Some(at) = block_at(words.len(), index, usize::from(count)) else {
@@ -163,7 +164,8 @@ fn put_block(
     region: Region,
     index: i64,
 ) -> bool
-    ensures { Put program.now region (words_put (region_words program.now region (words_in program.now memory.old.shared) state.old.frame) index memory.old.passed) result memory.old state.old memory.new state.new }
+    ensures { Put program.now region (words_put (region_words program.now region (words_in program.now memory.old.shared) state.old.frame) index
+        memory.old.passed) result memory.old state.old memory.new state.new }
 {
     let words = region_words(program, state, memory, region);
     let Some(at) = block_at(words.len(), index, memory.passed().len()) else {
@@ -182,7 +184,8 @@ fn put_words(
     at: usize,
 )
     requires { at + length memory.old.passed ≤ length (region_words program.now region (words_in program.now memory.old.shared) state.old.frame) }
-    ensures { PutsWords program.now region (with_block (region_words program.now region (words_in program.now memory.old.shared) state.old.frame) at memory.old.passed) memory.old state.old memory.new state.new }
+    ensures { PutsWords program.now region (with_block (region_words program.now region (words_in program.now memory.old.shared) state.old.frame) at
+        memory.old.passed) memory.old state.old memory.new state.new }
 {
     match region {
         Region::Locals => state.store_locals(at, memory.passed()),

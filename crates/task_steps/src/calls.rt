@@ -56,7 +56,8 @@ pub(crate) fn protected_call<R: Ready, D: Delays>(
     requires task { IsTask (kernel_of tasking.now) task }
     requires objects { (kernel_of tasking.now).partition.objects ≡ length program.now.objects }
     requires here { IsReadyFor program.now state.old (operations.ProtectedCall number) }
-    ensures { (schedule : List ScheduleLine) → DoesIn program.now (operations.ProtectedCall number) state.old memory.now result memory.now state.new schedule (kernel_of tasking.now) task }
+    ensures { (schedule : List ScheduleLine) → DoesIn program.now (operations.ProtectedCall number) state.old memory.now result memory.now state.new
+        schedule (kernel_of tasking.now) task }
 {
     let Some(subprogram) = called(program, number) else {
         unreachable!()
@@ -106,7 +107,8 @@ pub(crate) fn entry_call<R: Ready, D: Delays>(
     requires task { IsTask (kernel_of tasking.now) task }
     requires objects { (kernel_of tasking.now).partition.objects ≡ length program.now.objects }
     requires here { IsReadyFor program.now state.old (operations.EntryCall object) }
-    ensures { (schedule : List ScheduleLine) → DoesIn program.now (operations.EntryCall object) state.old memory.now result memory.now state.new schedule (kernel_of tasking.now) task }
+    ensures { (schedule : List ScheduleLine) → DoesIn program.now (operations.EntryCall object) state.old memory.now result memory.now state.new
+        schedule (kernel_of tasking.now) task }
 {
     let Some(number) = entry(program, object) else {
         unreachable!()
@@ -155,7 +157,10 @@ fn queue<R: Ready, D: Delays>(
     requires object { object < (kernel_of tasking.now).partition.objects }
     requires quiet { state.old.raising ≡ None }
     requires raises { MayRaise program.now state.old }
-    ensures { (schedule : List ScheduleLine) (t : ℕ) → with_frame_left program.now schedule (kernel_of tasking.now) t (words_in program.now memory.now.shared) state.old.frame state.old.callers (queues program.now schedule (kernel_of tasking.now) t (words_in program.now memory.now.shared) state.old.frame state.old.callers object) ≡ stepped_of program.now result memory.now state.new }
+    ensures { (schedule : List ScheduleLine) (t : ℕ) → with_frame_left program.now schedule (kernel_of tasking.now) t
+        (words_in program.now memory.now.shared) state.old.frame state.old.callers
+        (queues program.now schedule (kernel_of tasking.now) t (words_in program.now memory.now.shared) state.old.frame state.old.callers object)
+        ≡ stepped_of program.now result memory.now state.new }
 {
     if CALLERS <= state.callers() {
         return raise_predefined(program, state, memory, PredefinedException::StorageError);
@@ -181,7 +186,9 @@ fn enter(
     requires room { subprogram.now.locals ≤ FRAME_WORDS }
     requires quiet { state.old.raising ≡ None }
     requires raises { MayRaise program.now state.old }
-    ensures { (schedule : List ScheduleLine) (k : Kernel) (t : ℕ) → with_frame_left program.now schedule k t (words_in program.now memory.now.shared) state.old.frame state.old.callers (enters program.now schedule k t (words_in program.now memory.now.shared) state.old.frame state.old.callers (effect_of program.now effect) (role_of role) number subprogram.now) ≡ stepped_of program.now result memory.now state.new }
+    ensures { (schedule : List ScheduleLine) (k : Kernel) (t : ℕ) → with_frame_left program.now schedule k t (words_in program.now memory.now.shared)
+        state.old.frame state.old.callers (enters program.now schedule k t (words_in program.now memory.now.shared) state.old.frame state.old.callers
+        (effect_of program.now effect) (role_of role) number subprogram.now) ≡ stepped_of program.now result memory.now state.new }
 {
     if CALLERS <= state.callers() {
         return raise_predefined(program, state, memory, PredefinedException::StorageError);

@@ -38,7 +38,8 @@ fn refuse_inside<R: Ready, D: Delays>(
     requires task { IsTask (kernel_of tasking.now) task }
     requires raises { MayRaise program.now state.old }
     ensures inside { is_some result ≡ is_inside_any (kernel_of tasking.now) task }
-    ensures refused { IfSome result (λ act. unwind program.now (words_in program.now memory.now.shared) (number_of ProgramError) state.old.frame state.old.callers ≡ stepped_of program.now act memory.now state.new) }
+    ensures refused { IfSome result (λ act. unwind program.now (words_in program.now memory.now.shared) (number_of ProgramError) state.old.frame
+        state.old.callers ≡ stepped_of program.now act memory.now state.new) }
     ensures passed { result ≡ None → state.new ≡ state.old }
 {
     if tasking.is_inside_any(task) {
@@ -58,7 +59,8 @@ pub(crate) fn check_blocking<R: Ready, D: Delays>(
 ) -> Act
     requires task { IsTask (kernel_of tasking.now) task }
     requires here { IsReadyFor program.now state.old operations.CheckBlocking }
-    ensures { (schedule : List ScheduleLine) → DoesIn program.now operations.CheckBlocking state.old memory.now result memory.now state.new schedule (kernel_of tasking.now) task }
+    ensures { (schedule : List ScheduleLine) → DoesIn program.now operations.CheckBlocking state.old memory.now result memory.now state.new schedule
+        (kernel_of tasking.now) task }
 {
     if let Some(act) = refuse_inside(program, tasking, task, state, memory) {
         return act;
@@ -77,7 +79,8 @@ pub(crate) fn delay_until<R: Ready, D: Delays>(
 ) -> Act
     requires task { IsTask (kernel_of tasking.now) task }
     requires here { IsReadyFor program.now state.old operations.DelayUntil }
-    ensures { (schedule : List ScheduleLine) → DoesIn program.now operations.DelayUntil state.old memory.now result memory.now state.new schedule (kernel_of tasking.now) task }
+    ensures { (schedule : List ScheduleLine) → DoesIn program.now operations.DelayUntil state.old memory.now result memory.now state.new schedule
+        (kernel_of tasking.now) task }
 {
     if let Some(act) = refuse_inside(program, tasking, task, state, memory) {
         return act;
@@ -138,7 +141,8 @@ pub(crate) fn clock<R: Ready, D: Delays>(
     memory: &Memory,
 ) -> Act
     requires { IsReadyFor program.now state.old operations.Clock }
-    ensures { (schedule : List ScheduleLine) (t : ℕ) → DoesIn program.now operations.Clock state.old memory.now result memory.now state.new schedule (kernel_of tasking.now) t }
+    ensures { (schedule : List ScheduleLine) (t : ℕ) → DoesIn program.now operations.Clock state.old memory.now result memory.now state.new schedule
+        (kernel_of tasking.now) t }
 {
     state.push(tasking.now());
     state.advance();

@@ -59,7 +59,8 @@ pub(crate) fn operate_here<R: Ready, D: Delays>(
     requires quiet { state.old.raising ≡ None }
     requires here { Some operation ≡ option_map (λ x. x.operation) (slice_get program.now.instructions state.old.frame.place) }
     requires left { is_left operation ≡ true }
-    ensures { act program.now schedule.now (kernel_of tasking.now) task (solo_in program.now memory.old state.old) ≡ stepped_of program.now result memory.new state.new }
+    ensures { act program.now schedule.now (kernel_of tasking.now) task (solo_in program.now memory.old state.old) ≡ stepped_of program.now result
+        memory.new state.new }
 {
     frames_have_room();
     let _image = program.image();

@@ -27,7 +27,8 @@ pub(crate) fn raise_predefined(
     exception: PredefinedException,
 ) -> Act
     requires { MayRaise program.now state.old }
-    ensures { unwind program.now (words_in program.now memory.now.shared) (number_of exception) state.old.frame state.old.callers ≡ stepped_of program.now result memory.now state.new }
+    ensures { unwind program.now (words_in program.now memory.now.shared) (number_of exception) state.old.frame state.old.callers ≡ stepped_of
+        program.now result memory.now state.new }
 {
     raise(program, state, memory, exception.number())
 }
@@ -40,7 +41,8 @@ pub(crate) fn raise(
     exception: u16,
 ) -> Act
     requires { MayRaise program.now state.old }
-    ensures { unwind program.now (words_in program.now memory.now.shared) exception state.old.frame state.old.callers ≡ stepped_of program.now result memory.now state.new }
+    ensures { unwind program.now (words_in program.now memory.now.shared) exception state.old.frame state.old.callers ≡ stepped_of program.now result
+        memory.now state.new }
 {
     loop {
         if let Some(act) = unwind_frame(program, state, memory, exception) {

@@ -81,7 +81,8 @@ computed_faults s place operation argument =
 
 abbrev pub span_faults : Scope → Option Subtype → ExprTree → PredefinedOperation → (argument : ExprTree) → Faults
 span_faults s t e operation argument =
-    faults_of s (wanted_by t) e ++ form_rule (start_of e) (static_form s argument) ++ if_unbroken (faults_of s (wanted_by t) e) (computed_faults s (start_of e) operation argument)
+    faults_of s (wanted_by t) e ++ form_rule (start_of e) (static_form s argument)
+    ++ if_unbroken (faults_of s (wanted_by t) e) (computed_faults s (start_of e) operation argument)
 
 abbrev pub called_faults : Scope → Option Subtype → ExprTree → Option (PredefinedOperation × ExprTree) → Faults
 called_faults s t e (Some x) = span_faults s t e x.0 x.1

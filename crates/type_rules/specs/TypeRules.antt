@@ -36,7 +36,8 @@ null_rule place first last = []
 
 abbrev pub range_faults : Scope → Wanted → Option Subtype → RangeTree → Faults
 range_faults s w within r =
-    static_faults s w within r.first ++ static_faults s w within r.last ++ null_rule (start_of r.first) (static_whole s w within r.first) (static_whole s w within r.last)
+    static_faults s w within r.first ++ static_faults s w within r.last
+    ++ null_rule (start_of r.first) (static_whole s w within r.first) (static_whole s w within r.last)
 
 -- the subtype of this type with these bounds, where both are known and the range is not null
 abbrev pub bounded : ℕ → Option ℤ → Option ℤ → Option Subtype
@@ -107,7 +108,8 @@ narrowed_faults s r None = range_faults s wanted.AnyInteger None r
 
 -- 12, at the name: a range for a subtype that is no integer one
 abbrev pub subtype_range_faults : Scope → Identifier → RangeTree → Faults
-subtype_range_faults s name r = subtype_faults s name ++ rule NO_MEANING name.place (is_other s (subtype_of s name)) ++ narrowed_faults s r (if_integer s (subtype_of s name))
+subtype_range_faults s name r = subtype_faults s name ++ rule NO_MEANING name.place (is_other s (subtype_of s name))
+    ++ narrowed_faults s r (if_integer s (subtype_of s name))
 
 abbrev pub definition_faults : Scope → DefinitionTree → Faults
 definition_faults s (Integer r) = range_faults s wanted.AnyInteger None r

@@ -67,7 +67,8 @@ fn span_by<'a>(
     entity: Option<&Entity>,
     argument: Option<&'a Expr>,
 ) -> Option<(PredefinedOperation, &'a Expr)>
-    ensures { option_map (λ x. (x.0, expr_tree x.1.now)) result ≡ span_by (option_map (λ e. entity_value e.now) entity.entry) (option_map (λ e. expr_tree e.now) argument.entry) }
+    ensures { option_map (λ x. (x.0, expr_tree x.1.now)) result ≡ span_by (option_map (λ e. entity_value e.now) entity.entry)
+        (option_map (λ e. expr_tree e.now) argument.entry) }
 {
     match (entity, argument) {
         (Some(Entity::Predefined(PredefinedOperation::Milliseconds, _)), Some(e)) => {

@@ -19,7 +19,8 @@ use types::{Entity, FormalParameter, Profile, Scope, SeenNames, Subtype, TypeFor
 
 // A formal parameter behind so many, of which this says whether one before it has its name.
 fn formal_fault(scope: &Scope, before: usize, is_second: bool, formal: &Formal) -> Option<Fault>
-    ensures { result ≡ least (rule DECLARED_TWICE formal.now.name.place (is_visible scope.now formal.now.name.name || is_second) ++ rule LIMIT_PASSED formal.now.name.place (nat_le FORMALS before) ++ subtype_faults scope.now formal.now.subtype) }
+    ensures { result ≡ least (rule DECLARED_TWICE formal.now.name.place (is_visible scope.now formal.now.name.name || is_second) ++ rule LIMIT_PASSED
+        formal.now.name.place (nat_le FORMALS before) ++ subtype_faults scope.now formal.now.subtype) }
 {
     least_by_parts();
     let place = formal.name.place;

@@ -82,7 +82,13 @@ abbrev pub operation_value : declared_operation.Operation → Operation
 operation_value o = record { name = o.name; is_entry = o.is_entry; profile = profile_value o.profile }
 
 abbrev pub protected_value : declared_protected.ProtectedObject → ProtectedObject
-protected_value p = record { number = p.number; ceiling = p.ceiling; operations = map operation_value p.operations; components = p.components.items; barrier = p.barrier }
+protected_value p = record {
+  number = p.number;
+  ceiling = p.ceiling;
+  operations = map operation_value p.operations;
+  components = p.components.items;
+  barrier = p.barrier;
+}
 
 abbrev pub entity_value : declared_entity.Entity → Entity
 entity_value (entity.Type f s) = OfType (form_value f) s

@@ -142,7 +142,11 @@ truth_of v = Meaningless
 abbrev mutual
   pub value_with : Calls → Place → ExprTree → Val Value
   value_with calls p (tree.Number z place) = Gives (Number z)
-  value_with calls p (Named first selectors) = elim (fixed_name p first selectors) [ Some v ↦ Gives (value_of v) | None ↦ name_with calls p (meaning_of p first.name) selectors ]
+  value_with calls p (Named first selectors) = elim (fixed_name p first selectors) [
+    | Some v ↦ Gives (value_of v)
+    | None ↦ name_with calls p
+        (meaning_of p first.name) selectors
+  ]
   value_with calls p (Parenthesized place e) = value_with calls p e
   value_with calls p (Unary operator place e) = and_then (value_with calls p e) (unary_value operator)
   -- the left operand first; the right one of `and then` and `or else` only where it is needed (RM 4.5.1)
@@ -177,7 +181,8 @@ abbrev mutual
   -- what stands in the parentheses: each value is checked before the next one is computed
   pub actuals_with : Calls → Place → ArgumentTrees → List Subtype → Val (List Value)
   actuals_with calls p NoArguments [] = Gives []
-  actuals_with calls p (MoreArguments a rest) (t ∷ ts) = and_then (actual_with calls p t a) (λ v. and_then (actuals_with calls p rest ts) (λ vs. Gives (v ∷ vs)))
+  actuals_with calls p (MoreArguments a rest) (t ∷ ts) = and_then (actual_with calls p t a)
+      (λ v. and_then (actuals_with calls p rest ts) (λ vs. Gives (v ∷ vs)))
   actuals_with calls p a ts = Meaningless
 
   pub actual_with : Calls → Place → Subtype → ArgumentTree → Val Value

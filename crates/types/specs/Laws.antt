@@ -31,6 +31,8 @@ ShapesStay = (s more : Scope) (t : Subtype) → t.type_number < length s → sha
 
 -- the words of a component stand at its place among those of the composite value
 pub record PartsHavePlaces : Type 0 where
-  pub elements : (x : Shape) (vs : Values) (n : ℕ) (v : Value) → all_values (has_shape x) vs ≡ true → element_at vs n ≡ Some v → take (words x) (drop (element_offset x n) (values_words vs)) ≡ value_words v
+  pub elements : (x : Shape) (vs : Values) (n : ℕ) (v : Value) → all_values (has_shape x) vs ≡ true → element_at vs n ≡ Some v
+      → take (words x) (drop (element_offset x n) (values_words vs)) ≡ value_words v
   pub fields : (parts : Shapes) (fs : Fields) (name : List ℕ) (v : Value) (place : ℕ)
-      → have_shapes parts fs ≡ true → field_of fs name ≡ Some v → field_offset parts name ≡ Some place → take (length (value_words v)) (drop place (fields_words fs)) ≡ value_words v
+      → have_shapes parts fs ≡ true → field_of fs name ≡ Some v → field_offset parts name ≡ Some place
+      → take (length (value_words v)) (drop place (fields_words fs)) ≡ value_words v

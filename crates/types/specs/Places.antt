@@ -62,7 +62,8 @@ is_of a b = false
 
 abbrev pub function_of : List Function → Option ℕ → List ℕ → Option Function
 function_of [] owner name = None
-function_of (f ∷ rest) owner name = if is_of f.object owner then (if bytes_eq f.name name then Some f else function_of rest owner name) else function_of rest owner name
+function_of (f ∷ rest) owner name = if is_of f.object owner then
+    (if bytes_eq f.name name then Some f else function_of rest owner name) else function_of rest owner name
 
 abbrev pub or_else : {A : Type 0} → Option A → Option A → Option A
 or_else (Some a) b = Some a
@@ -124,7 +125,8 @@ abbrev pub stands_here : Place → List ℕ → Standing
 stands_here p name =
     object_stands
     (own_object p name)
-    (function_stands (own_function p name) (object_stands (package_object p name) (function_stands (package_function p name) (stands_first p.scope (number_of p.scope name)))))
+    (function_stands (own_function p name) (object_stands (package_object p name)
+    (function_stands (package_function p name) (stands_first p.scope (number_of p.scope name)))))
 
 -- ---- what a name means here
 
@@ -168,4 +170,5 @@ abbrev pub meaning_of : Place → List ℕ → Meaning
 meaning_of p name =
     meaning_or
     (or_else (object_meaning (own_object p name)) (function_meaning (own_function p name)))
-    (meaning_or (or_else (object_meaning (package_object p name)) (function_meaning (package_function p name))) (meaning_in_scope p.scope (number_of p.scope name)))
+    (meaning_or (or_else (object_meaning (package_object p name)) (function_meaning (package_function p name)))
+    (meaning_in_scope p.scope (number_of p.scope name)))

@@ -153,7 +153,8 @@ abbrev pub with_times : Scope → ℕ → ℕ → Scope
 with_times s time span =
     with_name
     (with_name
-    (with_name (with_name (with_name s (codes "TIME") (OfType Times (base_range_of time))) (codes "TIME_SPAN") (OfType Spans (base_range_of span))) (codes "CLOCK") (from_nothing predefined.Clock (base_range_of time)))
+    (with_name (with_name (with_name s (codes "TIME") (OfType Times (base_range_of time))) (codes "TIME_SPAN") (OfType Spans (base_range_of span)))
+    (codes "CLOCK") (from_nothing predefined.Clock (base_range_of time)))
     (codes "MILLISECONDS")
     (from_integer predefined.Milliseconds (base_range_of span)))
     (codes "MICROSECONDS")

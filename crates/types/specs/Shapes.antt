@@ -1,4 +1,5 @@
--- The shape of a subtype: its form with the shapes of its parts. It tells the value of an object without initial value, and which words the values of the subtype take.
+-- The shape of a subtype: its form with the shapes of its parts. It tells the value of an object without initial value, and which words the values of the
+-- subtype take.
 use Rattle.std.specs.Prelude.{ℕ, zero, suc, ◌+◌, ◌*◌, ℤ, pos, negsuc, Bool, true, false, List, [], ◌∷◌, ◌++◌, take, drop, slice_get, Option, Some, None, ◌&&◌, nat_eq, bytes_eq}
 use Rattle.types.specs.declared.entity.Subtype.{Subtype}
 use Rattle.types.specs.declared.entity.RecordComponent.{RecordComponent}

@@ -96,7 +96,8 @@ static_fault_within s t e = fault_within t (static_form s e) (static_value s e)
 
 -- where nothing is hidden: each name with a fixed value in the scope has that value at the place
 abbrev pub Keeps : Scope → Place → Type 0
-Keeps s p = (first : Identifier) (selectors : SelectorTrees) (v : Scalar) → fixed_value (standing_of s first selectors) ≡ Some v → fixed_name p first selectors ≡ Some v
+Keeps s p = (first : Identifier) (selectors : SelectorTrees) (v : Scalar) → fixed_value (standing_of s first selectors) ≡ Some v
+    → fixed_name p first selectors ≡ Some v
 
 -- a static expression has its value whatever else there is
 abbrev pub StaticIsValue : Type 0

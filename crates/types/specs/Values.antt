@@ -1,4 +1,5 @@
--- Values (RM 3.2 to 3.8): a number, a truth value, the components of an array, the named components of a record. Time and Time_Span are numbers of microseconds.
+-- Values (RM 3.2 to 3.8): a number, a truth value, the components of an array, the named components of a record. Time and Time_Span are numbers of
+-- microseconds.
 use Rattle.std.specs.Prelude.{ℕ, zero, suc, ℤ, Bool, true, List, Option, Some, None, bytes_eq, int_le, ◌&&◌, if◌then◌else◌}
 use Rattle.types.specs.declared.entity.Subtype.{Subtype}
 use Rattle.types.specs.declared.entity.Value.{Value as Scalar}

@@ -50,7 +50,8 @@ impl Model for Layout {
 
     ghost view = { λ l. record { words = map placed_words l.objects.items; limit = l.limit } };
 
-    ghost invariant = { λ l. (map placed_first l.objects.items ≡ first_words 0 (map placed_words l.objects.items)) × (l.words ≡ total (map placed_words l.objects.items)) × (l.words ≤ l.limit) };
+    ghost invariant = { λ l. (map placed_first l.objects.items ≡ first_words 0 (map placed_words l.objects.items))
+        × (l.words ≡ total (map placed_words l.objects.items)) × (l.words ≤ l.limit) };
 }
 
 impl Layout {

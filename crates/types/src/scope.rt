@@ -68,7 +68,8 @@ impl Model for Scope {
 
     ghost view = { λ s. map entry_value s.names.entries };
 
-    ghost invariant = { λ s. (map entry_words s.names.entries ≡ map capped_words (shapes (map entry_value s.names.entries))) × (map entry_objects s.names.entries ≡ objects_after 0 (map entry_value s.names.entries)) };
+    ghost invariant = { λ s. (map entry_words s.names.entries ≡ map capped_words (shapes (map entry_value s.names.entries)))
+        × (map entry_objects s.names.entries ≡ objects_after 0 (map entry_value s.names.entries)) };
 }
 
 fn capped(words: u32) -> u16
