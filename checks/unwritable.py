@@ -138,12 +138,13 @@ def image_of(folder):
 
 
 def try_same_name(folder, image):
-    """Where IMG is SRC too, the source is read first: a refused one stays, and of another one its image takes the place."""
+    """Where IMG is SRC nothing is written; by another name for the same file the image takes the place of a source that isn't refused."""
     refused = b"procedure Main is begin null; end Main;"
     folder.write("refused.adb", refused)
-    folder.call("a refused source to its own name", ["compile", "refused.adb", "refused.adb"], (b"", b"fault 39 at 1:1\n", 2), {"refused.adb": refused})
+    folder.call("a refused source to its own file", ["compile", "refused.adb", "./refused.adb"], (b"", b"fault 39 at 1:1\n", 2), {"refused.adb": refused})
     folder.write("own.adb", folder.source)
-    folder.call("a source to its own name", ["compile", "own.adb", "./own.adb"], DONE, {"own.adb": image})
+    folder.call("a source to its own name", ["compile", "own.adb", "own.adb"], CANNOT_WRITE, {"own.adb": folder.source})
+    folder.call("a source to its own file by another name", ["compile", "own.adb", "./own.adb"], DONE, {"own.adb": image})
 
 
 def try_full(folder, image, streams):

@@ -82,7 +82,24 @@ pub fn drive<F: FileStore, O: Sink, E: Sink>(
     status as u8
 }
 
+// The image of a source that is the file itself would take the source's place: it isn't written.
 fn drive_compile<F: FileStore, E: Sink>(
+    alloc: Global,
+    files: &mut F,
+    source: &str,
+    image: &str,
+    err: &mut E,
+) -> Status
+    ensures leaves { (written : Option (List ℕ)) → LeavesCompile (F.contents files.old) (F.contents files.new) source.now image.now result written written }
+    ensures same { source.now ≡ image.now → (result ≡ Status.Failed) × (files.new ≡ files.old) }
+{
+    if source == image {
+        return cannot_write(err);
+    }
+    compile_to(alloc, files, source, image, err)
+}
+
+fn compile_to<F: FileStore, E: Sink>(
     alloc: Global,
     files: &mut F,
     source: &str,

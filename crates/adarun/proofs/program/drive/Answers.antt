@@ -14,7 +14,7 @@ returns-in-Ok-Compile-clause-answers g c = record {
   status = c.drive_compile-status.result;
   answer_is = search rules;
   asked_for = λ plain. inl (asked_as _ _ _ c.in-Ok-Compile.field-0-is (c.in-Ok-Compile.ensures plain));
-  leaves = c.drive_compile-status.ensures (g.O.Sink.bytes c.args.out.now);
+  leaves = c.drive_compile-status.ensures.leaves (g.O.Sink.bytes c.args.out.now);
 }
 
 pub returns-in-Ok-List-clause-answers : goal.returns-in-Ok-List-clause-answers

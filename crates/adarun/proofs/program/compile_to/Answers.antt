@@ -1,6 +1,6 @@
 use Rattle.std.proofs.Common.{inr, refl, subst, sym}
 use Rattle.adarun.specs.Driving.{IsContentRead}
-use Rattle.adarun.proofs.program.drive_compile.Goals as goal
+use Rattle.adarun.proofs.program.compile_to.Goals as goal
 
 pub returns-in-Err-Memory : goal.returns-in-Err-Memory
 returns-in-Err-Memory g c written =
