@@ -81,9 +81,10 @@ int main(int count, char **words)
              posix_spawn_file_actions_adddup2(&streams, err, 2) == 0,
          "posix_spawn");
     while (fread(&size, 1, sizeof size, stdin) == sizeof size) {
-        int file = open(words[1], O_WRONLY | O_CREAT | O_TRUNC | O_CLOEXEC, 0600);
+        /* It is cut behind the write: some file systems write to the disk at once what takes the place of a file that was cut to nothing. */
+        int file = open(words[1], O_WRONLY | O_CREAT | O_CLOEXEC, 0600);
         must(size < MOST && fread(content, 1, size, stdin) == size, "fread");
-        must(file >= 0 && write(file, content, size) == (ssize_t)size && close(file) == 0, words[1]);
+        must(file >= 0 && write(file, content, size) == (ssize_t)size && ftruncate(file, size) == 0 && close(file) == 0, words[1]);
         call(words + 2, &streams, out, err);
     }
     return fflush(stdout) == 0 ? 0 : 1;
