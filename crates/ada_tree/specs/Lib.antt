@@ -8,3 +8,4 @@ pub mod ProgramGrammar
 pub mod Depth
 pub mod Size
 pub mod Laws
+pub mod Parsed

@@ -4,6 +4,7 @@
 mod declaration;
 mod expression;
 pub mod laws;
+mod parsed;
 mod program;
 mod statement;
 
@@ -16,6 +17,7 @@ pub use expression::{
     Argument, BinaryOperator, ElsifValue, Expr, Identifier, NameExpr, Operand, Selector,
     UnaryOperator,
 };
+pub use parsed::Parsed;
 pub use program::{
     BodyItem, Main, MainStatement, Package, PackageBody, PackageDeclaration, Pragma, Program,
     ProtectedBodyItem, UnitClause, UnitName,

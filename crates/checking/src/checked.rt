@@ -1,5 +1,6 @@
 //! Programs that break no rule from 10 to 23.
 ghost use Rattle.std.specs.Prelude.{◌≡◌, IfErr, IfOk, OnOk, option_map, slice_get};
+ghost use Rattle.ada_tree.specs.Parsed.{IsParsed};
 ghost use Rattle.ada_tree.specs.ProgramTree.{package_tree, program_tree};
 ghost use Rattle.expr_rules.specs.Faults.{least};
 ghost use Rattle.declaring.specs.PackageNames.{optional_scope, program_scope};
@@ -9,7 +10,7 @@ ghost use Rattle.checking.specs.ProgramRules.{IsLegal, RefusesProgram, package_p
 use crate::laws::words_have_room;
 use crate::layouts::{object_layouts, variables_layout};
 use crate::like_names::like_name_fault;
-use ada_tree::{Package, Program};
+use ada_tree::{Package, Parsed, Program};
 use expr_rules::laws::{least_by_parts, least_is_least};
 use expr_rules::sooner;
 use legality::{main_fault, package_fault};
@@ -19,11 +20,11 @@ use std::alloc::{AllocError, Global};
 use std::marker::Model;
 use types::{Layout, Scope};
 
-/// A legal program, with the names that are visible behind its package, and the layouts of its variables and protected objects. Contracts see the program
-/// itself, which tells the rest.
+/// A legal program, the tree of a text, with the names that are visible behind its package, and the layouts of its variables and protected objects. Contracts
+/// see the program itself, which tells the rest.
 #[derive(Drop)]
 pub struct Checked {
-    program: Program,
+    parsed: Parsed,
     scope: Scope,
     variables: Layout,
     objects: Vec<Layout>,
@@ -43,11 +44,11 @@ impl Model for Checked {
 
     ghost coded = { Prim.hlevel (codes, contract.the_row.coded) };
 
-    ghost view = { λ c. c.program };
+    ghost view = { λ c. c.parsed };
 
-    ghost invariant = { λ c. IsLegal (program_tree c.program) × (c.scope ≡ program_scope (program_tree c.program))
-        × (c.variables ≡ variables_layout (program_scope (program_tree c.program)))
-        × (c.objects.items ≡ object_layouts (program_scope (program_tree c.program))) };
+    ghost invariant = { λ c. IsLegal (program_tree c.parsed) × (c.scope ≡ program_scope (program_tree c.parsed))
+        × (c.variables ≡ variables_layout (program_scope (program_tree c.parsed)))
+        × (c.objects.items ≡ object_layouts (program_scope (program_tree c.parsed))) };
 }
 
 impl Checked {
@@ -55,8 +56,9 @@ impl Checked {
     pub fn program(&self) -> &Program
         ensures same { result.now ≡ self.now }
         ensures legal { IsLegal (program_tree self.now) }
+        ensures parsed { IsParsed (program_tree self.now) }
     {
-        &self.program
+        self.parsed.program()
     }
 
     /// The names that are visible behind the package; without one, those of Standard (RM 8.3). A name of a body may stand for something else in the body.
@@ -123,37 +125,37 @@ fn judge(alloc: Global, program: &Program) -> Result<Found, AllocError>
 }
 
 // A legal program, of which these names are visible behind the package.
-fn laid_out(alloc: Global, program: Program, scope: Scope) -> Result<Checked, AllocError>
-    requires legal { IsLegal (program_tree program) }
-    requires scope { scope ≡ program_scope (program_tree program) }
+fn laid_out(alloc: Global, parsed: Parsed, scope: Scope) -> Result<Checked, AllocError>
+    requires legal { IsLegal (program_tree parsed) }
+    requires scope { scope ≡ program_scope (program_tree parsed) }
     requires room { HaveRoom scope }
-    ensures same { IfOk result (λ checked. checked ≡ program) }
+    ensures same { IfOk result (λ checked. checked ≡ parsed) }
 {
     let variables = variables_layout(alloc, &scope)?;
     let objects = object_layouts(alloc, &scope)?;
     Ok(Checked {
-        program,
+        parsed,
         scope,
         variables,
         objects,
     })
 }
 
-/// Checks a program by all rules from 10 to 23: names, types, static expressions, statements, bodies, the package, main, and the limits. What is legal is
-/// refused for want of memory alone.
+/// Checks the tree of a text by all rules from 10 to 23: names, types, static expressions, statements, bodies, the package, main, and the limits. What is legal
+/// is refused for want of memory alone.
 ///
 /// # Errors
 /// The rule that is broken at the least place, and of several there the one with the least number (docs/LANGUAGE.md); 60, at place 0, where memory was refused.
-pub fn check(alloc: Global, program: Program) -> Result<Checked, Fault>
-    ensures same { IfOk result (λ checked. checked ≡ program) }
-    ensures legal { OnOk result (IsLegal (program_tree program)) }
-    ensures refused { IfErr result (λ fault. RefusesProgram (program_tree program) fault) }
+pub fn check(alloc: Global, parsed: Parsed) -> Result<Checked, Fault>
+    ensures same { IfOk result (λ checked. checked ≡ parsed) }
+    ensures legal { OnOk result (IsLegal (program_tree parsed)) }
+    ensures refused { IfErr result (λ fault. RefusesProgram (program_tree parsed) fault) }
 {
     least_is_least();
     words_have_room();
-    let Found { fault, scope } = judge(alloc, &program)?;
+    let Found { fault, scope } = judge(alloc, parsed.program())?;
     match fault {
         Some(fault) => Err(fault),
-        None => Ok(laid_out(alloc, program, scope)?),
+        None => Ok(laid_out(alloc, parsed, scope)?),
     }
 }

@@ -1,5 +1,6 @@
 //! Programs that are legal and break no restriction of the profile.
 ghost use Rattle.std.specs.Prelude.{◌≡◌, IfErr, IfOk, OnOk, option_map, slice_get};
+ghost use Rattle.ada_tree.specs.Parsed.{IsParsed};
 ghost use Rattle.ada_tree.specs.ProgramTree.{main_tree, package_tree, program_tree};
 ghost use Rattle.declaring.specs.PackageNames.{program_scope};
 ghost use Rattle.checking.specs.ProgramLayouts.{object_layouts, variables_layout};
@@ -22,7 +23,7 @@ use std::alloc::{AllocError, Global};
 use std::marker::Model;
 use types::{Layout, Scope};
 
-/// A legal program within the profile. It lends what the checked program lends, and contracts see the program itself.
+/// A legal program within the profile, the tree of a text. It lends what the checked program lends, and contracts see the program itself.
 #[derive(Drop)]
 pub struct Accepted {
     checked: Checked,
@@ -51,6 +52,7 @@ impl Accepted {
         ensures same { result.now ≡ self.now }
         ensures legal { IsLegal (program_tree self.now) }
         ensures restricted { IsRestricted (program_tree self.now) }
+        ensures parsed { IsParsed (program_tree self.now) }
     {
         self.checked.program()
     }

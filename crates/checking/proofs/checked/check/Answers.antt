@@ -1,8 +1,10 @@
-use Rattle.std.proofs.Common.{◌≡◌, ◌++◌, [], inr, sym, subst, ◌∙◌}
+use Rattle.std.proofs.Common.{◌≡◌, ◌++◌, [], inr, sym, ap, subst, ◌∙◌}
 use Rattle.ada_tree.specs.ProgramTree.{program_tree}
 use Rattle.types.specs.Scopes.{standard}
 use Rattle.legality.specs.MainRules.{main_faults}
 use Rattle.size_rules.specs.ProgramSizes.{size_faults}
+use Rattle.declaring.specs.PackageNames.{program_scope}
+use Rattle.expr_rules.specs.Faults.{least}
 use Rattle.checking.specs.ProgramLayouts.{HaveRoom}
 use Rattle.checking.specs.ProgramRules.{package_part_faults, program_faults}
 use Rattle.checking.proofs.Room.{both_empty}
@@ -10,12 +12,15 @@ use Rattle.checking.proofs.checked.check.Goals as goal
 
 pub laid_out-requires-clause-room : goal.laid_out-requires-clause-room
 laid_out-requires-clause-room c =
-    let t = program_tree c.args.program in
-    let none : program_faults t ≡ [] = c.least_is_least.ensures.none (program_faults t) (sym c.in-None.is ∙ c.in_ok-fault.ensures.fault) in
+    let t = program_tree c.args.parsed in
+    let found = c.in_ok-fault.ensures.fault ∙ ap (λ p. least (program_faults (program_tree p))) c.program.ensures.same in
+    let none : program_faults t ≡ [] = c.least_is_least.ensures.none (program_faults t) (sym c.in-None.is ∙ found) in
     let rest = package_part_faults standard t.package_ ++ main_faults t.package_ t.main in
-    subst HaveRoom (sym c.in_ok-fault.ensures.scope) (c.words_have_room.ensures t (both_empty rest (size_faults t) none).1)
+    let scope = c.in_ok-fault.ensures.scope ∙ ap (λ p. program_scope (program_tree p)) c.program.ensures.same in
+    subst HaveRoom (sym scope) (c.words_have_room.ensures t (both_empty rest (size_faults t) none).1)
 
 pub returns-in-Some-clause-refused : goal.returns-in-Some-clause-refused
 returns-in-Some-clause-refused c =
-    let faults = program_faults (program_tree c.args.program) in
-    inr (c.least_is_least.ensures.some faults c.in-Some.fault (sym c.in-Some.is ∙ c.in_ok-fault.ensures.fault))
+    let faults = program_faults (program_tree c.args.parsed) in
+    let found = c.in_ok-fault.ensures.fault ∙ ap (λ p. least (program_faults (program_tree p))) c.program.ensures.same in
+    inr (c.least_is_least.ensures.some faults c.in-Some.fault (sym c.in-Some.is ∙ found))
