@@ -1,13 +1,12 @@
 -- Calls of functions through the names of protected objects (RM 9.4, 9.5): what stands behind such a name, its code, and what refuses that.
-use Rattle.std.proofs.Common.{◌≡◌, ℕ, ◌+◌, ◌*◌, ◌≤◌, List, [], ◌∷◌, ◌++◌, length, map, take, Option, None, Some, Bool, true, false, ◌&&◌, ◌||◌, not, refl, sym, ap, ◌∙◌, subst, arith}
+use Rattle.std.proofs.Common.{◌≡◌, ℕ, ◌+◌, ◌*◌, ◌≤◌, List, [], ◌++◌, length, map, take, Option, None, Some, not, refl, sym, ap, ◌∙◌, subst, arith}
 use Rattle.std.specs.Prelude.{bytes_eq, max, position, slice_get}
 use Rattle.kernel.specs.Laws.{QuietStays}
 use Rattle.base.specs.declared.faults.TheConstants.{NAME_NOT_VISIBLE}
 use Rattle.ada_tree.specs.declared.expression.Argument.{Argument}
 use Rattle.ada_tree.specs.declared.expression.Identifier.{Identifier}
-use Rattle.ada_tree.specs.declared.expression.Selector.{Selector}
 use Rattle.ada_tree.specs.ExpressionTree as tree
-use Rattle.ada_tree.specs.ExpressionTree.{argument_tree, argument_trees, ArgumentTrees, Arguments, Attribute, Component, MoreSelectors, NoSelectors, selector_tree, selector_trees, SelectorTree, SelectorTrees}
+use Rattle.ada_tree.specs.ExpressionTree.{argument_tree, argument_trees, ArgumentTrees, Arguments, Component, MoreSelectors, NoSelectors, SelectorTrees}
 use Rattle.ada_tree.specs.Size.{arguments_size, total}
 use Rattle.image.specs.Sections.{Sections}
 use Rattle.image.specs.Operations.{called, parameters_of, results_of}
@@ -36,7 +35,7 @@ use Rattle.expr_code.specs.Actuals.{AddsCall, ArePassedLegally, EmitsActuals}
 use Rattle.expr_code.specs.Code.{here}
 use Rattle.expr_code.specs.Computing.{AlwaysNames}
 use Rattle.expr_code.specs.Emitting.{EmitsExpression, IsLegalExpression}
-use Rattle.expr_code.specs.Refusing.{are_passable, arguments_outside, arguments_peak, is_callable, is_called, is_external_call, is_made, is_outside, IsRefused, RefusesActuals, RefusesExpression, words_below}
+use Rattle.expr_code.specs.Refusing.{arguments_peak, IsRefused, RefusesActuals, RefusesExpression, words_below}
 use Rattle.expr_code.specs.Seeing.{external_of, external_profile, library_of, number_behind, object_named, operation_entry, operation_place, Package, profile_behind, Sees, Suits}
 use Rattle.expr_code.specs.declared.code.Code.{Code}
 use Rattle.expr_code.specs.declared.refusal.Refusal.{Refusal}
@@ -44,9 +43,8 @@ use Rattle.expr_code.specs.declared.visible.Visible.{Visible}
 use Rattle.expr_code.proofs.Actuals.{alone_emits, each_legal, many_given, none_wanted, with_emits}
 use Rattle.expr_code.proofs.Flowing.{Changes}
 use Rattle.expr_code.proofs.Names.{legal_here}
-use Rattle.expr_code.proofs.NamesRefused.{begin_outside, behind_outside, name_refused}
+use Rattle.expr_code.proofs.NamesRefused.{name_refused}
 use Rattle.expr_code.proofs.Passing.{named_value}
-use Rattle.expr_code.proofs.Refusals.{or_left}
 
 -- ---- where nothing is told of operations
 
@@ -284,29 +282,8 @@ module _ (v : Visible) (first operation : Identifier) (profile : Profile) (told 
 
   -- ---- what refuses it
 
-  off : (b : Bool) → not b ≡ true → b ≡ false
-  off true h = cc
-  off false h = refl
-
-  abbrev is_told : Bool
-  is_told = is_called s (external_of v first.name operation.name) profile
-
-  module _ (behind : SelectorTrees)
-      (call : is_external_call v first.name (external_name behind)
-      ≡ is_callable s (external_of v first.name operation.name) (external_profile s first.name operation.name)) where
-    external_made : is_made v first (external_name behind) (stands_first s (number_of s first.name)) ≡ (is_told && are_passable s profile.formals)
-    external_made =
-        ap (is_made v first (external_name behind)) begins ∙ call ∙ ap (is_callable s (external_of v first.name operation.name)) told
-
   module _ (old : Code) (depth : ℕ) (why : Refusal) where
-    pub external_alone_refused : fixed_value (standing_of s first (external_name NoSelectors)) ≡ None → IsRefused (here old + 1) depth (not is_told) why
-        → RefusesExpression v old depth (tree.Named first (external_name NoSelectors)) why
-    external_alone_refused valueless r =
-        name_refused v first (external_name NoSelectors) valueless old depth _ depth (not is_told) why (λ h. absurd h) (omega arith) (omega arith)
-        (λ h. begin_outside v first (external_name NoSelectors) valueless
-        (external_made NoSelectors refl ∙ ap (λ b. b && are_passable s profile.formals) (off is_told h))) r
-
-    module _ (a : ArgumentTrees) (valueless : fixed_value (standing_of s first (external_name (MoreSelectors (Arguments a) NoSelectors))) ≡ None) where
+    module _ (a : ArgumentTrees) where
       abbrev whole : SelectorTrees
       whole = external_name (MoreSelectors (Arguments a) NoSelectors)
 
@@ -316,49 +293,12 @@ module _ (v : Visible) (first operation : Identifier) (profile : Profile) (told 
       high : (l n k : ℕ) → l ≤ depth + n → l ≤ depth + max (k + 1) (max (k + n) 1)
       high l n k h = omega (arith, h)
 
-      pub external_refused : (m l : ℕ) → m ≤ here old + (20 * arguments_size a + 1) → l ≤ depth + arguments_peak s a → IsRefused m l (not is_told) why
+      pub external_refused : (m l : ℕ) → m ≤ here old + (20 * arguments_size a + 1) → l ≤ depth + arguments_peak s a → IsRefused m l why
           → RefusesExpression v old depth (tree.Named first whole) why
       external_refused m l up most r =
-          name_refused v first whole valueless old depth m l (not is_told) why (λ h. absurd h) (omega (arith, up)) (high l (arguments_peak s a) below most)
-          (λ h. begin_outside v first whole valueless
-          (external_made (MoreSelectors (Arguments a) NoSelectors) refl ∙ ap (λ b. b && are_passable s profile.formals) (off is_told h))) r
+          name_refused v first whole old depth m l why (λ h. absurd h) (omega (arith, up)) (high l (arguments_peak s a) below most) r
 
-      pub external_actuals_refused : RefusesActuals v old depth profile.formals a why → RefusesExpression v old depth (tree.Named first whole) why
+      pub external_actuals_refused : RefusesActuals v old depth a why → RefusesExpression v old depth (tree.Named first whole) why
       external_actuals_refused r =
-          name_refused v first whole valueless old depth _ _ _ why (λ h. h) (omega arith)
-          (high (depth + arguments_peak s a) (arguments_peak s a) below (omega arith)) outside r
-        where
-          outside : (not (are_passable s profile.formals) || arguments_outside v a) ≡ true → is_outside v (tree.Named first whole) ≡ true
-          outside h = by_test (are_passable s profile.formals) refl h
-            where
-              none : (b : Bool) → (b && false) ≡ false
-              none true = refl
-              none false = refl
-
-              by_test : (b : Bool) → are_passable s profile.formals ≡ b → (not b || arguments_outside v a) ≡ true → is_outside v (tree.Named first whole) ≡ true
-              by_test true e k = behind_outside v first whole valueless (or_left (arguments_outside v a) false k)
-              by_test false e k =
-                  begin_outside v first whole valueless
-                  (external_made (MoreSelectors (Arguments a) NoSelectors) refl ∙ ap (λ b. is_told && b) e ∙ none is_told)
-
--- ---- names with more behind them than a call has
-
-module _ (v : Visible) (first : Identifier) (n : ℕ) (stands : stands_first v.scope (number_of v.scope first.name) ≡ standing.Protected n) where
-  not_external : (selectors : SelectorTrees) → fixed_value (standing_of v.scope first selectors) ≡ None → is_external_call v first.name selectors ≡ false
-      → is_outside v (tree.Named first selectors) ≡ true
-  not_external selectors valueless none = begin_outside v first selectors valueless (ap (is_made v first selectors) stands ∙ none)
-
-  pub many_behind : (all : List Selector) → 3 ≤ length all → fixed_value (standing_of v.scope first (selector_trees all)) ≡ None
-      → is_outside v (tree.Named first (selector_trees all)) ≡ true
-  many_behind [] more valueless = absurd (omega (arith, more))
-  many_behind (x ∷ []) more valueless = absurd (omega (arith, more))
-  many_behind (x ∷ y ∷ []) more valueless = absurd (omega (arith, more))
-  many_behind (x ∷ y ∷ z ∷ all) more valueless =
-      not_external (selector_trees (x ∷ y ∷ z ∷ all)) valueless (three (selector_tree x) (selector_tree y) (selector_tree z) (selector_trees all))
-    where
-      three : (a b c : SelectorTree) (rest : SelectorTrees) → is_external_call v first.name (MoreSelectors a (MoreSelectors b (MoreSelectors c rest))) ≡ false
-      three (Component x) (Component y) c rest = refl
-      three (Component x) (Arguments y) c rest = refl
-      three (Component x) (Attribute y) c rest = refl
-      three (Arguments x) b c rest = refl
-      three (Attribute x) b c rest = refl
+          name_refused v first whole old depth _ _ why (λ h. h) (omega arith)
+          (high (depth + arguments_peak s a) (arguments_peak s a) below (omega arith)) r

@@ -2,6 +2,7 @@
 use Rattle.std.proofs.Common.{◌≡◌, ℕ, zero, suc, ◌+◌, ◌<◌, ◌≤◌, ◌++◌, ℤ, pos, List, [], ◌∷◌, length, map, take, drop, Bool, true, false, Option, Some, None, refl, rules, sym, ap, ◌∙◌, subst, arith, inl, inr}
 use Rattle.std.specs.Prelude.{bytes_eq, cond, get_or, is_some, nat_le, not, option_map, slice_get, ◌&&◌}
 use Rattle.std.proofs.Math.Seq.{take-suc}
+use Rattle.std.proofs.lemmas.Bool.{and_parts}
 use Rattle.base.specs.declared.faults.TheConstants.{NAME_NOT_VISIBLE}
 use Rattle.base.specs.declared.limits.TheConstants.{WORDS}
 use Rattle.kernel.specs.Laws.{QuietStays}
@@ -28,33 +29,34 @@ use Rattle.types.specs.Laws.{PartsHavePlaces, ValuesHaveWords}
 use Rattle.types.specs.Layouts.{capped, field_offset, words_of}
 use Rattle.types.specs.Scopes.{Scope, base_range_of, form_at, is_visible, number_of}
 use Rattle.types.specs.Shapes.{Shape, Shapes, MoreShapes, Ranged, Logical, Timed, Repeated, Grouped, Shapeless, component_shapes, has_shape, narrowed, shape_among, shape_of, shape_or_none, shapes}
-use Rattle.types.specs.Standings.{component_of, select, select_all, standing_of, stands_first}
+use Rattle.types.specs.Standings.{component_of, select, select_all, standing_of, stands_first, stands_for}
 use Rattle.expr_soundness.specs.expr_rules.specs.declared.own.Wanted.TheVariants.{OfType}
 use Rattle.expr_soundness.specs.expr_rules.specs.ExpressionRules.{argument_faults, arguments_faults, selector_faults, selectors_faults}
 use Rattle.expr_soundness.specs.expr_rules.specs.Faults.{rule}
 use Rattle.expr_soundness.specs.expr_rules.specs.NameRules.{index_slot, part_rule, value_rule}
 use Rattle.expr_soundness.specs.expr_rules.specs.Typing.{is_integers}
-use Rattle.expr_soundness.specs.expr_rules.proofs.TypedLaw.{back_empty, front_empty}
+use Rattle.expr_soundness.specs.expr_rules.proofs.TypedLaw.{back_empty, front_empty, unbroken}
 use Rattle.expr_soundness.specs.Laws.{ExpressionsAreTyped}
 use Rattle.expr_soundness.specs.SoundScopes.{AreEarlier, SoundScope}
-use Rattle.expr_soundness.proofs.Expressions.{IsHere}
+use Rattle.expr_soundness.proofs.Expressions.{IsHere, not_false}
 use Rattle.expr_soundness.proofs.FixedNames.{same_form}
 use Rattle.expr_soundness.proofs.Denoting.{MeansPart}
-use Rattle.expr_soundness.proofs.Goods.{no_integer_parts, part_unbroken, sound_form}
+use Rattle.expr_soundness.proofs.Goods.{Good, good_first, no_integer_parts, part_unbroken, sound_form}
 use Rattle.expr_soundness.proofs.Parts.{before, part_shape, shape_by_form}
-use Rattle.expr_soundness.proofs.Positions.{same_some}
+use Rattle.expr_soundness.proofs.Positions.{named, same_some}
 use Rattle.expr_code.specs.Views.{At}
 use Rattle.expr_code.specs.Code.{Adds, Extends, here, Holds}
 use Rattle.expr_code.specs.Computing.{Computes}
 use Rattle.expr_code.specs.Emitting.{EmitsChecked, EmitsExpression, IsFit, IsLegalExpression}
 use Rattle.expr_code.specs.Flows.{Flows}
-use Rattle.expr_code.specs.Going.{AddsOffset, EmitsPath, IsLegalPart, IsLegalPath, path_size, selected, Selects}
+use Rattle.expr_code.specs.Going.{AddsOffset, are_components, EmitsPath, is_component, IsLegalPart, IsLegalPath, path_size, selected, Selects}
 use Rattle.expr_code.specs.Locating.{IsPath, shape_in}
 use Rattle.expr_code.specs.Naming.{Lies}
 use Rattle.expr_code.specs.Seeing.{library_of, Package, Sees, slot_of, Suits}
 use Rattle.expr_code.specs.declared.code.Code.{Code}
 use Rattle.expr_code.specs.declared.visible.Slot.{Slot}
 use Rattle.expr_code.specs.declared.visible.Visible.{Visible}
+use Rattle.expr_code.proofs.Attributes.{components_only}
 use Rattle.expr_code.proofs.Checking.{is_a_number}
 use Rattle.expr_code.proofs.Flowing.{Changes, flows_same, flows_then, instruction_flows}
 use Rattle.expr_code.proofs.Growing.{added_at, added_extends, added_here, extends_self, extends_trans, holds_before, holds_later}
@@ -120,6 +122,7 @@ first_part s t x rest h = record {
   role = h.role;
   place = h.place;
   unbroken = front_empty (selector_faults s h.place (standing.Part h.role t) x) (selectors_faults s h.place (select s (standing.Part h.role t) x) rest) h.unbroken;
+  component = (and_parts (is_component x) (are_components rest) h.components).0;
 }
 
 pub further_path : (s : Scope) (t last : Subtype) (x : SelectorTree) (rest : SelectorTrees) → IsLegalPath s t (MoreSelectors x rest) → Selects s t x last → IsLegalPath s last rest
@@ -129,6 +132,7 @@ further_path s t last x rest h selects = record {
   unbroken =
       ap (λ w. selectors_faults s h.place w rest) (sym (selects h.role))
       ∙ back_empty (selector_faults s h.place (standing.Part h.role t) x) (selectors_faults s h.place (select s (standing.Part h.role t) x) rest) h.unbroken;
+  components = (and_parts (is_component x) (are_components rest) h.components).1;
 }
 
 pub drop_at : {A : Type 0} (all : List A) (n : ℕ) (x : A) → n < length all → x ≡ get_or all n x → drop n all ≡ x ∷ drop (n + 1) all
@@ -351,12 +355,25 @@ module _ (quiet : QuietStays) (laws : ExpressionsAreTyped) (v : Visible) (old mi
 
 -- ---- the whole
 
-pub whole_path : (s : Scope) (first : Identifier) (all : SelectorTrees) (r : Role) (t : Subtype) → IsLegalExpression s (tree.Named first all) → stands_first s (number_of s first.name) ≡ standing.Part r t → IsLegalPath s t all
-whole_path s first all r t legal stands =
-    let hidden = rule NAME_NOT_VISIBLE first.place (not (is_visible s first.name)) in
-    let parts = selectors_faults s first.place (stands_first s (number_of s first.name)) all in
-    let two = front_empty (hidden ++ parts) (value_rule first.place (standing_of s first all)) legal.unbroken in
-    record { role = r; place = first.place; unbroken = ap (λ w. selectors_faults s first.place w all) (sym stands) ∙ back_empty hidden parts two }
+module _ (s : Scope) (sound : SoundScope s) (first : Identifier) (all : SelectorTrees) (r : Role) (t : Subtype)
+    (legal : IsLegalExpression s (tree.Named first all)) (stands : stands_first s (number_of s first.name) ≡ standing.Part r t)
+    (valueless : fixed_value (standing_of s first all) ≡ None) where
+  pub whole_path : IsLegalPath s t all
+  whole_path =
+      let w = stands_first s (number_of s first.name) in
+      let hidden = rule NAME_NOT_VISIBLE first.place (not (is_visible s first.name)) in
+      let parts = selectors_faults s first.place w all in
+      let two = front_empty (hidden ++ parts) (value_rule first.place (standing_of s first all)) legal.unbroken in
+      let x = named s first.name (not_false (is_visible s first.name) (unbroken NAME_NOT_VISIBLE first.place (not (is_visible s first.name))
+      (front_empty hidden parts two))) in
+      let good = subst (Good s) (sym (ap (stands_first s) x.numbered ∙ ap (stands_for x.number) x.stands)) (good_first s sound x.number x.entity x.stands) in
+      let behind = back_empty hidden parts two in
+      record {
+        role = r;
+        place = first.place;
+        unbroken = ap (λ u. selectors_faults s first.place u all) (sym stands) ∙ behind;
+        components = components_only s sound first.place w all good behind valueless;
+      }
 
 -- an integer has no parts
 no_parts : (s : Scope) → SoundScope s → (first : Identifier) (all : List Selector) (t : Subtype) → bare_name (tree.Named first (selector_trees all)) ≡ None → IsLegalPath s t (selector_trees all)
@@ -398,7 +415,7 @@ module _ (quiet : QuietStays) (sized : ValuesHaveWords) (places : PartsHavePlace
           × Lies (view.words slot.region) slot.offset x
           × (has_shape (shape_of v.scope t) x ≡ true)
           × (length (view.words slot.region) ≤ 65536)
-      by_part (inr parameter) = absurd (no_parts v.scope sees.names.agrees.sound first selectors t parts (whole_path v.scope first (selector_trees selectors) r t legal stands) parameter.integers)
+      by_part (inr parameter) = absurd (no_parts v.scope sees.names.agrees.sound first selectors t parts (whole_path v.scope sees.names.agrees.sound first (selector_trees selectors) r t legal stands valueless) parameter.integers)
       by_part (inl object) = (
         object.value,
         here_.same ∙ ap (λ u. fixed_value (select_all v.scope u (selector_trees selectors))) (sym stands) ∙ valueless,

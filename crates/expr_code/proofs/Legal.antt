@@ -6,7 +6,7 @@ use Rattle.ada_tree.specs.declared.expression.UnaryOperator.{UnaryOperator}
 use Rattle.ada_tree.specs.declared.expression.BinaryOperator.{BinaryOperator}
 use Rattle.ada_tree.specs.ExpressionTree as tree
 use Rattle.ada_tree.specs.declared.expression.ElsifValue.{ElsifValue}
-use Rattle.ada_tree.specs.ExpressionTree.{ExprTree, ElsifValueTrees, NoElsifValues, MoreElsifValues, chain_tree, elsif_value_trees, expr_tree}
+use Rattle.ada_tree.specs.ExpressionTree.{ExprTree, NoElsifValues, MoreElsifValues, chain_tree, elsif_value_trees, expr_tree}
 use Rattle.image.specs.Sections.{Sections}
 use Rattle.types.specs.Scopes.{Scope}
 use Rattle.types.specs.Statics.{start_of}

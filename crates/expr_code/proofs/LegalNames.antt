@@ -1,51 +1,59 @@
 -- What legality says of the names that code is made of: what stands behind a type, a function or an object, and in the parentheses there.
-use Rattle.std.proofs.Common.{◌≡◌, ◌≤◌, ◌++◌, ◌⊎◌, inl, inr, ℕ, zero, suc, List, [], ◌∷◌, length, Bool, true, false, not, Option, Some, None, refl, sym, ap, ◌∙◌, subst, arith}
-use Rattle.std.specs.Prelude.{slice_get}
+use Rattle.std.proofs.Common.{◌≡◌, ◌++◌, ℕ, zero, suc, List, [], ◌∷◌, length, Bool, true, false, not, Option, Some, None, refl, sym, ap, ◌∙◌, subst}
+use Rattle.std.specs.Prelude.{⊤, slice_get}
 use Rattle.base.specs.declared.faults.TheConstants.{NAME_NOT_VISIBLE, NO_MEANING}
 use Rattle.ada_tree.specs.declared.declaration.Mode.TheVariants as mode
 use Rattle.ada_tree.specs.declared.expression.Argument.{Argument}
 use Rattle.ada_tree.specs.declared.expression.Identifier.{Identifier}
 use Rattle.ada_tree.specs.declared.expression.Selector.{Selector}
 use Rattle.ada_tree.specs.ExpressionTree as tree
-use Rattle.ada_tree.specs.ExpressionTree.{argument_trees, ArgumentTrees, Arguments, Attribute, Component, MoreSelectors, NoSelectors, selector_trees, SelectorTree, SelectorTrees}
+use Rattle.ada_tree.specs.ExpressionTree.{argument_trees, ArgumentTrees, Arguments, Attribute, bare_name, Component, MoreSelectors, NoSelectors, selector_tree, selector_trees, SelectorTree, SelectorTrees}
 use Rattle.types.specs.declared.entity.FormalParameter.{FormalParameter}
 use Rattle.types.specs.declared.entity.Role.{Role}
 use Rattle.types.specs.declared.entity.Subtype.{Subtype}
 use Rattle.types.specs.declared.standing.Callee.{Callee}
+use Rattle.types.specs.declared.standing.Callee.TheVariants as callee
 use Rattle.types.specs.declared.standing.Standing.{Standing}
 use Rattle.types.specs.declared.standing.Standing.TheVariants as standing
 use Rattle.types.specs.Entities.{Arrays, Constant, Doubtful, Entity, Entry, Exception, Integers, LibraryUnit, Literal, Object, OfSubtype, OfType, Predefined, Profile, Protected, Put, Subprogram, Task, TypeForm}
 use Rattle.types.specs.Evaluating.{fixed_value}
-use Rattle.types.specs.Scopes.{form_at, is_visible, number_of, Scope}
+use Rattle.types.specs.Scopes.{entity_at, form_at, is_visible, number_of, profile_of, Scope}
 use Rattle.types.specs.Standings.{call_stands, callee_profile, conversion_stands, count, element_stands, is_single, result_stands, select, select_all, standing_of, stands_first, stands_for}
 use Rattle.expr_soundness.specs.expr_rules.specs.declared.own.Wanted.TheVariants.{OfType}
 use Rattle.expr_soundness.specs.expr_rules.specs.ExpressionRules.{arguments_faults, selector_faults, selectors_faults}
 use Rattle.expr_soundness.specs.expr_rules.specs.Faults.{Faults, rule}
 use Rattle.expr_soundness.specs.expr_rules.specs.NameRules.{is_doubtful, part_rule, value_rule}
 use Rattle.expr_soundness.specs.expr_rules.proofs.TypedLaw.{back_empty, front_empty, same_number, unbroken}
-use Rattle.expr_soundness.specs.SoundScopes.{AreIn, IsSoundProfile, IsSoundResult, SoundScope}
+use Rattle.expr_soundness.specs.SoundScopes.{AreIn, IsSoundEntry, IsSoundProfile, IsSoundResult, SoundScope}
 use Rattle.expr_soundness.proofs.Denoting.{empty_ends, is_empty}
 use Rattle.expr_soundness.proofs.Expressions.{not_false}
 use Rattle.expr_soundness.proofs.Goods.{Good, GoodCallee, good_first, good_select, part_unbroken}
-use Rattle.expr_soundness.proofs.Positions.{named, same_some}
+use Rattle.expr_soundness.proofs.Positions.{IsNamed, named, same_some}
 use Rattle.expr_code.specs.Emitting.{IsLegalExpression}
 use Rattle.expr_code.specs.Going.{IsLegalPart}
-use Rattle.expr_code.specs.Refusing.{is_external_call, is_made, selectors_outside}
-use Rattle.expr_code.specs.Seeing.{NamesProfile}
-use Rattle.expr_code.specs.declared.visible.Visible.{Visible}
+use Rattle.expr_code.specs.Providing.{FewFormals}
+use Rattle.expr_code.specs.Seeing.{NamesProfile, operation_named, operation_of, profile_named, subprogram_profile}
 use Rattle.expr_code.proofs.Actuals.{counted}
+use Rattle.expr_code.proofs.Attributes.{components_only}
+use Rattle.expr_code.proofs.CoveredNames.{procedure_not}
+use Rattle.expr_code.proofs.PeakSlots.{IsPath, value_path}
 
 -- ---- lists of one
 
--- two selectors are no single one
-two_selectors : (all : List Selector) (a : ArgumentTrees) → 2 ≤ length all → selector_trees all ≡ MoreSelectors (Arguments a) NoSelectors → ⊥
-two_selectors [] a more is = absurd (omega (arith, more))
-two_selectors (x ∷ []) a more is = absurd (omega (arith, more))
-two_selectors (x ∷ y ∷ all) a more is = cc
+-- actual parameters, an index or an operand, and nothing more
+abbrev pub IsApplied : SelectorTrees → Type 0
+IsApplied (MoreSelectors (Arguments a) NoSelectors) = ⊤
+IsApplied all = ⊥
 
-some_selectors : (all : List Selector) → 2 ≤ length all → selector_trees all ≡ NoSelectors → ⊥
-some_selectors [] more is = absurd (omega (arith, more))
-some_selectors (x ∷ all) more is = cc
+pub applied_once : (all : List Selector) → IsApplied (selector_trees all) → length all ≡ 1
+applied_once [] h = absurd h
+applied_once (x ∷ []) h = refl
+applied_once (x ∷ y ∷ all) h = absurd (many (selector_tree x) (selector_tree y) (selector_trees all) h)
+  where
+    many : (a b : SelectorTree) (rest : SelectorTrees) → IsApplied (MoreSelectors a (MoreSelectors b rest)) → ⊥
+    many (Arguments a) b rest h = h
+    many (Component name) b rest h = h
+    many (Attribute name) b rest h = h
 
 counts_one : (all : List Argument) → is_single (argument_trees all) ≡ true → length all ≡ 1
 counts_one all h = sym (counted all) ∙ same_number (count (argument_trees all)) 1 h
@@ -110,30 +118,34 @@ module _ (s : Scope) (first : Identifier) (selectors : SelectorTrees) (legal : I
           let x = named s first.name visible_first in
           never_given x.number x.entity t (sym (ap (stands_first s) x.numbered ∙ ap (stands_for x.number) x.stands) ∙ is)
 
-      pub begins_otherwise : (v : Visible) (w : Standing) → begins ≡ w
+      pub begins_otherwise : (w : Standing) → begins ≡ w
           → ((r : Role) (t : Subtype) → w ≡ standing.Part r t → ⊥)
           → ((t : Subtype) → w ≡ standing.Named t → ⊥)
           → ((f : Callee) → w ≡ standing.Callee f → ⊥)
-          → ((n : ℕ) → w ≡ standing.Protected n → is_external_call v first.name selectors ≡ false)
-          → is_made v first selectors w ≡ false
-      begins_otherwise v (standing.Part r t) is part type callee object = absurd (part r t refl)
-      begins_otherwise v (standing.Named t) is part type callee object = absurd (type t refl)
-      begins_otherwise v (standing.Callee f) is part type callee object = absurd (callee f refl)
-      begins_otherwise v (standing.Protected n) is part type callee object = object n refl
-      begins_otherwise v (standing.Given t None) is part type callee object = absurd (not_given t is)
-      begins_otherwise v (standing.Given t (Some x)) is part type callee object = absurd (nothing_else (standing.Given t (Some x)) is refl)
-      begins_otherwise v (standing.Fixed t x) is part type callee object = absurd (nothing_else (standing.Fixed t x) is refl)
-      begins_otherwise v (standing.Plain z) is part type callee object = absurd (nothing_else (standing.Plain z) is refl)
-      begins_otherwise v standing.Put is part type callee object = absurd (nothing_else standing.Put is refl)
-      begins_otherwise v standing.Statement is part type callee object = absurd (nothing_else standing.Statement is refl)
-      begins_otherwise v standing.Task is part type callee object = absurd (nothing_else standing.Task is refl)
-      begins_otherwise v standing.Other is part type callee object = absurd (nothing_else standing.Other is refl)
-      begins_otherwise v standing.Doubtful is part type callee object = absurd (nothing_else standing.Doubtful is refl)
+          → ((n : ℕ) → w ≡ standing.Protected n → ⊥)
+          → ⊥
+      begins_otherwise (standing.Part r t) is part type callee object = part r t refl
+      begins_otherwise (standing.Named t) is part type callee object = type t refl
+      begins_otherwise (standing.Callee f) is part type callee object = callee f refl
+      begins_otherwise (standing.Protected n) is part type callee object = object n refl
+      begins_otherwise (standing.Given t None) is part type callee object = not_given t is
+      begins_otherwise (standing.Given t (Some x)) is part type callee object = nothing_else (standing.Given t (Some x)) is refl
+      begins_otherwise (standing.Fixed t x) is part type callee object = nothing_else (standing.Fixed t x) is refl
+      begins_otherwise (standing.Plain z) is part type callee object = nothing_else (standing.Plain z) is refl
+      begins_otherwise standing.Put is part type callee object = nothing_else standing.Put is refl
+      begins_otherwise standing.Statement is part type callee object = nothing_else standing.Statement is refl
+      begins_otherwise standing.Task is part type callee object = nothing_else standing.Task is refl
+      begins_otherwise standing.Other is part type callee object = nothing_else standing.Other is refl
+      begins_otherwise standing.Doubtful is part type callee object = nothing_else standing.Doubtful is refl
 
--- a type is no value
-pub no_type_alone : (s : Scope) (first : Identifier) (t : Subtype) → IsLegalExpression s (tree.Named first NoSelectors)
-    → stands_first s (number_of s first.name) ≡ standing.Named t → ⊥
-no_type_alone s first t legal is = let h = end_unbroken s first NoSelectors legal (standing.Named t) is in cc
+module _ (s : Scope) (first : Identifier) (legal : IsLegalExpression s (tree.Named first NoSelectors)) where
+  -- a type is no value
+  pub no_type_alone : (t : Subtype) → stands_first s (number_of s first.name) ≡ standing.Named t → ⊥
+  no_type_alone t is = let h = end_unbroken s first NoSelectors legal (standing.Named t) is in cc
+
+  -- nor is a protected object
+  pub no_object_alone : (n : ℕ) → stands_first s (number_of s first.name) ≡ standing.Protected n → ⊥
+  no_object_alone n is = let h = end_unbroken s first NoSelectors legal (standing.Protected n) is in cc
 
 module _ (s : Scope) (sound : SoundScope s) where
   -- nothing stands behind a value
@@ -174,15 +186,17 @@ module _ (s : Scope) (sound : SoundScope s) where
         (subst (λ w. selectors_faults s place w rest ≡ []) ((λ j. conversion_stands t (two.0 j) (two.1 j)))
         (parts_later place (standing.Named t) (Arguments a) rest h))
 
-    -- a type's name has one operand behind it, or an attribute
-    conversion_shape : (v : Visible) (selectors : SelectorTrees) → selectors_faults s place (standing.Named t) selectors ≡ []
-        → value_rule place (select_all s (standing.Named t) selectors) ≡ []
-        → (selectors_outside v selectors ≡ true) ⊎ ((a : ArgumentTrees) × (selectors ≡ MoreSelectors (Arguments a) NoSelectors))
-    conversion_shape v NoSelectors h e = cc
-    conversion_shape v (MoreSelectors (Component name) rest) h e =
+    -- a type's name without a known value has one operand behind it, and nothing more
+    conversion_shape : (selectors : SelectorTrees) → Good s (standing.Named t) → selectors_faults s place (standing.Named t) selectors ≡ []
+        → value_rule place (select_all s (standing.Named t) selectors) ≡ [] → fixed_value (select_all s (standing.Named t) selectors) ≡ None
+        → IsApplied selectors
+    conversion_shape NoSelectors good h e none = cc
+    conversion_shape (MoreSelectors (Component name) rest) good h e none =
         absurd (let k = part_here place (standing.Named t) (Component name) rest h in cc)
-    conversion_shape v (MoreSelectors (Attribute name) rest) h e = inl refl
-    conversion_shape v (MoreSelectors (Arguments a) rest) h e = inr (a, ap (MoreSelectors (Arguments a)) (converted_alone a rest h))
+    conversion_shape (MoreSelectors (Attribute name) rest) good h e none =
+        absurd (let k = components_only s sound place (standing.Named t) (MoreSelectors (Attribute name) rest) good h none in cc)
+    conversion_shape (MoreSelectors (Arguments a) rest) good h e none =
+        subst (λ x. IsApplied (MoreSelectors (Arguments a) x)) (sym (converted_alone a rest h)) tt
 
     converts_one : (all : List Argument) → selectors_faults s place (standing.Named t) (MoreSelectors (Arguments (argument_trees all)) NoSelectors) ≡ []
         → length all ≡ 1
@@ -202,42 +216,89 @@ module _ (s : Scope) (sound : SoundScope s) where
     called_alone (Some p) is rest h = result_alone p.result rest h
     called_alone None is rest h = absurd (subst (GoodCallee s) is good)
 
-    -- a function's name has its actual parameters behind it, and nothing more
-    call_shape : (selectors : SelectorTrees) → selectors_faults s place (standing.Callee f) selectors ≡ []
-        → (selectors ≡ NoSelectors) ⊎ ((a : ArgumentTrees) × (selectors ≡ MoreSelectors (Arguments a) NoSelectors))
-    call_shape NoSelectors h = inl refl
-    call_shape (MoreSelectors (Component name) rest) h = absurd (let k = part_here place (standing.Callee f) (Component name) rest h in cc)
-    call_shape (MoreSelectors (Attribute name) rest) h = absurd (let k = part_here place (standing.Callee f) (Attribute name) rest h in cc)
-    call_shape (MoreSelectors (Arguments a) rest) h =
-        inr (a, ap (MoreSelectors (Arguments a)) (called_alone (callee_profile s f) refl rest (parts_later place (standing.Callee f) (Arguments a) rest h)))
+    -- a function's name has its actual parameters behind it, where it has something
+    call_shape : (x : SelectorTree) (rest : SelectorTrees) → selectors_faults s place (standing.Callee f) (MoreSelectors x rest) ≡ []
+        → IsApplied (MoreSelectors x rest)
+    call_shape (Component name) rest h = absurd (let k = part_here place (standing.Callee f) (Component name) rest h in cc)
+    call_shape (Attribute name) rest h = absurd (let k = part_here place (standing.Callee f) (Attribute name) rest h in cc)
+    call_shape (Arguments a) rest h =
+        subst (λ x. IsApplied (MoreSelectors (Arguments a) x))
+        (sym (called_alone (callee_profile s f) refl rest (parts_later place (standing.Callee f) (Arguments a) rest h))) tt
 
--- ---- lists of selectors and arguments
+-- ---- whole names
 
 module _ (s : Scope) (sound : SoundScope s) (first : Identifier) where
-  pub called_once : (all : List Selector) (f : Callee) → stands_first s (number_of s first.name) ≡ standing.Callee f
-      → IsLegalExpression s (tree.Named first (selector_trees all)) → 2 ≤ length all → ⊥
-  called_once all f stands legal long =
-      elim (call_shape s sound first.place f (good_begin s first (selector_trees all) legal sound (standing.Callee f) stands) (selector_trees all)
-      (parts_unbroken s first (selector_trees all) legal (standing.Callee f) stands)) [
-        | inl none ↦ some_selectors all long none
-        | inr one ↦ two_selectors all one.0 long one.1
-      ]
+  pub called_applied : (f : Callee) → stands_first s (number_of s first.name) ≡ standing.Callee f → (selectors : SelectorTrees)
+      → IsLegalExpression s (tree.Named first selectors) → bare_name (tree.Named first selectors) ≡ None
+      → IsApplied selectors
+  called_applied f stands NoSelectors legal parts = absurd cc
+  called_applied f stands (MoreSelectors x rest) legal parts =
+      call_shape s sound first.place f (good_begin s first (MoreSelectors x rest) legal sound (standing.Callee f) stands) x rest
+      (parts_unbroken s first (MoreSelectors x rest) legal (standing.Callee f) stands)
 
-  pub converted_once : (v : Visible) (all : List Selector) (t : Subtype) → stands_first s (number_of s first.name) ≡ standing.Named t
-      → IsLegalExpression s (tree.Named first (selector_trees all)) → 2 ≤ length all → selectors_outside v (selector_trees all) ≡ true
-  converted_once v all t stands legal long =
-      elim (conversion_shape s sound first.place t v (selector_trees all) (parts_unbroken s first (selector_trees all) legal (standing.Named t) stands)
-      (end_unbroken s first (selector_trees all) legal (standing.Named t) stands)) [
-        | inl out ↦ out
-        | inr one ↦ absurd (two_selectors all one.0 long one.1)
-      ]
+  pub converted_applied : (t : Subtype) → stands_first s (number_of s first.name) ≡ standing.Named t → (selectors : SelectorTrees)
+      → IsLegalExpression s (tree.Named first selectors) → fixed_value (standing_of s first selectors) ≡ None
+      → IsApplied selectors
+  converted_applied t stands selectors legal valueless =
+      conversion_shape s sound first.place t selectors (good_begin s first selectors legal sound (standing.Named t) stands)
+      (parts_unbroken s first selectors legal (standing.Named t) stands) (end_unbroken s first selectors legal (standing.Named t) stands)
+      (subst (λ w. fixed_value (select_all s w selectors) ≡ None) stands valueless)
 
   pub one_converted : (all : List Argument) (t : Subtype) → stands_first s (number_of s first.name) ≡ standing.Named t
-      → IsLegalExpression s (tree.Named first (MoreSelectors (Arguments (argument_trees all)) NoSelectors)) → 2 ≤ length all → ⊥
-  one_converted all t stands legal long =
-      let one = converts_one s sound first.place t all
-      (parts_unbroken s first (MoreSelectors (Arguments (argument_trees all)) NoSelectors) legal (standing.Named t) stands) in
-      omega (arith, one, long)
+      → IsLegalExpression s (tree.Named first (MoreSelectors (Arguments (argument_trees all)) NoSelectors)) → length all ≡ 1
+  one_converted all t stands legal =
+      converts_one s sound first.place t all
+      (parts_unbroken s first (MoreSelectors (Arguments (argument_trees all)) NoSelectors) legal (standing.Named t) stands)
+
+-- ---- functions
+
+-- What stands there may be called: it is a function of the language, or of the program.
+module _ (s : Scope) (sound : SoundScope s) (few : FewFormals s) (first : Identifier) (selectors : SelectorTrees) (f : Callee)
+    (stands : stands_first s (number_of s first.name) ≡ standing.Callee f) (legal : IsLegalExpression s (tree.Named first selectors)) where
+  abbrev it : IsNamed s first.name
+  it = named s first.name (visible_first s first selectors legal)
+
+  abbrev entity_stands : Entity → Standing
+  entity_stands e = stands_for it.number (Some e)
+
+  is_it : (e : Entity) → it.entity ≡ e → stands_first s (number_of s first.name) ≡ entity_stands e
+  is_it e is = ap (stands_first s) it.numbered ∙ ap (stands_for it.number) (it.stands ∙ ap Some is)
+
+  operation_is : (e : Entity) → it.entity ≡ e → operation_named s first.name ≡ operation_of (Some e)
+  operation_is e is =
+      ap (λ o. elim o [ None ↦ None | Some n ↦ operation_of (entity_at s n) ]) it.numbered ∙ ap operation_of (it.stands ∙ ap Some is)
+
+  profile_is : (e : Entity) → it.entity ≡ e → profile_named s first.name ≡ subprogram_profile (Some e)
+  profile_is e is =
+      ap (λ o. elim o [ None ↦ None | Some n ↦ subprogram_profile (entity_at s n) ]) it.numbered ∙ ap subprogram_profile (it.stands ∙ ap Some is)
+
+  entry_not : (p : Profile) → it.entity ≡ Entry p → ⊥
+  entry_not p is =
+      let sounds : IsSoundEntry s p = sound.each it.number (Entry p) (it.stands ∙ ap Some is) in
+      procedure_not s sound few first.place (callee.Direct it.number) p selectors (ap profile_of (it.stands ∙ ap Some is))
+      (subst (λ u. IsPath s sound few first.place u selectors) (is_it (Entry p) is) (value_path s sound few first selectors legal)) sounds.none
+
+  never_called : (e : Entity) → it.entity ≡ e → (entity_stands e ≡ standing.Callee f → ⊥) → ⊥
+  never_called e is wrong = wrong (sym (is_it e is) ∙ stands)
+
+  pub one_of_two : operation_named s first.name ≡ None → profile_named s first.name ≡ None → ⊥
+  one_of_two no_operation no_profile = by_entity it.entity refl
+    where
+      by_entity : (e : Entity) → it.entity ≡ e → ⊥
+      by_entity (Subprogram p) is = let never = sym (profile_is (Subprogram p) is) ∙ no_profile in cc
+      by_entity (Predefined o p) is = let never = sym (operation_is (Predefined o p) is) ∙ no_operation in cc
+      by_entity (Entry p) is = entry_not p is
+      by_entity (OfType form u) is = never_called (OfType form u) is (λ h. cc)
+      by_entity (OfSubtype u) is = never_called (OfSubtype u) is (λ h. cc)
+      by_entity (Object r u) is = never_called (Object r u) is (λ h. cc)
+      by_entity (Constant u v) is = never_called (Constant u v) is (λ h. cc)
+      by_entity (Literal b) is = never_called (Literal b) is (λ h. cc)
+      by_entity Exception is = never_called Exception is (λ h. cc)
+      by_entity Put is = never_called Put is (λ h. cc)
+      by_entity (Task priority) is = never_called (Task priority) is (λ h. cc)
+      by_entity (Protected o) is = never_called (Protected o) is (λ h. cc)
+      by_entity LibraryUnit is = never_called LibraryUnit is (λ h. cc)
+      by_entity Doubtful is = never_called Doubtful is (λ h. cc)
 
 -- a function's formals are all of mode `in`
 pub ins : (s : Scope) (sound : SoundScope s) (name : List ℕ) (profile : Profile) → NamesProfile s name profile → (t : Subtype) → profile.result ≡ Some t

@@ -33,3 +33,8 @@ mod CallsRefused
 pub mod Externals
 pub mod Language
 pub mod Shallow
+pub mod PeakSlots
+pub mod NamedBehind
+pub mod ThroughObjects
+pub mod CoveredNames
+pub mod Attributes

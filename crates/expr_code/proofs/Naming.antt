@@ -14,7 +14,7 @@ use Rattle.kernel.specs.Laws.{QuietStays}
 use Rattle.kernel.specs.RunLaws.{spends_trans}
 use Rattle.ada_tree.specs.declared.expression.Identifier.{Identifier}
 use Rattle.ada_tree.specs.ExpressionTree as tree
-use Rattle.ada_tree.specs.ExpressionTree.{Arguments, ArgumentTrees, ExprTree, MoreArguments, MoreSelectors, NoArguments, NoSelectors, SelectorTrees}
+use Rattle.ada_tree.specs.ExpressionTree.{Arguments, ExprTree, MoreArguments, MoreSelectors, NoArguments, NoSelectors, SelectorTrees}
 use Rattle.image.specs.Sections.{Sections}
 use Rattle.image.specs.Frames.{Words, Frame, region_words, word_at, words_at}
 use Rattle.image.specs.Steps.{act, behaviour, block_loaded, does, gives, loaded}

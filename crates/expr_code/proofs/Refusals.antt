@@ -1,12 +1,12 @@
 -- What refuses the code of a part of an expression refuses that of the whole.
-use Rattle.std.proofs.Common.{◌≡◌, ◌<◌, ◌≤◌, ◌+◌, ◌*◌, inl, inr, ℕ, zero, suc, [], ◌∷◌, List, length, map, take, Bool, true, false, ◌||◌, Some, None, refl, sym, ap, ◌∙◌, subst, arith}
+use Rattle.std.proofs.Common.{◌≡◌, ◌<◌, ◌≤◌, ◌+◌, ◌*◌, inl, inr, ℕ, zero, suc, [], ◌∷◌, List, length, map, take, Some, None, refl, sym, ap, ◌∙◌, subst, arith}
 use Rattle.std.specs.Prelude.{cond, get_or, is_none, max}
 use Rattle.std.proofs.Math.Nat.{le-max_left, le-max_right}
 use Rattle.ada_tree.specs.declared.expression.ElsifValue.{ElsifValue}
 use Rattle.ada_tree.specs.declared.expression.Operand.{Operand}
 use Rattle.ada_tree.specs.declared.expression.BinaryOperator.{BinaryOperator}
 use Rattle.ada_tree.specs.ExpressionTree as tree
-use Rattle.ada_tree.specs.ExpressionTree.{bare_name, chain_tree, elsif_value_trees, expr_tree, ExprTree, ElsifValueTrees, NoElsifValues, SelectorTrees, NoSelectors, MoreSelectors}
+use Rattle.ada_tree.specs.ExpressionTree.{chain_tree, elsif_value_trees, expr_tree, ExprTree, NoElsifValues, SelectorTrees, NoSelectors, MoreSelectors}
 use Rattle.ada_tree.specs.Size.{expr_size, elsif_values_size}
 use Rattle.image.specs.declared.instruction.Operation.{Operation}
 use Rattle.types.specs.Scopes.{number_of, Scope}
@@ -14,7 +14,7 @@ use Rattle.types.specs.Standings.{stands_first}
 use Rattle.expr_code.specs.Branches.{Branch, branch_of, branches_size, in_front}
 use Rattle.expr_code.specs.Code.{here}
 use Rattle.expr_code.specs.OperatorCode.{binary_operation}
-use Rattle.expr_code.specs.Refusing.{branches_outside, branches_peak, elsifs_outside, elsifs_peak, is_outside, IsRefused, IsRefusedBeside, operand_peak, operands_outside, operands_peak, operands_size, peak, RefusesBranches, RefusesExpression, RefusesOperands, selector_peak, selectors_peak, words_below}
+use Rattle.expr_code.specs.Refusing.{branches_peak, elsifs_peak, IsRefused, IsRefusedBeside, operand_peak, operands_peak, operands_size, peak, RefusesBranches, RefusesExpression, RefusesOperands, selector_peak, selectors_peak, words_below}
 use Rattle.expr_code.specs.Widths.{width_of}
 use Rattle.expr_code.specs.declared.code.Code.{Code}
 use Rattle.expr_code.specs.declared.refusal.Refusal.{Refusal}
@@ -25,39 +25,19 @@ use Rattle.expr_code.proofs.Growing.{added_here, patched_here}
 use Rattle.expr_code.proofs.Legal.{branches_are}
 use Rattle.expr_code.proofs.Selecting.{taken_all}
 
--- a part ends no later than the whole, needs no more words, and is outside only where the whole is; what is unfit for it is so for the whole
-pub refused_beside : {a b : Type 0} (m n l h : ℕ) (p q : Bool) → (a → b) → m ≤ n → l ≤ h → (p ≡ true → q ≡ true) → (why : Refusal)
-    → IsRefusedBeside a m l p why → IsRefusedBeside b n h q why
-refused_beside m n l h p q unfit up high outside refusal.Memory r = tt
-refused_beside m n l h p q unfit up high outside refusal.Limit (inl r) = inl (omega (arith, r, up))
-refused_beside m n l h p q unfit up high outside refusal.Limit (inr (inl r)) = inr (inl (omega (arith, r, high)))
-refused_beside m n l h p q unfit up high outside refusal.Limit (inr (inr r)) = inr (inr (unfit r))
-refused_beside m n l h p q unfit up high outside refusal.Outside r = outside r
+-- a part ends no later than the whole, and needs no more words; what is unfit for it is so for the whole
+pub refused_beside : {a b : Type 0} (m n l h : ℕ) → (a → b) → m ≤ n → l ≤ h → (why : Refusal) → IsRefusedBeside a m l why → IsRefusedBeside b n h why
+refused_beside m n l h unfit up high refusal.Memory r = tt
+refused_beside m n l h unfit up high refusal.Limit (inl r) = inl (omega (arith, r, up))
+refused_beside m n l h unfit up high refusal.Limit (inr (inl r)) = inr (inl (omega (arith, r, high)))
+refused_beside m n l h unfit up high refusal.Limit (inr (inr r)) = inr (inr (unfit r))
 
-pub refused_more : (a : Type 0) (m n l h : ℕ) (p q : Bool) → m ≤ n → l ≤ h → (p ≡ true → q ≡ true) → (why : Refusal) → IsRefusedBeside a m l p why
-    → IsRefusedBeside a n h q why
-refused_more a m n l h p q up high outside why r = refused_beside m n l h p q (λ x. x) up high outside why r
-
-never : (b : Bool) → false ≡ true → b ≡ true
-never b h = cc
+pub refused_more : (a : Type 0) (m n l h : ℕ) → m ≤ n → l ≤ h → (why : Refusal) → IsRefusedBeside a m l why → IsRefusedBeside a n h why
+refused_more a m n l h up high why r = refused_beside m n l h (λ x. x) up high why r
 
 -- of an instruction, or of the words of one
-pub instruction_refused : (a : Type 0) (m n l h : ℕ) (q : Bool) → m ≤ n → l ≤ h → (why : Refusal) → IsRefused m l false why → IsRefusedBeside a n h q why
-instruction_refused a m n l h q up high why r = refused_beside m n l h false q (λ x. absurd x) up high (never q) why r
-
--- ---- tests
-
-pub or_left : (a b : Bool) → a ≡ true → (a || b) ≡ true
-or_left true b h = refl
-or_left false b h = cc
-
-pub or_right : (a b : Bool) → b ≡ true → (a || b) ≡ true
-or_right true b h = refl
-or_right false b h = h
-
-pub or_none : (a b : Bool) → (a || false) ≡ true → (a || b) ≡ true
-or_none true b h = refl
-or_none false b h = cc
+pub instruction_refused : (a : Type 0) (m n l h : ℕ) → m ≤ n → l ≤ h → (why : Refusal) → IsRefused m l why → IsRefusedBeside a n h why
+instruction_refused a m n l h up high why r = refused_beside m n l h (λ x. absurd x) up high why r
 
 -- ---- words
 
@@ -122,23 +102,6 @@ pub closed_here : (old new : Code) (height test : ℕ) (before after : List ℕ)
 closed_here old new height test before after p = patched_here _ _ _ _ p.patches ∙ added_here _ _ _ _ p.adds
 
 module _ (v : Visible) where
-  outside_left : (left : ExprTree) (all : List Operand) → is_outside v left ≡ true → is_outside v (chain_tree left all) ≡ true
-  outside_left left [] h = h
-  outside_left left (o ∷ all) h = outside_left (tree.Binary o.operator left (expr_tree o.value)) all
-      (or_left (is_outside v left) (is_outside v (expr_tree o.value)) h)
-
-  outside_chain : (left : ExprTree) (all : List Operand) → operands_outside v all ≡ true → is_outside v (chain_tree left all) ≡ true
-  outside_chain left [] h = cc
-  outside_chain left (o ∷ all) h = by_first (is_outside v (expr_tree o.value)) refl h (outside_chain (tree.Binary o.operator left (expr_tree o.value)) all)
-    where
-      inner : ExprTree
-      inner = tree.Binary o.operator left (expr_tree o.value)
-
-      by_first : (b : Bool) → is_outside v (expr_tree o.value) ≡ b → (b || operands_outside v all) ≡ true
-          → (operands_outside v all ≡ true → is_outside v (chain_tree inner all) ≡ true) → is_outside v (chain_tree inner all) ≡ true
-      by_first true e k more = outside_left inner all (or_right (is_outside v left) (is_outside v (expr_tree o.value)) e)
-      by_first false e k more = more k
-
   module _ (e left : ExprTree) (o : Operand) (all : List Operand) (same : e ≡ chain_tree (tree.Binary o.operator left (expr_tree o.value)) all) (old : Code)
       (depth : ℕ) (why : Refusal) where
     whole : RefusesExpression v old depth (chain_tree left (o ∷ all)) why → RefusesExpression v old depth e why
@@ -148,7 +111,7 @@ module _ (v : Visible) where
     first_refused r =
         let size = size_chain left (o ∷ all) in
         let high = peak_left v.scope left (o ∷ all) in
-        whole (refused_more _ _ _ _ _ _ _ (omega (arith, size)) (omega (arith, high)) (outside_left left (o ∷ all)) why r)
+        whole (refused_more _ _ _ _ _ (omega (arith, size)) (omega (arith, high)) why r)
 
     pub second_refused : (one : Code) → here one ≤ here old + 20 * expr_size left → RefusesOperands v one depth (o ∷ []) why
         → RefusesExpression v old depth e why
@@ -156,9 +119,8 @@ module _ (v : Visible) where
         let size = size_chain left (o ∷ all) in
         let high = peak_chain v.scope left (o ∷ all) in
         let up = le-max_left (operand_peak o.operator (peak v.scope (expr_tree o.value))) (operands_peak v.scope all) in
-        whole (refused_more _ _ _ _ _ _ _ (omega (arith, size, before))
-        (least (operand_peak o.operator (peak v.scope (expr_tree o.value))) (operands_peak v.scope all) (peak v.scope (chain_tree left (o ∷ all))) high)
-        (λ h. outside_chain left (o ∷ all) (or_none (is_outside v (expr_tree o.value)) (operands_outside v all) h)) why r)
+        whole (refused_more _ _ _ _ _ (omega (arith, size, before))
+        (least (operand_peak o.operator (peak v.scope (expr_tree o.value))) (operands_peak v.scope all) (peak v.scope (chain_tree left (o ∷ all))) high) why r)
       where
         least : (a b n : ℕ) → max a b ≤ n → depth + max a 0 ≤ depth + n
         least a b n h = omega (arith, h)
@@ -168,26 +130,25 @@ module _ (v : Visible) where
     more_refused one two before after r =
         let size = size_chain left (o ∷ all) in
         let high = peak_chain v.scope left (o ∷ all) in
-        whole (refused_more _ _ _ _ _ _ _ (omega (arith, size, before, after))
-        (last (operand_peak o.operator (peak v.scope (expr_tree o.value))) (operands_peak v.scope all) (peak v.scope (chain_tree left (o ∷ all))) high)
-        (λ h. outside_chain left (o ∷ all) (or_right (is_outside v (expr_tree o.value)) (operands_outside v all) h)) why r)
+        whole (refused_more _ _ _ _ _ (omega (arith, size, before, after))
+        (last (operand_peak o.operator (peak v.scope (expr_tree o.value))) (operands_peak v.scope all) (peak v.scope (chain_tree left (o ∷ all))) high) why r)
       where
         last : (a b n : ℕ) → max a b ≤ n → depth + b ≤ depth + n
         last a b n h = omega (arith, h)
 
   -- where a word is wanting for an instruction behind a value
-  pub word_refused : (e : ExprTree) (old : Code) (depth m h : ℕ) (why : Refusal) → m ≤ here old → h ≤ depth + 1 → IsRefused m h false why
+  pub word_refused : (e : ExprTree) (old : Code) (depth m h : ℕ) (why : Refusal) → m ≤ here old → h ≤ depth + 1 → IsRefused m h why
       → RefusesExpression v old depth e why
-  word_refused e old depth m h why up high r = let some = peak_some v.scope e in instruction_refused _ _ _ _ _ _ (omega (arith, up))
+  word_refused e old depth m h why up high r = let some = peak_some v.scope e in instruction_refused _ _ _ _ _ (omega (arith, up))
       (omega (arith, high, some)) why r
 
   -- ... behind a right operand
   pub second_word_refused : (o : Operand) (x : Operation) (old : Code) (depth second m h : ℕ) (why : Refusal) → binary_operation o.operator ≡ Some x
       → second ≡ depth + 1 → m ≤ here old → h ≤ second + 1
-      → IsRefused m h false why
+      → IsRefused m h why
       → RefusesOperands v old depth (o ∷ []) why
   second_word_refused o x old depth second m h why is more up high r =
-      instruction_refused _ _ _ _ _ _ (omega (arith, up)) (above _ _ (both_peak v.scope o.operator x (peak v.scope (expr_tree o.value)) is)
+      instruction_refused _ _ _ _ _ (omega (arith, up)) (above _ _ (both_peak v.scope o.operator x (peak v.scope (expr_tree o.value)) is)
       (peak_some v.scope (expr_tree o.value))) why r
     where
       above : (a n : ℕ) → a ≡ suc n → 1 ≤ n → h ≤ depth + max a 0
@@ -197,7 +158,6 @@ module _ (v : Visible) where
   pub record AmongOperands (all : List Operand) (n : ℕ) (x : Operand) : Type 0 where
     pub sized : operands_size (take n all) + operands_size (x ∷ []) ≤ operands_size all
     pub high : operands_peak v.scope (x ∷ []) ≤ operands_peak v.scope all
-    pub outside : operands_outside v (x ∷ []) ≡ true → operands_outside v all ≡ true
 
   pub among_operands : (all : List Operand) (n : ℕ) (x : Operand) → n < length all → x ≡ get_or all n x → AmongOperands all n x
   among_operands [] n x less is = absurd (omega (arith, less))
@@ -210,7 +170,6 @@ module _ (v : Visible) where
       first = record {
         sized = omega arith;
         high = least (operand_peak o.operator (peak v.scope (expr_tree o.value))) (operands_peak v.scope all);
-        outside = or_none (is_outside v (expr_tree o.value)) (operands_outside v all);
       }
   among_operands (o ∷ all) (suc n) x less is =
       let more = among_operands all n x (omega (arith, less)) is in
@@ -218,7 +177,6 @@ module _ (v : Visible) where
       record {
         sized = omega (arith, size);
         high = later (operand_peak o.operator (peak v.scope (expr_tree o.value))) (operands_peak v.scope all) (operands_peak v.scope (x ∷ [])) more.high;
-        outside = λ h. or_right (is_outside v (expr_tree o.value)) (operands_outside v all) (more.outside h);
       }
     where
       later : (a b n : ℕ) → n ≤ b → n ≤ max a b
@@ -231,7 +189,7 @@ module _ (v : Visible) where
       let it = among_operands all n x less is in
       let size = it.sized in
       let high = it.high in
-      refused_more _ _ _ _ _ _ _ (omega (arith, size, before)) (omega (arith, high)) it.outside why r
+      refused_more _ _ _ _ _ (omega (arith, size, before)) (omega (arith, high)) why r
 
   pub operands_further : (all : List Operand) (n : ℕ) (x : Operand) → n < length all → x ≡ get_or all n x
       → operands_size (take (n + 1) all) ≡ operands_size (take n all) + operands_size (x ∷ [])
@@ -262,8 +220,6 @@ module _ (v : Visible) where
         (map branch_of all)
     pub high_condition : peak v.scope (expr_tree x.condition) ≤ branches_peak v.scope (map branch_of all)
     pub high_value : peak v.scope (expr_tree x.value) ≤ branches_peak v.scope (map branch_of all)
-    pub outside_condition : is_outside v (expr_tree x.condition) ≡ true → branches_outside v (map branch_of all) ≡ true
-    pub outside_value : is_outside v (expr_tree x.value) ≡ true → branches_outside v (map branch_of all) ≡ true
 
   pub among_branches : (all : List ElsifValue) (n : ℕ) (x : ElsifValue) → n < length all → x ≡ get_or all n x → AmongBranches all n x
   among_branches [] n x less is = absurd (omega (arith, less))
@@ -280,9 +236,6 @@ module _ (v : Visible) where
         sized = omega arith;
         high_condition = one (peak v.scope (expr_tree e.condition)) (peak v.scope (expr_tree e.value)) (branches_peak v.scope (map branch_of all));
         high_value = two (peak v.scope (expr_tree e.condition)) (peak v.scope (expr_tree e.value)) (branches_peak v.scope (map branch_of all));
-        outside_condition = or_left (is_outside v (expr_tree e.condition)) (is_outside v (expr_tree e.value) || branches_outside v (map branch_of all));
-        outside_value = λ h. or_right (is_outside v (expr_tree e.condition)) (is_outside v (expr_tree e.value) || branches_outside v (map branch_of all))
-            (or_left (is_outside v (expr_tree e.value)) (branches_outside v (map branch_of all)) h);
       }
   among_branches (e ∷ all) (suc n) x less is =
       let more = among_branches all n x (omega (arith, less)) is in
@@ -293,15 +246,10 @@ module _ (v : Visible) where
             (peak v.scope (expr_tree x.condition)) more.high_condition;
         high_value = later (peak v.scope (expr_tree e.condition)) (peak v.scope (expr_tree e.value)) (branches_peak v.scope (map branch_of all))
             (peak v.scope (expr_tree x.value)) more.high_value;
-        outside_condition = λ h. further (more.outside_condition h);
-        outside_value = λ h. further (more.outside_value h);
       }
     where
       later : (a b d n : ℕ) → n ≤ d → n ≤ max a (max b d)
       later a b d n h = omega (arith, h)
-
-      further : branches_outside v (map branch_of all) ≡ true → branches_outside v (map branch_of (e ∷ all)) ≡ true
-      further h = or_right (is_outside v (expr_tree e.condition)) _ (or_right (is_outside v (expr_tree e.value)) (branches_outside v (map branch_of all)) h)
 
   -- the code of a branch that stands behind others
   module _ (start c : Code) (depth width : ℕ) (all : List ElsifValue) (n : ℕ) (x : ElsifValue) (why : Refusal) (less : n < length all)
@@ -315,22 +263,22 @@ module _ (v : Visible) where
     pub condition_refused : RefusesExpression v c depth (expr_tree x.condition) why → RefusesBranches v start depth width (map branch_of all) why
     condition_refused r =
         let size = it.sized in
-        refused_more _ _ _ _ _ _ _ (omega (arith, size, before)) (within _ _ it.high_condition) it.outside_condition why r
+        refused_more _ _ _ _ _ (omega (arith, size, before)) (within _ _ it.high_condition) why r
 
     pub value_refused : (mid : Code) → here mid ≤ here c + (20 * expr_size (expr_tree x.condition) + 1)
         → RefusesExpression v mid depth (expr_tree x.value) why → RefusesBranches v start depth width (map branch_of all) why
     value_refused mid up r =
         let size = it.sized in
-        refused_more _ _ _ _ _ _ _ (omega (arith, size, before, up)) (within _ _ it.high_value) it.outside_value why r
+        refused_more _ _ _ _ _ (omega (arith, size, before, up)) (within _ _ it.high_value) why r
 
     -- an instruction above a word, or above those of the value
     pub jump_refused : (m h : ℕ) → m ≤ here c + 20 * (1 + expr_size (expr_tree x.condition) + expr_size (expr_tree x.value)) → h ≤ depth + max 1 width
-        → IsRefused m h false why
+        → IsRefused m h why
         → RefusesBranches v start depth width (map branch_of all) why
     jump_refused m h up high r =
         let size = it.sized in
         let some = peak_some v.scope (expr_tree x.condition) in
-        instruction_refused _ _ _ _ _ _ (omega (arith, size, before, up)) (above _ _ some it.high_condition) why r
+        instruction_refused _ _ _ _ _ (omega (arith, size, before, up)) (above _ _ some it.high_condition) why r
       where
         above : (a b : ℕ) → 1 ≤ a → a ≤ b → h ≤ depth + max width b
         above a b i j = omega (arith, i, j, high)
@@ -343,10 +291,6 @@ module _ (v : Visible) where
   pub branches_high : (all : List Branch) → elsifs_peak v.scope (in_front all NoElsifValues) ≡ branches_peak v.scope all
   branches_high [] = refl
   branches_high (b ∷ all) = ap (λ n. max (peak v.scope b.condition) (max (peak v.scope b.value) n)) (branches_high all)
-
-  branches_out : (all : List Branch) → elsifs_outside v (in_front all NoElsifValues) ≡ branches_outside v all
-  branches_out [] = refl
-  branches_out (b ∷ all) = ap (λ n. is_outside v b.condition || (is_outside v b.value || n)) (branches_out all)
 
   module _ (e : ExprTree) (place : ℕ) (condition value : ExprTree) (elsifs : List ElsifValue) (last : ExprTree)
       (same : e ≡ tree.Conditional place condition value (elsif_value_trees elsifs) last) (old : Code) (depth : ℕ) where
@@ -367,14 +311,8 @@ module _ (v : Visible) where
     high = ap (λ n. max (width_of v.scope conditional) (max (peak v.scope condition) (max (peak v.scope value) (max n (peak v.scope last)))))
         (branches_high all)
 
-    out : is_outside v conditional ≡ (is_outside v condition || (is_outside v value || (branches_outside v all || is_outside v last)))
-    out = ap (λ n. is_outside v condition || (is_outside v value || (n || is_outside v last))) (branches_out all)
-
     at_whole : (why : Refusal) → RefusesExpression v old depth conditional why → RefusesExpression v old depth e why
     at_whole why r = subst (λ x. RefusesExpression v old depth x why) (sym front) r
-
-    bound_two : (p w c x b l : ℕ) → p ≡ max w (max c (max x (max b l))) → (depth + c ≤ depth + p) × (depth + x ≤ depth + p)
-    bound_two p w c x b l e = (omega (arith, e), omega (arith, e))
 
     bound_last : (p w c x b l : ℕ) → p ≡ max w (max c (max x (max b l))) → depth + l ≤ depth + p
     bound_last p w c x b l e = omega (arith, e)
@@ -385,44 +323,24 @@ module _ (v : Visible) where
     bound_wide : (p w c x b l n : ℕ) → n ≡ w → 1 ≤ c → p ≡ max w (max c (max x (max b l))) → depth + max 1 n ≤ depth + p
     bound_wide p w c x b l n same some e = omega (arith, e, same, some)
 
-    abbrev out_rest : Bool
-    out_rest = branches_outside v all || is_outside v last
-
-    pub holds_refused : (why : Refusal) → RefusesExpression v old depth condition why → RefusesExpression v old depth e why
-    holds_refused why r =
-        at_whole why
-        (refused_more _ _ _ _ _ _ _ (omega (arith, counted)) (bound_two _ _ _ _ _ _ high).0
-        (λ h. out ∙ or_left (is_outside v condition) (is_outside v value || out_rest) h) why r)
-
-    pub then_refused : (mid : Code) (why : Refusal) → here mid ≤ here old + (20 * expr_size condition + 1) → RefusesExpression v mid depth value why
-        → RefusesExpression v old depth e why
-    then_refused mid why up r =
-        at_whole why
-        (refused_more _ _ _ _ _ _ _ (omega (arith, counted, up)) (bound_two _ _ _ _ _ _ high).1
-        (λ h. out ∙ or_right (is_outside v condition) (is_outside v value || out_rest) (or_left (is_outside v value) out_rest h)) why r)
-
     -- an instruction above a word, or above those of the value
     pub between_refused : (width m h : ℕ) (why : Refusal) → width ≡ width_of v.scope e
         → m ≤ here old + (20 * (1 + expr_size condition + expr_size value + branches_size all + expr_size last)) → h ≤ depth + max 1 width
-        → IsRefused m h false why
+        → IsRefused m h why
         → RefusesExpression v old depth e why
     between_refused width m h why is up below r =
         let wide = bound_wide _ _ _ _ _ _ width (is ∙ ap (width_of v.scope) front) (peak_some v.scope condition) high in
-        at_whole why (instruction_refused _ _ _ _ _ _ (omega (arith, counted, up)) (omega (arith, wide, below)) why r)
+        at_whole why (instruction_refused _ _ _ _ _ (omega (arith, counted, up)) (omega (arith, wide, below)) why r)
 
     pub others_refused : (width : ℕ) (mid : Code) (why : Refusal) → width ≡ width_of v.scope e
         → here mid ≤ here old + 20 * (1 + expr_size condition + expr_size value) → RefusesBranches v mid depth width all why
         → RefusesExpression v old depth e why
     others_refused width mid why is up r =
         at_whole why
-        (refused_more _ _ _ _ _ _ _ (omega (arith, counted, up)) (bound_all _ _ _ _ _ _ width (is ∙ ap (width_of v.scope) front) high)
-        (λ h. out ∙ or_right (is_outside v condition) (is_outside v value || out_rest)
-        (or_right (is_outside v value) out_rest (or_left (branches_outside v all) (is_outside v last) h))) why r)
+        (refused_more _ _ _ _ _ (omega (arith, counted, up)) (bound_all _ _ _ _ _ _ width (is ∙ ap (width_of v.scope) front) high) why r)
 
     pub else_refused : (mid : Code) (why : Refusal) → here mid ≤ here old + 20 * (1 + expr_size condition + expr_size value + branches_size all)
         → RefusesExpression v mid depth last why → RefusesExpression v old depth e why
     else_refused mid why up r =
         at_whole why
-        (refused_more _ _ _ _ _ _ _ (omega (arith, counted, up)) (bound_last _ _ _ _ _ _ high)
-        (λ h. out ∙ or_right (is_outside v condition) (is_outside v value || out_rest)
-        (or_right (is_outside v value) out_rest (or_right (branches_outside v all) (is_outside v last) h))) why r)
+        (refused_more _ _ _ _ _ (omega (arith, counted, up)) (bound_last _ _ _ _ _ _ high) why r)

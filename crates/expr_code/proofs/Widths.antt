@@ -42,7 +42,7 @@ use Rattle.expr_soundness.proofs.Positions.{named}
 use Rattle.expr_soundness.specs.expr_rules.specs.Laws.{is_value_of}
 use Rattle.expr_code.specs.Branches.{Branch, branch_of, in_front}
 use Rattle.expr_code.specs.Emitting.{has_numbers, IsFit, IsLegalExpression, WantedFits}
-use Rattle.expr_code.specs.Refusing.{is_passable}
+use Rattle.expr_code.specs.Providing.{is_passable}
 use Rattle.expr_code.specs.Seeing.{NamesProfile}
 use Rattle.expr_code.specs.Widths.{AreSingle, AreWide, own_words, width_of}
 use Rattle.expr_code.proofs.Conversions.{integers, with_argument}

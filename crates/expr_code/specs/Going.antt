@@ -1,6 +1,6 @@
 -- What code promises that goes from the address of an object to that of a part of it (RM 4.1.1, 4.1.3).
-use Rattle.std.specs.Prelude.{◌≡◌, ℕ, suc, ◌+◌, ◌*◌, ◌≤◌, ℤ, pos, List, [], ◌∷◌}
-use Rattle.ada_tree.specs.ExpressionTree.{MoreSelectors, SelectorTree, SelectorTrees}
+use Rattle.std.specs.Prelude.{◌≡◌, ℕ, suc, ◌+◌, ◌*◌, ◌≤◌, ℤ, pos, Bool, true, false, ◌&&◌, List, [], ◌∷◌}
+use Rattle.ada_tree.specs.ExpressionTree.{Attribute, MoreSelectors, NoSelectors, SelectorTree, SelectorTrees}
 use Rattle.ada_tree.specs.Size.{selector_size, selectors_size}
 use Rattle.image.specs.Sections.{Sections}
 use Rattle.image.specs.declared.instruction.Operation.TheVariants as op
@@ -19,16 +19,27 @@ use Rattle.expr_code.specs.Views.{At}
 use Rattle.expr_code.specs.declared.code.Code.{Code}
 use Rattle.expr_code.specs.declared.visible.Visible.{Visible}
 
--- no rule is broken in the parts of a name behind an object or part of this subtype; in one of them
+-- it is a component, and no attribute
+abbrev pub is_component : SelectorTree → Bool
+is_component (Attribute name) = false
+is_component x = true
+
+abbrev pub are_components : SelectorTrees → Bool
+are_components NoSelectors = true
+are_components (MoreSelectors x rest) = is_component x && are_components rest
+
+-- no rule is broken in the parts of a name behind an object or part of this subtype, which lead to a part of it; in one of them
 pub record IsLegalPath (s : Scope) (t : Subtype) (all : SelectorTrees) : Type 0 where
   pub role : Role
   pub place : ℕ
   pub unbroken : selectors_faults s place (standing.Part role t) all ≡ []
+  pub components : are_components all ≡ true
 
 pub record IsLegalPart (s : Scope) (t : Subtype) (x : SelectorTree) : Type 0 where
   pub role : Role
   pub place : ℕ
   pub unbroken : selector_faults s place (standing.Part role t) x ≡ []
+  pub component : is_component x ≡ true
 
 -- with this part more it is an object of this subtype
 abbrev pub Selects : Scope → Subtype → SelectorTree → Subtype → Type 0

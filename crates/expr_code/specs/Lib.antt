@@ -14,4 +14,5 @@ pub mod Going
 pub mod Actuals
 pub mod Widths
 pub mod Refusing
+pub mod Providing
 pub mod NameForms

@@ -1,6 +1,6 @@
 //! The code of calls of functions (RM 6.4). Of one of the program: the actual parameters in order, each checked against the subtype of its formal, and the
 //! call.
-ghost use Rattle.std.specs.Prelude.{◌≡◌, ◌+◌, map, None, not, take, length, IfErr, IfOk, OnOk};
+ghost use Rattle.std.specs.Prelude.{◌≡◌, ◌+◌, map, None, true, take, length, IfErr, IfOk, OnOk};
 ghost use Rattle.ada_tree.specs.ExpressionTree.{argument_tree, argument_trees, Named, NoSelectors};
 ghost use Rattle.ada_tree.specs.declared.declaration.Mode.TheVariants.{In};
 ghost use Rattle.image.specs.declared.instruction.Operation.TheVariants.{Call, ProtectedCall};
@@ -14,7 +14,8 @@ ghost use Rattle.expr_soundness.specs.Agreeing.{parameter_subtype};
 ghost use Rattle.expr_code.specs.Emitting.{EmitsExpression, IsLegalExpression};
 ghost use Rattle.expr_code.specs.Actuals.{AddsCall, ArePassedLegally, EmitsActual, EmitsActuals, IsPassedLegally};
 ghost use Rattle.expr_code.specs.Code.{Extends, here, IsShallow};
-ghost use Rattle.expr_code.specs.Refusing.{is_called, IsRefused, RefusesActual, RefusesActuals, RefusesExpression, argument_peak, arguments_peak, peak};
+ghost use Rattle.expr_code.specs.Providing.{HasWhatExpressionsNeed, are_passable, is_called, is_passable};
+ghost use Rattle.expr_code.specs.Refusing.{IsRefused, RefusesActual, RefusesActuals, RefusesExpression, argument_peak, arguments_peak, peak};
 ghost use Rattle.expr_code.specs.Seeing.{external_of, NamesProfile, subprogram_of};
 ghost use Rattle.expr_code.specs.Widths.{width_of};
 ghost use Rattle.expr_soundness.specs.SoundScopes.{AreIn, SoundScope};
@@ -41,6 +42,7 @@ impl Code {
         arguments: &[Argument],
     ) -> Result<(), Refusal>
         requires sound { SoundScope visible.now.scope }
+        requires covered { HasWhatExpressionsNeed visible.now }
         requires stands { (f : Callee) × (stands_first visible.now.scope (number_of visible.now.scope first.now.name) ≡ standing.Callee f) }
         requires legal { IsLegalExpression visible.now.scope (applied first.now arguments.now) }
         requires valueless { fixed_value (standing_of visible.now.scope first.now (arguments_alone arguments.now)) ≡ None }
@@ -54,7 +56,7 @@ impl Code {
             Some(operation) => self.predefined(visible, depth, operation, first, arguments),
             None => match visible.profile(&first.name) {
                 Some(profile) => self.call(visible, depth, first, profile, arguments),
-                None => Err(Refusal::Outside),
+                None => unreachable!(),
             },
         }
     }
@@ -67,6 +69,7 @@ impl Code {
         first: &Identifier,
     ) -> Result<(), Refusal>
         requires sound { SoundScope visible.now.scope }
+        requires covered { HasWhatExpressionsNeed visible.now }
         requires stands { (f : Callee) × (stands_first visible.now.scope (number_of visible.now.scope first.now.name) ≡ standing.Callee f) }
         requires legal { IsLegalExpression visible.now.scope (Named first.now NoSelectors) }
         requires valueless { fixed_value (standing_of visible.now.scope first.now NoSelectors) ≡ None }
@@ -80,7 +83,7 @@ impl Code {
             Some(operation) => self.predefined_alone(visible, depth, operation, first),
             None => match visible.profile(&first.name) {
                 Some(profile) => self.call_alone(visible, depth, first, profile),
-                None => Err(Refusal::Outside),
+                None => unreachable!(),
             },
         }
     }
@@ -96,6 +99,7 @@ impl Code {
         arguments: &[Argument],
     ) -> Result<(), Refusal>
         requires sound { SoundScope visible.now.scope }
+        requires covered { HasWhatExpressionsNeed visible.now }
         requires names { NamesProfile visible.now.scope first.now.name (profile_value profile.now) }
         requires legal { IsLegalExpression visible.now.scope (applied first.now arguments.now) }
         ensures width { OnOk result (width_of visible.now.scope (applied first.now arguments.now) ≡ 1) }
@@ -117,6 +121,8 @@ impl Code {
         first: &Identifier,
         profile: &Profile,
     ) -> Result<(), Refusal>
+        requires sound { SoundScope visible.now.scope }
+        requires covered { HasWhatExpressionsNeed visible.now }
         requires names { NamesProfile visible.now.scope first.now.name (profile_value profile.now) }
         requires legal { IsLegalExpression visible.now.scope (Named first.now NoSelectors) }
         ensures width { OnOk result (width_of visible.now.scope (Named first.now NoSelectors) ≡ 1) }
@@ -137,19 +143,19 @@ impl Code {
         first: &Identifier,
         profile: &Profile,
     ) -> Result<(), Refusal>
-        ensures refused { IfErr result (λ why. IsRefused (here self.old + 1) height
-            (not (is_called visible.now.scope (subprogram_of visible.now first.now.name) (profile_value profile.now))) why) }
+        requires called { is_called visible.now.scope (subprogram_of visible.now first.now.name) (profile_value profile.now) ≡ true }
+        ensures refused { IfErr result (λ why. IsRefused (here self.old + 1) height why) }
         ensures kept { IfErr result (λ why. Extends self.old self.new) }
         ensures adds { OnOk result (AddsCall visible.now (subprogram_of visible.now first.now.name) Call (profile_value profile.now) self.old height self.new) }
     {
         let Some(number) = visible.subprogram(&first.name) else {
-            return Err(Refusal::Outside);
+            unreachable!();
         };
         match profile.result {
             Some(result) if visible.scope.words(result) == 1 => {
                 self.emit(height, Operation::Call(number))
             }
-            _ => Err(Refusal::Outside),
+            _ => unreachable!(),
         }
     }
 
@@ -162,20 +168,20 @@ impl Code {
         operation: &Identifier,
         profile: &Profile,
     ) -> Result<(), Refusal>
-        ensures refused { IfErr result (λ why. IsRefused (here self.old + 1) height
-            (not (is_called visible.now.scope (external_of visible.now object.now.name operation.now.name) (profile_value profile.now))) why) }
+        requires called { is_called visible.now.scope (external_of visible.now object.now.name operation.now.name) (profile_value profile.now) ≡ true }
+        ensures refused { IfErr result (λ why. IsRefused (here self.old + 1) height why) }
         ensures kept { IfErr result (λ why. Extends self.old self.new) }
         ensures adds { OnOk result (AddsCall visible.now (external_of visible.now object.now.name operation.now.name) ProtectedCall
             (profile_value profile.now) self.old height self.new) }
     {
         let Some(number) = visible.external(&object.name, &operation.name) else {
-            return Err(Refusal::Outside);
+            unreachable!();
         };
         match profile.result {
             Some(result) if visible.scope.words(result) == 1 => {
                 self.emit(height, Operation::ProtectedCall(number))
             }
-            _ => Err(Refusal::Outside),
+            _ => unreachable!(),
         }
     }
 
@@ -189,10 +195,12 @@ impl Code {
         arguments: &[Argument],
     ) -> Result<u16, Refusal>
         requires sound { SoundScope visible.now.scope }
+        requires covered { HasWhatExpressionsNeed visible.now }
         requires as_many { length arguments.now ≡ length formals.now }
         requires ins { AreIn formals.now }
+        requires passable { are_passable visible.now.scope formals.now ≡ true }
         requires legal { ArePassedLegally visible.now.scope formals.now (map argument_tree arguments.now) }
-        ensures refused { IfErr result (λ why. RefusesActuals visible.now self.old depth formals.now (argument_trees arguments.now) why) }
+        ensures refused { IfErr result (λ why. RefusesActuals visible.now self.old depth (argument_trees arguments.now) why) }
         ensures kept { IfErr result (λ why. Extends self.old self.new) }
         ensures shallow { OnOk result (IsShallow self.old self.new (depth + arguments_peak visible.now.scope (argument_trees arguments.now))) }
         ensures high { IfOk result (λ height. height ≡ depth + length arguments.now) }
@@ -204,7 +212,7 @@ impl Code {
         let mut height = depth;
         for (index, argument) in arguments.iter().enumerate() {
             let Some(formal) = formals.get(index) else {
-                return Err(Refusal::Outside);
+                unreachable!();
             };
             self.actual(visible, height, formal, argument)?;
             height = above(height)?;
@@ -222,9 +230,11 @@ impl Code {
         argument: &Argument,
     ) -> Result<(), Refusal>
         requires sound { SoundScope visible.now.scope }
+        requires covered { HasWhatExpressionsNeed visible.now }
         requires ins { formal.now.mode ≡ In }
+        requires passable { is_passable visible.now.scope formal.now.subtype ≡ true }
         requires legal { IsPassedLegally visible.now.scope formal.now (argument_tree argument.now) }
-        ensures refused { IfErr result (λ why. RefusesActual visible.now self.old depth formal.now.subtype (argument_tree argument.now) why) }
+        ensures refused { IfErr result (λ why. RefusesActual visible.now self.old depth (argument_tree argument.now) why) }
         ensures kept { IfErr result (λ why. Extends self.old self.new) }
         ensures shallow { OnOk result (IsShallow self.old self.new (depth + argument_peak visible.now.scope (argument_tree argument.now))) }
         ensures emits { OnOk result (EmitsActual visible.now self.old depth formal.now.subtype (argument_tree argument.now) self.new) }
@@ -232,7 +242,7 @@ impl Code {
         arguments_by_parts();
         match (formal.mode, argument) {
             (Mode::In, Argument::Expr(e)) => self.checked(visible, depth, formal.subtype, e),
-            _ => Err(Refusal::Outside),
+            _ => unreachable!(),
         }
     }
 }

@@ -6,8 +6,9 @@ ghost use Rattle.types.specs.Layouts.{words_of};
 ghost use Rattle.types.specs.Scopes.{form_at};
 ghost use Rattle.expr_code.specs.Emitting.{EmitsChecked, EmitsFitting, has_numbers, is_composite, IsFit};
 ghost use Rattle.expr_code.specs.Code.{Extends, IsShallow};
+ghost use Rattle.expr_code.specs.Providing.{HasWhatExpressionsNeed, is_passable};
 ghost use Rattle.expr_code.specs.Refusing.{RefusesChecked, RefusesFitting, checked_peak, peak};
-ghost use Rattle.expr_soundness.specs.SoundScopes.{SoundScope};
+ghost use Rattle.expr_soundness.specs.SoundScopes.{IsKnown, SoundScope};
 
 use crate::code::{Code, above};
 use crate::refusal::Refusal;
@@ -21,7 +22,8 @@ use types::laws::values_have_words;
 use types::{Subtype, TypeForm};
 
 impl Code {
-    /// Adds the code of an expression whose value is to lie in a subtype, and of the check that it does, where that is one of numbers.
+    /// Adds the code of an expression whose value is to lie in a subtype of numbers or truth values, and of the check that it does, where that is one of
+    /// numbers.
     #[cycle(expression)]
     pub fn checked(
         &mut self,
@@ -31,8 +33,10 @@ impl Code {
         e: &Expr,
     ) -> Result<(), Refusal>
         requires sound { SoundScope visible.now.scope }
+        requires covered { HasWhatExpressionsNeed visible.now }
+        requires passable { is_passable visible.now.scope subtype ≡ true }
         requires fit { IsFit visible.now.scope subtype (expr_tree e.now) }
-        ensures refused { IfErr result (λ why. RefusesChecked visible.now self.old depth subtype (expr_tree e.now) why) }
+        ensures refused { IfErr result (λ why. RefusesChecked visible.now self.old depth (expr_tree e.now) why) }
         ensures kept { IfErr result (λ why. Extends self.old self.new) }
         ensures shallow { OnOk result (IsShallow self.old self.new (depth + checked_peak (peak visible.now.scope (expr_tree e.now)))) }
         ensures emits { OnOk result (EmitsChecked visible.now self.old depth subtype (expr_tree e.now) self.new) }
@@ -45,7 +49,7 @@ impl Code {
             Some(TypeForm::Time) => self.ranged(visible, depth, subtype, e),
             Some(TypeForm::TimeSpan) => self.ranged(visible, depth, subtype, e),
             Some(TypeForm::Boolean) => self.of_width(visible, depth, 1, e),
-            _ => Err(Refusal::Outside),
+            _ => unreachable!(),
         }
     }
 
@@ -59,9 +63,10 @@ impl Code {
         e: &Expr,
     ) -> Result<(), Refusal>
         requires sound { SoundScope visible.now.scope }
+        requires covered { HasWhatExpressionsNeed visible.now }
         requires fit { IsFit visible.now.scope subtype (expr_tree e.now) }
         requires numbers { has_numbers (form_at visible.now.scope subtype.type_number) ≡ true }
-        ensures refused { IfErr result (λ why. RefusesChecked visible.now self.old depth subtype (expr_tree e.now) why) }
+        ensures refused { IfErr result (λ why. RefusesChecked visible.now self.old depth (expr_tree e.now) why) }
         ensures kept { IfErr result (λ why. Extends self.old self.new) }
         ensures shallow { OnOk result (IsShallow self.old self.new (depth + checked_peak (peak visible.now.scope (expr_tree e.now)))) }
         ensures emits { OnOk result (EmitsChecked visible.now self.old depth subtype (expr_tree e.now) self.new) }
@@ -86,6 +91,8 @@ impl Code {
         e: &Expr,
     ) -> Result<u16, Refusal>
         requires sound { SoundScope visible.now.scope }
+        requires covered { HasWhatExpressionsNeed visible.now }
+        requires known { IsKnown visible.now.scope subtype }
         requires fit { IsFit visible.now.scope subtype (expr_tree e.now) }
         ensures refused { IfErr result (λ why. RefusesFitting visible.now self.old depth subtype (expr_tree e.now) why) }
         ensures shallow { OnOk result (IsShallow self.old self.new (depth + checked_peak (peak visible.now.scope (expr_tree e.now)))) }
@@ -96,10 +103,11 @@ impl Code {
         match visible.scope.form(subtype.type_number) {
             Some(TypeForm::Array(..)) => self.composite(visible, depth, subtype, e),
             Some(TypeForm::Record(_)) => self.composite(visible, depth, subtype, e),
-            _ => {
+            Some(TypeForm::Integer | TypeForm::Boolean | TypeForm::Time | TypeForm::TimeSpan) => {
                 self.checked(visible, depth, subtype, e)?;
                 Ok(1)
             }
+            None => unreachable!(),
         }
     }
 
@@ -112,6 +120,7 @@ impl Code {
         e: &Expr,
     ) -> Result<u16, Refusal>
         requires sound { SoundScope visible.now.scope }
+        requires covered { HasWhatExpressionsNeed visible.now }
         requires fit { IsFit visible.now.scope subtype (expr_tree e.now) }
         requires composite { is_composite (form_at visible.now.scope subtype.type_number) ≡ true }
         ensures refused { IfErr result (λ why. RefusesFitting visible.now self.old depth subtype (expr_tree e.now) why) }

@@ -13,7 +13,7 @@ use std::alloc::Global;
 pub fn above(depth: u16) -> Result<u16, Refusal>
     ensures more { IfOk result (λ more. more ≡ depth + 1) }
     ensures within { IfOk result (λ more. more ≤ FRAME_WORDS) }
-    ensures refused { IfErr result (λ why. IsRefused 0 (depth + 1) false why) }
+    ensures refused { IfErr result (λ why. IsRefused 0 (depth + 1) why) }
 {
     if FRAME_WORDS <= usize::from(depth) {
         return Err(Refusal::Limit);
@@ -25,7 +25,7 @@ pub fn above(depth: u16) -> Result<u16, Refusal>
 pub fn raised(depth: u16, words: u16) -> Result<u16, Refusal>
     ensures more { IfOk result (λ more. more ≡ depth + words) }
     ensures within { IfOk result (λ more. more ≤ FRAME_WORDS) }
-    ensures refused { IfErr result (λ why. IsRefused 0 (depth + words) false why) }
+    ensures refused { IfErr result (λ why. IsRefused 0 (depth + words) why) }
 {
     match depth.checked_add(words) {
         Some(more) if usize::from(more) <= FRAME_WORDS => Ok(more),
@@ -61,7 +61,7 @@ impl Code {
         ensures few { OnOk result (here self.new ≤ INSTRUCTIONS) }
         ensures shallow { OnOk result (depth ≤ FRAME_WORDS) }
         ensures deepest { OnOk result (self.new.deepest ≡ max self.old.deepest depth) }
-        ensures refused { IfErr result (λ why. IsRefused (here self.old + 1) depth false why) }
+        ensures refused { IfErr result (λ why. IsRefused (here self.old + 1) depth why) }
         ensures kept { IfErr result (λ why. Extends self.old self.new) }
     {
         if FRAME_WORDS < usize::from(depth) || INSTRUCTIONS <= self.instructions.len() {
@@ -75,7 +75,7 @@ impl Code {
     /// The place behind all instructions.
     pub fn end(&self) -> Result<u16, Refusal>
         ensures end { IfOk result (λ end. end ≡ here self.now) }
-        ensures refused { IfErr result (λ why. IsRefused (here self.now) 0 false why) }
+        ensures refused { IfErr result (λ why. IsRefused (here self.now) 0 why) }
     {
         u16::try_from(self.instructions.len()).map_err(|_| Refusal::Limit)
     }

@@ -3,6 +3,7 @@ ghost use Rattle.std.specs.Prelude.{◌≡◌, ◌+◌, ◌<◌, false, map, tru
 ghost use Rattle.types.specs.Places.{is_among};
 ghost use Rattle.expr_code.specs.Branches.{AddsBranches, AreLegalBranches, branch_of, Closes, Rejoins};
 ghost use Rattle.expr_code.specs.Code.{Adds, Extends, here, IsShallow};
+ghost use Rattle.expr_code.specs.Providing.{HasWhatExpressionsNeed};
 ghost use Rattle.expr_code.specs.Refusing.{IsRefused, RefusesBranches, branches_peak};
 ghost use Rattle.expr_code.specs.Widths.{AreWide};
 ghost use Rattle.expr_soundness.specs.SoundScopes.{SoundScope};
@@ -17,7 +18,7 @@ use image::Operation;
 impl Code {
     /// Adds a jump where the condition above `depth` words does not hold, and tells its place; where it leads is not known yet.
     pub fn test(&mut self, depth: u16) -> Result<usize, Refusal>
-        ensures refused { IfErr result (λ why. IsRefused (here self.old + 1) (depth + 1) false why) }
+        ensures refused { IfErr result (λ why. IsRefused (here self.old + 1) (depth + 1) why) }
         ensures kept { IfErr result (λ why. Extends self.old self.new) }
         ensures place { IfOk result (λ place. place ≡ here self.old) }
         ensures adds { OnOk result (Adds self.old (depth + 1) (JumpIfZero 0) self.new) }
@@ -36,7 +37,7 @@ impl Code {
         waiting: &mut Vec<usize>,
     ) -> Result<(), Refusal>
         requires there { test < here self.old }
-        ensures refused { IfErr result (λ why. IsRefused (here self.old + 1) height false why) }
+        ensures refused { IfErr result (λ why. IsRefused (here self.old + 1) height why) }
         ensures kept { IfErr result (λ why. Extends self.old self.new) }
         ensures closes { OnOk result (Closes self.old height test waiting.old.items waiting.new.items self.new) }
     {
@@ -58,6 +59,7 @@ impl Code {
         waiting: &mut Vec<usize>,
     ) -> Result<(), Refusal>
         requires sound { SoundScope visible.now.scope }
+        requires covered { HasWhatExpressionsNeed visible.now }
         requires legal { AreLegalBranches visible.now.scope (map branch_of elsifs.now) }
         requires wide { AreWide visible.now.scope width (map branch_of elsifs.now) }
         ensures refused { IfErr result (λ why. RefusesBranches visible.now self.old depth width (map branch_of elsifs.now) why) }
@@ -77,7 +79,7 @@ impl Code {
     /// Makes the jumps at these places lead to the end of the code.
     pub fn rejoin(&mut self, places: &[usize]) -> Result<(), Refusal>
         requires there { (k : ℕ) → is_among places.now k ≡ true → k < here self.old }
-        ensures refused { IfErr result (λ why. IsRefused (here self.old) 0 false why) }
+        ensures refused { IfErr result (λ why. IsRefused (here self.old) 0 why) }
         ensures kept { IfErr result (λ why. Extends self.old self.new) }
         ensures rejoins { OnOk result (Rejoins self.old places.now (here self.old) self.new) }
     {

@@ -4,6 +4,7 @@ ghost use Rattle.ada_tree.specs.ExpressionTree.{chain_tree, expr_tree};
 ghost use Rattle.expr_code.specs.Emitting.{AreLegalOperands, EmitsExpression, EmitsOperands, IsLegalExpression};
 ghost use Rattle.expr_code.specs.OperatorCode.{binary_operation};
 ghost use Rattle.expr_code.specs.Code.{Extends, here, IsAsBefore, IsShallow};
+ghost use Rattle.expr_code.specs.Providing.{HasWhatExpressionsNeed};
 ghost use Rattle.expr_code.specs.Refusing.{operands_size, RefusesExpression, RefusesOperands, operands_peak, peak};
 ghost use Rattle.expr_code.specs.Widths.{AreSingle, width_of};
 ghost use Rattle.expr_soundness.specs.SoundScopes.{SoundScope};
@@ -29,6 +30,7 @@ impl Code {
         e: &Expr,
     ) -> Result<u16, Refusal>
         requires sound { SoundScope visible.now.scope }
+        requires covered { HasWhatExpressionsNeed visible.now }
         requires legal { IsLegalExpression visible.now.scope (expr_tree e.now) }
         ensures width { IfOk result (λ width. width ≡ width_of visible.now.scope (expr_tree e.now)) }
         ensures refused { IfErr result (λ why. RefusesExpression visible.now self.old depth (expr_tree e.now) why) }
@@ -78,10 +80,10 @@ impl Code {
     }
 
     /// Adds the code of an expression, where its names are visible, whose value takes so many words, as is known of its type. It finds `depth` words on the
-    /// operand stack, and leaves the value above them. All visible names are to be known, as legal declarations make them.
+    /// operand stack, and leaves the value above them. All visible names are to be known, as legal declarations make them, and to have what code needs.
     ///
     /// # Errors
-    /// Where memory was refused, a limit would be passed, or the expression has what code isn't made of. The code is as before then.
+    /// Where memory was refused, or a limit would be passed. The code is as before then.
     #[cycle(expression)]
     pub fn of_width(
         &mut self,
@@ -91,6 +93,7 @@ impl Code {
         e: &Expr,
     ) -> Result<(), Refusal>
         requires sound { SoundScope visible.now.scope }
+        requires covered { HasWhatExpressionsNeed visible.now }
         requires legal { IsLegalExpression visible.now.scope (expr_tree e.now) }
         requires wide { width_of visible.now.scope (expr_tree e.now) ≡ width }
         ensures refused { IfErr result (λ why. RefusesExpression visible.now self.old depth (expr_tree e.now) why) }
@@ -114,6 +117,7 @@ impl Code {
     #[cycle(expression)]
     fn operand(&mut self, visible: &Visible, depth: u16, operand: &Operand) -> Result<(), Refusal>
         requires sound { SoundScope visible.now.scope }
+        requires covered { HasWhatExpressionsNeed visible.now }
         requires legal { IsLegalExpression visible.now.scope (expr_tree operand.now.value) }
         requires single { width_of visible.now.scope (expr_tree operand.now.value) ≡ 1 }
         ensures refused { IfErr result (λ why. RefusesOperands visible.now self.old depth (operand.now ∷ []) why) }
@@ -143,6 +147,7 @@ impl Code {
         operand: &Operand,
     ) -> Result<(), Refusal>
         requires sound { SoundScope visible.now.scope }
+        requires covered { HasWhatExpressionsNeed visible.now }
         requires legal { IsLegalExpression visible.now.scope (expr_tree operand.now.value) }
         requires single { width_of visible.now.scope (expr_tree operand.now.value) ≡ 1 }
         requires short { binary_operation operand.now.operator ≡ None }
@@ -172,6 +177,7 @@ impl Code {
     #[cycle(expression)]
     fn operands(&mut self, visible: &Visible, depth: u16, all: &[Operand]) -> Result<(), Refusal>
         requires sound { SoundScope visible.now.scope }
+        requires covered { HasWhatExpressionsNeed visible.now }
         requires legal { AreLegalOperands visible.now.scope all.now }
         requires single { AreSingle visible.now.scope all.now }
         ensures refused { IfErr result (λ why. RefusesOperands visible.now self.old depth all.now why) }

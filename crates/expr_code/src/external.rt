@@ -7,6 +7,7 @@ ghost use Rattle.types.specs.Scopes.{number_of};
 ghost use Rattle.types.specs.Standings.{standing_of, stands_first};
 ghost use Rattle.expr_code.specs.Code.{Extends, IsShallow};
 ghost use Rattle.expr_code.specs.Emitting.{EmitsExpression, IsLegalExpression};
+ghost use Rattle.expr_code.specs.Providing.{HasWhatExpressionsNeed};
 ghost use Rattle.expr_code.specs.Refusing.{RefusesExpression, peak};
 ghost use Rattle.expr_code.specs.Widths.{width_of};
 ghost use Rattle.expr_soundness.specs.SoundScopes.{SoundScope};
@@ -30,6 +31,7 @@ impl Code {
         selectors: &[Selector],
     ) -> Result<u16, Refusal>
         requires sound { SoundScope visible.now.scope }
+        requires covered { HasWhatExpressionsNeed visible.now }
         requires stands { (n : ℕ) × (stands_first visible.now.scope (number_of visible.now.scope first.now.name) ≡ standing.Protected n) }
         requires legal { IsLegalExpression visible.now.scope (Named first.now (selector_trees selectors.now)) }
         requires valueless { fixed_value (standing_of visible.now.scope first.now (selector_trees selectors.now)) ≡ None }
@@ -46,16 +48,16 @@ impl Code {
                     self.external_alone(visible, depth, first, operation)?;
                     Ok(1)
                 }
-                Selector::Arguments(_) | Selector::Attribute(_) => Err(Refusal::Outside),
+                Selector::Arguments(_) | Selector::Attribute(_) => unreachable!(),
             },
             [operation, actuals] => match (operation, actuals) {
                 (Selector::Component(operation), Selector::Arguments(arguments)) => {
                     self.external_with(visible, depth, first, operation, arguments)?;
                     Ok(1)
                 }
-                _ => Err(Refusal::Outside),
+                _ => unreachable!(),
             },
-            _ => Err(Refusal::Outside),
+            _ => unreachable!(),
         }
     }
 
@@ -68,6 +70,7 @@ impl Code {
         operation: &Identifier,
     ) -> Result<(), Refusal>
         requires sound { SoundScope visible.now.scope }
+        requires covered { HasWhatExpressionsNeed visible.now }
         requires stands { (n : ℕ) × (stands_first visible.now.scope (number_of visible.now.scope first.now.name) ≡ standing.Protected n) }
         requires legal { IsLegalExpression visible.now.scope (selected first.now operation.now) }
         requires valueless { fixed_value (standing_of visible.now.scope first.now (component_alone operation.now)) ≡ None }
@@ -80,7 +83,7 @@ impl Code {
         quiet_stays();
         match visible.external_profile(&first.name, &operation.name) {
             Some(profile) => self.invoke_external(visible, depth, first, operation, profile),
-            None => Err(Refusal::Outside),
+            None => unreachable!(),
         }
     }
 
@@ -95,6 +98,7 @@ impl Code {
         arguments: &[Argument],
     ) -> Result<(), Refusal>
         requires sound { SoundScope visible.now.scope }
+        requires covered { HasWhatExpressionsNeed visible.now }
         requires stands { (n : ℕ) × (stands_first visible.now.scope (number_of visible.now.scope first.now.name) ≡ standing.Protected n) }
         requires legal { IsLegalExpression visible.now.scope (selected_with first.now operation.now arguments.now) }
         requires valueless { fixed_value (standing_of visible.now.scope first.now (component_with operation.now arguments.now)) ≡ None }
@@ -110,7 +114,7 @@ impl Code {
                 let height = self.actuals(visible, depth, &profile.formals, arguments)?;
                 self.invoke_external(visible, height, first, operation, profile)
             }
-            None => Err(Refusal::Outside),
+            None => unreachable!(),
         }
     }
 }

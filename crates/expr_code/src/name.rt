@@ -13,6 +13,7 @@ ghost use Rattle.expr_code.specs.Code.{Adds, Extends, here, IsShallow};
 ghost use Rattle.expr_code.specs.Emitting.{EmitsExpression, IsLegalExpression};
 ghost use Rattle.expr_code.specs.Naming.{load_operation, scalar_word};
 ghost use Rattle.expr_code.specs.Seeing.{slot_of};
+ghost use Rattle.expr_code.specs.Providing.{HasWhatExpressionsNeed};
 ghost use Rattle.expr_code.specs.Refusing.{IsRefusedBeside, RefusesExpression, peak};
 ghost use Rattle.expr_code.specs.Widths.{width_of};
 ghost use Rattle.expr_soundness.specs.SoundScopes.{SoundScope};
@@ -72,6 +73,7 @@ impl Code {
         name: &NameExpr,
     ) -> Result<u16, Refusal>
         requires sound { SoundScope visible.now.scope }
+        requires covered { HasWhatExpressionsNeed visible.now }
         requires legal { IsLegalExpression visible.now.scope (value_named name.now) }
         ensures width { IfOk result (λ width. width ≡ width_of visible.now.scope (value_named name.now)) }
         ensures refused { IfErr result (λ why. RefusesExpression visible.now self.old depth (value_named name.now) why) }
@@ -102,6 +104,7 @@ impl Code {
         selectors: &[Selector],
     ) -> Result<u16, Refusal>
         requires sound { SoundScope visible.now.scope }
+        requires covered { HasWhatExpressionsNeed visible.now }
         requires legal { IsLegalExpression visible.now.scope (Named first.now (selector_trees selectors.now)) }
         requires valueless { fixed_value (standing_of visible.now.scope first.now (selector_trees selectors.now)) ≡ None }
         requires parts { bare_name (Named first.now (selector_trees selectors.now)) ≡ None }
@@ -114,12 +117,12 @@ impl Code {
         match visible.scope.stands_first(first) {
             Standing::Part(_, subtype) => match visible.slot(&first.name) {
                 Some(slot) => self.part(visible, depth, slot, subtype, first, selectors),
-                None => Err(Refusal::Outside),
+                None => unreachable!(),
             },
             Standing::Named(subtype) => self.converted(visible, depth, subtype, first, selectors),
             Standing::Callee(_) => self.called(visible, depth, first, selectors),
             Standing::Protected(_) => self.external(visible, depth, first, selectors),
-            _ => Err(Refusal::Outside),
+            _ => unreachable!(),
         }
     }
 
@@ -134,6 +137,7 @@ impl Code {
         selectors: &[Selector],
     ) -> Result<u16, Refusal>
         requires sound { SoundScope visible.now.scope }
+        requires covered { HasWhatExpressionsNeed visible.now }
         requires stands { stands_first visible.now.scope (number_of visible.now.scope first.now.name) ≡ standing.Named subtype }
         requires legal { IsLegalExpression visible.now.scope (Named first.now (selector_trees selectors.now)) }
         requires valueless { fixed_value (standing_of visible.now.scope first.now (selector_trees selectors.now)) ≡ None }
@@ -145,14 +149,14 @@ impl Code {
     {
         arguments_by_parts();
         let [selector] = selectors else {
-            return Err(Refusal::Outside);
+            unreachable!();
         };
         match selector {
             Selector::Arguments(arguments) => {
                 self.conversion(visible, depth, subtype, first, arguments)?;
                 Ok(1)
             }
-            Selector::Component(_) | Selector::Attribute(_) => Err(Refusal::Outside),
+            Selector::Component(_) | Selector::Attribute(_) => unreachable!(),
         }
     }
 
@@ -166,6 +170,7 @@ impl Code {
         selectors: &[Selector],
     ) -> Result<u16, Refusal>
         requires sound { SoundScope visible.now.scope }
+        requires covered { HasWhatExpressionsNeed visible.now }
         requires legal { IsLegalExpression visible.now.scope (Named first.now (selector_trees selectors.now)) }
         requires stands { (f : Callee) × (stands_first visible.now.scope (number_of visible.now.scope first.now.name) ≡ standing.Callee f) }
         requires valueless { fixed_value (standing_of visible.now.scope first.now (selector_trees selectors.now)) ≡ None }
@@ -178,14 +183,14 @@ impl Code {
     {
         arguments_by_parts();
         let [selector] = selectors else {
-            return Err(Refusal::Outside);
+            unreachable!();
         };
         match selector {
             Selector::Arguments(arguments) => {
                 self.with_actuals(visible, depth, first, arguments)?;
                 Ok(1)
             }
-            Selector::Component(_) | Selector::Attribute(_) => Err(Refusal::Outside),
+            Selector::Component(_) | Selector::Attribute(_) => unreachable!(),
         }
     }
 
@@ -200,6 +205,7 @@ impl Code {
         arguments: &[Argument],
     ) -> Result<(), Refusal>
         requires sound { SoundScope visible.now.scope }
+        requires covered { HasWhatExpressionsNeed visible.now }
         requires stands { stands_first visible.now.scope (number_of visible.now.scope first.now.name) ≡ standing.Named subtype }
         requires legal { IsLegalExpression visible.now.scope (applied first.now arguments.now) }
         ensures width { OnOk result (width_of visible.now.scope (applied first.now arguments.now) ≡ 1) }
@@ -210,17 +216,18 @@ impl Code {
     {
         quiet_stays();
         let [argument] = arguments else {
-            return Err(Refusal::Outside);
+            unreachable!();
         };
         match argument {
             Argument::Expr(e) => self.checked(visible, depth, subtype, e),
-            Argument::Label(..) => Err(Refusal::Outside),
+            Argument::Label(..) => unreachable!(),
         }
     }
 
     // Adds that of an object as a whole, or of a call without parameters.
     fn bare(&mut self, visible: &Visible, depth: u16, name: &Identifier) -> Result<u16, Refusal>
         requires sound { SoundScope visible.now.scope }
+        requires covered { HasWhatExpressionsNeed visible.now }
         requires legal { IsLegalExpression visible.now.scope (Named name.now NoSelectors) }
         requires valueless { fixed_value (standing_of visible.now.scope name.now NoSelectors) ≡ None }
         ensures width { IfOk result (λ width. width ≡ width_of visible.now.scope (Named name.now NoSelectors)) }
@@ -232,13 +239,13 @@ impl Code {
         match visible.scope.stands_first(name) {
             Standing::Part(_, subtype) => match visible.slot(&name.name) {
                 Some(slot) => self.object(visible, depth, slot, subtype, name),
-                None => Err(Refusal::Outside),
+                None => unreachable!(),
             },
             Standing::Callee(_) => {
                 self.without_actuals(visible, depth, name)?;
                 Ok(1)
             }
-            _ => Err(Refusal::Outside),
+            _ => unreachable!(),
         }
     }
 
@@ -280,7 +287,7 @@ impl Code {
         region: Region,
         words: u16,
     ) -> Result<(), Refusal>
-        ensures refused { IfErr result (λ why. IsRefusedBeside (is_block words ≡ false) (here self.old + 1) height false why) }
+        ensures refused { IfErr result (λ why. IsRefusedBeside (is_block words ≡ false) (here self.old + 1) height why) }
         ensures kept { IfErr result (λ why. Extends self.old self.new) }
         ensures adds { OnOk result (Adds self.old height (LoadBlock region words) self.new) }
         ensures block { OnOk result (is_block words ≡ true) }

@@ -9,6 +9,7 @@ ghost use Rattle.types.specs.Standings.{standing_of, stands_first};
 ghost use Rattle.expr_code.specs.Emitting.{EmitsExpression, IsLegalExpression};
 ghost use Rattle.expr_code.specs.Going.{AddsOffset, EmitsAddress, EmitsPath, EndsAt, IsLegalPart, IsLegalPath, Selects, SelectsAll};
 ghost use Rattle.expr_code.specs.Code.{Extends, here, IsShallow};
+ghost use Rattle.expr_code.specs.Providing.{HasWhatExpressionsNeed};
 ghost use Rattle.expr_code.specs.Refusing.{IsRefused, KeepsFit, RefusesAddress, RefusesExpression, RefusesPath, peak, selectors_peak};
 ghost use Rattle.expr_code.specs.Seeing.{slot_of};
 ghost use Rattle.expr_code.specs.Widths.{width_of};
@@ -39,6 +40,7 @@ impl Code {
         selectors: &[Selector],
     ) -> Result<Subtype, Refusal>
         requires sound { SoundScope visible.now.scope }
+        requires covered { HasWhatExpressionsNeed visible.now }
         requires legal { IsLegalPath visible.now.scope subtype (selector_trees selectors.now) }
         ensures refused { IfErr result (λ why. RefusesAddress visible.now self.old depth subtype (selector_trees selectors.now) why) }
         ensures shallow { OnOk result (IsShallow self.old self.new (depth + selectors_peak visible.now.scope 1 (selector_trees selectors.now))) }
@@ -62,6 +64,7 @@ impl Code {
         selectors: &[Selector],
     ) -> Result<u16, Refusal>
         requires sound { SoundScope visible.now.scope }
+        requires covered { HasWhatExpressionsNeed visible.now }
         requires legal { IsLegalExpression visible.now.scope (Named first.now (selector_trees selectors.now)) }
         requires stands { (r : Role) × (stands_first visible.now.scope (number_of visible.now.scope first.now.name) ≡ standing.Part r subtype) }
         requires valueless { fixed_value (standing_of visible.now.scope first.now (selector_trees selectors.now)) ≡ None }
@@ -94,6 +97,7 @@ impl Code {
         selectors: &[Selector],
     ) -> Result<Subtype, Refusal>
         requires sound { SoundScope visible.now.scope }
+        requires covered { HasWhatExpressionsNeed visible.now }
         requires legal { IsLegalPath visible.now.scope subtype (selector_trees selectors.now) }
         ensures refused { IfErr result (λ why. RefusesPath visible.now self.old depth subtype (selector_trees selectors.now) why) }
         ensures kept { IfErr result (λ why. Extends self.old self.new) }
@@ -119,6 +123,7 @@ impl Code {
         selector: &Selector,
     ) -> Result<Subtype, Refusal>
         requires sound { SoundScope visible.now.scope }
+        requires covered { HasWhatExpressionsNeed visible.now }
         requires legal { IsLegalPart visible.now.scope subtype (selector_tree selector.now) }
         ensures refused { IfErr result (λ why. RefusesPath visible.now self.old depth subtype (MoreSelectors (selector_tree selector.now) NoSelectors) why) }
         ensures kept { IfErr result (λ why. Extends self.old self.new) }
@@ -131,7 +136,7 @@ impl Code {
         match selector {
             Selector::Component(name) => self.component(visible, depth, subtype, name),
             Selector::Arguments(arguments) => self.element(visible, depth, subtype, arguments),
-            Selector::Attribute(_) => Err(Refusal::Outside),
+            Selector::Attribute(_) => unreachable!(),
         }
     }
 
@@ -152,16 +157,16 @@ impl Code {
         ensures emits { IfOk result (λ last. EmitsPath visible.now self.old depth subtype (Component name.now ∷ []) last self.new) }
     {
         let Some(TypeForm::Record(components)) = visible.scope.form(subtype.type_number) else {
-            return Err(Refusal::Outside);
+            unreachable!();
         };
         let Some(last) = components.subtype_of(&name.name) else {
-            return Err(Refusal::Outside);
+            unreachable!();
         };
         let Some(offset) = visible
             .scope
             .component_offset(components.as_slice(), &name.name)
         else {
-            return Err(Refusal::Outside);
+            unreachable!();
         };
         if WORDS < usize::from(offset) {
             return Err(Refusal::Limit);
@@ -182,6 +187,7 @@ impl Code {
         arguments: &[Argument],
     ) -> Result<Subtype, Refusal>
         requires sound { SoundScope visible.now.scope }
+        requires covered { HasWhatExpressionsNeed visible.now }
         requires legal { IsLegalPart visible.now.scope subtype (Arguments (argument_trees arguments.now)) }
         ensures refused { IfErr result (λ why. RefusesPath visible.now self.old depth subtype (arguments_alone arguments.now) why) }
         ensures kept { IfErr result (λ why. Extends self.old self.new) }
@@ -192,14 +198,14 @@ impl Code {
         quiet_stays();
         expressions_are_typed();
         let [argument] = arguments else {
-            return Err(Refusal::Outside);
+            unreachable!();
         };
         let Argument::Expr(e) = argument else {
-            return Err(Refusal::Outside);
+            unreachable!();
         };
         let Some(TypeForm::Array(index, many, last)) = visible.scope.form(subtype.type_number)
         else {
-            return Err(Refusal::Outside);
+            unreachable!();
         };
         let words = visible.scope.words(*last);
         if WORDS < usize::from(*many) || WORDS < usize::from(words) {
@@ -213,7 +219,7 @@ impl Code {
 
     // Adds what makes of an address and a checked index above it the address of the component, given the first index and the words of a component.
     fn offset(&mut self, depth: u16, first: i64, words: u16) -> Result<(), Refusal>
-        ensures refused { IfErr result (λ why. IsRefused (here self.old + 5) (depth + 1) false why) }
+        ensures refused { IfErr result (λ why. IsRefused (here self.old + 5) (depth + 1) why) }
         ensures kept { IfErr result (λ why. Extends self.old self.new) }
         ensures adds { OnOk result (AddsOffset self.old depth first words self.new) }
     {

@@ -6,6 +6,7 @@ ghost use Rattle.types.specs.declared.entity.PredefinedOperation.TheVariants.{Cl
 ghost use Rattle.expr_code.specs.Actuals.{applied_to};
 ghost use Rattle.expr_code.specs.Code.{Adds, Extends, here, IsShallow};
 ghost use Rattle.expr_code.specs.Emitting.{EmitsExpression, IsLegalExpression};
+ghost use Rattle.expr_code.specs.Providing.{HasWhatExpressionsNeed};
 ghost use Rattle.expr_code.specs.Refusing.{IsRefused, peak, RefusesExpression};
 ghost use Rattle.expr_code.specs.Seeing.{NamesOperation};
 ghost use Rattle.expr_code.specs.Widths.{width_of};
@@ -33,6 +34,7 @@ impl Code {
         arguments: &[Argument],
     ) -> Result<(), Refusal>
         requires sound { SoundScope visible.now.scope }
+        requires covered { HasWhatExpressionsNeed visible.now }
         requires names { NamesOperation visible.now.scope first.now.name operation }
         requires legal { IsLegalExpression visible.now.scope (applied first.now arguments.now) }
         ensures width { OnOk result (width_of visible.now.scope (applied first.now arguments.now) ≡ 1) }
@@ -68,7 +70,7 @@ impl Code {
         quiet_stays();
         match operation {
             PredefinedOperation::Clock => self.emit(depth, Operation::Clock),
-            _ => Err(Refusal::Outside),
+            _ => unreachable!(),
         }
     }
 
@@ -83,6 +85,7 @@ impl Code {
         arguments: &[Argument],
     ) -> Result<(), Refusal>
         requires sound { SoundScope visible.now.scope }
+        requires covered { HasWhatExpressionsNeed visible.now }
         requires names { NamesOperation visible.now.scope first.now.name operation }
         requires takes { operation ≢ Clock }
         requires legal { IsLegalExpression visible.now.scope (applied first.now arguments.now) }
@@ -93,11 +96,11 @@ impl Code {
         ensures emits { OnOk result (EmitsExpression visible.now self.old depth 1 (applied first.now arguments.now) self.new) }
     {
         let [argument] = arguments else {
-            return Err(Refusal::Outside);
+            unreachable!();
         };
         match argument {
             Argument::Expr(e) => self.of_number(visible, depth, operation, first, e),
-            Argument::Label(..) => Err(Refusal::Outside),
+            Argument::Label(..) => unreachable!(),
         }
     }
 
@@ -112,6 +115,7 @@ impl Code {
         e: &Expr,
     ) -> Result<(), Refusal>
         requires sound { SoundScope visible.now.scope }
+        requires covered { HasWhatExpressionsNeed visible.now }
         requires names { NamesOperation visible.now.scope first.now.name operation }
         requires takes { operation ≢ Clock }
         requires legal { IsLegalExpression visible.now.scope (applied_to first.now (expr_tree e.now)) }
@@ -123,7 +127,7 @@ impl Code {
     {
         quiet_stays();
         match operation {
-            PredefinedOperation::Clock => Err(Refusal::Outside),
+            PredefinedOperation::Clock => unreachable!(),
             PredefinedOperation::Milliseconds => self.milliseconds(visible, depth, first, e),
             PredefinedOperation::Microseconds => self.checked(visible, depth, Subtype::INTEGER, e),
             PredefinedOperation::Read => self.read(visible, depth, first, e),
@@ -140,6 +144,7 @@ impl Code {
         e: &Expr,
     ) -> Result<(), Refusal>
         requires sound { SoundScope visible.now.scope }
+        requires covered { HasWhatExpressionsNeed visible.now }
         requires names { NamesOperation visible.now.scope first.now.name Milliseconds }
         requires legal { IsLegalExpression visible.now.scope (applied_to first.now (expr_tree e.now)) }
         ensures refused { IfErr result (λ why. RefusesExpression visible.now self.old depth (applied_to first.now (expr_tree e.now)) why) }
@@ -164,6 +169,7 @@ impl Code {
         e: &Expr,
     ) -> Result<(), Refusal>
         requires sound { SoundScope visible.now.scope }
+        requires covered { HasWhatExpressionsNeed visible.now }
         requires names { NamesOperation visible.now.scope first.now.name Read }
         requires legal { IsLegalExpression visible.now.scope (applied_to first.now (expr_tree e.now)) }
         ensures refused { IfErr result (λ why. RefusesExpression visible.now self.old depth (applied_to first.now (expr_tree e.now)) why) }
@@ -180,7 +186,7 @@ impl Code {
     // Adds the microseconds of a millisecond (RM D.8).
     fn factor(&mut self, depth: u16) -> Result<(), Refusal>
         ensures adds { OnOk result (Adds self.old depth (Push (pos 1000)) self.new) }
-        ensures refused { IfErr result (λ why. IsRefused (here self.old + 1) depth false why) }
+        ensures refused { IfErr result (λ why. IsRefused (here self.old + 1) depth why) }
         ensures kept { IfErr result (λ why. Extends self.old self.new) }
     {
         self.emit(depth, Operation::Push(1000))

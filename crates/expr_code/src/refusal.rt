@@ -8,8 +8,6 @@ pub enum Refusal {
     Limit,
     /// Memory was refused.
     Memory,
-    /// The tree has something of which no code is made. The tree of no accepted text has.
-    Outside,
 }
 
 impl From<AllocError> for Refusal {

@@ -63,7 +63,7 @@ impl<T: Copy> Entries<T> {
     /// Adds that of one name more.
     pub fn push(&mut self, entry: Option<T>) -> Result<(), Refusal>
         ensures pushed { OnOk result (self.new ≡ self.old ++ entry ∷ []) }
-        ensures refused { IfErr result (λ why. IsRefused 0 0 false why) }
+        ensures refused { IfErr result (λ why. IsRefused 0 0 why) }
     {
         self.entries.push(entry)?;
         Ok(())
@@ -115,7 +115,7 @@ impl OperationNumbers {
     /// Adds those of one object more.
     pub fn push(&mut self, numbers: Entries<u16>) -> Result<(), Refusal>
         ensures pushed { OnOk result (self.new ≡ self.old ++ numbers ∷ []) }
-        ensures refused { IfErr result (λ why. IsRefused 0 0 false why) }
+        ensures refused { IfErr result (λ why. IsRefused 0 0 why) }
     {
         self.objects.push(numbers)?;
         Ok(())

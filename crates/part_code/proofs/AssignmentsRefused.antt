@@ -1,12 +1,11 @@
 -- What refuses the code of assignments: of the address of what is assigned to, of the value, and of what stores it.
-use Rattle.std.proofs.Common.{◌≡◌, ◌≤◌, ◌+◌, ◌*◌, ◌⊎◌, inl, inr, ℕ, suc, List, Bool, true, false, ◌&&◌, ◌||◌, not, Option, Some, None, refl, ap, ◌∙◌, arith}
-use Rattle.std.specs.Prelude.{max, is_some}
+use Rattle.std.proofs.Common.{◌≡◌, ◌≤◌, ◌+◌, ◌*◌, ◌⊎◌, inl, inr, ℕ, suc, List, true, Option, Some, ap, arith}
+use Rattle.std.specs.Prelude.{max}
+use Rattle.std.proofs.lemmas.Bool.{or_left}
 use Rattle.ada_tree.specs.declared.expression.Identifier.{Identifier}
 use Rattle.ada_tree.specs.ExpressionTree.{ExprTree, NameTree, SelectorTrees}
 use Rattle.ada_tree.specs.StatementTree.{Assignment}
 use Rattle.ada_tree.specs.Size.{expr_size, selectors_size}
-use Rattle.image.specs.declared.instruction.Region.{Region}
-use Rattle.image.specs.declared.instruction.Region.TheVariants as regions
 use Rattle.types.specs.declared.entity.Role.{Role}
 use Rattle.types.specs.declared.entity.Subtype.{Subtype}
 use Rattle.types.specs.declared.standing.Standing.{Standing}
@@ -15,26 +14,15 @@ use Rattle.types.specs.Layouts.{words_of}
 use Rattle.types.specs.Scopes.{number_of}
 use Rattle.types.specs.Standings.{standing_of, stands_first}
 use Rattle.expr_code.specs.Code.{here}
-use Rattle.expr_code.specs.Refusing.{HasUnfitObject, IsRefused, IsUnfit, RefusesAddress, RefusesFitting, checked_peak, is_outside, peak, selectors_outside, selectors_peak}
+use Rattle.expr_code.specs.Refusing.{HasUnfitObject, IsRefused, IsUnfit, RefusesAddress, RefusesFitting, checked_peak, peak, selectors_peak}
 use Rattle.expr_code.specs.Seeing.{slot_of}
 use Rattle.expr_code.specs.declared.code.Code.{Code}
 use Rattle.expr_code.specs.declared.refusal.Refusal.{Refusal}
 use Rattle.expr_code.specs.declared.visible.Slot.{Slot}
 use Rattle.expr_code.specs.declared.visible.Visible.{Visible}
-use Rattle.expr_code.proofs.Refusals.{or_left, or_right}
 use Rattle.part_code.specs.Bounds.{stmt_bound}
-use Rattle.part_code.specs.Needs.{HasManyLabels, IsNeeding, Needs, address_needs, assigned_needs, stored_needs, has_unfit, is_object, is_taken, takes_value, words_at}
+use Rattle.part_code.specs.Needs.{HasManyLabels, IsNeeding, Needs, address_needs, assigned_needs, stored_needs, has_unfit, words_at}
 use Rattle.part_code.proofs.Within.{code_refused, plain_refused, unfit_there}
-
--- ---- what isn't stored to
-
-pub otherwise : (w : Standing) → ((r : Role) (t : Subtype) → w ≡ standing.Part r t → ⊥) → is_object w ≡ false
-otherwise (standing.Part r t) h = absurd (h r t refl)
-otherwise w h = refl
-
-pub and_none : (a b : Bool) → b ≡ false → (a && b) ≡ false
-and_none true b h = h
-and_none false b h = refl
 
 -- ---- addresses
 
@@ -46,16 +34,7 @@ module _ (v : Visible) (depth : ℕ) (first : Identifier) (path : SelectorTrees)
   there = slot_of v first.name
 
   abbrev address : Needs
-  address = address_needs depth v first path
-
-  unstored : (is_object begins && is_some there) ≡ false → address.outside ≡ true
-  unstored h = or_left (not (is_object begins && is_some there)) (selectors_outside v path) (ap not h)
-
-  pub no_object : ((r : Role) (t : Subtype) → begins ≡ standing.Part r t → ⊥) → address.outside ≡ true
-  no_object h = unstored (ap (λ b. b && is_some there) (otherwise begins h))
-
-  pub no_slot : there ≡ None → address.outside ≡ true
-  no_slot h = unstored (and_none (is_object begins) (is_some there) (ap is_some h))
+  address = address_needs depth v path
 
   module _ (slot : Slot) (r : Role) (whole : Subtype) (stands : begins ≡ standing.Part r whole) (is : there ≡ Some slot) where
     pub unfit_whole : HasUnfitObject v ⊎ IsUnfit v.scope whole → has_unfit v ≡ true
@@ -63,12 +42,11 @@ module _ (v : Visible) (depth : ℕ) (first : Identifier) (path : SelectorTrees)
     unfit_whole (inr u) = unfit_there v (record { name = first.name; slot = slot; role = r; subtype = whole; there = is; stands = stands; unfit = u })
 
     pub address_refused : (old : Code) (n : ℕ) (b : Needs) (why : Refusal) → here old + (20 * selectors_size path + 1) ≤ n → address.stack ≤ b.stack
-        → (has_unfit v ≡ true → b.unfit ≡ true) → (address.outside ≡ true → b.outside ≡ true)
+        → (has_unfit v ≡ true → b.unfit ≡ true)
         → RefusesAddress v old depth whole path why → IsNeeding n b why
-    address_refused old n b why up high unfit outside r =
+    address_refused old n b why up high unfit r =
         code_refused (HasUnfitObject v ⊎ IsUnfit v.scope whole) (here old + (20 * selectors_size path + 1)) n (depth + selectors_peak v.scope 1 path)
-        (selectors_outside v path) b up (over (depth + selectors_peak v.scope 1 path) b.stack b.frame high) (λ u. unfit (unfit_whole u))
-        (λ h. outside (or_right (not (is_object begins && is_some there)) (selectors_outside v path) h)) why r
+        b up (over (depth + selectors_peak v.scope 1 path) b.stack b.frame high) (λ u. unfit (unfit_whole u)) why r
       where
         over : (p k l : ℕ) → p ≤ k → p ≤ max k l
         over p k l h = omega (arith, h)
@@ -80,16 +58,13 @@ module _ (v : Visible) (name : NameTree) (e : ExprTree) where
   reached = standing_of v.scope name.first name.selectors
 
   abbrev target : Needs
-  target = address_needs 0 v name.first name.selectors
+  target = address_needs 0 v name.selectors
 
   abbrev value : Needs
   value = assigned_needs v reached e
 
   abbrev needs : Needs
   needs = stored_needs v name e
-
-  pub target_outside : target.outside ≡ true → needs.outside ≡ true
-  target_outside h = or_left target.outside value.outside h
 
   module _ (old : Code) (labels : List (List ℕ)) where
     abbrev bound : ℕ
@@ -110,17 +85,17 @@ module _ (v : Visible) (name : NameTree) (e : ExprTree) where
       pub address_refuses : (why : Refusal) → RefusesAddress v old 0 whole name.selectors why → Refused why
       address_refuses why refused =
           inl (address_refused v 0 name.first name.selectors slot r whole stands is old bound needs why (omega arith) (low target.stack value.stack)
-          (or_left (has_unfit v) (has_unfit v)) target_outside refused)
+          (or_left (has_unfit v) (has_unfit v)) refused)
 
       pub value_refuses : (mid : Code) (depth : ℕ) (last : Subtype) (why : Refusal) → here mid ≤ here old + (20 * selectors_size name.selectors + 1)
           → depth ≤ 1 → reached ≡ standing.Part r last → (IsUnfit v.scope last → IsUnfit v.scope whole)
           → RefusesFitting v mid depth last e why → Refused why
       value_refuses mid depth last why up deep at keeps refused =
           inl (code_refused (HasUnfitObject v ⊎ IsUnfit v.scope last) (here mid + (20 * expr_size e + 3)) bound (depth + checked_peak (peak v.scope e))
-          (not (is_taken v.scope last) || is_outside v e) needs (omega (arith, up))
+          needs (omega (arith, up))
           (within_value (depth + checked_peak (peak v.scope e)) (words_at v.scope reached) (checked_peak (peak v.scope e)) target.stack
           (most depth (words_at v.scope reached) (checked_peak (peak v.scope e)) deep))
-          unfit (λ h. or_right target.outside value.outside (ap (λ w. not (takes_value v.scope w) || is_outside v e) at ∙ h)) why refused)
+          unfit why refused)
         where
           most : (d a c : ℕ) → d ≤ 1 → d + c ≤ suc (max a c)
           most d a c h = omega (arith, h)
@@ -130,7 +105,7 @@ module _ (v : Visible) (name : NameTree) (e : ExprTree) where
           unfit (inr u) = or_left (has_unfit v) (has_unfit v) (unfit_whole v 0 name.first name.selectors slot r whole stands is (inr (keeps u)))
 
       pub store_refuses : (m h : ℕ) (last : Subtype) (why : Refusal) → m ≤ here old + (20 * selectors_size name.selectors + 1 + (20 * expr_size e + 3) + 1)
-          → h ≤ suc (words_of v.scope last) → reached ≡ standing.Part r last → IsRefused m h false why → Refused why
+          → h ≤ suc (words_of v.scope last) → reached ≡ standing.Part r last → IsRefused m h why → Refused why
       store_refuses m h last why up high at refused =
           plain_refused m bound h needs labels why (omega (arith, up))
           (within_value h (words_at v.scope reached) (checked_peak (peak v.scope e)) target.stack

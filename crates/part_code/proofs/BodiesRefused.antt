@@ -1,5 +1,5 @@
 -- What refuses the beginning and the end of a body: first values of `out` parameters, and what is given back.
-use Rattle.std.proofs.Common.{◌≡◌, ◌≤◌, ◌<◌, ◌+◌, ◌*◌, ◌∷◌, ℕ, zero, suc, List, [], drop, length, false, Option, Some, None, sym, ap, ◌∙◌, subst, arith}
+use Rattle.std.proofs.Common.{◌≡◌, ◌≤◌, ◌<◌, ◌+◌, ◌*◌, ◌∷◌, ℕ, zero, suc, List, [], drop, length, Option, Some, None, sym, ap, ◌∙◌, subst, arith}
 use Rattle.std.specs.Prelude.{get_or, max}
 use Rattle.std.proofs.lemmas.List.{at_drop_more}
 use Rattle.ada_tree.specs.Size.{total}
@@ -54,7 +54,7 @@ given_all s (x ∷ xs) (suc n) = let rest = given_all s xs n in omega (arith, re
 
 pub given_refused : (s : Scope) (old now : Code) (xs : List PlacedFormal) (n height : ℕ) (x other : PlacedFormal) (why : Refusal) → n < length xs
     → x ≡ get_or xs n other
-    → ReturnedSoFar s old xs (n + 1) height now → IsRefused (here now + 3) (height + given_if_any s x) false why → RefusesReturned s old xs why
+    → ReturnedSoFar s old xs (n + 1) height now → IsRefused (here now + 3) (height + given_if_any s x) why → RefusesReturned s old xs why
 given_refused s old now xs n height x other why less is so_far r =
     let left = at_drop_more (λ l. l) xs n other less ∙ ap (λ y. y ∷ drop (n + 1) xs) (sym is) in
     let many = ap length left in
@@ -74,7 +74,7 @@ given_refused s old now xs n height x other why less is so_far r =
     few (y ∷ ys) (suc k) = let rest = few ys k in omega (arith, rest)
 
 pub return_refused : (s : Scope) (old now : Code) (xs : List PlacedFormal) (height : ℕ) (why : Refusal) → ReturnedSoFar s old xs 0 height now
-    → IsRefused (here now + 1) height false why → RefusesReturned s old xs why
+    → IsRefused (here now + 1) height why → RefusesReturned s old xs why
 return_refused s old now xs height why so_far r =
     let long = so_far.sized in
     let high = so_far.high in

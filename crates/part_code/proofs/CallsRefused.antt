@@ -1,13 +1,13 @@
 -- What refuses calls of procedures, with their actual parameters and what is copied back, and calls of main.
-use Rattle.std.proofs.Common.{◌≡◌, ◌≤◌, ◌<◌, ◌+◌, ◌*◌, ◌∷◌, ◌++◌, ℕ, zero, suc, List, [], append_assoc, length, map, take, Bool, true, false, Some, refl, sym, ap, ◌∙◌, subst, arith}
-use Rattle.std.specs.Prelude.{get_or, is_none, max}
+use Rattle.std.proofs.Common.{◌≡◌, ◌≤◌, ◌<◌, ◌+◌, ◌*◌, ◌∷◌, ◌++◌, ℕ, zero, suc, List, [], append_assoc, length, map, take, false, Some, refl, sym, ap, ◌∙◌, subst, arith}
+use Rattle.std.specs.Prelude.{get_or, max}
 use Rattle.std.specs.List.{All}
+use Rattle.std.proofs.lemmas.Bool.{or_left, or_parts}
 use Rattle.std.proofs.lemmas.List.{at_drop_more}
 use Rattle.std.proofs.lemmas.List.Elements.{All-append, All-get_or, All-nil}
 use Rattle.ada_tree.specs.declared.expression.Argument.{Argument}
 use Rattle.ada_tree.specs.declared.expression.Identifier.{Identifier}
 use Rattle.ada_tree.specs.declared.program.MainStatement.{MainStatement}
-use Rattle.ada_tree.specs.declared.program.MainStatement.TheVariants as main
 use Rattle.ada_tree.specs.ExpressionTree.{ArgumentTrees, NameTree, argument_tree, argument_trees}
 use Rattle.ada_tree.specs.StatementTree as statements
 use Rattle.ada_tree.specs.Size.{argument_size, stmt_size, total}
@@ -16,20 +16,18 @@ use Rattle.types.specs.Layouts.{words_of}
 use Rattle.types.specs.Scopes.{form_at}
 use Rattle.expr_code.specs.Code.{here}
 use Rattle.expr_code.specs.Refusing.{IsRefused, IsRefusedBeside, IsUnfit}
-use Rattle.expr_code.specs.Seeing.{subprogram_of}
 use Rattle.expr_code.specs.declared.code.Code.{Code}
 use Rattle.expr_code.specs.declared.refusal.Refusal.{Refusal}
 use Rattle.expr_code.specs.declared.visible.Visible.{Visible}
 use Rattle.expr_code.proofs.Actuals.{nothing_behind, sizes_are}
-use Rattle.expr_code.proofs.Refusals.{or_left, or_right}
 use Rattle.part_code.specs.Passing.{EmitsPassedActuals, EmitsCopies, actuals_behind, copied_width, operation_behind}
-use Rattle.part_code.specs.Needs.{IsNeeding, IsPartFit, Needs, RefusesMain, actual_needs, actuals_needs, are_unknown, beyond_if, both, check_words, copies_needs, copy_needs, destinations_for, destinations_of, has_unfit, is_unknown, passed_needs, stacked}
+use Rattle.part_code.specs.Needs.{IsNeeding, IsPartFit, Needs, RefusesMain, actual_needs, actuals_needs, are_unknown, both, check_words, copies_needs, copy_needs, destinations_for, destinations_of, has_unfit, is_unknown, passed_needs, stacked}
 use Rattle.part_code.specs.Suiting.{passed_width}
 use Rattle.part_code.specs.declared.call.Destination.{Destination}
 use Rattle.part_code.proofs.Lists.{take_all}
 use Rattle.part_code.proofs.WrittenActuals.{size_is, behind_size}
 use Rattle.part_code.proofs.FormalWords.{CallsSoFar}
-use Rattle.part_code.proofs.Within.{Within, code_refused, in_left, in_right, needing_refused, of_right, plain_needing, stack_within, within_self}
+use Rattle.part_code.proofs.Within.{Within, code_refused, in_left, in_right, needing_refused, of_right, plain_more, plain_needing, stack_within, within_self}
 
 -- ---- actual parameters
 
@@ -66,16 +64,6 @@ actual_refuses v old mid fs all n height f x ds why less is less_all is_all p r 
     needing_refused (here mid + 20 * argument_size (argument_tree x)) (here old + 20 * total argument_size (map argument_tree all))
     (actual_needs height v f (argument_tree x)) (actuals_needs 0 v fs (argument_trees all)) (omega (arith, long, sum))
     (actuals_among v 0 height fs all n f x less is less_all is_all p.high) why r
-
--- ... for which there is no formal
-pub actuals_short : (v : Visible) (height : ℕ) (fs : List FormalParameter) (all : List Argument) (n : ℕ) → length fs ≤ n → n < length all
-    → (actuals_needs height v fs (argument_trees all)).outside ≡ true
-actuals_short v height fs [] n short less = absurd (omega (arith, less))
-actuals_short v height [] (y ∷ all) n short less = refl
-actuals_short v height (g ∷ fs) (y ∷ all) zero short less = absurd (omega (arith, short))
-actuals_short v height (g ∷ fs) (y ∷ all) (suc n) short less =
-    or_right (actual_needs height v g (argument_tree y)).outside (actuals_needs (height + passed_width v.scope g) v fs (argument_trees all)).outside
-    (actuals_short v (height + passed_width v.scope g) fs all n (omega (arith, short)) (omega (arith, less)))
 
 -- ---- where they are copied back to
 
@@ -154,24 +142,20 @@ copies_words v ds n other less =
 -- the words of one, when those before it are counted
 pub counted_refused : (v : Visible) (ds : List Destination) (n h : ℕ) (other : Destination) (a : Type 0) (why : Refusal) → n < length ds → All (IsPartFit v) ds
     → h ≤ total (copied_width v.scope) (take n ds) + copied_width v.scope (get_or ds n other) → (a → IsUnfit v.scope (get_or ds n other).subtype)
-    → IsRefusedBeside a 0 h false why → IsNeeding 0 (copies_needs v ds) why
+    → IsRefusedBeside a 0 h why → IsNeeding 0 (copies_needs v ds) why
 counted_refused v [] n h other a why less fits high unfit r = absurd (omega (arith, less))
 counted_refused v (d ∷ ds) n h other a why less fits high unfit r =
     let words = copies_words v (d ∷ ds) n other less in
     let up = copies_high v d ds in
-    code_refused a 0 0 h false (copies_needs v (d ∷ ds)) (omega arith)
+    code_refused a 0 0 h (copies_needs v (d ∷ ds)) (omega arith)
     (over h (copies_needs v (d ∷ ds)).stack (copies_needs v (d ∷ ds)).frame (omega (arith, high, words, up)))
-    (λ x. or_left (has_unfit v) (copies_needs v ds).unfit ((All-get_or (IsPartFit v) (d ∷ ds) n other less fits).unfit (unfit x)))
-    (never (copies_needs v (d ∷ ds)).outside) why r
+    (λ x. or_left (has_unfit v) (copies_needs v ds).unfit ((All-get_or (IsPartFit v) (d ∷ ds) n other less fits).unfit (unfit x))) why r
   where
     over : (p k l : ℕ) → p ≤ k → p ≤ max k l
     over p k l up = omega (arith, up)
 
-    never : (b : Bool) → false ≡ true → b ≡ true
-    never b e = cc
-
 pub words_counted : (v : Visible) (ds : List Destination) (n words own h : ℕ) (other : Destination) (why : Refusal) → n < length ds → All (IsPartFit v) ds
-    → words ≡ total (copied_width v.scope) (take n ds) → own ≡ words_of v.scope (get_or ds n other).subtype → h ≤ words + own + 1 → IsRefused 0 h false why
+    → words ≡ total (copied_width v.scope) (take n ds) → own ≡ words_of v.scope (get_or ds n other).subtype → h ≤ words + own + 1 → IsRefused 0 h why
     → IsNeeding 0 (copies_needs v ds) why
 words_counted v ds n words own h other why less fits before is high r =
     counted_refused v ds n h other ⊥ why less fits (omega (arith, before, is, high)) (λ x. absurd x) r
@@ -231,7 +215,7 @@ module _ (v : Visible) (fs : List FormalParameter) (trees : ArgumentTrees) (why 
   actuals_refuse m n up r = needing_refused m n passing call up (in_left passing (both width copies)) why r
 
   -- the call itself
-  pub call_refuses : (m n height : ℕ) → height ≡ 0 + total (passed_width v.scope) fs → m ≤ n → IsRefused m height false why → IsNeeding n call why
+  pub call_refuses : (m n height : ℕ) → height ≡ 0 + total (passed_width v.scope) fs → m ≤ n → IsRefused m height why → IsNeeding n call why
   call_refuses m n height high up r =
       let most = (of_right width passing (both width copies) (in_left width copies)).stack in
       plain_needing m n height call why up (stack_within height call (omega (arith, high, most))) r
@@ -239,10 +223,6 @@ module _ (v : Visible) (fs : List FormalParameter) (trees : ArgumentTrees) (why 
   -- what is copied back
   pub copies_refuse : (m n : ℕ) → m ≤ n → IsNeeding m copies why → IsNeeding n call why
   copies_refuse m n up r = needing_refused m n copies call up (of_right copies passing (both width copies) (in_right width copies)) why r
-
-  -- ... by whichever name it is called, of which something is asked too
-  pub name_refuses : (m n : ℕ) (numbered : Needs) → m ≤ n → IsNeeding m call why → IsNeeding n (both numbered call) why
-  name_refuses m n numbered up r = needing_refused m n call (both numbered call) up (in_right numbered call) why r
 
 -- the name counts its actual parameters
 pub actuals_sized : (name : NameTree) (all : List Argument) → actuals_behind name.selectors ≡ Some (argument_trees all)
@@ -262,23 +242,16 @@ external_sized name operation all is =
 
 -- ---- main
 
-unknown_among : (v : Visible) (all : List MainStatement) (n : ℕ) (x : MainStatement) → n < length all → x ≡ get_or all n x → is_unknown v x ≡ true
-    → are_unknown v all ≡ true
-unknown_among v [] n x less is h = absurd (omega (arith, less))
-unknown_among v (y ∷ all) zero x less is h = or_left (is_unknown v y) (are_unknown v all) (ap (is_unknown v) (sym is) ∙ h)
-unknown_among v (y ∷ all) (suc n) x less is h = or_right (is_unknown v y) (are_unknown v all) (unknown_among v all n x (omega (arith, less)) is h)
+-- each procedure that is called has a number where all have
+pub known_among : (v : Visible) (all : List MainStatement) (n : ℕ) (x : MainStatement) → n < length all → x ≡ get_or all n x → are_unknown v all ≡ false
+    → is_unknown v x ≡ false
+known_among v [] n x less is h = absurd (omega (arith, less))
+known_among v (y ∷ all) zero x less is h = ap (is_unknown v) is ∙ (or_parts (is_unknown v y) (are_unknown v all) h).0
+known_among v (y ∷ all) (suc n) x less is h = known_among v all n x (omega (arith, less)) is (or_parts (is_unknown v y) (are_unknown v all) h).1
 
-pub main_refuses : (v : Visible) (old now : Code) (all : List MainStatement) (n : ℕ) (x : MainStatement) (package_ procedure : Identifier) (why : Refusal)
-    → n < length all → x ≡ get_or all n x → CallsSoFar v old all n now → x ≡ main.Call package_ procedure
-    → IsNeeding (here now + 1) (beyond_if (is_none (subprogram_of v procedure.name))) why → RefusesMain v old all (length all) why
-main_refuses v old now all n x package_ procedure why less is so_far called r =
+pub main_refuses : (v : Visible) (old now : Code) (all : List MainStatement) (n : ℕ) (x : MainStatement) (why : Refusal) → n < length all → x ≡ get_or all n x
+    → CallsSoFar v old all n now → IsRefused (here now + 1) 0 why → RefusesMain v old all (length all) why
+main_refuses v old now all n x why less is so_far r =
     let long = so_far.sized in
     let left = ap length (at_drop_more (λ l. l) all n x less) in
-    needing_refused (here now + 1) (here old + length all) (beyond_if (is_none (subprogram_of v procedure.name))) (beyond_if (are_unknown v all))
-    (omega (arith, long, left))
-    (record {
-      stack = omega arith;
-      frame = omega arith;
-      unfit = λ e. e;
-      outside = λ e. unknown_among v all n x less is (ap (is_unknown v) called ∙ e);
-    }) why r
+    plain_more (here now + 1) (here old + length all) 0 0 (omega (arith, long, left)) (omega arith) why r

@@ -1,6 +1,8 @@
 -- What refuses words to one formal parameter refuses them to all.
 use Rattle.std.proofs.Common.{◌≡◌, ◌≤◌, ◌<◌, ◌+◌, ◌∷◌, ℕ, zero, suc, List, [], drop, length, true, false, Some, None, refl, sym, ap, ◌∙◌, arith}
 use Rattle.std.specs.Prelude.{get_or, max, nat_eq}
+use Rattle.std.proofs.lemmas.Bool.{or_parts}
+use Rattle.std.proofs.lemmas.Bool.Decides.{nat_tests}
 use Rattle.std.proofs.lemmas.List.{at_drop_more}
 use Rattle.ada_tree.specs.declared.declaration.Formal.{Formal}
 use Rattle.ada_tree.specs.declared.declaration.Mode.{Mode}
@@ -12,38 +14,35 @@ use Rattle.types.specs.Scopes.{Scope}
 use Rattle.type_rules.specs.SubtypeNames.{subtype_of}
 use Rattle.expr_code.specs.Refusing.{IsRefused}
 use Rattle.expr_code.specs.declared.refusal.Refusal.{Refusal}
-use Rattle.expr_code.proofs.Refusals.{or_left, or_right}
 use Rattle.part_code.specs.Bounds.{words_if_any, words_named}
 use Rattle.part_code.specs.Formals.{StandsAt, passed_for}
-use Rattle.part_code.specs.Needs.{IsNeeding, Needs, are_wordless, is_wordless, out_for, placed_end, stacked_unless}
+use Rattle.part_code.specs.Needs.{are_wordless, is_wordless, out_for, placed_end}
 use Rattle.part_code.specs.declared.formals.PlacedFormal.{PlacedFormal}
 use Rattle.part_code.proofs.FormalWords.{passed_named, passed_next}
-use Rattle.part_code.proofs.Within.{needing_refused, plain_needing, stack_within}
+use Rattle.part_code.proofs.Within.{plain_more}
 
-pub wordless_among : (s : Scope) (fs : List Formal) (n : ℕ) (f : Formal) → n < length fs → f ≡ get_or fs n f → is_wordless s f ≡ true → are_wordless s fs ≡ true
-wordless_among s [] n f less is h = absurd (omega (arith, less))
-wordless_among s (g ∷ fs) zero f less is h = or_left (is_wordless s g) (are_wordless s fs) (ap (is_wordless s) (sym is) ∙ h)
-wordless_among s (g ∷ fs) (suc n) f less is h =
-    or_right (is_wordless s g) (are_wordless s fs) (wordless_among s fs n f (omega (arith, less)) is h)
+-- each has words where all have
+pub worded_among : (s : Scope) (fs : List Formal) (n : ℕ) (f : Formal) → n < length fs → f ≡ get_or fs n f → are_wordless s fs ≡ false → is_wordless s f ≡ false
+worded_among s [] n f less is h = absurd (omega (arith, less))
+worded_among s (g ∷ fs) zero f less is h = ap (is_wordless s) is ∙ (or_parts (is_wordless s g) (are_wordless s fs) h).0
+worded_among s (g ∷ fs) (suc n) f less is h = worded_among s fs n f (omega (arith, less)) is (or_parts (is_wordless s g) (are_wordless s fs) h).1
+
+-- ... it names a subtype, of values with words
+pub nameless : (s : Scope) (f : Formal) → is_wordless s f ≡ false → subtype_of s f.subtype ≡ None → ⊥
+nameless s f h is = let never : true ≡ false = sym (ap (λ o. nat_eq (words_if_any s o) 0) is) ∙ h in cc
+
+pub worded : (s : Scope) (f : Formal) (t : Subtype) → is_wordless s f ≡ false → subtype_of s f.subtype ≡ Some t → 1 ≤ words_of s t
+worded s f t h is = not_none (words_of s t) (sym (ap (λ o. nat_eq (words_if_any s o) 0) is) ∙ h)
+  where
+    not_none : (n : ℕ) → nat_eq n 0 ≡ false → 1 ≤ n
+    not_none n k = grind (arith, nat_tests)
 
 pub passed_refused : (s : Scope) (fs : List Formal) (n now start : ℕ) (f : Formal) (why : Refusal) → n < length fs → f ≡ get_or fs n f
-    → now + total (passed_for s) (drop n fs) ≡ start + total (passed_for s) fs → IsNeeding 0 (stacked_unless (is_wordless s f) (passed_for s f)) why
-    → IsNeeding 0 (stacked_unless (are_wordless s fs) (start + total (passed_for s) fs)) why
+    → now + total (passed_for s) (drop n fs) ≡ start + total (passed_for s) fs → IsRefused 0 (passed_for s f) why
+    → IsRefused 0 (start + total (passed_for s) fs) why
 passed_refused s fs n now start f why less is before r =
     let next = passed_next s fs n f less is in
-    needing_refused 0 0 (stacked_unless (is_wordless s f) (passed_for s f)) (stacked_unless (are_wordless s fs) (start + total (passed_for s) fs))
-    (omega arith)
-    (record { stack = omega (arith, before, next); frame = omega arith; unfit = λ e. e; outside = wordless_among s fs n f less is }) why r
-
--- what names no subtype, and what names one without words
-pub nameless : (s : Scope) (f : Formal) → subtype_of s f.subtype ≡ None → is_wordless s f ≡ true
-nameless s f is = ap (λ o. nat_eq (words_if_any s o) 0) is
-
-pub wordless : (s : Scope) (f : Formal) (t : Subtype) → subtype_of s f.subtype ≡ Some t → capped (words_of s t) ≡ 0 → is_wordless s f ≡ true
-wordless s f t is none = ap (λ o. nat_eq (words_if_any s o) 0) is ∙ ap (λ n. nat_eq n 0) (empty (words_of s t) none)
-  where
-    empty : (n : ℕ) → capped n ≡ 0 → n ≡ 0
-    empty n h = omega (arith, h)
+    plain_more 0 0 (passed_for s f) (start + total (passed_for s) fs) (omega arith) (omega (arith, before, next)) why r
 
 -- ---- where each stands
 
@@ -88,14 +87,11 @@ module _ (s : Scope) (start : ℕ) (fs : List Formal) (n from out : ℕ) (f : Fo
           let first = p.passed in let second = p.others in let a = h.2 in let b = h.3 in
           record { passed = omega (arith, one, own, first, a); others = omega (arith, two, other, second, b) }
 
-  pub place_refused : (many : ℕ) (why : Refusal) → many ≡ capped (words_of s t) → IsRefused 0 (placed_end f.mode many from out) false why
-      → IsNeeding 0 (stacked_unless (are_wordless s fs) (max (total (passed_for s) fs) (start + total (out_for s) fs))) why
+  pub place_refused : (many : ℕ) (why : Refusal) → many ≡ capped (words_of s t) → IsRefused 0 (placed_end f.mode many from out) why
+      → IsRefused 0 (max (total (passed_for s) fs) (start + total (out_for s) fs)) why
   place_refused many why wide r =
-      plain_needing 0 0 (placed_end f.mode many from out) whole why (omega arith) (stack_within (placed_end f.mode many from out) whole (by_mode f.mode refl)) r
+      plain_more 0 0 (placed_end f.mode many from out) (max (total (passed_for s) fs) (start + total (out_for s) fs)) (omega arith) (by_mode f.mode refl) why r
     where
-      whole : Needs
-      whole = stacked_unless (are_wordless s fs) (max (total (passed_for s) fs) (start + total (out_for s) fs))
-
       by_mode : (m : Mode) → f.mode ≡ m → placed_end m many from out ≤ max (total (passed_for s) fs) (start + total (out_for s) fs)
       by_mode mode.In moded =
           let one = passed_next s fs n f less is in let own = passed_named s f t mode.In named moded in let first = p.passed in

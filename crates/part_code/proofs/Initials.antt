@@ -19,7 +19,7 @@ use Rattle.types.specs.Shapes.{Grouped, Logical, Ranged, Repeated, Shape, Shapel
 use Rattle.types.specs.Values.{Value}
 use Rattle.expr_soundness.specs.Agreeing.{Agrees}
 use Rattle.expr_soundness.specs.expr_rules.proofs.TypeShapes.{shape_by_form}
-use Rattle.expr_soundness.specs.SoundScopes.{AreEarlier, IsKnown, SoundScope}
+use Rattle.expr_soundness.specs.SoundScopes.{AreEarlier, IsEarlier, IsKnown, SoundScope}
 use Rattle.expr_soundness.proofs.Goods.{not_empty, sound_form}
 use Rattle.expr_code.specs.Code.{Adds, Extends, Holds, here}
 use Rattle.expr_code.specs.Flows.{Flows}
@@ -234,14 +234,25 @@ pub earlier_element : (s : Scope) → SoundScope s → (t index : Subtype) (many
     → form_at s t.type_number ≡ Some (Arrays index many element) → element.type_number < t.type_number
 earlier_element s sound t index many element form = (sound_form s sound t.type_number (Arrays index many element) form).earlier.before
 
+pub known_element : (s : Scope) → SoundScope s → (t index : Subtype) (many : ℕ) (element : Subtype)
+    → form_at s t.type_number ≡ Some (Arrays index many element) → IsKnown s element
+known_element s sound t index many element form = (sound_form s sound t.type_number (Arrays index many element) form).earlier.known
+
+among_components : (s : Scope) (n : ℕ) (all : List RecordComponent) (m : ℕ) (x : RecordComponent) → AreEarlier s n all → m < length all → x ≡ get_or all m x
+    → IsEarlier s n x.subtype
+among_components s n [] m x h less is = absurd (omega (arith, less))
+among_components s n (y ∷ all) zero x h less is = subst (λ z. IsEarlier s n z.subtype) (sym is) h.0
+among_components s n (y ∷ all) (suc m) x h less is = among_components s n all m x h.1 (omega (arith, less)) is
+
 pub earlier_component : (s : Scope) → SoundScope s → (t : Subtype) (cs : List RecordComponent) (n : ℕ) (x : RecordComponent)
     → form_at s t.type_number ≡ Some (Records cs) → n < length cs → x ≡ get_or cs n x → x.subtype.type_number < t.type_number
-earlier_component s sound t cs n x form less is = among cs n (sound_form s sound t.type_number (Records cs) form) less is
-  where
-    among : (all : List RecordComponent) (n : ℕ) → AreEarlier s t.type_number all → n < length all → x ≡ get_or all n x → x.subtype.type_number < t.type_number
-    among [] n h less is = absurd (omega (arith, less))
-    among (y ∷ all) zero h less is = subst (λ z. z.subtype.type_number < t.type_number) (sym is) h.0.before
-    among (y ∷ all) (suc n) h less is = among all n h.1 (omega (arith, less)) is
+earlier_component s sound t cs n x form less is =
+    (among_components s t.type_number cs n x (sound_form s sound t.type_number (Records cs) form) less is).before
+
+pub known_component : (s : Scope) → SoundScope s → (t : Subtype) (cs : List RecordComponent) (n : ℕ) (x : RecordComponent)
+    → form_at s t.type_number ≡ Some (Records cs) → n < length cs → x ≡ get_or cs n x → IsKnown s x.subtype
+known_component s sound t cs n x form less is =
+    (among_components s t.type_number cs n x (sound_form s sound t.type_number (Records cs) form) less is).known
 
 -- ---- what stores them
 

@@ -18,13 +18,13 @@ use Rattle.part_code.specs.Needs.{initial_needs, single_needs}
 -- ---- initial values
 
 module _ (v : Visible) (t : Subtype) where
-  pub single_none : (o : Option ExprTree) (x y : ℕ) → o ≡ None → y ≤ max x 0 → y ≤ max x (single_needs v t o).stack
-  single_none o x y is p = subst (λ q. y ≤ max x (single_needs v t q).stack) (sym is) (more x y p)
+  pub single_none : (o : Option ExprTree) (x y : ℕ) → o ≡ None → y ≤ max x 0 → y ≤ max x (single_needs v o).stack
+  single_none o x y is p = subst (λ q. y ≤ max x (single_needs v q).stack) (sym is) (more x y p)
     where
       more : (i j : ℕ) → j ≤ max i 0 → j ≤ max i 1
       more i j h = omega (arith, h)
 
-  pub single_some : (e : ExprTree) (a b : Code) → IsShallow a b (0 + checked_peak (peak v.scope e)) → IsShallow a b (single_needs v t (Some e)).stack
+  pub single_some : (e : ExprTree) (a b : Code) → IsShallow a b (0 + checked_peak (peak v.scope e)) → IsShallow a b (single_needs v (Some e)).stack
   single_some e a b p = shallow_more a b (0 + checked_peak (peak v.scope e)) (checked_peak (peak v.scope e)) (omega arith) p
 
   pub several_some : (e : ExprTree) (a b : Code) → IsShallow a b (1 + checked_peak (peak v.scope e)) → IsShallow a b (initial_needs v t (Some e)).stack
@@ -36,7 +36,7 @@ module _ (v : Visible) (t : Subtype) where
       more w c = omega arith
 
   -- a single word is stored above nothing
-  pub word_stored : (o : Option ExprTree) (a b c : Code) → IsShallow a b (single_needs v t o).stack → IsShallow b c 1 → IsShallow a c (single_needs v t o).stack
+  pub word_stored : (o : Option ExprTree) (a b c : Code) → IsShallow a b (single_needs v o).stack → IsShallow b c 1 → IsShallow a c (single_needs v o).stack
   word_stored None a b c p q = shallow_then a b c 1 p q
   word_stored (Some e) a b c p q = shallow_next a b c 1 (checked_peak (peak v.scope e)) (least (peak v.scope e)) p q
     where
@@ -55,7 +55,7 @@ module _ (v : Visible) (t : Subtype) where
       shallow_next a c d h n (omega (arith, high, up)) (shallow_then a b c n (shallow_more a b 0 n (omega arith) p) q) r
 
   -- of one word they are those of its place
-  pub single_stored : (o : Option ExprTree) (a b : Code) → IsShallow a b (single_needs v t o).stack → IsShallow a b (initial_needs v t o).stack
+  pub single_stored : (o : Option ExprTree) (a b : Code) → IsShallow a b (single_needs v o).stack → IsShallow a b (initial_needs v t o).stack
   single_stored None a b p = shallow_more a b 1 (suc (words_of v.scope t)) (omega arith) p
   single_stored (Some e) a b p =
       let up = le-max_right (words_of v.scope t) (checked_peak (peak v.scope e)) in

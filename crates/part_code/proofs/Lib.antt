@@ -47,6 +47,7 @@ pub mod Jumping
 pub mod Jumps
 pub mod Lists
 mod NumberedChoices
+pub mod FullWords
 mod ObjectBounds
 pub mod ObjectNames
 mod OutsShallow
@@ -54,3 +55,4 @@ pub mod StoresAt
 pub mod Within
 pub mod WrittenActuals
 mod WrittenLines
+pub mod CoveredObjects

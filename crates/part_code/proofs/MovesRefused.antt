@@ -1,6 +1,7 @@
 -- What is moved by an assignment, and what refuses its code: of both addresses, and of what moves the words.
-use Rattle.std.proofs.Common.{◌≡◌, ◌≤◌, ◌<◌, ◌+◌, ◌*◌, ◌⊎◌, inl, inr, ℕ, zero, suc, List, [], ◌∷◌, length, map, take, Bool, true, false, ◌&&◌, cond, Option, Some, None, refl, sym, ap, ◌∙◌, subst, arith}
+use Rattle.std.proofs.Common.{◌≡◌, ◌≤◌, ◌<◌, ◌+◌, ◌*◌, ◌⊎◌, inl, inr, ℕ, zero, suc, List, [], ◌∷◌, length, map, take, Bool, true, false, ◌&&◌, cond, Option, Some, refl, sym, ap, ◌∙◌, subst, arith}
 use Rattle.std.specs.Prelude.{get_or, max, is_some}
+use Rattle.std.proofs.lemmas.Bool.{or_left}
 use Rattle.ada_tree.specs.declared.expression.ElsifValue.{ElsifValue}
 use Rattle.ada_tree.specs.ExpressionTree.{Conditional, ExprTree, Named, NameTree, elsif_value_trees, expr_tree}
 use Rattle.ada_tree.specs.StatementTree.{Assignment}
@@ -22,12 +23,12 @@ use Rattle.expr_code.specs.declared.refusal.Refusal.{Refusal}
 use Rattle.expr_code.specs.declared.visible.Slot.{Slot}
 use Rattle.expr_code.specs.declared.visible.Visible.{Visible}
 use Rattle.expr_code.proofs.Legal.{PartsAreLegal, branches_are, legal_parts}
-use Rattle.expr_code.proofs.Refusals.{or_left, peak_some, selectors_some}
+use Rattle.expr_code.proofs.Refusals.{peak_some, selectors_some}
 use Rattle.expr_code.proofs.Shallow.{shallow_as, shallow_more, shallow_next}
 use Rattle.part_code.specs.Bounds.{stmt_bound}
 use Rattle.part_code.specs.Layout.{IsVariable}
 use Rattle.part_code.specs.Moves.{alone}
-use Rattle.part_code.specs.Moving.{IsSource, are_moved, is_moved, moves, names_composite, source_at, source_by, variable_at}
+use Rattle.part_code.specs.Moving.{IsSource, are_moved, is_moved, names_composite, source_at, source_by, variable_at}
 use Rattle.part_code.specs.Needs.{HasManyLabels, IsNeeding, Needs, RefusesMove, RefusesMoves, address_needs, assignment_needs, both, has_unfit, move_needs, moved_needs, moves_needs, needs_above, needs_by, nothing, stored_needs}
 use Rattle.part_code.specs.declared.moving.Source.{Source}
 use Rattle.part_code.proofs.AssignmentsRefused.{address_refused, unfit_whole}
@@ -107,14 +108,6 @@ module _ (v : Visible) (name : NameTree) (e : ExprTree) where
       → is_moved v e ≡ true → assignment_needs v name e ≡ moved_needs v name e
   needs_moved h k l m = moved_by (names_composite v.scope first) (names_composite v.scope whole) (is_some (slot_of v name.first.name)) (is_moved v e) h k l m
 
-  -- what has no place has none, whatever is moved
-  pub needs_outside : (address_needs 0 v name.first name.selectors).outside ≡ true → (assignment_needs v name e).outside ≡ true
-  needs_outside h = by_test (moves v name e)
-    where
-      by_test : (b : Bool) → (needs_by v name e b).outside ≡ true
-      by_test false = or_left (address_needs 0 v name.first name.selectors).outside _ h
-      by_test true = or_left (address_needs 0 v name.first name.selectors).outside _ h
-
 -- ---- refusals of assignments
 
 module _ (v : Visible) (name : NameTree) (e : ExprTree) (old : Code) (labels : List (List ℕ)) where
@@ -137,20 +130,19 @@ module _ (v : Visible) (name : NameTree) (e : ExprTree) (old : Code) (labels : L
 
     pub target_refuses : (why : Refusal) → RefusesAddress v old 0 whole name.selectors why → Refused why
     target_refuses why refused =
-        inl (address_refused v 0 name.first name.selectors slot r whole stands there old bound needs why (omega arith) (low _ _) unfit_target
-        (or_left (address_needs 0 v name.first name.selectors).outside _) refused)
+        inl (address_refused v 0 name.first name.selectors slot r whole stands there old bound needs why (omega arith) (low _ _) unfit_target refused)
 
     -- values of the target have no words, or too many
     pub words_refuse : (last : Subtype) (why : Refusal) → (IsUnfit v.scope last → IsUnfit v.scope whole)
-        → IsRefusedBeside (IsUnfit v.scope last) 0 0 false why → Refused why
+        → IsRefusedBeside (IsUnfit v.scope last) 0 0 why → Refused why
     words_refuse last why keeps refused =
-        inl (code_refused (IsUnfit v.scope last) 0 bound 0 false needs (omega arith) (omega arith)
-        (λ u. unfit_target (unfit_whole v 0 name.first name.selectors slot r whole stands there (inr (keeps u)))) (λ h. cc) why refused)
+        inl (code_refused (IsUnfit v.scope last) 0 bound 0 needs (omega arith) (omega arith)
+        (λ u. unfit_target (unfit_whole v 0 name.first name.selectors slot r whole stands there (inr (keeps u)))) why refused)
 
   pub move_refuses : (mid : Code) (why : Refusal) → here mid ≤ here old + (20 * selectors_size name.selectors + 1) → RefusesMove v mid e why → Refused why
   move_refuses mid why up refused =
       inl (needing_refused (here mid + 20 * expr_size e) bound (move_needs v e) needs (omega (arith, up))
-      (in_right (address_needs 0 v name.first name.selectors) (move_needs v e)) why refused)
+      (in_right (address_needs 0 v name.selectors) (move_needs v e)) why refused)
 
 -- ---- refusals of what is moved
 
@@ -161,13 +153,13 @@ module _ (v : Visible) (name : NameTree) (old : Code) (why : Refusal) where
       → RefusesMove v old (Named name.first name.selectors) why
   source_refuses x from refused =
       address_refused v 1 name.first name.selectors x.slot from.role x.whole from.stands from.there old
-      (here old + 20 * expr_size (Named name.first name.selectors)) (address_needs 1 v name.first name.selectors) why (omega arith) (omega arith) (λ h. h)
-      (λ h. h) refused
+      (here old + 20 * expr_size (Named name.first name.selectors)) (address_needs 1 v name.selectors) why (omega arith) (omega arith) (λ h. h)
+      refused
 
-  pub copy_refuses : (mid : Code) → here mid ≤ here old + (20 * selectors_size name.selectors + 1) → IsRefused (here mid + 1) 2 false why
+  pub copy_refuses : (mid : Code) → here mid ≤ here old + (20 * selectors_size name.selectors + 1) → IsRefused (here mid + 1) 2 why
       → RefusesMove v old (Named name.first name.selectors) why
   copy_refuses mid up refused =
-      plain_needing (here mid + 1) (here old + 20 * expr_size (Named name.first name.selectors)) 2 (address_needs 1 v name.first name.selectors) why
+      plain_needing (here mid + 1) (here old + 20 * expr_size (Named name.first name.selectors)) 2 (address_needs 1 v name.selectors) why
       (omega (arith, up)) (let k = selectors_some v.scope 1 name.selectors in omega (arith, k)) refused
 
 -- a branch: a condition, a jump, what is moved, and a jump
@@ -191,7 +183,7 @@ module _ (v : Visible) (condition value : ExprTree) (old : Code) (why : Refusal)
   condition_refuses r =
       value_needing v old 1 condition (here old + 20 * elsif_values_size (alone branch)) of_branch why (omega arith) (condition_within v condition value) r
 
-  pub test_refuses : (mid : Code) → here mid ≤ here old + 20 * expr_size condition → IsRefused (here mid + 1) 2 false why → RefusesMoves v old branch why
+  pub test_refuses : (mid : Code) → here mid ≤ here old + 20 * expr_size condition → IsRefused (here mid + 1) 2 why → RefusesMoves v old branch why
   test_refuses mid up r =
       plain_needing (here mid + 1) (here old + 20 * elsif_values_size (alone branch)) 2 of_branch why (omega (arith, up))
       (stack_within 2 of_branch
@@ -202,7 +194,7 @@ module _ (v : Visible) (condition value : ExprTree) (old : Code) (why : Refusal)
       needing_refused (here mid + 20 * expr_size value) (here old + 20 * elsif_values_size (alone branch)) (move_needs v value) of_branch (omega (arith, up))
       (value_within v condition value) why r
 
-  pub close_refuses : (mid : Code) → here mid ≤ here old + (20 * expr_size condition + 1 + 20 * expr_size value) → IsRefused (here mid + 1) 0 false why
+  pub close_refuses : (mid : Code) → here mid ≤ here old + (20 * expr_size condition + 1 + 20 * expr_size value) → IsRefused (here mid + 1) 0 why
       → RefusesMoves v old branch why
   close_refuses mid up r =
       plain_needing (here mid + 1) (here old + 20 * elsif_values_size (alone branch)) 0 of_branch why (omega (arith, up)) (omega arith) r
@@ -314,7 +306,7 @@ module _ (v : Visible) (place : ℕ) (condition value : ExprTree) (elsifs : List
 
     pub rejoin_refuses : (mid : Code)
         → here mid ≤ here old + (20 * elsif_values_size (alone first_branch) + 20 * elsif_values_size (alone other_branches) + 20 * expr_size last)
-        → IsRefused (here mid) 0 false why → RefusesMove v old conditional_tree why
+        → IsRefused (here mid) 0 why → RefusesMove v old conditional_tree why
     rejoin_refuses mid up r =
         let same = sizes in
         plain_needing (here mid) (here old + 20 * expr_size conditional_tree) 0 needed why (omega (arith, up, same)) (omega arith) r

@@ -1,7 +1,6 @@
 -- Code of actual parameters of modes `out` and `in out` that was added: the address of the target, and for `in out` its value, checked (RM 6.4.1).
-use Rattle.std.proofs.Common.{◌≡◌, ℕ, zero, suc, ◌+◌, ◌≤◌, ◌⊎◌, inl, inr, List, [], ◌∷◌, ◌++◌, length, Bool, true, false, cond, not, Some, refl, sym, ap, ◌∙◌, subst, arith, rules}
+use Rattle.std.proofs.Common.{◌≡◌, ℕ, zero, suc, ◌+◌, ◌≤◌, ◌⊎◌, inl, inr, List, [], ◌∷◌, length, Bool, true, false, cond, not, Some, refl, sym, ap, ◌∙◌, subst, arith, rules}
 use Rattle.std.specs.Prelude.{nat_eq, slice_get}
-use Rattle.base.specs.declared.faults.TheConstants.{NAME_NOT_VISIBLE}
 use Rattle.kernel.specs.Laws.{QuietStays}
 use Rattle.ada_tree.specs.declared.declaration.Mode.{Mode}
 use Rattle.ada_tree.specs.declared.declaration.Mode.TheVariants as mode
@@ -13,8 +12,6 @@ use Rattle.image.specs.Sections.{Sections}
 use Rattle.image.specs.Rules.{has_region, is_block}
 use Rattle.image.specs.declared.instruction.Operation.{Operation}
 use Rattle.image.specs.declared.instruction.Operation.TheVariants as op
-use Rattle.image.specs.declared.instruction.Region.{Region}
-use Rattle.image.specs.declared.instruction.Region.TheVariants as regions
 use Rattle.image.specs.declared.subprograms.Subprogram.{Subprogram}
 use Rattle.types.specs.declared.entity.FormalParameter.{FormalParameter}
 use Rattle.types.specs.declared.entity.Role.{Role}
@@ -23,26 +20,25 @@ use Rattle.types.specs.declared.standing.Standing.TheVariants as standing
 use Rattle.types.specs.Entities.{TypeForm}
 use Rattle.types.specs.Laws.{ValuesHaveWords}
 use Rattle.types.specs.Layouts.{words_of}
-use Rattle.types.specs.Scopes.{Scope, base_range_of, form_at, is_visible, number_of}
+use Rattle.types.specs.Scopes.{Scope, base_range_of, form_at}
 use Rattle.types.specs.Shapes.{shape_of}
-use Rattle.types.specs.Standings.{select_all, standing_of, stands_first}
+use Rattle.types.specs.Standings.{select_all, standing_of}
 use Rattle.expr_soundness.specs.expr_rules.specs.declared.names.Slot.{Slot as Expected}
 use Rattle.expr_soundness.specs.expr_rules.specs.declared.names.Slot.TheVariants.{Expects, Takes}
 use Rattle.expr_soundness.specs.expr_rules.specs.declared.own.Own.TheVariants.{Typed}
 use Rattle.expr_soundness.specs.expr_rules.specs.declared.own.Wanted.TheVariants.{OfType}
-use Rattle.expr_soundness.specs.expr_rules.specs.ExpressionRules.{argument_faults, faults_in, selectors_faults}
-use Rattle.expr_soundness.specs.expr_rules.specs.Faults.{rule}
-use Rattle.expr_soundness.specs.expr_rules.specs.NameRules.{formal_slot, is_changeable, mismatch, value_rule, variable_rule}
+use Rattle.expr_soundness.specs.expr_rules.specs.ExpressionRules.{argument_faults, faults_in}
+use Rattle.expr_soundness.specs.expr_rules.specs.NameRules.{actual_rule, formal_slot, is_changeable, mismatch, variable_rule}
 use Rattle.expr_soundness.specs.expr_rules.proofs.TypedLaw.{back_empty, front_empty, same_number, unbroken}
-use Rattle.expr_soundness.specs.SoundScopes.{AreKnown, IsKnown}
+use Rattle.expr_soundness.specs.SoundScopes.{AreKnown, IsKnown, SoundScope}
 use Rattle.expr_soundness.proofs.Goods.{not_empty}
 use Rattle.expr_soundness.specs.meaning.specs.Calls.{is_in}
 use Rattle.expr_code.specs.Actuals.{IsPassedLegally}
 use Rattle.expr_code.specs.Code.{Extends, Holds, here}
 use Rattle.expr_code.specs.Emitting as expressions
 use Rattle.expr_code.specs.Flows.{Flows}
-use Rattle.expr_code.specs.Going.{IsLegalPath}
 use Rattle.expr_code.specs.Locating.{IsPath}
+use Rattle.expr_code.specs.Providing.{HasWhatExpressionsNeed}
 use Rattle.expr_code.specs.Seeing.{Package, Sees, Suits, library_of, slot_of}
 use Rattle.expr_code.specs.Views.{At}
 use Rattle.expr_code.specs.declared.code.Code.{Code}
@@ -51,11 +47,13 @@ use Rattle.expr_code.proofs.Flowing.{Changes, flows_then, instruction_flows}
 use Rattle.expr_code.proofs.Growing.{added_at, added_extends, added_here, extends_trans, holds_before, holds_later}
 use Rattle.expr_code.proofs.Widths.{words_by_type}
 use Rattle.part_code.specs.Layout.{IsVariable, NamesObject}
+use Rattle.part_code.specs.Needs.{names_object as is_named}
 use Rattle.part_code.specs.Passing.{AddsValue, ArePassedInFront, EmitsPassedActuals, EmitsTarget, loaded_at}
 use Rattle.part_code.specs.Suiting.{returned_width}
 use Rattle.part_code.specs.declared.call.Destination.{Destination}
 use Rattle.part_code.proofs.ChecksAdded.{IsChecked, is_checked}
 use Rattle.part_code.proofs.CopyingBack.{ChecksValue}
+use Rattle.part_code.proofs.CoveredObjects.{name_target, target_object, value_name}
 use Rattle.part_code.proofs.InTurn.{alone, front_one}
 use Rattle.part_code.proofs.PassingTargets.{computes_both, computes_out}
 use Rattle.part_code.proofs.PassingWell.{passes_both, passes_out}
@@ -110,17 +108,21 @@ name_legal s f e takes legal = record {
   unbroken = front_empty (faults_in s (OfType f.subtype.type_number) e) _ (ap (λ x. argument_faults s x (tree.Value e)) (sym takes) ∙ legal);
 }
 
-pub path_legal : (s : Scope) (first : Identifier) (selectors : SelectorTrees) (r : Role) (t : Subtype) → stands_first s (number_of s first.name) ≡ standing.Part r t
-    → expressions.IsLegalExpression s (Named first selectors) → IsLegalPath s t selectors
-path_legal s first selectors r t stands legal =
-    let hidden = rule NAME_NOT_VISIBLE first.place (not (is_visible s first.name)) in
-    let all = selectors_faults s first.place (stands_first s (number_of s first.name)) selectors in
-    let ends = value_rule first.place (standing_of s first selectors) in
-    record {
-      role = r;
-      place = first.place;
-      unbroken = ap (λ u. selectors_faults s first.place u selectors) (sym stands) ∙ back_empty hidden all (front_empty (hidden ++ all) ends legal.unbroken);
-    }
+-- ... it is an object, or a part of one
+pub actual_object : (v : Visible) → SoundScope v.scope → HasWhatExpressionsNeed v → (f : FormalParameter) (e : ExprTree)
+    → formal_slot f ≡ Takes f.subtype.type_number → IsPassedLegally v.scope f (tree.Value e) → is_named v.scope e ≡ true
+actual_object v sound cover f e takes legal =
+    by_name e (name_legal v.scope f e takes legal)
+    (back_empty (faults_in v.scope (OfType n) e) (actual_rule v.scope (OfType n) e) (ap (λ x. argument_faults v.scope x (tree.Value e)) (sym takes) ∙ legal))
+  where
+    n : ℕ
+    n = f.subtype.type_number
+
+    by_name : (x : ExprTree) → expressions.IsLegalExpression v.scope x → actual_rule v.scope (OfType n) x ≡ [] → is_named v.scope x ≡ true
+    by_name (Named first selectors) h k =
+        target_object v sound cover (standing_of v.scope first selectors)
+        (name_target v sound cover first selectors (OfType n) (value_name v.scope first selectors h) k)
+    by_name x h k = absurd cc
 
 pub known_at : (s : Scope) (fs : List FormalParameter) (k : ℕ) (f : FormalParameter) → AreKnown s fs → slice_get fs k ≡ Some f → IsKnown s f.subtype
 known_at s [] k f known h = absurd cc

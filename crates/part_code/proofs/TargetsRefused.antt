@@ -1,6 +1,7 @@
 -- What refuses the code of one actual parameter of a procedure, of one value that is copied back, and of their checks.
-use Rattle.std.proofs.Common.{◌≡◌, ◌≤◌, ◌+◌, ◌*◌, ◌∷◌, ◌⊎◌, inl, inr, ℕ, suc, List, [], Bool, true, false, ◌&&◌, ◌||◌, not, Option, Some, None, Result, Ok, Err, refl, sym, ap, ◌∙◌, subst, arith}
+use Rattle.std.proofs.Common.{◌≡◌, ◌≤◌, ◌+◌, ◌*◌, ◌∷◌, ◌⊎◌, inl, inr, ℕ, suc, List, [], true, false, ◌||◌, not, Option, Some, None, Result, Ok, Err, refl, sym, ap, ◌∙◌, subst, arith}
 use Rattle.std.specs.Prelude.{max}
+use Rattle.std.proofs.lemmas.Bool.{or_left, or_right}
 use Rattle.std.specs.List.{All}
 use Rattle.std.specs.Result.{OnOk}
 use Rattle.std.proofs.lemmas.List.Elements.{All-cons, All-nil}
@@ -25,26 +26,23 @@ use Rattle.types.specs.Standings.{select_all, standing_of, stands_first}
 use Rattle.expr_soundness.specs.expr_rules.specs.Typing.{is_booleans}
 use Rattle.expr_code.specs.Code.{here}
 use Rattle.expr_code.specs.Emitting.{has_numbers, is_composite}
-use Rattle.expr_code.specs.Refusing.{HasUnfitObject, IsRefused, IsRefusedBeside, IsUnfit, RefusesAddress, RefusesFitting, checked_peak, is_fit, is_outside, peak}
+use Rattle.expr_code.specs.Refusing.{HasUnfitObject, IsRefused, IsRefusedBeside, IsUnfit, RefusesAddress, RefusesFitting, checked_peak, is_fit, peak}
 use Rattle.expr_code.specs.Seeing.{slot_of}
 use Rattle.expr_code.specs.declared.code.Code.{Code}
 use Rattle.expr_code.specs.declared.refusal.Refusal.{Refusal}
 use Rattle.expr_code.specs.declared.visible.Slot.{Slot}
 use Rattle.expr_code.specs.declared.visible.Visible.{Visible}
 use Rattle.expr_code.proofs.Growing.{added_here}
-use Rattle.expr_code.proofs.Refusals.{or_left, or_right, refused_beside, selectors_some}
+use Rattle.expr_code.proofs.Refusals.{selectors_some}
 use Rattle.part_code.specs.Passing.{AddsCheck, AddsRange, EmitsTarget}
-use Rattle.part_code.specs.Needs.{IsNeeding, IsPartFit, Needs, actual_needs, address_needs, beyond, check_words, copied_needs, copy_needs, destination_at, destinations_for, destinations_if, destinations_named, has_unfit, in_needs, in_out_needs, is_taken, target_needs, words_at}
+use Rattle.part_code.specs.Needs.{IsNeeding, IsPartFit, Needs, actual_needs, address_needs, check_words, copied_needs, copy_needs, destination_at, destinations_for, destinations_if, destinations_named, has_unfit, in_needs, in_out_needs, is_taken, names_object, nothing, target_needs, words_at}
 use Rattle.part_code.specs.declared.call.Destination.{Destination}
 use Rattle.part_code.proofs.AssignmentsRefused.{address_refused}
-use Rattle.part_code.proofs.Within.{Within, code_refused, in_left, needing_refused, of_right, plain_needing, unfit_there, within_self}
+use Rattle.part_code.proofs.Within.{Within, code_refused, in_left, needing_refused, of_right, plain_more, plain_needing, unfit_there, within_self}
 
 pub told_always : {T E P : Type 0} (r : Result T E) → P → OnOk r P
 told_always (Ok x) p = p
 told_always (Err y) p = tt
-
-never : (b : Bool) → false ≡ true → b ≡ true
-never b h = cc
 
 over : (p k l : ℕ) → p ≤ k → p ≤ max k l
 over p k l h = omega (arith, h)
@@ -52,34 +50,33 @@ over p k l h = omega (arith, h)
 -- ---- checks
 
 pub check_refused : (s : Scope) (t : Subtype) (m n depth : ℕ) (why : Refusal) → m ≤ n → check_words (form_at s t.type_number) ≡ 2
-    → IsRefused m (depth + 2) false why → IsRefused n (depth + check_words (form_at s t.type_number)) (not (is_taken s t)) why
+    → IsRefused m (depth + 2) why → IsRefused n (depth + check_words (form_at s t.type_number)) why
 check_refused s t m n depth why up two r =
-    refused_beside m n (depth + 2) (depth + check_words (form_at s t.type_number)) false (not (is_taken s t)) (λ x. x) up (omega (arith, two))
-    (never (not (is_taken s t))) why r
+    plain_more m n (depth + 2) (depth + check_words (form_at s t.type_number)) up (omega (arith, two)) why r
 
-pub untaken : (s : Scope) (t : Subtype) (o : Option TypeForm) → form_at s t.type_number ≡ o → ((has_numbers o || is_booleans o) || is_composite o) ≡ false
-    → not (is_taken s t) ≡ true
-untaken s t o is h = ap (λ p. not ((has_numbers p || is_booleans p) || is_composite p)) is ∙ ap not h
+-- what is taken has a type
+pub formless : (s : Scope) (t : Subtype) → form_at s t.type_number ≡ None → is_taken s t ≡ true → ⊥
+formless s t is h = let never : false ≡ true = sym (ap (λ p. (has_numbers p || is_booleans p) || is_composite p) is) ∙ h in cc
 
 -- ---- targets
+
+-- a chain of operators is no name
+pub chain_unnamed : (s : Scope) (o : BinaryOperator) (a b : ExprTree) (all : List Operand) → names_object s (chain_tree (tree.Binary o a b) all) ≡ false
+chain_unnamed s o a b [] = refl
+chain_unnamed s o a b (x ∷ all) = chain_unnamed s x.operator (tree.Binary o a b) (expr_tree x.value) all
 
 module _ (v : Visible) (depth : ℕ) where
   pub named_refused : (first : Identifier) (path : SelectorTrees) (slot : Slot) (r : Role) (whole : Subtype)
       → stands_first v.scope (number_of v.scope first.name) ≡ standing.Part r whole → slot_of v first.name ≡ Some slot → (old : Code) (why : Refusal)
       → RefusesAddress v old depth whole path why → IsNeeding (here old + 20 * expr_size (Named first path)) (target_needs depth v (Named first path)) why
   named_refused first path slot r whole stands is old why refused =
-      address_refused v depth first path slot r whole stands is old (here old + 20 * expr_size (Named first path)) (address_needs depth v first path) why
-      (omega arith) (omega arith) (λ h. h) (λ h. h) refused
-
-  -- a chain of operators is no name
-  pub chain_outside : (o : BinaryOperator) (a b : ExprTree) (all : List Operand) → (target_needs depth v (chain_tree (tree.Binary o a b) all)).outside ≡ true
-  chain_outside o a b [] = refl
-  chain_outside o a b (x ∷ all) = chain_outside x.operator (tree.Binary o a b) (expr_tree x.value) all
+      address_refused v depth first path slot r whole stands is old (here old + 20 * expr_size (Named first path)) (address_needs depth v path) why
+      (omega arith) (omega arith) (λ h. h) refused
 
   pub target_within : (t : Subtype) (e : ExprTree) → Within (target_needs depth v e) (in_out_needs depth v t e)
   target_within t (Named first path) =
-      in_left (address_needs depth v first path) (copied_needs depth v (words_at v.scope (standing_of v.scope first path)) t)
-  target_within t e = within_self beyond
+      in_left (address_needs depth v path) (copied_needs depth v (words_at v.scope (standing_of v.scope first path)) t)
+  target_within t e = within_self nothing
 
   module _ (old new : Code) (e : ExprTree) (d : Destination) (p : EmitsTarget v old depth e d new) where
     target_reached : standing_of v.scope p.first p.selectors ≡ standing.Part p.role d.subtype
@@ -100,7 +97,7 @@ module _ (v : Visible) (depth : ℕ) where
     pub copied_within : (t : Subtype) → Within (copied_needs depth v (words_of v.scope d.subtype) t) (in_out_needs depth v t e)
     copied_within t =
         subst (λ x. Within (copied_needs depth v (words_of v.scope d.subtype) t) (in_out_needs depth v t x)) (sym p.is)
-        (of_right (copied_needs depth v (words_of v.scope d.subtype) t) (address_needs depth v p.first p.selectors)
+        (of_right (copied_needs depth v (words_of v.scope d.subtype) t) (address_needs depth v p.selectors)
         (copied_needs depth v (words_at v.scope (standing_of v.scope p.first p.selectors)) t)
         (subst (λ w. Within (copied_needs depth v (words_of v.scope d.subtype) t) (copied_needs depth v (words_at v.scope w) t)) (sym target_reached)
         (within_self (copied_needs depth v (words_of v.scope d.subtype) t))))
@@ -111,8 +108,8 @@ module _ (v : Visible) (depth words : ℕ) (t : Subtype) (old : Code) (why : Ref
   abbrev copied : Needs
   copied = copied_needs depth v words t
 
-  pub block_refused : (a : Type 0) → (a → has_unfit v ≡ true) → IsRefusedBeside a 0 0 false why → IsNeeding (here old + 5) copied why
-  block_refused a unfit r = code_refused a 0 (here old + 5) 0 false copied (omega arith) (omega arith) unfit (never copied.outside) why r
+  pub block_refused : (a : Type 0) → (a → has_unfit v ≡ true) → IsRefusedBeside a 0 0 why → IsNeeding (here old + 5) copied why
+  block_refused a unfit r = code_refused a 0 (here old + 5) 0 copied (omega arith) (omega arith) unfit why r
 
   two_high : (h : ℕ) → h ≤ depth + 2 → h ≤ depth + suc (max 1 (words + check_words (form_at v.scope t.type_number)))
   two_high h up = least (words + check_words (form_at v.scope t.type_number))
@@ -128,21 +125,21 @@ module _ (v : Visible) (depth words : ℕ) (t : Subtype) (old : Code) (why : Ref
       least n k = omega (arith, k)
 
   -- what doubles the address and loads the value
-  pub load_refused : (m h : ℕ) → m ≤ here old + 5 → h ≤ depth + 2 → IsRefused m h false why → IsNeeding (here old + 5) copied why
+  pub load_refused : (m h : ℕ) → m ≤ here old + 5 → h ≤ depth + 2 → IsRefused m h why → IsNeeding (here old + 5) copied why
   load_refused m h up high r = plain_needing m (here old + 5) h copied why up (over h copied.stack copied.frame (two_high h high)) r
 
   -- the words of the value
-  pub words_refused : (m h : ℕ) → m ≤ here old + 5 → h ≤ depth + suc words → IsRefused m h false why → IsNeeding (here old + 5) copied why
+  pub words_refused : (m h : ℕ) → m ≤ here old + 5 → h ≤ depth + suc words → IsRefused m h why → IsNeeding (here old + 5) copied why
   words_refused m h up high r =
       plain_needing m (here old + 5) h copied why up (over h copied.stack copied.frame (all_high h (omega (arith, high)))) r
 
   -- its check
   pub value_check_refused : (m h : ℕ) → m ≤ here old + 5 → h ≤ depth + suc words
-      → IsRefused m (h + check_words (form_at v.scope t.type_number)) (not (is_taken v.scope t)) why → IsNeeding (here old + 5) copied why
+      → IsRefused m (h + check_words (form_at v.scope t.type_number)) why → IsNeeding (here old + 5) copied why
   value_check_refused m h up high r =
-      code_refused ⊥ m (here old + 5) (h + check_words (form_at v.scope t.type_number)) (not (is_taken v.scope t)) copied up
+      plain_needing m (here old + 5) (h + check_words (form_at v.scope t.type_number)) copied why up
       (over (h + check_words (form_at v.scope t.type_number)) copied.stack copied.frame
-      (all_high (h + check_words (form_at v.scope t.type_number)) (omega (arith, high)))) (λ x. absurd x) (λ k. k) why r
+      (all_high (h + check_words (form_at v.scope t.type_number)) (omega (arith, high)))) r
 
 -- ---- one actual parameter
 
@@ -174,15 +171,15 @@ module _ (v : Visible) (depth : ℕ) (f : FormalParameter) (x : ArgumentTree) (e
       in_refused r =
           refused_as passed mode.In moded refl
           (code_refused (HasUnfitObject v ⊎ IsUnfit v.scope f.subtype) (here old + (20 * expr_size e + 3)) (here old + 20 * (1 + expr_size e))
-          (depth + checked_peak (peak v.scope e)) (not (is_taken v.scope f.subtype) || is_outside v e) passed (omega arith)
+          (depth + checked_peak (peak v.scope e)) passed (omega arith)
           (over (depth + checked_peak (peak v.scope e)) passed.stack passed.frame
-          (second (words_of v.scope f.subtype) (checked_peak (peak v.scope e)) (depth + checked_peak (peak v.scope e)) (omega arith))) unfit (λ h. h) why r)
+          (second (words_of v.scope f.subtype) (checked_peak (peak v.scope e)) (depth + checked_peak (peak v.scope e)) (omega arith))) unfit why r)
         where
           unfit : HasUnfitObject v ⊎ IsUnfit v.scope f.subtype → passed.unfit ≡ true
           unfit (inl u) = or_left (has_unfit v) (not (is_fit (shape_of v.scope f.subtype))) (unfit_there v u)
           unfit (inr u) = or_right (has_unfit v) (not (is_fit (shape_of v.scope f.subtype))) (ap not u)
 
-      pub in_words_refused : (words : ℕ) → words ≡ words_of v.scope f.subtype → IsRefused 0 (depth + words) false why → Refused
+      pub in_words_refused : (words : ℕ) → words ≡ words_of v.scope f.subtype → IsRefused 0 (depth + words) why → Refused
       in_words_refused words same r =
           refused_as passed mode.In moded refl
           (plain_needing 0 (here old + 20 * (1 + expr_size e)) (depth + words) passed why (omega arith)
@@ -197,7 +194,7 @@ module _ (v : Visible) (depth : ℕ) (f : FormalParameter) (x : ArgumentTree) (e
           (needing_refused (here old + 20 * expr_size e) (here old + 20 * (1 + expr_size e)) (target_needs depth v e) (target_needs depth v e) (omega arith)
           (within_self (target_needs depth v e)) why r)
 
-      pub out_word_refused : (d : Destination) (new : Code) → EmitsTarget v old depth e d new → IsRefused 0 (depth + 1) false why → Refused
+      pub out_word_refused : (d : Destination) (new : Code) → EmitsTarget v old depth e d new → IsRefused 0 (depth + 1) why → Refused
       out_word_refused d new p r =
           refused_as (target_needs depth v e) mode.Out moded refl
           (plain_needing 0 (here old + 20 * (1 + expr_size e)) (depth + 1) (target_needs depth v e) why (omega arith)
@@ -249,20 +246,18 @@ module _ (v : Visible) (height : ℕ) (d : Destination) (old : Code) (why : Refu
   abbrev copy : Needs
   copy = copy_needs v height d
 
-  pub copy_block_refused : IsPartFit v d → IsRefusedBeside (IsUnfit v.scope d.subtype) 0 0 false why → IsNeeding (here old + 4) copy why
+  pub copy_block_refused : IsPartFit v d → IsRefusedBeside (IsUnfit v.scope d.subtype) 0 0 why → IsNeeding (here old + 4) copy why
   copy_block_refused fits r =
-      code_refused (IsUnfit v.scope d.subtype) 0 (here old + 4) 0 false copy (omega arith) (omega arith) fits.unfit (never copy.outside) why r
+      code_refused (IsUnfit v.scope d.subtype) 0 (here old + 4) 0 copy (omega arith) (omega arith) fits.unfit why r
 
-  pub copy_plain_refused : (m h : ℕ) → m ≤ here old + 4 → h ≤ height → IsRefused m h false why → IsNeeding (here old + 4) copy why
+  pub copy_plain_refused : (m h : ℕ) → m ≤ here old + 4 → h ≤ height → IsRefused m h why → IsNeeding (here old + 4) copy why
   copy_plain_refused m h up high r = plain_needing m (here old + 4) h copy why up (over h copy.stack copy.frame (omega (arith, high))) r
 
-  pub copy_check_refused : (m : ℕ) → m ≤ here old + 4
-      → IsRefused m (height + check_words (form_at v.scope d.subtype.type_number)) (not (is_taken v.scope d.subtype)) why
+  pub copy_check_refused : (m : ℕ) → m ≤ here old + 4 → IsRefused m (height + check_words (form_at v.scope d.subtype.type_number)) why
       → IsNeeding (here old + 4) copy why
   copy_check_refused m up r =
-      code_refused ⊥ m (here old + 4) (height + check_words (form_at v.scope d.subtype.type_number)) (not (is_taken v.scope d.subtype)) copy up
-      (over (height + check_words (form_at v.scope d.subtype.type_number)) copy.stack copy.frame (omega arith)) (λ x. absurd x)
-      (λ h. h) why r
+      plain_needing m (here old + 4) (height + check_words (form_at v.scope d.subtype.type_number)) copy why up
+      (over (height + check_words (form_at v.scope d.subtype.type_number)) copy.stack copy.frame (omega arith)) r
 
 -- a check has three instructions at most
 range_few : (old : Code) (depth : ℕ) (t : Subtype) (new : Code) → AddsRange old depth t new → here new ≤ here old + 3

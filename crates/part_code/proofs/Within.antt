@@ -1,6 +1,7 @@
 -- What a part needs within what the whole needs, and its refusals.
 use Rattle.std.proofs.Common.{◌≡◌, ◌≤◌, ◌+◌, ◌*◌, ◌∷◌, ◌⊎◌, inl, inr, ℕ, zero, suc, List, [], length, Bool, true, false, ◌||◌, Option, Some, None, refl, sym, ap, ◌∙◌, arith}
 use Rattle.std.specs.Prelude.{max, not, slice_get}
+use Rattle.std.proofs.lemmas.Bool.{or_left, or_right}
 use Rattle.std.proofs.Math.Nat.{le-max_left, le-max_right}
 use Rattle.ada_tree.specs.ExpressionTree.{ExprTree}
 use Rattle.ada_tree.specs.Size.{expr_size}
@@ -13,12 +14,12 @@ use Rattle.types.specs.Shapes.{shape_of}
 use Rattle.types.specs.Standings.{stands_first, stands_for}
 use Rattle.expr_soundness.proofs.Positions.{same_some}
 use Rattle.expr_code.specs.Code.{here}
-use Rattle.expr_code.specs.Refusing.{HasUnfitObject, IsRefused, IsRefusedBeside, RefusesExpression, is_fit, is_outside, peak}
+use Rattle.expr_code.specs.Refusing.{HasUnfitObject, IsRefused, IsRefusedBeside, RefusesExpression, is_fit, peak}
 use Rattle.expr_code.specs.declared.code.Code.{Code}
 use Rattle.expr_code.specs.declared.refusal.Refusal.{Refusal}
 use Rattle.expr_code.specs.declared.refusal.Refusal.TheVariants as refusal
 use Rattle.expr_code.specs.declared.visible.Visible.{Visible}
-use Rattle.expr_code.proofs.Refusals.{or_left, or_right, refused_beside}
+use Rattle.expr_code.proofs.Refusals.{refused_beside}
 use Rattle.part_code.specs.Needs.{HasManyLabels, IsNeeding, Needs, are_unfit, both, has_unfit, is_unfit, needs_above, nothing}
 
 -- ---- what a part needs
@@ -28,24 +29,22 @@ pub record Within (m n : Needs) : Type 0 where
   pub stack : m.stack ≤ n.stack
   pub frame : m.frame ≤ n.frame
   pub unfit : m.unfit ≡ true → n.unfit ≡ true
-  pub outside : m.outside ≡ true → n.outside ≡ true
 
 pub within_self : (n : Needs) → Within n n
-within_self n = record { stack = omega arith; frame = omega arith; unfit = λ h. h; outside = λ h. h }
+within_self n = record { stack = omega arith; frame = omega arith; unfit = λ h. h }
 
 pub within_then : (a b c : Needs) → Within a b → Within b c → Within a c
 within_then a b c p q = record {
   stack = (let x = p.stack in let y = q.stack in omega (arith, x, y));
   frame = (let x = p.frame in let y = q.frame in omega (arith, x, y));
   unfit = λ h. q.unfit (p.unfit h);
-  outside = λ h. q.outside (p.outside h);
 }
 
 pub in_left : (a b : Needs) → Within a (both a b)
-in_left a b = record { stack = le-max_left a.stack b.stack; frame = le-max_left a.frame b.frame; unfit = or_left a.unfit b.unfit; outside = or_left a.outside b.outside }
+in_left a b = record { stack = le-max_left a.stack b.stack; frame = le-max_left a.frame b.frame; unfit = or_left a.unfit b.unfit }
 
 pub in_right : (a b : Needs) → Within b (both a b)
-in_right a b = record { stack = le-max_right a.stack b.stack; frame = le-max_right a.frame b.frame; unfit = or_right a.unfit b.unfit; outside = or_right a.outside b.outside }
+in_right a b = record { stack = le-max_right a.stack b.stack; frame = le-max_right a.frame b.frame; unfit = or_right a.unfit b.unfit }
 
 pub of_left : (m a b : Needs) → Within m a → Within m (both a b)
 of_left m a b p = within_then m a (both a b) p (in_left a b)
@@ -57,7 +56,7 @@ never : (b : Bool) → false ≡ true → b ≡ true
 never b h = cc
 
 pub none_within : (n : Needs) → Within nothing n
-none_within n = record { stack = omega arith; frame = omega arith; unfit = never n.unfit; outside = never n.outside }
+none_within n = record { stack = omega arith; frame = omega arith; unfit = never n.unfit }
 
 either : (a b c : Bool) → (a ≡ true → c ≡ true) → (b ≡ true → c ≡ true) → (a || b) ≡ true → c ≡ true
 either true b c p q h = p refl
@@ -71,7 +70,6 @@ both_within a b n p q = record {
   stack = larger a.stack b.stack n.stack p.stack q.stack;
   frame = larger a.frame b.frame n.frame p.frame q.frame;
   unfit = either a.unfit b.unfit n.unfit p.unfit q.unfit;
-  outside = either a.outside b.outside n.outside p.outside q.outside;
 }
 
 -- one part in front of others
@@ -121,13 +119,11 @@ needing_refused m n a b up within refusal.Memory r = tt
 needing_refused m n a b up within refusal.Limit (inl r) = inl (omega (arith, r, up))
 needing_refused m n a b up within refusal.Limit (inr (inl r)) = inr (inl (let most = most_within a b within in omega (arith, r, most)))
 needing_refused m n a b up within refusal.Limit (inr (inr r)) = inr (inr (within.unfit r))
-needing_refused m n a b up within refusal.Outside r = within.outside r
 
 -- ... and as many labels as the part are no more than those of the whole
 pub labelled : (few many : List (List ℕ)) → length few ≤ length many → (why : Refusal) → HasManyLabels few why → HasManyLabels many why
 labelled few many less refusal.Limit h = omega (arith, h, less)
 labelled few many less refusal.Memory h = h
-labelled few many less refusal.Outside h = h
 
 pub part_refused : (m n : ℕ) (a b : Needs) (few many : List (List ℕ)) (why : Refusal) → m ≤ n → Within a b → length few ≤ length many
     → (IsNeeding m a why ⊎ HasManyLabels few why) → (IsNeeding n b why ⊎ HasManyLabels many why)
@@ -135,28 +131,28 @@ part_refused m n a b few many why up within less (inl r) = inl (needing_refused 
 part_refused m n a b few many why up within less (inr h) = inr (labelled few many less why h)
 
 -- of code that says what it needs in the words of expressions
-pub code_refused : (a : Type 0) (m n h : ℕ) (q : Bool) (b : Needs) → m ≤ n → h ≤ max b.stack b.frame → (a → b.unfit ≡ true) → (q ≡ true → b.outside ≡ true)
-    → (why : Refusal) → IsRefusedBeside a m h q why → IsNeeding n b why
-code_refused a m n h q b up high unfit outside why r = refused_beside m n h (max b.stack b.frame) q b.outside unfit up high outside why r
+pub code_refused : (a : Type 0) (m n h : ℕ) (b : Needs) → m ≤ n → h ≤ max b.stack b.frame → (a → b.unfit ≡ true) → (why : Refusal)
+    → IsRefusedBeside a m h why → IsNeeding n b why
+code_refused a m n h b up high unfit why r = refused_beside m n h (max b.stack b.frame) unfit up high why r
 
 -- of instructions
-pub plain_needing : (m n h : ℕ) (b : Needs) (why : Refusal) → m ≤ n → h ≤ max b.stack b.frame → IsRefused m h false why → IsNeeding n b why
-plain_needing m n h b why up high r = code_refused ⊥ m n h false b up high (λ x. absurd x) (never b.outside) why r
+pub plain_needing : (m n h : ℕ) (b : Needs) (why : Refusal) → m ≤ n → h ≤ max b.stack b.frame → IsRefused m h why → IsNeeding n b why
+plain_needing m n h b why up high r = code_refused ⊥ m n h b up high (λ x. absurd x) why r
 
-pub plain_refused : (m n h : ℕ) (b : Needs) (labels : List (List ℕ)) (why : Refusal) → m ≤ n → h ≤ max b.stack b.frame → IsRefused m h false why
+pub plain_refused : (m n h : ℕ) (b : Needs) (labels : List (List ℕ)) (why : Refusal) → m ≤ n → h ≤ max b.stack b.frame → IsRefused m h why
     → (IsNeeding n b why ⊎ HasManyLabels labels why)
 plain_refused m n h b labels why up high r = inl (plain_needing m n h b why up high r)
 
 -- ... one behind another
-pub plain_more : (m n h k : ℕ) → m ≤ n → h ≤ k → (why : Refusal) → IsRefused m h false why → IsRefused n k false why
-plain_more m n h k up high why r = refused_beside m n h k false false (λ x. x) up high (λ e. e) why r
+pub plain_more : (m n h k : ℕ) → m ≤ n → h ≤ k → (why : Refusal) → IsRefused m h why → IsRefused n k why
+plain_more m n h k up high why r = refused_beside m n h k (λ x. x) up high why r
 
 -- of a value
 pub value_needing : (v : Visible) (old : Code) (depth : ℕ) (e : ExprTree) (n : ℕ) (b : Needs) (why : Refusal)
     → here old + 20 * expr_size e ≤ n → Within (needs_above depth v e) b → RefusesExpression v old depth e why → IsNeeding n b why
 value_needing v old depth e n b why up within r =
-    code_refused (HasUnfitObject v) (here old + 20 * expr_size e) n (depth + peak v.scope e) (is_outside v e) b up
-    (over (depth + peak v.scope e) b.stack b.frame within.stack) (λ u. within.unfit (unfit_there v u)) within.outside why r
+    code_refused (HasUnfitObject v) (here old + 20 * expr_size e) n (depth + peak v.scope e) b up
+    (over (depth + peak v.scope e) b.stack b.frame within.stack) (λ u. within.unfit (unfit_there v u)) why r
   where
     over : (p k l : ℕ) → p ≤ k → p ≤ max k l
     over p k l h = omega (arith, h)

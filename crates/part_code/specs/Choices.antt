@@ -1,5 +1,6 @@
 -- What methods that add the code of the choices of a `case` promise (RM 5.4).
-use Rattle.std.specs.Prelude.{◌≡◌, ℕ, ◌+◌, ◌*◌, Bool, List, [], ◌∷◌, length, ℤ}
+use Rattle.std.specs.Prelude.{◌≡◌, ℕ, ◌+◌, ◌*◌, Bool, true, List, [], ◌∷◌, is_none, length, ℤ}
+use Rattle.std.specs.List.{list_all}
 use Rattle.ada_tree.specs.ExpressionTree.{ExprTree}
 use Rattle.ada_tree.specs.StatementTree.{ChoicesTree, OtherValues, Values}
 use Rattle.image.specs.declared.instruction.Operation.TheVariants as op
@@ -7,7 +8,7 @@ use Rattle.types.specs.declared.entity.Value.{Value as Scalar}
 use Rattle.types.specs.declared.statics.StaticForm.TheVariants.{Static}
 use Rattle.types.specs.Evaluations.{Gives}
 use Rattle.types.specs.Scopes.{Scope}
-use Rattle.types.specs.Statics.{static_form, static_value}
+use Rattle.types.specs.Statics.{static_fault, static_form, static_value}
 use Rattle.types.specs.Values.{value_of}
 use Rattle.expr_soundness.specs.expr_rules.specs.Typing.{own_of}
 use Rattle.step_soundness.specs.stmt_rules.specs.CaseRules.{choices_faults, choices_wanted}
@@ -22,6 +23,11 @@ pub record AreLegalChoices (s : Scope) (e : ExprTree) (choices : ChoicesTree) : 
   pub before : List Scalar
   pub is_last : Bool
   pub unbroken : choices_faults s (choices_wanted s (own_of s e)) before is_last choices ≡ []
+
+-- choices are static
+abbrev pub are_static : Scope → ChoicesTree → Bool
+are_static s (Values cs) = list_all (λ c. is_none (static_fault s c)) cs
+are_static s (OtherValues place) = true
 
 -- ---- choices
 

@@ -31,4 +31,5 @@ pub mod Rows
 pub mod ChoiceRows
 pub mod Choices
 pub mod MainCalls
+pub mod Providing
 pub mod Needs

@@ -1,10 +1,9 @@
 -- What code of parts of statements needs, and why it is refused.
-use Rattle.std.specs.Prelude.{◌≡◌, ℕ, suc, ◌+◌, ◌*◌, ◌<◌, max, Bool, true, false, ◌&&◌, ◌||◌, not, nat_eq, List, [], ◌∷◌, ◌++◌, length, Option, Some, None, is_none, is_some}
+use Rattle.std.specs.Prelude.{◌≡◌, ℕ, suc, ◌+◌, ◌*◌, ◌<◌, max, Bool, true, false, ◌||◌, not, nat_eq, List, [], ◌∷◌, ◌++◌, length, Option, Some, None, is_none}
 use Rattle.base.specs.declared.limits.TheConstants.{LABELS}
 use Rattle.ada_tree.specs.declared.declaration.Formal.{Formal}
 use Rattle.ada_tree.specs.declared.declaration.Mode.{Mode}
 use Rattle.ada_tree.specs.declared.declaration.Mode.TheVariants as mode
-use Rattle.ada_tree.specs.declared.expression.Identifier.{Identifier}
 use Rattle.ada_tree.specs.declared.program.MainStatement.{MainStatement}
 use Rattle.ada_tree.specs.declared.program.MainStatement.TheVariants as main
 use Rattle.ada_tree.specs.ExpressionTree.{ArgumentTree, ArgumentTrees, Conditional, ElsifValueTrees, ExprTree, MoreArguments, MoreElsifValues, Named, NameTree, NoArguments, NoElsifValues, Parenthesized, SelectorTrees, Text, Value}
@@ -15,21 +14,21 @@ use Rattle.types.specs.declared.entity.FormalParameter.{FormalParameter}
 use Rattle.types.specs.declared.entity.Subtype.{Subtype}
 use Rattle.types.specs.declared.standing.Standing.{Standing}
 use Rattle.types.specs.declared.standing.Standing.TheVariants as standing
-use Rattle.types.specs.Entities.{Booleans, Entity, Integers, Object, Profile, Spans, Times, TypeForm}
+use Rattle.types.specs.Entities.{Entity, Integers, Object, Profile, Spans, Times, TypeForm}
 use Rattle.types.specs.Layouts.{words_of}
-use Rattle.types.specs.Scopes.{Scope, form_at, number_of}
+use Rattle.types.specs.Scopes.{Scope, form_at}
 use Rattle.types.specs.Scopes as scopes
-use Rattle.types.specs.Shapes.{Grouped, Logical, MoreShapes, NoShapes, Ranged, Repeated, Shape, Shapeless, Shapes, Timed, shape_of}
-use Rattle.types.specs.Standings.{standing_of, stands_first}
-use Rattle.types.specs.Statics.{static_fault}
+use Rattle.types.specs.Shapes.{shape_of}
+use Rattle.types.specs.Standings.{standing_of}
 use Rattle.type_rules.specs.SubtypeNames.{subtype_of}
 use Rattle.expr_soundness.specs.declaring.specs.LocalRules.{local_scope}
 use Rattle.step_soundness.specs.Fitting.{entity_named}
 use Rattle.expr_code.specs.Branches.{Branch}
 use Rattle.expr_code.specs.Code.{here}
 use Rattle.expr_code.specs.Emitting.{is_composite}
-use Rattle.expr_code.specs.Refusing.{IsRefused, IsRefusedBeside, IsUnfit, checked_peak, is_fit, is_outside, is_passable, peak, selectors_outside, selectors_peak}
-use Rattle.expr_code.specs.Seeing.{profile_named, slot_of, subprogram_of, external_of, external_profile}
+use Rattle.expr_code.specs.Refusing.{IsRefused, IsRefusedBeside, IsUnfit, checked_peak, is_fit, peak, selectors_peak}
+use Rattle.expr_code.specs.Providing.{is_passable}
+use Rattle.expr_code.specs.Seeing.{profile_named, slot_of, subprogram_of, external_profile}
 use Rattle.expr_code.specs.declared.code.Code.{Code}
 use Rattle.expr_code.specs.declared.refusal.Refusal.{Refusal}
 use Rattle.expr_code.specs.declared.refusal.Refusal.TheVariants as refusal
@@ -37,8 +36,8 @@ use Rattle.expr_code.specs.declared.visible.Slot.{Slot}
 use Rattle.expr_code.specs.declared.visible.Visible.{Visible}
 use Rattle.part_code.specs.Formals.{passed_for, placed_words, returned_more}
 use Rattle.part_code.specs.Bounds.{local_words, words_named}
-use Rattle.part_code.specs.EntryNames.{entry_behind, is_own_entry}
-use Rattle.part_code.specs.Lines.{LabelledValue, is_put, line_of}
+use Rattle.part_code.specs.EntryNames.{is_own_entry}
+use Rattle.part_code.specs.Lines.{LabelledValue, line_of}
 use Rattle.part_code.specs.Moves.{alone}
 use Rattle.part_code.specs.Moving.{moves}
 use Rattle.part_code.specs.Passing.{actuals_behind, copied_width, ExternalName, operation_behind}
@@ -48,38 +47,26 @@ use Rattle.part_code.specs.declared.formals.PlacedFormal.{PlacedFormal}
 
 -- ---- what code needs
 
--- The words on the operand stack, and those of the frame with all that are taken in front of it, where they are most; whether a value of its expressions may
--- have words that no image has; and whether code isn't made for a part.
+-- The words on the operand stack, and those of the frame with all that are taken in front of it, where they are most; and whether a value of its expressions
+-- may have words that no image has. What no legal statement has needs nothing.
 pub record Needs : Type 0 where
   pub stack : ℕ
   pub frame : ℕ
   pub unfit : Bool
-  pub outside : Bool
 
 abbrev pub nothing : Needs
-nothing = record { stack = 0; frame = 0; unfit = false; outside = false }
-
--- of what code isn't made for, where a test says so
-abbrev pub beyond_if : Bool → Needs
-beyond_if b = record { stack = 0; frame = 0; unfit = false; outside = b }
-
-abbrev pub beyond : Needs
-beyond = beyond_if true
+nothing = record { stack = 0; frame = 0; unfit = false }
 
 -- so many words of the operand stack, or of the frame
 abbrev pub stacked : ℕ → Needs
-stacked n = record { stack = n; frame = 0; unfit = false; outside = false }
+stacked n = record { stack = n; frame = 0; unfit = false }
 
 abbrev pub framed : ℕ → Needs
-framed n = record { stack = 0; frame = n; unfit = false; outside = false }
-
--- so many words of the operand stack, where a test says whether code is made
-abbrev pub stacked_unless : Bool → ℕ → Needs
-stacked_unless b n = record { stack = n; frame = 0; unfit = false; outside = b }
+framed n = record { stack = 0; frame = n; unfit = false }
 
 -- the code of both, one behind the other or beside each other
 abbrev pub both : Needs → Needs → Needs
-both a b = record { stack = max a.stack b.stack; frame = max a.frame b.frame; unfit = a.unfit || b.unfit; outside = a.outside || b.outside }
+both a b = record { stack = max a.stack b.stack; frame = max a.frame b.frame; unfit = a.unfit || b.unfit }
 
 -- an object that is visible takes no words, or more than an image may have, or a part of it does
 abbrev pub is_unfit : Scope → Entity → Bool
@@ -95,7 +82,7 @@ has_unfit v = are_unfit v.scope v.scope
 
 -- of a value above so many words
 abbrev pub needs_above : (depth : ℕ) → Visible → ExprTree → Needs
-needs_above depth v e = record { stack = depth + peak v.scope e; frame = 0; unfit = has_unfit v; outside = is_outside v e }
+needs_above depth v e = record { stack = depth + peak v.scope e; frame = 0; unfit = has_unfit v }
 
 abbrev pub value_needs : Visible → ExprTree → Needs
 value_needs v e = needs_above 0 v e
@@ -122,56 +109,28 @@ locals_visible v taken (d ∷ ds) = locals_visible (local_visible v taken d) (ta
 
 -- ---- declarations
 
--- code has no word for the value of an object without initial value: what is no value
-abbrev mutual
-  pub lacks_word : Shape → Bool
-  lacks_word (Ranged first) = false
-  lacks_word Logical = false
-  lacks_word Timed = false
-  lacks_word (Repeated many x) = lacks_word x
-  lacks_word (Grouped parts) = lack_word parts
-  lacks_word Shapeless = true
-
-  pub lack_word : Shapes → Bool
-  lack_word NoShapes = false
-  lack_word (MoreShapes name x rest) = lacks_word x || lack_word rest
-
--- ... the single word of one that is neither an array nor a record
-abbrev pub lacks_single : Option TypeForm → Bool
-lacks_single (Some Integers) = false
-lacks_single (Some Booleans) = false
-lacks_single (Some Times) = false
-lacks_single (Some Spans) = false
-lacks_single form = true
-
-abbrev pub single_needs : Visible → Subtype → Option ExprTree → Needs
-single_needs v t None = stacked_unless (lacks_single (form_at v.scope t.type_number)) 1
-single_needs v t (Some e) = record {
-  stack = checked_peak (peak v.scope e);
-  frame = 0;
-  unfit = has_unfit v;
-  outside = not (is_passable v.scope t)
-      || is_outside v e;
-}
+-- that of an initial value of one word
+abbrev pub single_needs : Visible → Option ExprTree → Needs
+single_needs v None = stacked 1
+single_needs v (Some e) = record { stack = checked_peak (peak v.scope e); frame = 0; unfit = has_unfit v }
 
 -- That of an initial value of a subtype, above the place of several words.
 abbrev pub initial_needs : Visible → Subtype → Option ExprTree → Needs
-initial_needs v t None = stacked_unless (lacks_word (shape_of v.scope t) || nat_eq (words_of v.scope t) 0) (suc (words_of v.scope t))
+initial_needs v t None = stacked (suc (words_of v.scope t))
 initial_needs v t (Some e) =
     record {
       stack = suc (max (words_of v.scope t) (checked_peak (peak v.scope e)));
       frame = 0;
       unfit = has_unfit v || not (is_fit (shape_of v.scope t));
-      outside = not (is_passable v.scope t || is_composite (form_at v.scope t.type_number)) || is_outside v e;
     }
 
 abbrev pub object_needs : Visible → (taken : ℕ) → Option Subtype → Option ExprTree → Needs
-object_needs v taken None value = beyond
+object_needs v taken None value = nothing
 object_needs v taken (Some t) value = both (framed (taken + words_of v.scope t)) (initial_needs v t value)
 
 abbrev pub local_needs : Visible → (taken : ℕ) → DeclarationTree → Needs
 local_needs v taken (LocalObject d) = object_needs v taken (subtype_of v.scope d.subtype) d.value
-local_needs v taken d = beyond
+local_needs v taken d = nothing
 
 abbrev pub locals_needs : Visible → (taken : ℕ) → List DeclarationTree → Needs
 locals_needs v taken [] = nothing
@@ -183,15 +142,14 @@ abbrev pub is_object : Standing → Bool
 is_object (standing.Part r t) = true
 is_object w = false
 
--- of the address of a variable with this name, or of a part of it, above so many words
-abbrev pub address_needs : (depth : ℕ) → Visible → Identifier → SelectorTrees → Needs
-address_needs depth v first path =
-    record {
-      stack = depth + selectors_peak v.scope 1 path;
-      frame = 0;
-      unfit = has_unfit v;
-      outside = not (is_object (stands_first v.scope (number_of v.scope first.name)) && is_some (slot_of v first.name)) || selectors_outside v path;
-    }
+-- it names an object, or a part of one
+abbrev pub names_object : Scope → ExprTree → Bool
+names_object s (Named first path) = is_object (standing_of s first path)
+names_object s e = false
+
+-- of the address of a variable, or of a part of it, above so many words
+abbrev pub address_needs : (depth : ℕ) → Visible → SelectorTrees → Needs
+address_needs depth v path = record { stack = depth + selectors_peak v.scope 1 path; frame = 0; unfit = has_unfit v }
 
 abbrev pub words_at : Scope → Standing → ℕ
 words_at s (standing.Part r t) = words_of s t
@@ -201,10 +159,6 @@ words_at s w = 0
 abbrev pub is_taken : Scope → Subtype → Bool
 is_taken s t = is_passable s t || is_composite (form_at s t.type_number)
 
-abbrev pub takes_value : Scope → Standing → Bool
-takes_value s (standing.Part r t) = is_taken s t
-takes_value s w = false
-
 -- of the value, above the address of what it is assigned to
 abbrev pub assigned_needs : Visible → Standing → ExprTree → Needs
 assigned_needs v target e =
@@ -212,21 +166,20 @@ assigned_needs v target e =
       stack = suc (max (words_at v.scope target) (checked_peak (peak v.scope e)));
       frame = 0;
       unfit = has_unfit v;
-      outside = not (takes_value v.scope target) || is_outside v e;
     }
 
 -- where the value stands on the operand stack
 abbrev pub stored_needs : Visible → NameTree → ExprTree → Needs
-stored_needs v name e = both (address_needs 0 v name.first name.selectors) (assigned_needs v (standing_of v.scope name.first name.selectors) e)
+stored_needs v name e = both (address_needs 0 v name.selectors) (assigned_needs v (standing_of v.scope name.first name.selectors) e)
 
 abbrev mutual
   -- of what moves a value, above the address of what it is assigned to: conditions, and the address of what is named
   pub move_needs : Visible → ExprTree → Needs
-  move_needs v (Named first selectors) = address_needs 1 v first selectors
+  move_needs v (Named first selectors) = address_needs 1 v selectors
   move_needs v (Parenthesized place e) = move_needs v e
   move_needs v (Conditional place condition value elsifs last) =
       both (needs_above 1 v condition) (both (move_needs v value) (both (moves_needs v elsifs) (move_needs v last)))
-  move_needs v e = beyond
+  move_needs v e = nothing
 
   pub moves_needs : Visible → ElsifValueTrees → Needs
   moves_needs v NoElsifValues = nothing
@@ -234,7 +187,7 @@ abbrev mutual
 
 -- where it is moved from other variables, or from parts of them
 abbrev pub moved_needs : Visible → NameTree → ExprTree → Needs
-moved_needs v name e = both (address_needs 0 v name.first name.selectors) (move_needs v e)
+moved_needs v name e = both (address_needs 0 v name.selectors) (move_needs v e)
 
 abbrev pub needs_by : Visible → NameTree → ExprTree → (moved : Bool) → Needs
 needs_by v name e false = stored_needs v name e
@@ -247,7 +200,7 @@ assignment_needs v name e = needs_by v name e (moves v name e)
 
 -- of a line: its value
 abbrev pub line_needs : Visible → Option LabelledValue → Needs
-line_needs v None = beyond
+line_needs v None = nothing
 line_needs v (Some line) = value_needs v line.value
 
 -- ---- calls of procedures and entries
@@ -259,13 +212,12 @@ in_needs depth v t e =
       stack = depth + max (words_of v.scope t) (checked_peak (peak v.scope e));
       frame = 0;
       unfit = has_unfit v || not (is_fit (shape_of v.scope t));
-      outside = not (is_taken v.scope t) || is_outside v e;
     }
 
 -- of one of mode `out`: the address of what it names
 abbrev pub target_needs : (depth : ℕ) → Visible → ExprTree → Needs
-target_needs depth v (Named first path) = address_needs depth v first path
-target_needs depth v e = beyond
+target_needs depth v (Named first path) = address_needs depth v path
+target_needs depth v e = nothing
 
 -- a number is checked beside both bounds
 abbrev pub check_words : Option TypeForm → ℕ
@@ -281,12 +233,11 @@ copied_needs depth v words t =
       stack = depth + suc (max 1 (words + check_words (form_at v.scope t.type_number)));
       frame = 0;
       unfit = has_unfit v;
-      outside = not (is_taken v.scope t);
     }
 
 abbrev pub in_out_needs : (depth : ℕ) → Visible → Subtype → ExprTree → Needs
-in_out_needs depth v t (Named first path) = both (address_needs depth v first path) (copied_needs depth v (words_at v.scope (standing_of v.scope first path)) t)
-in_out_needs depth v t e = beyond
+in_out_needs depth v t (Named first path) = both (address_needs depth v path) (copied_needs depth v (words_at v.scope (standing_of v.scope first path)) t)
+in_out_needs depth v t e = nothing
 
 abbrev pub moded_needs : (depth : ℕ) → Visible → FormalParameter → ExprTree → Needs
 moded_needs depth v f e =
@@ -294,12 +245,12 @@ moded_needs depth v f e =
 
 abbrev pub actual_needs : (depth : ℕ) → Visible → FormalParameter → ArgumentTree → Needs
 actual_needs depth v f (Value e) = moded_needs depth v f e
-actual_needs depth v f (Text label place) = beyond
+actual_needs depth v f (Text label place) = nothing
 
 -- from left to right, each above the words that are passed in front of it
 abbrev pub actuals_needs : (height : ℕ) → Visible → List FormalParameter → ArgumentTrees → Needs
 actuals_needs height v fs NoArguments = nothing
-actuals_needs height v [] (MoreArguments a rest) = beyond
+actuals_needs height v [] (MoreArguments a rest) = nothing
 actuals_needs height v (f ∷ fs) (MoreArguments a rest) = both (actual_needs height v f a) (actuals_needs (height + passed_width v.scope f) v fs rest)
 
 -- where they are copied back to
@@ -325,50 +276,34 @@ destinations_of v (f ∷ fs) (MoreArguments a rest) = destinations_for v f a ++ 
 
 -- of a copy back: the check of the value on top of so many words
 abbrev pub copy_needs : Visible → (height : ℕ) → Destination → Needs
-copy_needs v height d =
-    record {
-      stack = height + check_words (form_at v.scope d.subtype.type_number);
-      frame = 0;
-      unfit = has_unfit v;
-      outside = not (is_taken v.scope d.subtype);
-    }
+copy_needs v height d = record { stack = height + check_words (form_at v.scope d.subtype.type_number); frame = 0; unfit = has_unfit v }
 
 -- of all, from the first one on
 abbrev pub copies_needs : Visible → List Destination → Needs
 copies_needs v [] = nothing
 copies_needs v (d ∷ ds) = both (copy_needs v (total (copied_width v.scope) (d ∷ ds)) d) (copies_needs v ds)
 
--- it is copied back to where a visible name has its words; and wherever that is unfit, something that is visible is
+-- it is copied back to where a visible name has its words, by a check or without; and wherever that is unfit, something that is visible is
 pub record IsPartFit (v : Visible) (d : Destination) : Type 0 where
   pub there : HasPlaceIn v d.region
+  pub taken : is_taken v.scope d.subtype ≡ true
   pub unfit : IsUnfit v.scope d.subtype → has_unfit v ≡ true
 
 abbrev pub passed_needs : Visible → List FormalParameter → Option ArgumentTrees → Needs
-passed_needs v fs None = beyond
+passed_needs v fs None = nothing
 passed_needs v fs (Some all) =
     both (actuals_needs 0 v fs all) (both (stacked (total (passed_width v.scope) fs)) (copies_needs v (destinations_of v fs all)))
 
 abbrev pub invoked_needs : Visible → NameTree → Profile → Needs
-invoked_needs v name profile =
-    both (beyond_if (is_none (subprogram_of v name.first.name))) (passed_needs v profile.formals (actuals_behind name.selectors))
+invoked_needs v name profile = passed_needs v profile.formals (actuals_behind name.selectors)
 
 abbrev pub put_needs : Visible → NameTree → Needs
-put_needs v name = both (beyond_if (not (is_put (entity_named v.scope name.first.name)))) (line_needs v (line_of name))
+put_needs v name = line_needs v (line_of name)
 
--- ... of one through the name of a protected object, whose operation has this profile
-abbrev pub external_needs : Visible → (object : List ℕ) → ExternalName → Option Profile → Needs
-external_needs v object x None = beyond
-external_needs v object x (Some profile) =
-    both (beyond_if (is_none (external_of v object x.operation.name))) (passed_needs v profile.formals (Some x.arguments))
-
--- ... of its entry, where it is one: nothing else is asked
-abbrev pub entry_needs : Visible → ExternalName → Option Profile → Needs
-entry_needs v x None = beyond
-entry_needs v x (Some profile) = passed_needs v profile.formals (Some x.arguments)
-
-abbrev pub behind_needs : Visible → (object : List ℕ) → ExternalName → (entry : Option ℕ) → Option Profile → Needs
-behind_needs v object x (Some number) profile = entry_needs v x profile
-behind_needs v object x None profile = external_needs v object x profile
+-- ... of one through the name of a protected object, whose operation or entry has this profile
+abbrev pub behind_needs : Visible → ExternalName → Option Profile → Needs
+behind_needs v x None = nothing
+behind_needs v x (Some profile) = passed_needs v profile.formals (Some x.arguments)
 
 -- ... of an entry of the body's own object, which is a test alone; or of a line
 abbrev pub bare_needs : Visible → NameTree → (own_entry : Bool) → Needs
@@ -377,9 +312,7 @@ bare_needs v name false = put_needs v name
 
 abbrev pub through_needs : Visible → NameTree → Option ExternalName → Needs
 through_needs v name None = bare_needs v name (is_own_entry (entity_named v.scope name.first.name))
-through_needs v name (Some x) =
-    behind_needs v name.first.name x (entry_behind v.scope name.first.name x.operation.name)
-    (external_profile v.scope name.first.name x.operation.name)
+through_needs v name (Some x) = behind_needs v x (external_profile v.scope name.first.name x.operation.name)
 
 abbrev pub called_needs : Visible → NameTree → Option Profile → Needs
 called_needs v name (Some profile) = invoked_needs v name profile
@@ -390,21 +323,17 @@ call_needs v name = called_needs v name (profile_named v.scope name.first.name)
 
 -- ---- statements
 
--- choices are static, and tested by three words
-abbrev pub choices_fault : Scope → List ExprTree → Bool
-choices_fault s [] = false
-choices_fault s (c ∷ cs) = is_some (static_fault s c) || choices_fault s cs
-
-abbrev pub choices_needs : Scope → ChoicesTree → Needs
-choices_needs s (Values cs) = stacked_unless (choices_fault s cs) 3
-choices_needs s (OtherValues place) = stacked 1
+-- choices are tested by three words
+abbrev pub choices_needs : ChoicesTree → Needs
+choices_needs (Values cs) = stacked 3
+choices_needs (OtherValues place) = stacked 1
 
 -- ---- refusals
 
 -- Why code is refused that would end behind so many instructions and needs this: memory may always be refused, and the words of the frame are as few as those
 -- of the operand stack may be.
 abbrev pub IsNeeding : (instructions : ℕ) → Needs → Refusal → Type 0
-IsNeeding instructions n why = IsRefusedBeside (n.unfit ≡ true) instructions (max n.stack n.frame) n.outside why
+IsNeeding instructions n why = IsRefusedBeside (n.unfit ≡ true) instructions (max n.stack n.frame) why
 
 -- There are too many labels.
 abbrev pub HasManyLabels : (labels : List (List ℕ)) → Refusal → Type 0
@@ -433,16 +362,16 @@ abbrev pub single_bound : Option ExprTree → ℕ
 single_bound None = 1
 single_bound (Some e) = 3 + 20 * expr_size e
 
-abbrev pub RefusesSingle : Visible → (old : Code) → Subtype → Option ExprTree → (more : ℕ) → Refusal → Type 0
-RefusesSingle v old t value more why = IsNeeding (here old + (more + single_bound value)) (single_needs v t value) why
+abbrev pub RefusesSingle : Visible → (old : Code) → Option ExprTree → (more : ℕ) → Refusal → Type 0
+RefusesSingle v old value more why = IsNeeding (here old + (more + single_bound value)) (single_needs v value) why
 
 -- the words of an object without initial value, one by one, above so many others
 abbrev pub RefusesWords : Scope → (old : Code) → (height : ℕ) → Subtype → Refusal → Type 0
-RefusesWords s old height t why = IsNeeding (here old + words_of s t) (stacked_unless (lacks_word (shape_of s t)) (height + words_of s t)) why
+RefusesWords s old height t why = IsRefused (here old + words_of s t) (height + words_of s t) why
 
 -- choices of an alternative, by so many instructions
-abbrev pub RefusesChoices : Scope → (old : Code) → ChoicesTree → (bound : ℕ) → Refusal → Type 0
-RefusesChoices s old choices bound why = IsNeeding (here old + bound) (choices_needs s choices) why
+abbrev pub RefusesChoices : (old : Code) → ChoicesTree → (bound : ℕ) → Refusal → Type 0
+RefusesChoices old choices bound why = IsNeeding (here old + bound) (choices_needs choices) why
 
 -- ---- formal parameters
 
@@ -468,7 +397,7 @@ are_wordless s [] = false
 are_wordless s (f ∷ fs) = is_wordless s f || are_wordless s fs
 
 abbrev pub formals_needs : Scope → List Formal → Needs
-formals_needs s fs = record { stack = 0; frame = formals_frame s fs; unfit = false; outside = are_wordless s fs }
+formals_needs s fs = framed (formals_frame s fs)
 
 abbrev pub RefusesFormals : Scope → List Formal → Refusal → Type 0
 RefusesFormals s fs why = IsNeeding 0 (formals_needs s fs) why
@@ -499,7 +428,7 @@ all_given s [] = 0
 all_given s (x ∷ xs) = given_if_any s x + all_given s xs
 
 abbrev pub RefusesReturned : Scope → (old : Code) → List PlacedFormal → Refusal → Type 0
-RefusesReturned s old xs why = IsRefused (here old + suc (3 * length xs)) (all_given s xs) false why
+RefusesReturned s old xs why = IsRefused (here old + suc (3 * length xs)) (all_given s xs) why
 
 -- ---- main
 
@@ -513,4 +442,4 @@ are_unknown v [] = false
 are_unknown v (x ∷ rest) = is_unknown v x || are_unknown v rest
 
 abbrev pub RefusesMain : Visible → (old : Code) → List MainStatement → (bound : ℕ) → Refusal → Type 0
-RefusesMain v old all bound why = IsNeeding (here old + bound) (beyond_if (are_unknown v all)) why
+RefusesMain v old all bound why = IsRefused (here old + bound) 0 why

@@ -1,5 +1,5 @@
 -- What code promises that passes actual parameters to a procedure and copies back (RM 6.4.1).
-use Rattle.std.specs.Prelude.{◌≡◌, ℕ, suc, ◌+◌, ◌*◌, ◌≤◌, List, ◌++◌, Bool, true, false, cond, length, map, nat_eq, Option, Some, None}
+use Rattle.std.specs.Prelude.{◌≡◌, ℕ, suc, ◌+◌, ◌*◌, ◌≤◌, List, ◌++◌, true, cond, length, map, nat_eq, Option, Some, None}
 use Rattle.ada_tree.specs.declared.expression.Identifier.{Identifier}
 use Rattle.ada_tree.specs.ExpressionTree.{ArgumentTree, ArgumentTrees, Arguments, ExprTree, MoreSelectors, Named, NoArguments, NoSelectors, SelectorTrees, Component}
 use Rattle.ada_tree.specs.Size.{argument_size, total}
@@ -8,7 +8,6 @@ use Rattle.image.specs.Rules.{is_block}
 use Rattle.image.specs.declared.instruction.Operation.{Operation}
 use Rattle.image.specs.declared.instruction.Operation.TheVariants as op
 use Rattle.image.specs.declared.instruction.Region.{Region}
-use Rattle.image.specs.declared.instruction.Region.TheVariants as regions
 use Rattle.types.specs.declared.entity.FormalParameter.{FormalParameter}
 use Rattle.types.specs.declared.entity.Role.{Role}
 use Rattle.types.specs.declared.entity.Subtype.{Subtype}

@@ -1,16 +1,17 @@
 //! Actual parameters, what they name, and what is copied back (RM 6.4.1).
-ghost use Rattle.std.specs.Prelude.{◌≡◌, ◌∷◌, ◌++◌, ◌+◌, ◌*◌, ◌<◌, [], false, length, map, not, option_map, take, true, IfErr, IfOk, OnOk};
+ghost use Rattle.std.specs.Prelude.{◌≡◌, ◌∷◌, ◌++◌, ◌+◌, ◌*◌, ◌<◌, [], length, map, option_map, take, true, IfErr, IfOk, OnOk};
 ghost use Rattle.std.specs.List.{All};
 ghost use Rattle.ada_tree.specs.ExpressionTree.{argument_tree, argument_trees, expr_tree, Named, name_tree};
 ghost use Rattle.ada_tree.specs.Size.{argument_size, expr_size, total};
 ghost use Rattle.expr_code.specs.Actuals.{ArePassedLegally, IsPassedLegally};
 ghost use Rattle.expr_code.specs.Code.{here, IsShallow};
 ghost use Rattle.expr_code.specs.Emitting as expressions;
+ghost use Rattle.expr_code.specs.Providing.{HasWhatExpressionsNeed};
 ghost use Rattle.expr_code.specs.Refusing.{IsRefused, IsRefusedBeside, IsUnfit};
 ghost use Rattle.image.specs.Rules.{is_block};
 ghost use Rattle.part_code.specs.EntryNames.{entry_behind, is_own_entry};
 ghost use Rattle.part_code.specs.Passing.{actuals_behind, AddsActuals, AddsCheck, AddsCopy, AddsRange, AddsValue, copied_width, EmitsCopies, EmitsTarget, loaded_at, operation_behind};
-ghost use Rattle.part_code.specs.Needs.{actual_needs, actuals_needs, check_words, copied_needs, copies_needs, copy_needs, destinations_for, destinations_of, IsNeeding, IsPartFit, is_taken, target_needs};
+ghost use Rattle.part_code.specs.Needs.{actual_needs, actuals_needs, check_words, copied_needs, copies_needs, copy_needs, destinations_for, destinations_of, IsNeeding, IsPartFit, is_taken, names_object, target_needs};
 ghost use Rattle.step_soundness.specs.Fitting.{entity_named};
 ghost use Rattle.types.specs.Layouts.{words_of};
 ghost use Rattle.types.specs.Scopes.{form_at};
@@ -115,7 +116,7 @@ fn loaded_at(region: Region, words: u16) -> Operation
 pub fn words_of(visible: &Visible, subtype: Subtype) -> Result<u16, Refusal>
     ensures words { IfOk result (λ words. words ≡ words_of visible.now.scope subtype) }
     ensures block { IfOk result (λ words. is_block words ≡ true) }
-    ensures refused { IfErr result (λ why. IsRefusedBeside (IsUnfit visible.now.scope subtype) 0 0 false why) }
+    ensures refused { IfErr result (λ why. IsRefusedBeside (IsUnfit visible.now.scope subtype) 0 0 why) }
 {
     let words = visible.scope.words(subtype);
     if words == 0 || WORDS < usize::from(words) {
@@ -127,7 +128,7 @@ pub fn words_of(visible: &Visible, subtype: Subtype) -> Result<u16, Refusal>
 // Adds the check of the number on top of the operand stack, `depth` words high, against a subtype.
 fn add_range(code: &mut Code, depth: u16, subtype: Subtype) -> Result<(), Refusal>
     ensures adds { OnOk result (AddsRange code.old depth subtype code.new) }
-    ensures refused { IfErr result (λ why. IsRefused (here code.old + 3) (depth + 2) false why) }
+    ensures refused { IfErr result (λ why. IsRefused (here code.old + 3) (depth + 2) why) }
 {
     let one = raised(depth, 1)?;
     code.emit(depth, Operation::Push(subtype.first))?;
@@ -142,9 +143,9 @@ fn add_check(
     depth: u16,
     subtype: Subtype,
 ) -> Result<(), Refusal>
+    requires taken { is_taken visible.now.scope subtype ≡ true }
     ensures adds { OnOk result (AddsCheck (form_at visible.now.scope subtype.type_number) code.old depth subtype code.new) }
-    ensures refused { IfErr result (λ why. IsRefused (here code.old + 3) (depth + check_words (form_at visible.now.scope subtype.type_number))
-        (not (is_taken visible.now.scope subtype)) why) }
+    ensures refused { IfErr result (λ why. IsRefused (here code.old + 3) (depth + check_words (form_at visible.now.scope subtype.type_number)) why) }
 {
     match visible.scope.form(subtype.type_number) {
         Some(TypeForm::Integer) => add_range(code, depth, subtype),
@@ -153,7 +154,7 @@ fn add_check(
         Some(TypeForm::Record(_)) => Ok(()),
         Some(TypeForm::Time) => add_range(code, depth, subtype),
         Some(TypeForm::TimeSpan) => add_range(code, depth, subtype),
-        None => Err(Refusal::Outside),
+        None => unreachable!(),
     }
 }
 
@@ -166,7 +167,9 @@ fn add_named(
     destinations: &mut Vec<Destination>,
 ) -> Result<Destination, Refusal>
     requires sound { SoundScope visible.now.scope }
+    requires covered { HasWhatExpressionsNeed visible.now }
     requires legal { expressions.IsLegalExpression visible.now.scope (Named (name_tree name.now).first (name_tree name.now).selectors) }
+    requires object { names_object visible.now.scope (Named (name_tree name.now).first (name_tree name.now).selectors) ≡ true }
     ensures emits { IfOk result (λ destination. EmitsTarget visible.now code.old depth
         (Named (name_tree name.now).first (name_tree name.now).selectors) destination code.new) }
     ensures told { IfOk result (λ destination. destinations.new.items ≡ destinations.old.items ++ destination ∷ []) }
@@ -178,10 +181,10 @@ fn add_named(
         (Named (name_tree name.now).first (name_tree name.now).selectors)).stack) }
 {
     let Standing::Part(_, whole) = visible.scope.stands_first(&name.first) else {
-        return Err(Refusal::Outside);
+        unreachable!();
     };
     let Some(slot) = visible.slot(&name.first.name) else {
-        return Err(Refusal::Outside);
+        unreachable!();
     };
     let subtype = code.address(visible, depth, slot, whole, &name.selectors)?;
     let destination = Destination {
@@ -201,7 +204,9 @@ fn add_target(
     destinations: &mut Vec<Destination>,
 ) -> Result<Destination, Refusal>
     requires sound { SoundScope visible.now.scope }
+    requires covered { HasWhatExpressionsNeed visible.now }
     requires legal { expressions.IsLegalExpression visible.now.scope (expr_tree e.now) }
+    requires object { names_object visible.now.scope (expr_tree e.now) ≡ true }
     ensures emits { IfOk result (λ destination. EmitsTarget visible.now code.old depth (expr_tree e.now) destination code.new) }
     ensures told { IfOk result (λ destination. destinations.new.items ≡ destinations.old.items ++ destination ∷ []) }
     ensures fits { IfOk result (λ destination. IsPartFit visible.now destination) }
@@ -214,11 +219,11 @@ fn add_target(
     names_by_parts();
     match e {
         Expr::Name(name) => add_named(code, visible, depth, name, destinations),
-        Expr::Number(..) => Err(Refusal::Outside),
-        Expr::Parenthesized(..) => Err(Refusal::Outside),
-        Expr::Unary(..) => Err(Refusal::Outside),
-        Expr::Chain(..) => Err(Refusal::Outside),
-        Expr::Conditional(..) => Err(Refusal::Outside),
+        Expr::Number(..) => unreachable!(),
+        Expr::Parenthesized(..) => unreachable!(),
+        Expr::Unary(..) => unreachable!(),
+        Expr::Chain(..) => unreachable!(),
+        Expr::Conditional(..) => unreachable!(),
     }
 }
 
@@ -231,6 +236,7 @@ fn add_value(
     subtype: Subtype,
 ) -> Result<u16, Refusal>
     requires fits { IsPartFit visible.now destination }
+    requires taken { is_taken visible.now.scope subtype ≡ true }
     ensures adds { IfOk result (λ height. AddsValue visible.now code.old depth destination subtype height code.new) }
     ensures refused { IfErr result (λ why. IsNeeding (here code.old + 5) (copied_needs depth visible.now
         (words_of visible.now.scope destination.subtype) subtype) why) }
@@ -254,6 +260,7 @@ fn add_actual(
     destinations: &mut Vec<Destination>,
 ) -> Result<u16, Refusal>
     requires sound { SoundScope visible.now.scope }
+    requires covered { HasWhatExpressionsNeed visible.now }
     requires known { IsKnown visible.now.scope formal.now.subtype }
     requires legal { IsPassedLegally visible.now.scope formal.now (argument_tree argument.now) }
     ensures emits { IfOk result (λ height. AddsActuals visible.now code.old depth (formal.now ∷ []) (argument_tree argument.now ∷ [])
@@ -280,7 +287,7 @@ fn add_actual(
             let destination = add_target(code, visible, depth, e, destinations)?;
             add_value(code, visible, depth, destination, formal.subtype)
         }
-        (_, Argument::Label(..)) => Err(Refusal::Outside),
+        (_, Argument::Label(..)) => unreachable!(),
     }
 }
 
@@ -293,7 +300,9 @@ pub fn add_actuals(
     destinations: &mut Vec<Destination>,
 ) -> Result<u16, Refusal>
     requires sound { SoundScope visible.now.scope }
+    requires covered { HasWhatExpressionsNeed visible.now }
     requires known { AreKnown visible.now.scope formals.now }
+    requires as_many { length arguments.now ≡ length formals.now }
     requires legal { ArePassedLegally visible.now.scope formals.now (map argument_tree arguments.now) }
     ensures emits { IfOk result (λ height. AddsActuals visible.now code.old 0 (take (length arguments.now) formals.now)
         (map argument_tree arguments.now) destinations.old.items destinations.new.items height code.new) }
@@ -308,7 +317,7 @@ pub fn add_actuals(
     let mut height = 0;
     for (index, argument) in arguments.iter().enumerate() {
         let Some(formal) = formals.get(index) else {
-            return Err(Refusal::Outside);
+            unreachable!();
         };
         height = add_actual(code, visible, height, formal, argument, destinations)?;
     }
@@ -344,7 +353,7 @@ fn add_copy(
     let words = words_of(visible, destination.subtype)?;
     let store = stored_at(destination.region, words);
     let Some(rest) = depth.checked_sub(raised(words, 1)?) else {
-        return Err(Refusal::Outside);
+        unreachable!();
     };
     add_check(code, visible, depth, destination.subtype)?;
     code.emit(depth, store)?;

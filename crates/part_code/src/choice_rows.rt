@@ -1,9 +1,8 @@
 //! The rows of choices of handlers (RM 11.2).
-ghost use Rattle.std.specs.Prelude.{◌≡◌, ◌+◌, ◌<◌, ◌++◌, false, not, true, IfErr, OnOk};
+ghost use Rattle.std.specs.Prelude.{◌≡◌, ◌+◌, ◌<◌, ◌++◌, true, IfErr, OnOk};
 ghost use Rattle.expr_code.specs.Refusing.{IsRefused};
 ghost use Rattle.part_code.specs.ChoiceRows.{choice_rows};
 ghost use Rattle.part_code.specs.Raising.{are_numbered, choice_number};
-ghost use Rattle.part_code.specs.Needs.{beyond_if, IsNeeding};
 
 use crate::exceptions::exception_number;
 use ada_tree::ExceptionChoice;
@@ -28,13 +27,13 @@ pub fn add_choice_rows(
     row: Row,
     choices: &[ExceptionChoice],
 ) -> Result<(), Refusal>
+    requires numbered { are_numbered exceptions.now choices.now ≡ true }
     ensures rows { OnOk result (rows.new.items ≡ rows.old.items ++ choice_rows exceptions.now row choices.now) }
-    ensures numbered { OnOk result (are_numbered exceptions.now choices.now ≡ true) }
-    ensures refused { IfErr result (λ why. IsNeeding 0 (beyond_if (not (are_numbered exceptions.now choices.now))) why) }
+    ensures refused { IfErr result (λ why. IsRefused 0 0 why) }
 {
     for choice in choices {
         let Some(exception) = choice_number(exceptions, choice) else {
-            return Err(Refusal::Outside);
+            unreachable!();
         };
         rows.push(Row { exception, ..row })?;
     }
@@ -44,7 +43,7 @@ pub fn add_choice_rows(
 /// Adds rows behind others.
 pub fn add_rows(rows: &mut Vec<Row>, more: &[Row]) -> Result<(), Refusal>
     ensures rows { OnOk result (rows.new.items ≡ rows.old.items ++ more.now) }
-    ensures refused { IfErr result (λ why. IsRefused 0 0 false why) }
+    ensures refused { IfErr result (λ why. IsRefused 0 0 why) }
 {
     for row in more {
         rows.push(*row)?;

@@ -1,9 +1,10 @@
 //! Initial values of objects (RM 3.3.1).
-ghost use Rattle.std.specs.Prelude.{◌≡◌, ◌+◌, ◌∷◌, [], false, true, IfErr, IfOk, OnOk};
+ghost use Rattle.std.specs.Prelude.{◌≡◌, ◌+◌, ◌∷◌, [], false, nat_eq, true, IfErr, IfOk, OnOk};
 ghost use Rattle.ada_tree.specs.ExpressionTree.{expr_tree};
 ghost use Rattle.ada_tree.specs.StatementTree.{optional_tree};
 ghost use Rattle.expr_code.specs.Code.{here, IsShallow};
 ghost use Rattle.expr_code.specs.Emitting.{is_composite};
+ghost use Rattle.expr_code.specs.Providing.{HasWhatExpressionsNeed};
 ghost use Rattle.expr_code.specs.Refusing.{IsRefused};
 ghost use Rattle.image.specs.Rules.{is_block};
 ghost use Rattle.types.specs.Layouts.{words_of};
@@ -11,7 +12,7 @@ ghost use Rattle.types.specs.Scopes.{form_at};
 ghost use Rattle.types.specs.Shapes.{initial, value_words};
 ghost use Rattle.part_code.specs.Emitting.{EmitsInitial, EmitsInitialWords, EmitsObject, FitsIfAny, HasPushed, StoresWord, StoresWords};
 ghost use Rattle.part_code.specs.Needs.{RefusesInitial, RefusesSingle, RefusesWords, initial_needs, single_needs};
-ghost use Rattle.expr_soundness.specs.SoundScopes.{SoundScope};
+ghost use Rattle.expr_soundness.specs.SoundScopes.{IsKnown, SoundScope};
 
 use crate::moving::is_composite;
 use ada_tree::Expr;
@@ -29,10 +30,13 @@ fn add_initial(
     value: &Option<Expr>,
 ) -> Result<(), Refusal>
     requires sound { SoundScope visible.now.scope }
+    requires covered { HasWhatExpressionsNeed visible.now }
+    requires known { IsKnown visible.now.scope subtype }
     requires fit { FitsIfAny visible.now.scope subtype (optional_tree expr_tree value.now) }
+    requires single { is_composite (form_at visible.now.scope subtype.type_number) ≡ false }
     ensures emits { OnOk result (EmitsInitial visible.now code.old subtype (optional_tree expr_tree value.now) code.new) }
-    ensures refused { IfErr result (λ why. RefusesSingle visible.now code.old subtype (optional_tree expr_tree value.now) 0 why) }
-    ensures shallow { OnOk result (IsShallow code.old code.new (single_needs visible.now subtype (optional_tree expr_tree value.now)).stack) }
+    ensures refused { IfErr result (λ why. RefusesSingle visible.now code.old (optional_tree expr_tree value.now) 0 why) }
+    ensures shallow { OnOk result (IsShallow code.old code.new (single_needs visible.now (optional_tree expr_tree value.now)).stack) }
 {
     match value {
         Some(value) => code.checked(visible, 0, subtype, value),
@@ -41,7 +45,7 @@ fn add_initial(
             Some(TypeForm::Boolean) => code.emit(0, Operation::Push(0)),
             Some(TypeForm::Time) => code.emit(0, Operation::Push(0)),
             Some(TypeForm::TimeSpan) => code.emit(0, Operation::Push(0)),
-            _ => Err(Refusal::Outside),
+            _ => unreachable!(),
         },
     }
 }
@@ -49,7 +53,7 @@ fn add_initial(
 // Puts a word on the operand stack above `height` others, and tells how many stand there then.
 fn push_word(code: &mut Code, height: u16, word: i64) -> Result<u16, Refusal>
     ensures pushes { IfOk result (λ top. HasPushed code.old height (word ∷ []) code.new top) }
-    ensures refused { IfErr result (λ why. IsRefused (here code.old + 1) (height + 1) false why) }
+    ensures refused { IfErr result (λ why. IsRefused (here code.old + 1) (height + 1) why) }
 {
     let top = above(height)?;
     code.emit(height, Operation::Push(word))?;
@@ -64,6 +68,7 @@ fn push_initial(
     subtype: Subtype,
 ) -> Result<u16, Refusal>
     requires sound { SoundScope visible.now.scope }
+    requires known { IsKnown visible.now.scope subtype }
     ensures pushes { IfOk result (λ top. HasPushed code.old height (value_words (initial visible.now.scope subtype)) code.new top) }
     ensures refused { IfErr result (λ why. RefusesWords visible.now.scope code.old height subtype why) }
 {
@@ -87,7 +92,7 @@ fn push_initial(
             }
             Ok(top)
         }
-        None => Err(Refusal::Outside),
+        None => unreachable!(),
     }
 }
 
@@ -99,7 +104,10 @@ fn add_initial_words(
     value: &Option<Expr>,
 ) -> Result<u16, Refusal>
     requires sound { SoundScope visible.now.scope }
+    requires covered { HasWhatExpressionsNeed visible.now }
+    requires known { IsKnown visible.now.scope subtype }
     requires fit { FitsIfAny visible.now.scope subtype (optional_tree expr_tree value.now) }
+    requires some { nat_eq (words_of visible.now.scope subtype) 0 ≡ false }
     ensures words { IfOk result (λ words. words ≡ words_of visible.now.scope subtype) }
     ensures block { IfOk result (λ words. is_block words ≡ true) }
     ensures emits { OnOk result (EmitsInitialWords visible.now code.old subtype (optional_tree expr_tree value.now) code.new) }
@@ -112,9 +120,6 @@ fn add_initial_words(
         Some(value) => code.of_subtype(visible, 1, subtype, value),
         None => {
             let words = visible.scope.words(subtype);
-            if words == 0 {
-                return Err(Refusal::Outside);
-            }
             if WORDS < usize::from(words) {
                 return Err(Refusal::Limit);
             }
@@ -133,10 +138,13 @@ fn add_word(
     value: &Option<Expr>,
 ) -> Result<(), Refusal>
     requires sound { SoundScope visible.now.scope }
+    requires covered { HasWhatExpressionsNeed visible.now }
+    requires known { IsKnown visible.now.scope subtype }
     requires fit { FitsIfAny visible.now.scope subtype (optional_tree expr_tree value.now) }
+    requires single { is_composite (form_at visible.now.scope subtype.type_number) ≡ false }
     ensures stores { OnOk result (StoresWord visible.now code.old offset subtype (optional_tree expr_tree value.now) code.new) }
-    ensures refused { IfErr result (λ why. RefusesSingle visible.now code.old subtype (optional_tree expr_tree value.now) 1 why) }
-    ensures shallow { OnOk result (IsShallow code.old code.new (single_needs visible.now subtype (optional_tree expr_tree value.now)).stack) }
+    ensures refused { IfErr result (λ why. RefusesSingle visible.now code.old (optional_tree expr_tree value.now) 1 why) }
+    ensures shallow { OnOk result (IsShallow code.old code.new (single_needs visible.now (optional_tree expr_tree value.now)).stack) }
 {
     add_initial(code, visible, subtype, value)?;
     code.emit(1, Operation::StoreLocal(offset))
@@ -151,7 +159,10 @@ fn add_words(
     value: &Option<Expr>,
 ) -> Result<(), Refusal>
     requires sound { SoundScope visible.now.scope }
+    requires covered { HasWhatExpressionsNeed visible.now }
+    requires known { IsKnown visible.now.scope subtype }
     requires fit { FitsIfAny visible.now.scope subtype (optional_tree expr_tree value.now) }
+    requires some { nat_eq (words_of visible.now.scope subtype) 0 ≡ false }
     ensures stores { OnOk result (StoresWords visible.now code.old offset subtype (optional_tree expr_tree value.now) code.new) }
     ensures refused { IfErr result (λ why. RefusesInitial visible.now code.old subtype (optional_tree expr_tree value.now) 2 why) }
     ensures shallow { OnOk result (IsShallow code.old code.new (initial_needs visible.now subtype (optional_tree expr_tree value.now)).stack) }
@@ -173,7 +184,10 @@ pub fn add_object(
     value: &Option<Expr>,
 ) -> Result<(), Refusal>
     requires sound { SoundScope visible.now.scope }
+    requires covered { HasWhatExpressionsNeed visible.now }
+    requires known { IsKnown visible.now.scope subtype }
     requires fit { FitsIfAny visible.now.scope subtype (optional_tree expr_tree value.now) }
+    requires some { nat_eq (words_of visible.now.scope subtype) 0 ≡ false }
     ensures emits { OnOk result (EmitsObject visible.now code.old offset subtype (optional_tree expr_tree value.now) code.new) }
     ensures refused { IfErr result (λ why. RefusesInitial visible.now code.old subtype (optional_tree expr_tree value.now) 2 why) }
     ensures shallow { OnOk result (IsShallow code.old code.new (initial_needs visible.now subtype (optional_tree expr_tree value.now)).stack) }

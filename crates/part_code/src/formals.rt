@@ -5,7 +5,7 @@ ghost use Rattle.base.specs.declared.limits.TheConstants.{FRAME_WORDS};
 ghost use Rattle.ada_tree.specs.Size.{total};
 ghost use Rattle.expr_code.specs.Refusing.{IsRefused};
 ghost use Rattle.part_code.specs.Formals.{HasValue, no_subprogram, passed_for, slot_for, StandInTurn, StandsAt};
-ghost use Rattle.part_code.specs.Needs.{are_wordless, IsNeeding, is_wordless, out_for, placed_end, stacked_unless};
+ghost use Rattle.part_code.specs.Needs.{are_wordless, is_wordless, out_for, placed_end};
 
 use crate::frame_words::{FrameWords, behind};
 use ada_tree::{Formal, Mode};
@@ -35,11 +35,12 @@ pub struct PlacedFormals {
 
 // The words that a call passes for a formal parameter: those of its value, where it is copied in, and the address of its target, where it is copied back.
 fn passed_words(scope: &Scope, formal: &Formal) -> Result<u16, Refusal>
+    requires some { is_wordless scope.now formal.now ≡ false }
     ensures passed { IfOk result (λ many. many ≡ passed_for scope.now formal.now) }
-    ensures refused { IfErr result (λ why. IsNeeding 0 (stacked_unless (is_wordless scope.now formal.now) (passed_for scope.now formal.now)) why) }
+    ensures refused { IfErr result (λ why. IsRefused 0 (passed_for scope.now formal.now) why) }
 {
     let Some(subtype) = subtype_of(scope, &formal.subtype) else {
-        return Err(Refusal::Outside);
+        unreachable!();
     };
     let many = scope.words(subtype);
     match formal.mode {
@@ -52,10 +53,10 @@ fn passed_words(scope: &Scope, formal: &Formal) -> Result<u16, Refusal>
 /// Takes the words that a call passes for all formal parameters.
 pub fn take_passed(words: &mut FrameWords, scope: &Scope, formals: &[Formal]) -> Result<(), Refusal>
     requires most { words.old.taken ≤ words.old.most }
+    requires some { are_wordless scope.now formals.now ≡ false }
     ensures taken { OnOk result (words.new.taken ≡ words.old.taken + total (passed_for scope.now) formals.now) }
     ensures most { OnOk result (words.new.taken ≤ words.new.most) }
-    ensures refused { IfErr result (λ why. IsNeeding 0 (stacked_unless (are_wordless scope.now formals.now)
-        (words.old.taken + total (passed_for scope.now) formals.now)) why) }
+    ensures refused { IfErr result (λ why. IsRefused 0 (words.old.taken + total (passed_for scope.now) formals.now) why) }
     ensures same { OnOk result (words.old.most ≡ words.old.taken → words.new.most ≡ words.new.taken) }
 {
     for formal in formals {
@@ -79,7 +80,7 @@ fn place(
     ensures few { OnOk result (many ≤ FRAME_WORDS) }
     ensures stands { IfOk result (λ placed. StandsAt mode many from words.old.taken placed.0 placed.1 words.new.taken) }
     ensures most { OnOk result (words.new.taken ≤ words.new.most) }
-    ensures refused { IfErr result (λ why. IsRefused 0 (placed_end mode many from words.old.taken) false why) }
+    ensures refused { IfErr result (λ why. IsRefused 0 (placed_end mode many from words.old.taken) why) }
     ensures same { OnOk result (words.old.most ≡ words.old.taken → words.new.most ≡ words.new.taken) }
 {
     let address = match mode {
@@ -111,23 +112,21 @@ pub fn place_all(
     alloc: Global,
 ) -> Result<PlacedFormals, Refusal>
     requires most { words.old.taken ≤ words.old.most }
+    requires some { are_wordless scope.now formals.now ≡ false }
     ensures stand { IfOk result (λ placed. StandInTurn scope.now 0 words.old.taken formals.now placed.formals.items placed.passed words.new.taken) }
     ensures some { IfOk result (λ placed. All (HasValue scope.now) placed.formals.items) }
     ensures most { OnOk result (words.new.taken ≤ words.new.most) }
-    ensures refused { IfErr result (λ why. IsNeeding 0 (stacked_unless (are_wordless scope.now formals.now)
-        (max (total (passed_for scope.now) formals.now) (words.old.taken + total (out_for scope.now) formals.now))) why) }
+    ensures refused { IfErr result (λ why. IsRefused 0 (max (total (passed_for scope.now) formals.now)
+        (words.old.taken + total (out_for scope.now) formals.now)) why) }
     ensures same { OnOk result (words.old.most ≡ words.old.taken → words.new.most ≡ words.new.taken) }
 {
     let mut placed = Vec::new(alloc);
     let mut from: u16 = 0;
     for formal in formals {
         let Some(subtype) = subtype_of(scope, &formal.subtype) else {
-            return Err(Refusal::Outside);
+            unreachable!();
         };
         let many = scope.words(subtype);
-        if many == 0 {
-            return Err(Refusal::Outside);
-        }
         let (one, next) = place(words, formal.mode, subtype, many, from)?;
         placed.push(one)?;
         from = next;
@@ -144,7 +143,7 @@ pub fn show(visible: &mut Visible, placed: &[PlacedFormal]) -> Result<(), Refusa
     ensures slots { OnOk result (visible.new.slots ≡ visible.old.slots ++ map slot_for placed.now) }
     ensures subprograms { OnOk result (visible.new.subprograms ≡ visible.old.subprograms ++ map no_subprogram placed.now) }
     ensures operations { OnOk result (visible.new.operations ≡ visible.old.operations) }
-    ensures refused { IfErr result (λ why. IsRefused 0 0 false why) }
+    ensures refused { IfErr result (λ why. IsRefused 0 0 why) }
 {
     for formal in placed {
         visible.slots.push(Some(Slot {

@@ -1,5 +1,5 @@
 //! The words of a body's frame, as statements take and give them back.
-ghost use Rattle.std.specs.Prelude.{◌≡◌, ◌+◌, ◌≤◌, false, Some, IfErr, IfOk, OnOk, max};
+ghost use Rattle.std.specs.Prelude.{◌≡◌, ◌+◌, ◌≤◌, Some, IfErr, IfOk, OnOk, max};
 ghost use Rattle.expr_code.specs.Refusing.{IsRefused};
 ghost use Rattle.part_code.specs.Emitting.{TakesWords};
 
@@ -10,7 +10,7 @@ use expr_code::Refusal;
 pub fn behind(first: u16, words: u16) -> Result<u16, Refusal>
     ensures end { IfOk result (λ end. end ≡ first + words) }
     ensures within { IfOk result (λ end. end ≤ FRAME_WORDS) }
-    ensures refused { IfErr result (λ why. IsRefused 0 (first + words) false why) }
+    ensures refused { IfErr result (λ why. IsRefused 0 (first + words) why) }
 {
     match first.checked_add(words) {
         Some(end) if usize::from(end) <= FRAME_WORDS => Ok(end),
@@ -40,7 +40,7 @@ impl FrameWords {
         ensures takes { OnOk result (TakesWords self.old words self.new) }
         ensures most { OnOk result (self.new.most ≡ max self.old.most (self.old.taken + words)) }
         ensures within { OnOk result (self.new.taken ≤ FRAME_WORDS) }
-        ensures refused { IfErr result (λ why. IsRefused 0 (self.old.taken + words) false why) }
+        ensures refused { IfErr result (λ why. IsRefused 0 (self.old.taken + words) why) }
     {
         let first = self.taken;
         self.taken = behind(first, words)?;

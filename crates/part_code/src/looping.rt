@@ -1,5 +1,5 @@
 //! The jumps of loops (RM 5.5).
-ghost use Rattle.std.specs.Prelude.{◌≡◌, ◌+◌, ◌<◌, false, IfErr, IfOk, OnOk};
+ghost use Rattle.std.specs.Prelude.{◌≡◌, ◌+◌, ◌<◌, IfErr, IfOk, OnOk};
 ghost use Rattle.expr_code.specs.Code.{here};
 ghost use Rattle.expr_code.specs.Refusing.{IsRefused};
 ghost use Rattle.part_code.specs.Emitting.{BeginsLoop, EndsLoop};
@@ -19,7 +19,7 @@ pub fn begin_loop(code: &mut Code) -> Result<Head, Refusal>
     ensures exit { IfOk result (λ head. head.exit ≡ here code.old + 1) }
     ensures turn { IfOk result (λ head. head.turn ≡ here code.old + 2) }
     ensures begins { OnOk result (BeginsLoop code.old code.new) }
-    ensures refused { IfErr result (λ why. IsRefused (here code.old + 2) 0 false why) }
+    ensures refused { IfErr result (λ why. IsRefused (here code.old + 2) 0 why) }
 {
     let (exit, turn) = match code.end()?.checked_add(1) {
         Some(exit) => match exit.checked_add(1) {
@@ -38,7 +38,7 @@ pub fn end_loop(code: &mut Code, head: Head) -> Result<u16, Refusal>
     requires there { head.exit < here code.old }
     ensures end { IfOk result (λ end. end ≡ here code.new) }
     ensures ends { OnOk result (EndsLoop code.old head.exit head.turn code.new) }
-    ensures refused { IfErr result (λ why. IsRefused (here code.old + 1) 0 false why) }
+    ensures refused { IfErr result (λ why. IsRefused (here code.old + 1) 0 why) }
 {
     code.emit(0, Operation::Jump(head.turn))?;
     let end = code.end()?;

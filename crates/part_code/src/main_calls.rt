@@ -1,8 +1,9 @@
 //! The calls of main (RM 10.2).
-ghost use Rattle.std.specs.Prelude.{◌≡◌, ◌+◌, is_none, length, IfErr, OnOk};
+ghost use Rattle.std.specs.Prelude.{◌≡◌, ◌+◌, false, is_none, length, IfErr, OnOk};
 ghost use Rattle.expr_code.specs.Code.{here};
+ghost use Rattle.expr_code.specs.Refusing.{IsRefused};
 ghost use Rattle.expr_code.specs.Seeing.{subprogram_of};
-ghost use Rattle.part_code.specs.Needs.{beyond_if, IsNeeding, RefusesMain};
+ghost use Rattle.part_code.specs.Needs.{are_unknown, RefusesMain};
 ghost use Rattle.part_code.specs.MainCalls.{AddsCalls, AddsMainCall};
 
 use ada_tree::{Identifier, MainStatement};
@@ -11,12 +12,13 @@ use image::Operation;
 
 // Adds a call of main.
 fn add_call(code: &mut Code, visible: &Visible, procedure: &Identifier) -> Result<(), Refusal>
+    requires known { is_none (subprogram_of visible.now procedure.now.name) ≡ false }
     ensures adds { OnOk result (AddsMainCall visible.now code.old procedure.now code.new) }
     ensures shallow { OnOk result (code.new.deepest ≡ code.old.deepest) }
-    ensures refused { IfErr result (λ why. IsNeeding (here code.old + 1) (beyond_if (is_none (subprogram_of visible.now procedure.now.name))) why) }
+    ensures refused { IfErr result (λ why. IsRefused (here code.old + 1) 0 why) }
 {
     let Some(number) = visible.subprogram(&procedure.name) else {
-        return Err(Refusal::Outside);
+        unreachable!();
     };
     code.emit(0, Operation::Call(number))?;
     Ok(())
@@ -28,6 +30,7 @@ pub fn add_calls(
     visible: &Visible,
     statements: &[MainStatement],
 ) -> Result<(), Refusal>
+    requires known { are_unknown visible.now statements.now ≡ false }
     ensures calls { OnOk result (AddsCalls visible.now code.old statements.now code.new) }
     ensures shallow { OnOk result (code.new.deepest ≡ code.old.deepest) }
     ensures refused { IfErr result (λ why. RefusesMain visible.now code.old statements.now (length statements.now) why) }

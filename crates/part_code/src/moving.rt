@@ -10,6 +10,7 @@ ghost use Rattle.expr_code.specs.Branches.{AreLegalBranches, branch_of};
 ghost use Rattle.expr_code.specs.Code.{IsShallow};
 ghost use Rattle.expr_code.specs.Emitting.{is_composite};
 ghost use Rattle.expr_code.specs.Emitting as expressions;
+ghost use Rattle.expr_code.specs.Providing.{HasWhatExpressionsNeed};
 ghost use Rattle.expr_code.specs.Widths.{AreWide, width_of};
 ghost use Rattle.part_code.specs.Moves.{AddsMoves, alone, EmitsMove};
 ghost use Rattle.part_code.specs.Moving.{are_moved, is_moved, names_composite, source_at, variable_at};
@@ -118,6 +119,7 @@ fn are_moved(visible: &Visible, elsifs: &[ElsifValue]) -> bool
 // Adds the address of what is named, above that on the operand stack, and what moves its words from there.
 fn add_named(code: &mut Code, visible: &Visible, to: Moved, name: &NameExpr) -> Result<(), Refusal>
     requires sound { SoundScope visible.now.scope }
+    requires covered { HasWhatExpressionsNeed visible.now }
     requires legal { expressions.IsLegalExpression visible.now.scope (Named (name_tree name.now).first (name_tree name.now).selectors) }
     requires moved { is_moved visible.now (Named (name_tree name.now).first (name_tree name.now).selectors) ≡ true }
     requires block { is_block to.words ≡ true }
@@ -143,6 +145,7 @@ fn add_named(code: &mut Code, visible: &Visible, to: Moved, name: &NameExpr) -> 
 #[cycle(add_move)]
 pub fn add_move(code: &mut Code, visible: &Visible, to: Moved, e: &Expr) -> Result<(), Refusal>
     requires sound { SoundScope visible.now.scope }
+    requires covered { HasWhatExpressionsNeed visible.now }
     requires legal { expressions.IsLegalExpression visible.now.scope (expr_tree e.now) }
     requires moved { is_moved visible.now (expr_tree e.now) ≡ true }
     requires block { is_block to.words ≡ true }
@@ -181,6 +184,7 @@ fn add_branch(
     waiting: &mut Vec<usize>,
 ) -> Result<(), Refusal>
     requires sound { SoundScope visible.now.scope }
+    requires covered { HasWhatExpressionsNeed visible.now }
     requires condition { expressions.IsLegalExpression visible.now.scope (expr_tree condition.now) }
     requires wide { width_of visible.now.scope (expr_tree condition.now) ≡ 1 }
     requires legal { expressions.IsLegalExpression visible.now.scope (expr_tree value.now) }
@@ -210,6 +214,7 @@ fn add_branches(
     waiting: &mut Vec<usize>,
 ) -> Result<(), Refusal>
     requires sound { SoundScope visible.now.scope }
+    requires covered { HasWhatExpressionsNeed visible.now }
     requires legal { AreLegalBranches visible.now.scope (map branch_of elsifs.now) }
     requires wide { (n : ℕ) × AreWide visible.now.scope n (map branch_of elsifs.now) }
     requires moved { are_moved visible.now (alone (map branch_of elsifs.now)) ≡ true }

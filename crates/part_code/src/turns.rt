@@ -1,5 +1,5 @@
 //! The first turn and the end of a turn of loops over ranges (RM 5.5).
-ghost use Rattle.std.specs.Prelude.{◌≡◌, ◌+◌, false, IfErr, IfOk};
+ghost use Rattle.std.specs.Prelude.{◌≡◌, ◌+◌, IfErr, IfOk};
 ghost use Rattle.expr_code.specs.Code.{here};
 ghost use Rattle.expr_code.specs.Refusing.{IsRefused};
 ghost use Rattle.part_code.specs.Turns.{BeginsTurns, EndsTurn, next_operation, word_of_first, word_of_last};
@@ -52,7 +52,7 @@ impl Turns {
     /// Adds what stores the bounds, the last one on top, and a jump where the range is null, whose place is told and waits for the end.
     pub fn begin(self, code: &mut Code) -> Result<usize, Refusal>
         ensures begins { IfOk result (λ null. BeginsTurns code.old self null code.new) }
-        ensures refused { IfErr result (λ why. IsRefused (here code.old + 6) 2 false why) }
+        ensures refused { IfErr result (λ why. IsRefused (here code.old + 6) 2 why) }
     {
         let first = self.of_first();
         let last = self.of_last();
@@ -69,7 +69,7 @@ impl Turns {
     /// Adds a jump where the parameter has its last value, whose place is told and waits for the end, and what gives it the next one.
     pub fn end_turn(self, code: &mut Code) -> Result<usize, Refusal>
         ensures ends { IfOk result (λ last. EndsTurn code.old self last code.new) }
-        ensures refused { IfErr result (λ why. IsRefused (here code.old + 8) 2 false why) }
+        ensures refused { IfErr result (λ why. IsRefused (here code.old + 8) 2 why) }
     {
         code.emit(0, Operation::LoadLocal(self.counter))?;
         code.emit(1, Operation::LoadLocal(self.limit))?;

@@ -1,5 +1,5 @@
 -- Code of statements that was added: nothing, statements one behind another, jumps to the ways out, and lines.
-use Rattle.std.proofs.Common.{◌≡◌, ℕ, zero, suc, ◌+◌, ◌-◌, ◌<◌, ◌≤◌, ◌++◌, List, [], ◌∷◌, length, map, take, true, false, Option, Some, None, refl, sym, ap, ◌∙◌, subst, arith, rules}
+use Rattle.std.proofs.Common.{◌≡◌, ℕ, zero, suc, ◌+◌, ◌-◌, ◌<◌, ◌≤◌, ◌++◌, List, [], ◌∷◌, length, map, take, true, false, Option, Some, None, refl, sym, ap, ◌∙◌, subst, arith}
 use Rattle.std.specs.Prelude.{get_or}
 use Rattle.ada_tree.specs.declared.statement.Stmt.{Stmt}
 use Rattle.ada_tree.specs.ExpressionTree.{ExprTree}
@@ -20,6 +20,7 @@ use Rattle.expr_soundness.specs.expr_rules.specs.Faults.{Faults}
 use Rattle.expr_soundness.specs.expr_rules.specs.NameRules.{mismatch}
 use Rattle.expr_soundness.specs.expr_rules.specs.Typing.{own_of}
 use Rattle.expr_soundness.specs.expr_rules.proofs.TypedLaw.{back_empty, front_empty}
+use Rattle.part_code.specs.step_soundness.specs.body_restrictions.specs.BodyRules as restrictions
 use Rattle.part_code.specs.stmt_rules.specs.SimpleRules.{condition_faults, exit_rule, optional_condition_faults}
 use Rattle.part_code.specs.stmt_rules.specs.StatementRules.{more_handlers_faults, stmt_faults, stmts_faults}
 use Rattle.expr_soundness.specs.meaning.specs.Programs.{Program}
@@ -38,7 +39,7 @@ use Rattle.part_code.specs.Handling.{Handling}
 use Rattle.part_code.specs.Bounds.{handlers_words, sequence_bound, stmt_bound, stmts_bound, stmts_words}
 use Rattle.stmt_code.specs.Covering.{EmitsSequence}
 use Rattle.part_code.specs.Suiting.{SuitsStatements}
-use Rattle.stmt_code.specs.Emitting.{Allows, AreLegalStatements, AreLegalHandlers, Emits, EmitsDeclarations, EmitsStatement, EmitsStatements, HasLabels, IsLegalStatement, Meant, Serves, seeing}
+use Rattle.stmt_code.specs.Emitting.{Allows, AreAcceptedHandlers, AreAcceptedStatements, Emits, EmitsDeclarations, EmitsStatement, EmitsStatements, HasLabels, IsAcceptedStatement, Meant, Serves, seeing}
 use Rattle.part_code.specs.Emitting.{IsReachable}
 use Rattle.part_code.specs.Resting.{Framed}
 use Rattle.part_code.specs.Statements.{AreStatements, IsSequence, IsStatement, Numbers, Ways}
@@ -334,11 +335,13 @@ none_there (x ∷ xs) e = absurd (omega (arith, e))
 pub wanted_legal : (s : Scope) (w : Wanted) (e : ExprTree) → faults_of s w e ≡ [] → expressions.IsLegalExpression s e
 wanted_legal s w e h = record { wanted = w; unbroken = front_empty (faults_in s w e) (mismatch s w (own_of s e) (start_of e)) h }
 
-pub exit_condition : (s : Scope) (place : ℕ) (x : Option ExprTree) (e : ExprTree) → x ≡ Some e → IsLegalStatement s (statements.Exit place x) → condition_faults s e ≡ []
-exit_condition s place x e is h =
+pub exit_condition : (s : Scope) (w : Ways) (place : ℕ) (x : Option ExprTree) (e : ExprTree) → x ≡ Some e → IsAcceptedStatement s w (statements.Exit place x)
+    → condition_faults s e ≡ []
+exit_condition s w place x e is h =
     back_empty (exit_rule h.around place) (condition_faults s e) (ap (λ y. exit_rule h.around place ++ optional_condition_faults s y) (sym is) ∙ h.unbroken)
 
-module _ (s : Scope) (place : ℕ) (ds : List DeclarationTree) (body : StmtTrees) (all : HandlerTrees) (h : IsLegalStatement s (statements.Block place ds body all)) where
+module _ (s : Scope) (w : Ways) (place : ℕ) (ds : List DeclarationTree) (body : StmtTrees) (all : HandlerTrees)
+    (h : IsAcceptedStatement s w (statements.Block place ds body all)) where
   abbrev own_faults : Faults
   own_faults = locals_faults s ds ++ stmts_faults (locals_scope s ds) h.around body
 
@@ -348,20 +351,50 @@ module _ (s : Scope) (place : ℕ) (ds : List DeclarationTree) (body : StmtTrees
   both : own_faults ≡ []
   both = front_empty own_faults handler_faults h.unbroken
 
+  abbrev forbidden : Faults
+  forbidden = restrictions.locals_faults ds ++ restrictions.stmts_faults body
+
+  both_allowed : forbidden ≡ []
+  both_allowed = front_empty forbidden (restrictions.handlers_faults all) h.restricted
+
   pub block_declarations : locals_faults s ds ≡ []
   block_declarations = front_empty (locals_faults s ds) (stmts_faults (locals_scope s ds) h.around body) both
 
-  pub block_body : AreLegalStatements (locals_scope s ds) body
-  block_body = record { around = h.around; unbroken = back_empty (locals_faults s ds) (stmts_faults (locals_scope s ds) h.around body) both }
+  pub block_restricted : restrictions.locals_faults ds ≡ []
+  block_restricted = front_empty (restrictions.locals_faults ds) (restrictions.stmts_faults body) both_allowed
 
-  pub block_handlers : AreLegalHandlers (locals_scope s ds) all
-  block_handlers = record { around = h.around; before = []; unbroken = back_empty own_faults handler_faults h.unbroken }
+  pub block_body : AreAcceptedStatements (locals_scope s ds) w body
+  block_body = record {
+    around = h.around;
+    ways = h.ways;
+    unbroken = back_empty (locals_faults s ds) (stmts_faults (locals_scope s ds) h.around body) both;
+    restricted = back_empty (restrictions.locals_faults ds) (restrictions.stmts_faults body) both_allowed;
+  }
 
-pub statement_legal : (s : Scope) (all : List Stmt) (n : ℕ) (x : Stmt) → n < length all → x ≡ get_or all n x → AreLegalStatements s (stmt_trees all) → IsLegalStatement s (stmt_tree x)
-statement_legal s all n x less is h = record { around = h.around; unbroken = at all n less is h.unbroken }
+  pub block_handlers : AreAcceptedHandlers (locals_scope s ds) w all
+  block_handlers = record {
+    around = h.around;
+    ways = h.ways;
+    before = [];
+    unbroken = back_empty own_faults handler_faults h.unbroken;
+    restricted = back_empty forbidden (restrictions.handlers_faults all) h.restricted;
+  }
+
+pub statement_accepted : (s : Scope) (w : Ways) (all : List Stmt) (n : ℕ) (x : Stmt) → n < length all → x ≡ get_or all n x
+    → AreAcceptedStatements s w (stmt_trees all) → IsAcceptedStatement s w (stmt_tree x)
+statement_accepted s w all n x less is h = at all n less is h.unbroken h.restricted
   where
-    at : (all : List Stmt) (n : ℕ) → n < length all → x ≡ get_or all n x → stmts_faults s h.around (stmt_trees all) ≡ [] → stmt_faults s h.around (stmt_tree x) ≡ []
-    at [] n less is e = absurd (omega (arith, less))
-    at (y ∷ all) zero less is e = subst (λ z. stmt_faults s h.around (stmt_tree z) ≡ []) (sym is)
-        (front_empty (stmt_faults s h.around (stmt_tree y)) (stmts_faults s h.around (stmt_trees all)) e)
-    at (y ∷ all) (suc n) less is e = at all n (omega (arith, less)) is (back_empty (stmt_faults s h.around (stmt_tree y)) (stmts_faults s h.around (stmt_trees all)) e)
+    at : (all : List Stmt) (n : ℕ) → n < length all → x ≡ get_or all n x → stmts_faults s h.around (stmt_trees all) ≡ []
+        → restrictions.stmts_faults (stmt_trees all) ≡ [] → IsAcceptedStatement s w (stmt_tree x)
+    at [] n less is e r = absurd (omega (arith, less))
+    at (y ∷ all) zero less is e r =
+        subst (λ z. IsAcceptedStatement s w (stmt_tree z)) (sym is)
+        (record {
+          around = h.around;
+          ways = h.ways;
+          unbroken = front_empty (stmt_faults s h.around (stmt_tree y)) (stmts_faults s h.around (stmt_trees all)) e;
+          restricted = front_empty (restrictions.stmt_faults (stmt_tree y)) (restrictions.stmts_faults (stmt_trees all)) r;
+        })
+    at (y ∷ all) (suc n) less is e r =
+        at all n (omega (arith, less)) is (back_empty (stmt_faults s h.around (stmt_tree y)) (stmts_faults s h.around (stmt_trees all)) e)
+        (back_empty (restrictions.stmt_faults (stmt_tree y)) (restrictions.stmts_faults (stmt_trees all)) r)

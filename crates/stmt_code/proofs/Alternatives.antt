@@ -13,6 +13,7 @@ use Rattle.types.specs.Places.{is_among}
 use Rattle.types.specs.Scopes.{Scope}
 use Rattle.expr_soundness.specs.expr_rules.specs.Typing.{own_of}
 use Rattle.expr_soundness.specs.expr_rules.proofs.TypedLaw.{back_empty, front_empty}
+use Rattle.part_code.specs.step_soundness.specs.body_restrictions.specs.BodyRules as restrictions
 use Rattle.part_code.specs.stmt_rules.specs.CaseRules as rules
 use Rattle.part_code.specs.stmt_rules.specs.CaseRules.{choices_faults, choices_wanted, chosen_by, others_rule, selecting_faults}
 use Rattle.part_code.specs.stmt_rules.specs.StatementRules.{alternatives_faults, stmts_faults}
@@ -27,10 +28,10 @@ use Rattle.expr_code.specs.declared.code.Code.{Code}
 use Rattle.expr_code.specs.declared.visible.Visible.{Visible}
 use Rattle.expr_code.proofs.Flowing.{kept_one, kept_then, widened}
 use Rattle.expr_code.proofs.Growing.{added_extends, added_here, extends_trans}
-use Rattle.stmt_code.specs.Alternatives.{AddsAlternatives, AreLegalAlternatives, AreSelected, in_front}
+use Rattle.stmt_code.specs.Alternatives.{AddsAlternatives, AreAcceptedAlternatives, AreSelected, in_front}
 use Rattle.part_code.specs.Choices.{AreLegalChoices}
 use Rattle.part_code.specs.Bounds.{alternatives_bound, stmt_bound}
-use Rattle.stmt_code.specs.Emitting.{AreLegalStatements, EmitsOpen, EmitsStatement, EmitsStatements, IsLegalStatement, MeantTo, Serves}
+use Rattle.stmt_code.specs.Emitting.{AreAcceptedStatements, EmitsOpen, EmitsStatement, EmitsStatements, IsAcceptedStatement, MeantTo, Serves}
 use Rattle.part_code.specs.Statements.{AreAlternatives, IsChoice, IsStatement, Ways}
 use Rattle.stmt_code.specs.declared.draft.Draft.{Draft}
 use Rattle.stmt_code.proofs.Adding.{IsBeside, labels_before, labels_beside, labels_then, most_beside, taken_beside}
@@ -333,51 +334,60 @@ module _ (v : Visible) (w : Ways) (e : ExprTree) where
 
 -- ---- what is legal
 
-module _ (s : Scope) (place : ℕ) (e : ExprTree) (all : AlternativeTrees) (h : IsLegalStatement s (statements.Case place e all)) where
+module _ (s : Scope) (w : Ways) (place : ℕ) (e : ExprTree) (all : AlternativeTrees) (h : IsAcceptedStatement s w (statements.Case place e all)) where
   two_faults : (selecting_faults s e ++ alternatives_faults s h.around (choices_wanted s (own_of s e)) [] all) ≡ []
   two_faults = front_empty (selecting_faults s e ++ alternatives_faults s h.around (choices_wanted s (own_of s e)) [] all) (others_rule place all) h.unbroken
 
   pub case_selecting : selecting_faults s e ≡ []
   case_selecting = front_empty (selecting_faults s e) (alternatives_faults s h.around (choices_wanted s (own_of s e)) [] all) two_faults
 
-  pub case_alternatives : AreLegalAlternatives s e all
+  pub case_alternatives : AreAcceptedAlternatives s w e all
   case_alternatives = record {
     around = h.around;
+    ways = h.ways;
     before = [];
     unbroken = back_empty (selecting_faults s e) (alternatives_faults s h.around (choices_wanted s (own_of s e)) [] all) two_faults;
+    restricted = h.restricted;
   }
 
 pub selecting_legal : (s : Scope) (e : ExprTree) → selecting_faults s e ≡ [] → expressions.IsLegalExpression s e
 selecting_legal s e h = record { wanted = _; unbroken = selecting_inside s e h }
 
-pub record AlternativeIsLegal (s : Scope) (e : ExprTree) (x : Alternative) : Type 0 where
+pub record AlternativeIsAccepted (s : Scope) (w : Ways) (e : ExprTree) (x : Alternative) : Type 0 where
   pub choices : AreLegalChoices s e (choices_tree x.choices)
-  pub body : AreLegalStatements s (stmt_trees x.statements.items)
+  pub body : AreAcceptedStatements s w (stmt_trees x.statements.items)
 
-pub alternative_legal : (s : Scope) (e : ExprTree) (all : List Alternative) (n : ℕ) (x : Alternative) → n < length all → x ≡ get_or all n x
-    → AreLegalAlternatives s e (alternative_trees all)
-    → AlternativeIsLegal s e x
-alternative_legal s e all n x less is h = at all n h.before less is h.unbroken
+pub alternative_accepted : (s : Scope) (w : Ways) (e : ExprTree) (all : List Alternative) (n : ℕ) (x : Alternative) → n < length all → x ≡ get_or all n x
+    → AreAcceptedAlternatives s w e (alternative_trees all)
+    → AlternativeIsAccepted s w e x
+alternative_accepted s w e all n x less is h = at all n h.before less is h.unbroken h.restricted
   where
     at : (all : List Alternative) (n : ℕ) (before : List Scalar) → n < length all → x ≡ get_or all n x
         → alternatives_faults s h.around (choices_wanted s (own_of s e)) before (alternative_trees all) ≡ []
-        → AlternativeIsLegal s e x
-    at [] n before less is g = absurd (omega (arith, less))
-    at (y ∷ all) zero before less is g =
+        → restrictions.alternatives_faults (alternative_trees all) ≡ []
+        → AlternativeIsAccepted s w e x
+    at [] n before less is g r = absurd (omega (arith, less))
+    at (y ∷ all) zero before less is g r =
         let wanted = choices_wanted s (own_of s e) in
         let last = rules.no_more (alternative_trees all) in
         let c = choices_faults s wanted before last (choices_tree y.choices) in
         let b = stmts_faults s h.around (stmt_trees y.statements.items) in
         let two = front_empty (c ++ b) (alternatives_faults s h.around wanted (chosen_by s wanted before (choices_tree y.choices)) (alternative_trees all)) g in
-        subst (AlternativeIsLegal s e) (sym is)
+        subst (AlternativeIsAccepted s w e) (sym is)
         (record {
           choices = record { before = before; is_last = last; unbroken = front_empty c b two };
-          body = record { around = h.around; unbroken = back_empty c b two };
+          body = record {
+            around = h.around;
+            ways = h.ways;
+            unbroken = back_empty c b two;
+            restricted = front_empty (restrictions.stmts_faults (stmt_trees y.statements.items)) (restrictions.alternatives_faults (alternative_trees all)) r;
+          };
         })
-    at (y ∷ all) (suc n) before less is g =
+    at (y ∷ all) (suc n) before less is g r =
         let wanted = choices_wanted s (own_of s e) in
         let last = rules.no_more (alternative_trees all) in
         let c = choices_faults s wanted before last (choices_tree y.choices) in
         let b = stmts_faults s h.around (stmt_trees y.statements.items) in
         let later = chosen_by s wanted before (choices_tree y.choices) in
         at all n later (omega (arith, less)) is (back_empty (c ++ b) (alternatives_faults s h.around wanted later (alternative_trees all)) g)
+        (back_empty (restrictions.stmts_faults (stmt_trees y.statements.items)) (restrictions.alternatives_faults (alternative_trees all)) r)

@@ -1,17 +1,15 @@
 -- The code of assignments to parts of objects stores what they assign: of objects of the running activation, and of variables of the package.
-use Rattle.std.proofs.Common.{◌≡◌, ℕ, suc, ◌+◌, ◌-◌, ◌≤◌, ℤ, List, [], ◌∷◌, Option, Some, None, true, refl, sym, ap, ◌∙◌, subst, arith}
-use Rattle.std.specs.Prelude.{is_some, pos}
+use Rattle.std.proofs.Common.{◌≡◌, ℕ, suc, ◌+◌, ◌-◌, ◌≤◌, ℤ, List, [], ◌∷◌, Some, refl, sym, ap, ◌∙◌, subst, arith}
+use Rattle.std.specs.Prelude.{pos}
 use Rattle.base.specs.declared.schedule.ScheduleLine.{ScheduleLine}
 use Rattle.kernel.specs.State.{Kernel}
 use Rattle.kernel.specs.Laws.{QuietStays}
 use Rattle.image.specs.Sections.{Sections}
 use Rattle.image.specs.Frames.{Words, Frame, own_object}
 use Rattle.image.specs.declared.instruction.Operation.TheVariants as op
-use Rattle.image.specs.declared.instruction.Region.TheVariants as regions
 use Rattle.ada_tree.specs.ExpressionTree.{ExprTree, NameTree}
 use Rattle.types.specs.declared.entity.Role.{Role}
 use Rattle.types.specs.declared.entity.Subtype.{Subtype}
-use Rattle.types.specs.Entities.{TypeForm}
 use Rattle.types.specs.Evaluating.{Calls, call, passed, value_with}
 use Rattle.types.specs.Evaluations.{Val, Gives, and_then}
 use Rattle.types.specs.Laws.{ValuesHaveWords}

@@ -16,7 +16,7 @@ use Rattle.part_code.specs.step_soundness.specs.Objects.{AreOf}
 use Rattle.expr_code.specs.Seeing.{Package}
 use Rattle.part_code.specs.Copying.{held_at, passed_words}
 use Rattle.part_code.specs.Layout.{IsLaidPackage}
-use Rattle.part_code.specs.Resting.{AreHeld, Framed, Rests, RestsWith, held_offset}
+use Rattle.part_code.specs.Resting.{AreHeld, Framed, RestsWith, held_offset}
 use Rattle.stmt_code.proofs.Beginning.{Enters, EntersOne, begun, entered}
 use Rattle.stmt_code.proofs.Entering.{BeginsBody, rests_alike}
 

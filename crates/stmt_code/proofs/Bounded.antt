@@ -41,7 +41,7 @@ use Rattle.expr_code.specs.Widths.{width_of}
 use Rattle.expr_code.specs.declared.visible.Slot.{Slot}
 use Rattle.expr_code.specs.declared.visible.Visible.{Visible}
 use Rattle.expr_code.proofs.Widths.{integral_one, known}
-use Rattle.stmt_code.specs.Emitting.{AreLegalStatements, IsLegalStatement, Serves, seeing}
+use Rattle.stmt_code.specs.Emitting.{AreAcceptedStatements, IsAcceptedStatement, Serves, seeing}
 use Rattle.part_code.specs.Emitting.{HasEntries}
 use Rattle.part_code.specs.Layout.{EndsBelow}
 use Rattle.part_code.specs.Resting.{Framed}
@@ -52,22 +52,25 @@ use Rattle.stmt_code.proofs.Adding.{wanted_legal}
 use Rattle.stmt_code.proofs.Laying.{AddsObject}
 use Rattle.part_code.proofs.Names.{single_number, is_told, profile_without}
 use Rattle.stmt_code.proofs.Parameters.{AreBelow, HoldsRange, holds_behind, parameter_below, parameter_ends, parameter_laid}
-use Rattle.part_code.specs.Statements.{Numbers}
+use Rattle.part_code.specs.Statements.{Numbers, Ways, within_loop}
 use Rattle.part_code.specs.Suiting.{SuitsStatements}
+use Rattle.stmt_code.proofs.Accepting.{ways_in_loop}
 use Rattle.stmt_code.proofs.Suiting.{entries_wider, entry_wider, external_wider, number_wider, slots_first, stands_wider, subprograms_first, suits_wider}
 use Rattle.stmt_code.proofs.Widening.{scope_wider}
 
 -- ---- what is legal
 
-module _ (s : Scope) (place : ℕ) (parameter : Identifier) (reversed : Bool) (range : RangeTree) (body : StmtTrees)
-    (h : IsLegalStatement s (Loop place (For parameter reversed range) body)) where
+module _ (s : Scope) (w : Ways) (place : ℕ) (parameter : Identifier) (reversed : Bool) (range : RangeTree) (body : StmtTrees)
+    (h : IsAcceptedStatement s w (Loop place (For parameter reversed range) body)) where
   pub loop_range : loop_faults s parameter range ≡ []
   loop_range = front_empty (loop_faults s parameter range) (stmts_faults (loop_scope s parameter range) (in_loop h.around) body) h.unbroken
 
-  pub loop_body : AreLegalStatements (loop_scope s parameter range) body
-  loop_body = record {
+  pub loop_body : (exit : ℕ) → AreAcceptedStatements (loop_scope s parameter range) (within_loop exit w) body
+  loop_body exit = record {
     around = in_loop h.around;
+    ways = ways_in_loop w h.around exit h.ways;
     unbroken = back_empty (loop_faults s parameter range) (stmts_faults (loop_scope s parameter range) (in_loop h.around) body) h.unbroken;
+    restricted = h.restricted;
   }
 
 -- an integer is wanted

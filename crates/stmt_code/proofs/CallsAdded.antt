@@ -49,6 +49,7 @@ use Rattle.part_code.specs.Resting.{Framed}
 use Rattle.part_code.specs.Statements.{IsCalleeCode, IsInvoked, Numbers, OfProcedure, Ways}
 use Rattle.stmt_code.specs.declared.draft.Draft.{Draft}
 use Rattle.part_code.proofs.Actuals.{computes_none}
+use Rattle.stmt_code.proofs.CallForms.{actuals_there}
 use Rattle.stmt_code.proofs.Adding.{IsBeside, labels_beside, most_beside, taken_beside}
 use Rattle.stmt_code.proofs.RowsAdded.{goes_kept, rows_kept}
 use Rattle.stmt_code.proofs.CodeOfCalls.{is_invoked}
@@ -147,6 +148,10 @@ module _ (v : Visible) (name : NameTree) (profile : Profile) (names : NamesProfi
       called_with v.scope name.first.place (callee.Direct names.number) profile name.selectors (ap profile_of names.stands)
       (selectors_legal v name legal (standing.Callee (callee.Direct names.number)) stands_direct)
       (whole_called v name legal (standing.Callee (callee.Direct names.number)) stands_direct)
+
+  -- its actual parameters stand behind its name
+  pub call_written : actuals_behind name.selectors ≡ None → ⊥
+  call_written none = let never = sym none ∙ actuals_there name.selectors call.arguments call.written in cc
 
   module _ (all : List Argument) (written : actuals_behind name.selectors ≡ Some (argument_trees all)) where
     same : call.arguments ≡ argument_trees all

@@ -1,23 +1,20 @@
 -- Calls of procedures stay within bounds, and add no labels.
-use Rattle.std.proofs.Common.{◌≡◌, ◌≤◌, ◌+◌, ◌∷◌, ℕ, zero, suc, List, [], length, take, Some, None, sym, ap, subst, arith, refl}
-use Rattle.std.specs.Prelude.{is_none}
+use Rattle.std.proofs.Common.{◌≡◌, ◌+◌, ℕ, List, length, Some, None, sym, ap, arith, refl}
 use Rattle.ada_tree.specs.ExpressionTree.{ArgumentTrees, NameTree, Arguments, Component, MoreSelectors, NoSelectors, SelectorTrees}
 use Rattle.ada_tree.specs.Size.{total}
 use Rattle.ada_tree.specs.StatementTree.{Call}
 use Rattle.types.specs.declared.entity.FormalParameter.{FormalParameter}
-use Rattle.types.specs.Entities.{Profile}
 use Rattle.expr_code.specs.Code.{IsShallow}
-use Rattle.expr_code.specs.Seeing.{subprogram_of}
 use Rattle.expr_code.specs.declared.code.Code.{Code}
 use Rattle.expr_code.specs.declared.visible.Visible.{Visible}
 use Rattle.part_code.specs.Labels.{stmt_labels, with_line}
 use Rattle.part_code.specs.Lines.{line_behind}
-use Rattle.part_code.specs.Passing.{actuals_behind, ExternalName, operation_behind}
-use Rattle.part_code.specs.Needs.{Needs, actuals_needs, beyond_if, both, copies_needs, destinations_of, invoked_needs, passed_needs, stacked}
+use Rattle.part_code.specs.Passing.{ExternalName, operation_behind}
+use Rattle.part_code.specs.Needs.{actuals_needs, both, copies_needs, destinations_of, passed_needs, stacked}
 use Rattle.stmt_code.specs.Staying.{Stays}
 use Rattle.part_code.specs.Suiting.{passed_width}
 use Rattle.stmt_code.specs.declared.draft.Draft.{Draft}
-use Rattle.part_code.proofs.Within.{Within, in_left, in_right, of_right}
+use Rattle.part_code.proofs.Within.{in_left, in_right, of_right}
 use Rattle.stmt_code.proofs.Staying.{coded, stays_code, stays_self}
 use Rattle.expr_code.proofs.Shallow.{shallow_more, shallow_next}
 
@@ -38,14 +35,13 @@ invocation_shallow v fs trees old a b c height high p q r =
     let n = (passed_needs v fs (Some trees)).stack in
     shallow_next old b c copies.stack n three (shallow_next old a b height n (omega (arith, high, two)) (shallow_more old a passing.stack n one p) q) r
 
--- what is called, by whichever name, of which something is asked too
-pub call_stays : (v : Visible) (old : Draft) (name : NameTree) (fs : List FormalParameter) (trees : ArgumentTrees) (numbered : Needs)
+-- what is called, by whichever name
+pub call_stays : (v : Visible) (old : Draft) (name : NameTree) (fs : List FormalParameter) (trees : ArgumentTrees)
     → line_behind name.selectors ≡ None → (c : Code) → IsShallow old.code c (passed_needs v fs (Some trees)).stack
-    → Stays old (both numbered (passed_needs v fs (Some trees))) (stmt_labels old.labels (Call name)) (length old.rows.items) (coded old c)
-call_stays v old name fs trees numbered none c p =
-    let call = passed_needs v fs (Some trees) in
-    let n = both numbered call in
-    let code = stays_code old old n old.labels c call.stack (in_right numbered call).stack p (stays_self old n) in
+    → Stays old (passed_needs v fs (Some trees)) (stmt_labels old.labels (Call name)) (length old.rows.items) (coded old c)
+call_stays v old name fs trees none c p =
+    let n = passed_needs v fs (Some trees) in
+    let code = stays_code old old n old.labels c n.stack (omega arith) p (stays_self old n) in
     record { labels = sym (ap (with_line old.labels) none); rows = code.rows; stack = code.stack; frame = code.frame }
 
 -- no line is written where an operation is named

@@ -1,6 +1,6 @@
 -- Rows of the choices of handlers: for which exceptions they are, where these go on, and what they are beside other rows.
 use Rattle.std.proofs.Common.{◌≡◌, ℕ, suc, ◌+◌, ◌-◌, ◌<◌, ◌≤◌, List, [], ◌∷◌, ◌++◌, All, length, Bool, true, false, Option, Some, None, refl, sym, ap, ◌∙◌, subst, arith, rules}
-use Rattle.std.specs.Prelude.{◌&&◌, ◌||◌, bytes_eq, get_or, if◌then◌else◌, is_some, nat_eq, nat_le, nat_lt, option_map, position, ⊤}
+use Rattle.std.specs.Prelude.{◌&&◌, ◌||◌, bytes_eq, if◌then◌else◌, is_some, nat_eq, nat_le, nat_lt, option_map, position, ⊤}
 use Rattle.std.specs.List.{list_all}
 use Rattle.std.proofs.lemmas.List.Elements.{All-cons, All-head, All-nil, All-tail, All-weaker}
 use Rattle.std.proofs.lemmas.List.Folds.{list_all-append}

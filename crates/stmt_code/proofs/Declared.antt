@@ -16,17 +16,17 @@ use Rattle.image.specs.declared.subprograms.Subprogram.{Subprogram}
 use Rattle.types.specs.declared.entity.Role.{Role}
 use Rattle.types.specs.declared.entity.Subtype.{Subtype}
 use Rattle.types.specs.Entities as entity
-use Rattle.types.specs.Entities.{Entity, Profile}
+use Rattle.types.specs.Entities.{Doubtful, Entity, OfSubtype, OfType, Profile}
 use Rattle.types.specs.Laws.{InitialValuesHaveShape, ShapesStay, ValuesHaveWords}
 use Rattle.types.specs.Layouts.{capped, words_of}
 use Rattle.types.specs.Places.{Object}
-use Rattle.types.specs.Scopes.{Scope, form_at, is_visible, with_name}
+use Rattle.types.specs.Scopes.{Scope, entity_at, form_at, is_visible, number_of, with_name}
 use Rattle.types.specs.Shapes.{initial, initial_of, shape_of, value_words}
 use Rattle.expr_soundness.specs.expr_rules.specs.declared.own.Wanted.TheVariants.{OfType}
 use Rattle.expr_soundness.specs.expr_rules.specs.ExpressionRules.{faults_of}
 use Rattle.expr_soundness.specs.expr_rules.proofs.TypedLaw.{back_empty, front_empty, unbroken}
 use Rattle.type_rules.specs.ObjectRules.{local_initial_faults, local_object_faults, local_object_scope, object_entity, role_of}
-use Rattle.type_rules.specs.SubtypeNames.{declared_twice, subtype_faults, subtype_of, wanted_by}
+use Rattle.type_rules.specs.SubtypeNames.{declared_twice, entity_at_or_none, subtype_faults, subtype_in, subtype_of, subtype_rule, wanted_by}
 use Rattle.declaring.specs.LocalRules.{local_faults, local_scope, locals_faults, locals_scope}
 use Rattle.expr_soundness.specs.Agreeing.{Agrees}
 use Rattle.expr_soundness.specs.Laws.{AgreementIsKept, CallsAreTyped, ScopesAreSound}
@@ -35,6 +35,7 @@ use Rattle.expr_soundness.proofs.Positions.{same_some}
 use Rattle.expr_soundness.proofs.Widening.{subtype_known}
 use Rattle.expr_soundness.specs.meaning.specs.Calls.{procedure_here}
 use Rattle.expr_soundness.specs.meaning.specs.Programs.{Procedure, Program, subtype_named}
+use Rattle.part_code.specs.step_soundness.specs.body_restrictions.specs.BodyRules as restrictions
 use Rattle.part_code.specs.step_soundness.specs.Fitting.{IsFound, entity_named}
 use Rattle.part_code.specs.step_soundness.proofs.Elaborating.{declared_subtype}
 use Rattle.expr_code.specs.Views.{At}
@@ -568,6 +569,38 @@ declaration_legal s (y ∷ all) zero x less is h =
 declaration_legal s (y ∷ all) (suc n) x less is h =
     declaration_legal (local_scope s (declaration_tree y)) all n x (omega (arith, less)) is
     (back_empty (local_faults s (declaration_tree y)) (locals_faults (local_scope s (declaration_tree y)) (map declaration_tree all)) h)
+
+pub declaration_allowed : (all : List Declaration) (n : ℕ) (x : Declaration) → n < length all → x ≡ get_or all n x
+    → restrictions.locals_faults (map declaration_tree all) ≡ [] → restrictions.local_faults (declaration_tree x) ≡ []
+declaration_allowed [] n x less is h = absurd (omega (arith, less))
+declaration_allowed (y ∷ all) zero x less is h =
+    subst (λ z. restrictions.local_faults (declaration_tree z) ≡ []) (sym is)
+    (front_empty (restrictions.local_faults (declaration_tree y)) (restrictions.locals_faults (map declaration_tree all)) h)
+declaration_allowed (y ∷ all) (suc n) x less is h =
+    declaration_allowed all n x (omega (arith, less)) is
+    (back_empty (restrictions.local_faults (declaration_tree y)) (restrictions.locals_faults (map declaration_tree all)) h)
+
+-- what is named as the subtype is one
+pub local_subtype : (s : Scope) → SoundScope s → (d : ObjectTree) → local_object_faults s d ≡ [] → subtype_of s d.subtype ≡ None → ⊥
+local_subtype s sound d legal none = by_number (number_of s d.subtype.name) named none
+  where
+    named : subtype_faults s d.subtype ≡ []
+    named = front_empty (subtype_faults s d.subtype) (local_initial_faults s d)
+        (front_empty (subtype_faults s d.subtype ++ local_initial_faults s d) (declared_twice s d.name) legal)
+
+    by_entity : (n : ℕ) (o : Option Entity) → entity_at s n ≡ o → subtype_rule d.subtype.place o ≡ [] → subtype_in o ≡ None → ⊥
+    by_entity n None at h k = cc
+    by_entity n (Some (OfType form t)) at h k = cc
+    by_entity n (Some (OfSubtype t)) at h k = cc
+    by_entity n (Some Doubtful) at h k = sound.each n Doubtful at
+    by_entity n (Some e) at h k = cc
+
+    by_number : (o : Option ℕ) → subtype_rule d.subtype.place (entity_at_or_none s o) ≡ [] → subtype_in (entity_at_or_none s o) ≡ None → ⊥
+    by_number None h k = cc
+    by_number (Some n) h k = by_entity n (entity_at s n) refl h k
+
+pub object_new : (s : Scope) (d : ObjectTree) → local_object_faults s d ≡ [] → declared_twice s d.name ≡ []
+object_new s d legal = back_empty (subtype_faults s d.subtype ++ local_initial_faults s d) (declared_twice s d.name) legal
 
 -- the initial value is fit for the subtype
 pub initial_fit : (s : Scope) (d : ObjectTree) (t : Subtype) → subtype_of s d.subtype ≡ Some t → local_object_faults s d ≡ [] → FitsIfAny s t d.value

@@ -1,5 +1,5 @@
 -- The code of `delay until`: a test, the time, and the delay.
-use Rattle.std.proofs.Common.{◌≡◌, ◌≤◌, ◌+◌, ◌*◌, [], ℕ, suc, length, None, Some, false, refl, sym, ap, ◌∙◌, subst, arith}
+use Rattle.std.proofs.Common.{◌≡◌, ◌≤◌, ◌+◌, ◌*◌, [], ℕ, suc, length, None, Some, refl, sym, ap, ◌∙◌, subst, arith}
 use Rattle.std.specs.Prelude.{not}
 use Rattle.ada_tree.specs.ExpressionTree.{ExprTree}
 use Rattle.ada_tree.specs.Size.{expr_size}
@@ -15,7 +15,7 @@ use Rattle.expr_soundness.specs.expr_rules.specs.declared.own.Own.{Own}
 use Rattle.expr_soundness.specs.expr_rules.specs.declared.own.Own.TheVariants.{Typed, Universal, Unknown}
 use Rattle.expr_soundness.specs.expr_rules.proofs.TypedLaw.{back_empty, front_empty, time_numeric, unbroken}
 use Rattle.expr_soundness.proofs.Expressions.{not_false}
-use Rattle.part_code.specs.stmt_rules.specs.SimpleRules.{delay_until_faults, time_rule, time_wanted}
+use Rattle.part_code.specs.stmt_rules.specs.SimpleRules.{time_rule, time_wanted}
 use Rattle.expr_code.specs.Code.{Adds, Extends, Holds, IsShallow, here}
 use Rattle.expr_code.specs.Computing.{Computes}
 use Rattle.expr_code.specs.Emitting.{EmitsExpression, IsLegalExpression}
@@ -129,13 +129,13 @@ module _ (v : Visible) (old : Draft) (place : ℕ) (e : ExprTree) where
   some : 1 ≤ needs.stack
   some = let one = peak_some v.scope e in omega (arith, one)
 
-  pub test_refused : (why : Refusal) → IsRefused (here old.code + 1) 0 false why → Refuses old old.labels bound needs why
+  pub test_refused : (why : Refusal) → IsRefused (here old.code + 1) 0 why → Refuses old old.labels bound needs why
   test_refused why r = plain_refused (here old.code + 1) (here old.code + bound) 0 needs old.labels why (omega arith) (omega arith) r
 
   pub until_refused : (b : Code) (why : Refusal) → here b ≡ suc (here old.code) → RefusesExpression v b 0 e why → Refuses old old.labels bound needs why
   until_refused b why next r = value_refused v b 0 e (here old.code + bound) needs old.labels why (omega (arith, next)) (within_self needs) r
 
-  pub delay_refused : (b m : Code) (why : Refusal) → here b ≡ suc (here old.code) → here m ≤ here b + 20 * expr_size e → IsRefused (here m + 1) 1 false why
+  pub delay_refused : (b m : Code) (why : Refusal) → here b ≡ suc (here old.code) → here m ≤ here b + 20 * expr_size e → IsRefused (here m + 1) 1 why
       → Refuses old old.labels bound needs why
   delay_refused b m why next up r =
       plain_refused (here m + 1) (here old.code + bound) 1 needs old.labels why (omega (arith, next, up)) (stack_within 1 needs some) r

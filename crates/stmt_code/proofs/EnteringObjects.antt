@@ -1,8 +1,7 @@
 -- What a frame knows when a body of a protected object is entered: the components of the object and its functions, and behind them the names of the package.
-use Rattle.std.proofs.Common.{◌≡◌, ℕ, ◌≤◌, ◌⊎◌, inl, inr, ℤ, List, [], length, Option, Some, None, Bool, true, refl, sym, ap, ◌∙◌, subst, arith, rules}
+use Rattle.std.proofs.Common.{◌≡◌, ℕ, ◌≤◌, ◌⊎◌, inl, inr, ℤ, List, [], length, Option, Some, None, true, refl, sym, ap, ◌∙◌, subst, arith, rules}
 use Rattle.std.specs.Prelude.{is_some, nat_eq, option_map}
 use Rattle.std.proofs.lemmas.Slice.Eq.{bytes_eq-Decides}
-use Rattle.image.specs.Frames.{object_words}
 use Rattle.image.specs.declared.instruction.Region.TheVariants as regions
 use Rattle.types.specs.declared.entity.Subtype.{Subtype}
 use Rattle.types.specs.Entities.{ProtectedObject, Profile}
@@ -15,7 +14,7 @@ use Rattle.expr_code.specs.Naming.{Lies}
 use Rattle.expr_code.specs.Seeing.{HasObjects, IsCoded, IsOffered, Package, SeesPackage, external_of, object_named, outside, slot_of, subprogram_of, subtype_among, NamesProfile}
 use Rattle.expr_code.specs.Views.{View}
 use Rattle.expr_code.specs.declared.visible.Slot.{Slot}
-use Rattle.part_code.specs.Resting.{Framed, IsAtHomeIn, Knows, Rests}
+use Rattle.part_code.specs.Resting.{Framed, IsAtHomeIn, Knows}
 use Rattle.part_code.proofs.Names.{object_value}
 use Rattle.part_code.proofs.StoringCode.{component_meant, meant_among}
 use Rattle.stmt_code.proofs.Entering.{BeginsBody, function_is, no_scope_function, object_meant, same_function}

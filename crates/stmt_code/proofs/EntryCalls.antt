@@ -168,7 +168,7 @@ module _ (quiet : QuietStays) (v : Visible) (w : Ways) (a c : Draft) (b : Code) 
 -- ---- refusals, and what stays within bounds
 
 -- the test alone is refused by whatever refuses an instruction
-pub test_refused : (v : Visible) (old : Draft) (name : NameTree) (n : Needs) (why : Refusal) → IsRefused (here old.code + 1) 0 false why
+pub test_refused : (v : Visible) (old : Draft) (name : NameTree) (n : Needs) (why : Refusal) → IsRefused (here old.code + 1) 0 why
     → RefusesCall v old name n why
 test_refused v old name n why r =
     plain_refused (here old.code + 1) (here old.code + stmt_bound v.scope (statements.Call name)) 0 n (stmt_labels old.labels (statements.Call name)) why

@@ -18,6 +18,7 @@ use Rattle.types.specs.Layouts.{words_of}
 use Rattle.types.specs.Places.{is_among}
 use Rattle.types.specs.Scopes.{Scope}
 use Rattle.expr_soundness.specs.expr_rules.proofs.TypedLaw.{back_empty, front_empty}
+use Rattle.part_code.specs.step_soundness.specs.body_restrictions.specs.BodyRules as restrictions
 use Rattle.part_code.specs.stmt_rules.specs.HandlerRules as rules
 use Rattle.part_code.specs.stmt_rules.specs.HandlerRules.{exception_choices_faults, is_single, named_after}
 use Rattle.part_code.specs.stmt_rules.specs.StatementRules.{in_handler, more_handlers_faults, stmts_faults}
@@ -32,7 +33,7 @@ use Rattle.expr_code.proofs.Flowing.{kept_one, kept_then}
 use Rattle.expr_code.proofs.Growing.{added_at, added_extends, added_here, added_there, extends_self, extends_trans, holds_before, holds_later}
 use Rattle.stmt_code.specs.Covering.{AddsHandlers, AreEachKept, AreHandling, EmitsApart, IsOwn, bound_of, first_for, in_front}
 use Rattle.part_code.specs.ChoiceRows.{choice_rows}
-use Rattle.stmt_code.specs.Emitting.{Allows, AreLegalStatements, AreLegalHandlers, EmitsStatements, HasLabels, IsHandled, MeantTo, Serves}
+use Rattle.stmt_code.specs.Emitting.{Allows, AreAcceptedHandlers, AreAcceptedStatements, EmitsStatements, HasLabels, IsHandled, MeantTo, Serves}
 use Rattle.part_code.specs.Emitting.{TakesWords}
 use Rattle.part_code.specs.Handling.{Handling, or_answer}
 use Rattle.part_code.specs.Layout.{IsFree, IsLaidOut}
@@ -42,6 +43,7 @@ use Rattle.part_code.specs.Suiting.{SuitsStatements}
 use Rattle.part_code.specs.Statements.{AreHandlers, AreStatements, IsHandler, Numbers, Ways, within_handler}
 use Rattle.stmt_code.specs.declared.draft.Draft.{Draft}
 use Rattle.part_code.proofs.Jumps.{jump_kept}
+use Rattle.stmt_code.proofs.Accepting.{ways_in_handler}
 use Rattle.stmt_code.proofs.Adding.{labels_before, labels_stay, labels_then}
 use Rattle.part_code.proofs.Lists.{mapped_next, take_all}
 use Rattle.stmt_code.proofs.ChoiceRows.{each_choice, first_choices, first_then, if_or}
@@ -484,20 +486,40 @@ module _ (v : Visible) (w : Ways) where
 
 -- ---- what is legal
 
-pub handler_legal : (s : Scope) (all : List Handler) (n : ℕ) (h : Handler) → n < length all → h ≡ get_or all n h → AreLegalHandlers s (handler_trees all)
-    → AreLegalStatements s (stmt_trees h.statements.items)
-handler_legal s all n h less is legal = record { around = in_handler legal.around; unbroken = at all n legal.before less is legal.unbroken }
+pub record HandlerIsAccepted (s : Scope) (w : Ways) (h : Handler) : Type 0 where
+  pub before : List (List ℕ)
+  pub single : Bool
+  pub choices : exception_choices_faults s before single h.choices.items ≡ []
+  pub body : (word : ℕ) → AreAcceptedStatements s (within_handler word w) (stmt_trees h.statements.items)
+
+pub handler_accepted : (s : Scope) (w : Ways) (all : List Handler) (n : ℕ) (h : Handler) → n < length all → h ≡ get_or all n h
+    → AreAcceptedHandlers s w (handler_trees all) → HandlerIsAccepted s w h
+handler_accepted s w all n h less is legal = at all n legal.before less is legal.unbroken legal.restricted
   where
     at : (all : List Handler) (n : ℕ) (before : List (List ℕ)) → n < length all → h ≡ get_or all n h
-        → more_handlers_faults s legal.around before (handler_trees all) ≡ [] → stmts_faults s (in_handler legal.around) (stmt_trees h.statements.items) ≡ []
-    at [] n before less is g = absurd (omega (arith, less))
-    at (y ∷ all) zero before less is g =
-        let c = exception_choices_faults s before (is_single y.choices.items && rules.no_more (handler_trees all)) y.choices.items in
+        → more_handlers_faults s legal.around before (handler_trees all) ≡ [] → restrictions.handlers_faults (handler_trees all) ≡ []
+        → HandlerIsAccepted s w h
+    at [] n before less is g r = absurd (omega (arith, less))
+    at (y ∷ all) zero before less is g r =
+        let single = is_single y.choices.items && rules.no_more (handler_trees all) in
+        let c = exception_choices_faults s before single y.choices.items in
         let b = stmts_faults s (in_handler legal.around) (stmt_trees y.statements.items) in
-        subst (λ z. stmts_faults s (in_handler legal.around) (stmt_trees z.statements.items) ≡ []) (sym is)
-        (back_empty c b (front_empty (c ++ b) (more_handlers_faults s legal.around (named_after before y.choices.items) (handler_trees all)) g))
-    at (y ∷ all) (suc n) before less is g =
+        let two = front_empty (c ++ b) (more_handlers_faults s legal.around (named_after before y.choices.items) (handler_trees all)) g in
+        subst (HandlerIsAccepted s w) (sym is)
+        (record {
+          before = before;
+          single = single;
+          choices = front_empty c b two;
+          body = λ word. record {
+            around = in_handler legal.around;
+            ways = ways_in_handler w legal.around word legal.ways;
+            unbroken = back_empty c b two;
+            restricted = front_empty (restrictions.stmts_faults (stmt_trees y.statements.items)) (restrictions.handlers_faults (handler_trees all)) r;
+          };
+        })
+    at (y ∷ all) (suc n) before less is g r =
         let c = exception_choices_faults s before (is_single y.choices.items && rules.no_more (handler_trees all)) y.choices.items in
         let b = stmts_faults s (in_handler legal.around) (stmt_trees y.statements.items) in
         at all n (named_after before y.choices.items) (omega (arith, less)) is
         (back_empty (c ++ b) (more_handlers_faults s legal.around (named_after before y.choices.items) (handler_trees all)) g)
+        (back_empty (restrictions.stmts_faults (stmt_trees y.statements.items)) (restrictions.handlers_faults (handler_trees all)) r)

@@ -306,4 +306,7 @@ cover_here v w a b cover body p =
     omega (arith, next, up)
 
 pub cover_like : (v : Visible) (w : Ways) (a b : Draft) (cover : Cover) (body : StmtTrees) → AddsCovered v w a body cover b → IsLike a b
-cover_like v w a b cover body p = (ap (λ y. y.taken) p.same.words ∙ p.emits.taken, p.same.exceptions ∙ p.emits.rows.exceptions)
+cover_like v w a b cover body p = ap (λ y. y.taken) p.same.words ∙ p.emits.taken
+
+pub cover_kept : (v : Visible) (w : Ways) (a b : Draft) (cover : Cover) (body : StmtTrees) → AddsCovered v w a body cover b → b.exceptions ≡ a.exceptions
+cover_kept v w a b cover body p = p.same.exceptions ∙ p.emits.rows.exceptions

@@ -5,7 +5,7 @@ use Rattle.image.specs.declared.instruction.Region.TheVariants as regions
 use Rattle.types.specs.declared.entity.Role.{Role}
 use Rattle.types.specs.declared.entity.Subtype.{Subtype}
 use Rattle.types.specs.Entities as entity
-use Rattle.types.specs.Entities.{Entity, TypeForm}
+use Rattle.types.specs.Entities.{Entity}
 use Rattle.types.specs.Laws.{ShapesStay}
 use Rattle.types.specs.Layouts.{words_of}
 use Rattle.types.specs.Scopes.{Named, Scope, entity_at, entity_of, form_of, is_visible, number_of, with_name}

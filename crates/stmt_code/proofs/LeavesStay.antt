@@ -1,6 +1,6 @@
 -- Statements without others within, and declarations, stay within bounds.
 use Rattle.std.proofs.Common.{◌≡◌, ◌≤◌, ◌<◌, ◌+◌, ◌∷◌, ℕ, suc, List, [], length, map, take, Some, None, sym, ap, ◌∙◌, subst, arith}
-use Rattle.std.specs.Prelude.{get_or, is_some, max, not}
+use Rattle.std.specs.Prelude.{get_or, max}
 use Rattle.std.proofs.Math.Nat.{le-max_left}
 use Rattle.ada_tree.specs.declared.declaration.Declaration.{Declaration}
 use Rattle.ada_tree.specs.ExpressionTree.{ExprTree, NameTree}
@@ -11,7 +11,6 @@ use Rattle.types.specs.declared.standing.Standing.TheVariants as standing
 use Rattle.types.specs.Layouts.{capped, words_of}
 use Rattle.types.specs.Standings.{standing_of}
 use Rattle.type_rules.specs.SubtypeNames.{subtype_of}
-use Rattle.part_code.specs.step_soundness.specs.Fitting.{entity_named}
 use Rattle.expr_code.specs.Code.{IsShallow}
 use Rattle.expr_code.specs.Refusing.{checked_peak, peak, selectors_peak}
 use Rattle.expr_code.specs.declared.code.Code.{Code}
@@ -19,39 +18,31 @@ use Rattle.expr_code.specs.declared.visible.Visible.{Visible}
 use Rattle.expr_code.proofs.Refusals.{peak_some}
 use Rattle.part_code.specs.Bounds.{locals_words}
 use Rattle.part_code.specs.Labels.{stmt_labels, with_label, with_line}
-use Rattle.part_code.specs.Lines.{LabelledValue, is_put, line_of}
-use Rattle.part_code.specs.Needs.{Needs, address_needs, assigned_needs, beyond_if, both, framed, initial_needs, line_needs, locals_needs, locals_visible, nothing, object_needs, put_needs, stored_needs, value_needs, words_at}
-use Rattle.part_code.specs.Statements.{Ways}
+use Rattle.part_code.specs.Lines.{LabelledValue, line_of}
+use Rattle.part_code.specs.Needs.{Needs, address_needs, assigned_needs, both, framed, initial_needs, line_needs, locals_needs, locals_visible, nothing, object_needs, put_needs, stored_needs, value_needs, words_at}
 use Rattle.stmt_code.specs.Staying.{Stays, StaysDeclarations, StaysStatement}
 use Rattle.stmt_code.specs.declared.draft.Draft.{Draft}
 use Rattle.part_code.specs.declared.frame_words.FrameWords.{FrameWords}
 use Rattle.stmt_code.proofs.PartsStay.{stays_taken}
-use Rattle.part_code.proofs.Within.{Within, in_left, in_right, of_right, within_self}
+use Rattle.part_code.proofs.Within.{Within, in_left, in_right, within_self}
 use Rattle.stmt_code.proofs.Refused.{locals_among}
 use Rattle.stmt_code.proofs.Staying.{coded, stays_code, stays_self, stays_then}
 
 -- ---- ways out
 
-pub exit_stays : (v : Visible) (w : Ways) (old : Draft) (place : ℕ) (a : Code) → IsShallow old.code a 0 → StaysStatement v w old (Exit place None) (coded old a)
-exit_stays v w old place a p =
-    let n = both (beyond_if (not (is_some w.exit))) nothing in
-    stays_code old old n old.labels a 0 (omega arith) p (stays_self old n)
+pub exit_stays : (v : Visible) (old : Draft) (place : ℕ) (a : Code) → IsShallow old.code a 0 → StaysStatement v old (Exit place None) (coded old a)
+exit_stays v old place a p = stays_code old old nothing old.labels a 0 (omega arith) p (stays_self old nothing)
 
-pub exit_when_stays : (v : Visible) (w : Ways) (old : Draft) (place : ℕ) (e : ExprTree) (a b : Code) → IsShallow old.code a (0 + peak v.scope e)
-    → IsShallow a b 1 → StaysStatement v w old (Exit place (Some e)) (coded old b)
-exit_when_stays v w old place e a b p q =
-    let test = beyond_if (not (is_some w.exit)) in
-    let value = value_needs v e in
-    let n = both test value in
-    let high = (in_right test value).stack in
+pub exit_when_stays : (v : Visible) (old : Draft) (place : ℕ) (e : ExprTree) (a b : Code) → IsShallow old.code a (0 + peak v.scope e)
+    → IsShallow a b 1 → StaysStatement v old (Exit place (Some e)) (coded old b)
+exit_when_stays v old place e a b p q =
+    let n = value_needs v e in
     let some = peak_some v.scope e in
-    stays_code old (coded old a) n old.labels b 1 (omega (arith, some, high)) q
-    (stays_code old old n old.labels a (0 + peak v.scope e) (omega (arith, high)) p (stays_self old n))
+    stays_code old (coded old a) n old.labels b 1 (omega (arith, some)) q
+    (stays_code old old n old.labels a (0 + peak v.scope e) (omega arith) p (stays_self old n))
 
-pub return_stays : (v : Visible) (w : Ways) (old : Draft) (place : ℕ) (a : Code) → IsShallow old.code a 0
-    → StaysStatement v w old (Return place None) (coded old a)
-return_stays v w old place a p = stays_code old old (beyond_if (not (is_some w.return))) old.labels a 0 (omega arith) p
-    (stays_self old (beyond_if (not (is_some w.return))))
+pub return_stays : (v : Visible) (old : Draft) (place : ℕ) (a : Code) → IsShallow old.code a 0 → StaysStatement v old (Return place None) (coded old a)
+return_stays v old place a p = stays_code old old nothing old.labels a 0 (omega arith) p (stays_self old nothing)
 
 -- ---- lines
 
@@ -59,10 +50,9 @@ pub line_stays : (v : Visible) (old : Draft) (name : NameTree) (line : LabelledV
     → IsShallow old.code a (0 + peak v.scope line.value) → IsShallow a b 1 → labels ≡ with_label old.labels line.label
     → Stays old (put_needs v name) (stmt_labels old.labels (Call name)) (length old.rows.items) (record old { code = b; labels = labels })
 line_stays v old name line a b labels is p q told =
-    let test = beyond_if (not (is_put (entity_named v.scope name.first.name))) in
     let n = put_needs v name in
     let value = value_needs v line.value in
-    let within = of_right value test (line_needs v (line_of name)) (subst (λ o. Within value (line_needs v o)) (sym is) (within_self value)) in
+    let within = subst (λ o. Within value (line_needs v o)) (sym is) (within_self value) in
     let high = within.stack in
     let some = peak_some v.scope line.value in
     let code = stays_code old (coded old a) n old.labels b 1 (omega (arith, some, high)) q
@@ -82,7 +72,7 @@ module _ (v : Visible) (old : Draft) (name : NameTree) (e : ExprTree) (r : Role)
   value_high : (d : ℕ) → d ≤ 1 → d + checked_peak (peak v.scope e) ≤ needs.stack
   value_high d up =
       in_value (d + checked_peak (peak v.scope e)) (words_at v.scope (standing_of v.scope name.first name.selectors)) (checked_peak (peak v.scope e))
-      (address_needs 0 v name.first name.selectors).stack
+      (address_needs 0 v name.selectors).stack
       (most (words_at v.scope (standing_of v.scope name.first name.selectors)) (checked_peak (peak v.scope e)))
     where
       most : (a c : ℕ) → d + c ≤ suc (max a c)
@@ -91,7 +81,7 @@ module _ (v : Visible) (old : Draft) (name : NameTree) (e : ExprTree) (r : Role)
   store_high : (h : ℕ) → h ≤ suc (words_of v.scope last) → h ≤ needs.stack
   store_high h up =
       in_value h (words_at v.scope (standing_of v.scope name.first name.selectors)) (checked_peak (peak v.scope e))
-      (address_needs 0 v name.first name.selectors).stack
+      (address_needs 0 v name.selectors).stack
       (most (words_at v.scope (standing_of v.scope name.first name.selectors)) (checked_peak (peak v.scope e)) (ap (words_at v.scope) reached))
     where
       most : (a c : ℕ) → a ≡ words_of v.scope last → h ≤ suc (max a c)
@@ -107,7 +97,7 @@ module _ (v : Visible) (old : Draft) (name : NameTree) (e : ExprTree) (r : Role)
       → IsShallow a b (1 + checked_peak (peak v.scope e)) → h ≤ suc (words_of v.scope last) → IsShallow b c h
       → Stays old needs old.labels (length old.rows.items) (coded old c)
   part_stays a b c h p q high s =
-      let target = address_needs 0 v name.first name.selectors in
+      let target = address_needs 0 v name.selectors in
       let low = le-max_left target.stack (assigned_needs v (standing_of v.scope name.first name.selectors) e).stack in
       stays_code old (coded old b) needs old.labels c h (store_high h high) s
       (stays_code old (coded old a) needs old.labels b (1 + checked_peak (peak v.scope e)) (value_high 1 (omega arith)) q

@@ -13,11 +13,12 @@ mod Parameters
 mod Ranging
 mod AssigningParts
 mod Widening
+mod Accepting
 mod Adding
 mod Opening
 mod Repeating
 mod Testing
-mod Putting
+pub mod Putting
 mod Delaying
 mod Running
 mod Keeping
@@ -29,7 +30,7 @@ mod CodeOfCalls
 mod Stored
 mod StoredParts
 mod Suiting
-mod Declared
+pub mod Declared
 mod Alternatives
 mod CallsAdded
 mod EntryCalls
@@ -49,7 +50,6 @@ mod WholePlaces
 mod WholeRefused
 mod CallsStay
 mod RaisesAdded
-mod RaisesRefused
 mod ChoiceRows
 mod CoveredRows
 mod HandlersAdded
@@ -57,3 +57,9 @@ mod HandlersCovered
 mod HandlersRefused
 mod HandlersStay
 mod MovedStays
+pub mod ObjectMore
+pub mod FormalNames
+pub mod CoveredScopes
+pub mod CallForms
+mod AssignedNames
+mod StaticChoices

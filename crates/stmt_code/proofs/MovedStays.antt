@@ -18,6 +18,6 @@ pub moved_stays : (v : Visible) (name : NameTree) (e : ExprTree) (old : Draft) (
     → Stays old (moved_needs v name e) old.labels (length old.rows.items) (coded old c)
 moved_stays v name e old a c p q =
     let needs = moved_needs v name e in
-    stays_code old (coded old a) needs old.labels c (move_needs v e).stack (in_right (address_needs 0 v name.first name.selectors) (move_needs v e)).stack q
+    stays_code old (coded old a) needs old.labels c (move_needs v e).stack (in_right (address_needs 0 v name.selectors) (move_needs v e)).stack q
     (stays_code old old needs old.labels a (0 + selectors_peak v.scope 1 name.selectors)
-    (in_left (address_needs 0 v name.first name.selectors) (move_needs v e)).stack p (stays_self old needs))
+    (in_left (address_needs 0 v name.selectors) (move_needs v e)).stack p (stays_self old needs))

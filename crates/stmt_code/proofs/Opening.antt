@@ -10,7 +10,9 @@ use Rattle.image.specs.Rules.{has_depth}
 use Rattle.image.specs.declared.instruction.Operation.TheVariants as op
 use Rattle.types.specs.Places.{is_among}
 use Rattle.types.specs.Scopes.{Scope}
+use Rattle.expr_soundness.specs.expr_rules.specs.Faults.{Faults}
 use Rattle.expr_soundness.specs.expr_rules.proofs.TypedLaw.{back_empty, front_empty}
+use Rattle.part_code.specs.step_soundness.specs.body_restrictions.specs.BodyRules as restrictions
 use Rattle.part_code.specs.stmt_rules.specs.SimpleRules.{condition_faults}
 use Rattle.part_code.specs.stmt_rules.specs.StatementRules.{elsifs_faults, stmt_faults, stmts_faults}
 use Rattle.expr_soundness.specs.meaning.specs.Programs.{Program}
@@ -27,7 +29,7 @@ use Rattle.expr_code.proofs.Flowing.{kept_one, kept_then, widened}
 use Rattle.expr_code.proofs.Growing.{added_extends, added_here, extends_trans, patched_extends, patched_here, patched_other}
 use Rattle.part_code.specs.Handling.{Handling}
 use Rattle.part_code.specs.Bounds.{elsifs_bound, stmt_bound, stmts_bound}
-use Rattle.stmt_code.specs.Emitting.{AddsParts, AreLegalStatements, AreLegalElsifs, AreParts, Emits, EmitsOpen, EmitsStatement, EmitsStatements, IsLegalStatement, Meant, MeantTo, Serves, in_front}
+use Rattle.stmt_code.specs.Emitting.{AddsParts, AreAcceptedElsifs, AreAcceptedStatements, AreParts, Emits, EmitsOpen, EmitsStatement, EmitsStatements, IsAcceptedStatement, Meant, MeantTo, Serves, in_front}
 use Rattle.part_code.specs.Resting.{Framed}
 use Rattle.part_code.specs.Statements.{AreStatements, IsOtherwise, IsStatement, Numbers, Ways}
 use Rattle.stmt_code.specs.declared.draft.Draft.{Draft}
@@ -410,8 +412,8 @@ module _ (v : Visible) (w : Ways) where
 
 -- ---- what is legal
 
-module _ (s : Scope) (x : statements.StmtTree) (place : ℕ) (e : ExprTree) (body : StmtTrees) (elsifs : ElsifTrees) (others : StmtTrees)
-    (is : x ≡ statements.If place e body elsifs others) (h : IsLegalStatement s x) where
+module _ (s : Scope) (w : Ways) (x : statements.StmtTree) (place : ℕ) (e : ExprTree) (body : StmtTrees) (elsifs : ElsifTrees) (others : StmtTrees)
+    (is : x ≡ statements.If place e body elsifs others) (h : IsAcceptedStatement s w x) where
   whole : stmt_faults s h.around (statements.If place e body elsifs others) ≡ []
   whole = ap (stmt_faults s h.around) (sym is) ∙ h.unbroken
 
@@ -421,39 +423,68 @@ module _ (s : Scope) (x : statements.StmtTree) (place : ℕ) (e : ExprTree) (bod
   two_faults : (condition_faults s e ++ stmts_faults s h.around body) ≡ []
   two_faults = front_empty (condition_faults s e ++ stmts_faults s h.around body) (elsifs_faults s h.around elsifs) three_faults
 
+  abbrev forbidden : Faults
+  forbidden = restrictions.stmts_faults body ++ restrictions.elsifs_faults elsifs
+
+  all_allowed : forbidden ++ restrictions.stmts_faults others ≡ []
+  all_allowed = ap restrictions.stmt_faults (sym is) ∙ h.restricted
+
+  two_allowed : forbidden ≡ []
+  two_allowed = front_empty forbidden (restrictions.stmts_faults others) all_allowed
+
   pub if_condition : condition_faults s e ≡ []
   if_condition = front_empty (condition_faults s e) (stmts_faults s h.around body) two_faults
 
-  pub if_body : AreLegalStatements s body
-  if_body = record { around = h.around; unbroken = back_empty (condition_faults s e) (stmts_faults s h.around body) two_faults }
+  pub if_body : AreAcceptedStatements s w body
+  if_body = record {
+    around = h.around;
+    ways = h.ways;
+    unbroken = back_empty (condition_faults s e) (stmts_faults s h.around body) two_faults;
+    restricted = front_empty (restrictions.stmts_faults body) (restrictions.elsifs_faults elsifs) two_allowed;
+  }
 
-  pub if_elsifs : AreLegalElsifs s elsifs
+  pub if_elsifs : AreAcceptedElsifs s w elsifs
   if_elsifs = record {
     around = h.around;
+    ways = h.ways;
     unbroken = back_empty (condition_faults s e ++ stmts_faults s h.around body) (elsifs_faults s h.around elsifs) three_faults;
+    restricted = back_empty (restrictions.stmts_faults body) (restrictions.elsifs_faults elsifs) two_allowed;
   }
 
-  pub if_others : AreLegalStatements s others
+  pub if_others : AreAcceptedStatements s w others
   if_others = record {
     around = h.around;
+    ways = h.ways;
     unbroken = back_empty ((condition_faults s e ++ stmts_faults s h.around body) ++ elsifs_faults s h.around elsifs) (stmts_faults s h.around others) whole;
+    restricted = back_empty forbidden (restrictions.stmts_faults others) all_allowed;
   }
 
-pub record PartIsLegal (s : Scope) (x : ElsifPart) : Type 0 where
+pub record PartIsAccepted (s : Scope) (w : Ways) (x : ElsifPart) : Type 0 where
   pub condition : condition_faults s (expr_tree x.condition) ≡ []
-  pub body : AreLegalStatements s (stmt_trees x.statements.items)
+  pub body : AreAcceptedStatements s w (stmt_trees x.statements.items)
 
-pub part_legal : (s : Scope) (all : List ElsifPart) (n : ℕ) (x : ElsifPart) → n < length all → x ≡ get_or all n x → AreLegalElsifs s (elsif_trees all)
-    → PartIsLegal s x
-part_legal s all n x less is h = at all n less is h.unbroken
+pub part_accepted : (s : Scope) (w : Ways) (all : List ElsifPart) (n : ℕ) (x : ElsifPart) → n < length all → x ≡ get_or all n x
+    → AreAcceptedElsifs s w (elsif_trees all) → PartIsAccepted s w x
+part_accepted s w all n x less is h = at all n less is h.unbroken h.restricted
   where
-    at : (all : List ElsifPart) (n : ℕ) → n < length all → x ≡ get_or all n x → elsifs_faults s h.around (elsif_trees all) ≡ [] → PartIsLegal s x
-    at [] n less is e = absurd (omega (arith, less))
-    at (y ∷ all) zero less is e =
+    at : (all : List ElsifPart) (n : ℕ) → n < length all → x ≡ get_or all n x → elsifs_faults s h.around (elsif_trees all) ≡ []
+        → restrictions.elsifs_faults (elsif_trees all) ≡ [] → PartIsAccepted s w x
+    at [] n less is e r = absurd (omega (arith, less))
+    at (y ∷ all) zero less is e r =
         let c = condition_faults s (expr_tree y.condition) in
         let b = stmts_faults s h.around (stmt_trees y.statements.items) in
         let two = front_empty (c ++ b) (elsifs_faults s h.around (elsif_trees all)) e in
-        subst (PartIsLegal s) (sym is) (record { condition = front_empty c b two; body = record { around = h.around; unbroken = back_empty c b two } })
-    at (y ∷ all) (suc n) less is e =
+        subst (PartIsAccepted s w) (sym is)
+        (record {
+          condition = front_empty c b two;
+          body = record {
+            around = h.around;
+            ways = h.ways;
+            unbroken = back_empty c b two;
+            restricted = front_empty (restrictions.stmts_faults (stmt_trees y.statements.items)) (restrictions.elsifs_faults (elsif_trees all)) r;
+          };
+        })
+    at (y ∷ all) (suc n) less is e r =
         at all n (omega (arith, less)) is
         (back_empty (condition_faults s (expr_tree y.condition) ++ stmts_faults s h.around (stmt_trees y.statements.items)) (elsifs_faults s h.around (elsif_trees all)) e)
+        (back_empty (restrictions.stmts_faults (stmt_trees y.statements.items)) (restrictions.elsifs_faults (elsif_trees all)) r)

@@ -1,5 +1,5 @@
 -- Each form of statement stays within bounds where its parts do, with the instructions between them.
-use Rattle.std.proofs.Common.{◌≡◌, ◌≤◌, ◌<◌, ◌+◌, ◌∷◌, ℕ, List, [], length, take, Bool, Some, None, sym, ap, ◌∙◌, subst, arith}
+use Rattle.std.proofs.Common.{◌≡◌, ◌≤◌, ◌<◌, ◌+◌, ◌∷◌, ℕ, List, [], length, take, Bool, sym, ap, ◌∙◌, subst, arith}
 use Rattle.std.specs.Prelude.{get_or, max, ⊤}
 use Rattle.ada_tree.specs.declared.expression.Identifier.{Identifier}
 use Rattle.ada_tree.specs.declared.statement.Alternative.{Alternative}
@@ -19,10 +19,9 @@ use Rattle.part_code.specs.Choices.{AddsChoices, AddsTest, TestsAll}
 use Rattle.part_code.specs.Bounds.{locals_words}
 use Rattle.part_code.specs.Emitting.{BeginsLoop, EndsLoop}
 use Rattle.part_code.specs.Labels.{alternatives_labels, elsifs_labels, handlers_labels, stmt_labels, stmts_labels}
-use Rattle.stmt_code.specs.Refusing.{Standpoint, alternatives_needs, around, behind_locals, counted_visible, elsifs_needs, head_needs, in_body, inside_counted, inside_loop, sequence_needs, stmt_needs, stmts_needs}
+use Rattle.stmt_code.specs.Refusing.{Standpoint, alternatives_needs, around, behind_locals, counted_visible, elsifs_needs, head_needs, in_body, inside_counted, sequence_needs, stmt_needs, stmts_needs}
 use Rattle.part_code.specs.Needs.{Needs, both, choices_needs, framed, locals_needs, locals_visible, needs_above, nothing, value_needs}
 use Rattle.part_code.specs.Rows.{alternatives_rows, elsifs_rows, handlers_rows, stmt_rows, stmts_rows}
-use Rattle.part_code.specs.Statements.{Ways, within_loop}
 use Rattle.stmt_code.specs.Staying.{Stays, StaysAlternatives, StaysDeclarations, StaysParts, StaysRange, StaysRun, StaysSequence, StaysStatement, StaysStatements}
 use Rattle.part_code.specs.Turns.{AddsAll, BeginsTurns, EndsTurn, bounds_compared, value_counted, values_compared}
 use Rattle.stmt_code.specs.declared.draft.Draft.{Draft}
@@ -79,7 +78,7 @@ tests_shallow s label old (c ∷ cs) new (mid, test, rest) =
     shallow_then old mid new 3 (test_shallow old _ label mid test.adds) (tests_shallow s label mid cs new rest)
 
 pub choices_shallow : (s : Scope) (old : Code) (choices : ChoicesTree) (next : List ℕ) (new : Code) → AddsChoices s old choices next new
-    → IsShallow old new (choices_needs s choices).stack
+    → IsShallow old new (choices_needs choices).stack
 choices_shallow s old (Values cs) next new p =
     shallow_next old p.passed new 1 3 (omega arith)
     (shallow_next old p.tested p.passed 1 3 (omega arith) (tests_shallow s _ old cs p.tested p.tests) p.passes.shallow) p.drops.shallow
@@ -87,17 +86,17 @@ choices_shallow s old (OtherValues place) next new p = p.drops.shallow
 
 -- ---- statements with others within
 
-module _ (v : Visible) (w : Ways) (old : Draft) where
+module _ (v : Visible) (old : Draft) where
   abbrev at : Standpoint
-  at = around v w old
+  at = around v old
 
   -- where as many words are taken
-  same_within : (mid : Draft) (f : Standpoint → Needs) (n : Needs) → IsLike old mid → Within (f at) n → Within (f (around v w mid)) n
-  same_within mid f n same within = subst (λ a. Within (f a) n) (sym (around_same v w old mid same)) within
+  same_within : (mid : Draft) (f : Standpoint → Needs) (n : Needs) → IsLike old mid → Within (f at) n → Within (f (around v mid)) n
+  same_within mid f n same within = subst (λ a. Within (f a) n) (sym (around_same v old mid same)) within
 
   pub branch_stays : (e : ExprTree) (body : StmtTrees) (a b : Code) (mid : Draft) (d : Code) → IsShallow old.code a (0 + peak v.scope e) → IsShallow a b 1
-      → StaysStatements v w (coded old b) body mid → IsShallow mid.code d 0
-      → StaysParts v w old (elsifs_of ((e, body) ∷ [])) (coded mid d)
+      → StaysStatements v (coded old b) body mid → IsShallow mid.code d 0
+      → StaysParts v old (elsifs_of ((e, body) ∷ [])) (coded mid d)
   branch_stays e body a b mid d condition test stays close =
       let value = value_needs v e in
       let run = stmts_needs at body in
@@ -114,19 +113,19 @@ module _ (v : Visible) (w : Ways) (old : Draft) where
   pub parts_stay : (mid new : Draft) (all : List ElsifPart) (n : ℕ) (x : ElsifPart) → n < length all → x ≡ get_or all n x → IsLike old mid
       → Stays old (elsifs_needs at (elsif_trees all)) (elsifs_labels old.labels (elsif_trees (take n all)))
       (elsifs_rows (length old.rows.items) (elsif_trees (take n all))) mid
-      → StaysParts v w mid (elsifs_of (elsif_tree x ∷ [])) new
+      → StaysParts v mid (elsifs_of (elsif_tree x ∷ [])) new
       → Stays old (elsifs_needs at (elsif_trees all)) (elsifs_labels old.labels (elsif_trees (take (n + 1) all)))
       (elsifs_rows (length old.rows.items) (elsif_trees (take (n + 1) all))) new
   parts_stay mid new all n x less is same p q =
       let part = elsifs_of (elsif_tree x ∷ []) in
       stays_is old new (elsifs_needs at (elsif_trees all)) (parts_next old.labels all n x less is) (parts_counted (length old.rows.items) all n x less is)
-      (stays_then old mid new (elsifs_needs at (elsif_trees all)) (elsifs_needs (around v w mid) part) (elsifs_labels old.labels (elsif_trees (take n all)))
+      (stays_then old mid new (elsifs_needs at (elsif_trees all)) (elsifs_needs (around v mid) part) (elsifs_labels old.labels (elsif_trees (take n all)))
       (λ l. elsifs_labels l part) (λ r. elsifs_rows r part) (same_within mid (λ a. elsifs_needs a part) (elsifs_needs at (elsif_trees all)) same (parts_among at all n x less is).1) p q)
 
   pub if_stays : (place : ℕ) (e : ExprTree) (body : StmtTrees) (elsifs : ElsifTrees) (others : StmtTrees) (one two three : Draft) (d : Code)
-      → IsLike old one → IsLike old two → StaysParts v w old (elsifs_of ((e, body) ∷ [])) one
-      → StaysParts v w one elsifs two → StaysStatements v w two others three → d.deepest ≡ three.code.deepest
-      → StaysStatement v w old (If place e body elsifs others) (coded three d)
+      → IsLike old one → IsLike old two → StaysParts v old (elsifs_of ((e, body) ∷ [])) one
+      → StaysParts v one elsifs two → StaysStatements v two others three → d.deepest ≡ three.code.deepest
+      → StaysStatement v old (If place e body elsifs others) (coded three d)
   if_stays place e body elsifs others one two three d same same_two p q r rejoined =
       let value = value_needs v e in
       let run = stmts_needs at body in
@@ -135,32 +134,31 @@ module _ (v : Visible) (w : Ways) (old : Draft) where
       let n = both value (both run (both more last)) in
       let within = λ (m : Needs) (x : Within m (both more last)). of_right m value (both run (both more last)) (of_right m run (both more last) x) in
       stays_as old three n (stmts_labels (elsifs_labels (stmts_labels old.labels body) elsifs) others) d rejoined
-      (stays_then old two three n (stmts_needs (around v w two) others) (elsifs_labels (stmts_labels old.labels body) elsifs) (λ l. stmts_labels l others)
+      (stays_then old two three n (stmts_needs (around v two) others) (elsifs_labels (stmts_labels old.labels body) elsifs) (λ l. stmts_labels l others)
       (λ r. stmts_rows r others)
       (same_within two (λ a. stmts_needs a others) n same_two (within last (in_right more last)))
-      (stays_then old one two n (elsifs_needs (around v w one) elsifs) (stmts_labels old.labels body) (λ l. elsifs_labels l elsifs) (λ r. elsifs_rows r elsifs)
+      (stays_then old one two n (elsifs_needs (around v one) elsifs) (stmts_labels old.labels body) (λ l. elsifs_labels l elsifs) (λ r. elsifs_rows r elsifs)
       (same_within one (λ a. elsifs_needs a elsifs) n same (within more (in_left more last)))
       (stays_more old one (both value (both run nothing)) n (stmts_labels old.labels body) (front_within value run (both more last)) p) q) r)
 
   -- ---- loops
 
-  pub forever_stays : (place exit : ℕ) (body : StmtTrees) (a : Code) (mid : Draft) (d : Code) → IsShallow old.code a 0
-      → StaysStatements v (within_loop exit w) (coded old a) body mid → IsShallow mid.code d 0
-      → StaysStatement v w old (Loop place Forever body) (coded mid d)
-  forever_stays place exit body a mid d begun stays ended =
-      let run = stmts_needs (inside_loop at) body in
+  pub forever_stays : (place : ℕ) (body : StmtTrees) (a : Code) (mid : Draft) (d : Code) → IsShallow old.code a 0
+      → StaysStatements v (coded old a) body mid → IsShallow mid.code d 0
+      → StaysStatement v old (Loop place Forever body) (coded mid d)
+  forever_stays place body a mid d begun stays ended =
+      let run = stmts_needs at body in
       let n = both nothing run in
       stays_code old mid n (stmts_labels old.labels body) d 0 (omega arith) ended
       (stays_then old (coded old a) mid n run old.labels (λ l. stmts_labels l body) (λ r. stmts_rows r body) (in_right nothing run)
       (stays_code old old n old.labels a 0 (omega arith) begun (stays_self old n)) stays)
 
-  pub while_stays : (place exit : ℕ) (e : ExprTree) (body : StmtTrees) (a b c : Code) (mid : Draft) (d f : Code) → IsShallow old.code a 0
-      → IsShallow a b (0 + peak v.scope e) → IsShallow b c 1 → StaysStatements v (within_loop exit w) (coded old c) body mid → IsShallow mid.code d 0
-      → f.deepest ≡ d.deepest
-      → StaysStatement v w old (Loop place (While e) body) (coded mid f)
-  while_stays place exit e body a b c mid d f begun condition test stays ended patched =
+  pub while_stays : (place : ℕ) (e : ExprTree) (body : StmtTrees) (a b c : Code) (mid : Draft) (d f : Code) → IsShallow old.code a 0
+      → IsShallow a b (0 + peak v.scope e) → IsShallow b c 1 → StaysStatements v (coded old c) body mid → IsShallow mid.code d 0 → f.deepest ≡ d.deepest
+      → StaysStatement v old (Loop place (While e) body) (coded mid f)
+  while_stays place e body a b c mid d f begun condition test stays ended patched =
       let value = value_needs v e in
-      let run = stmts_needs (inside_loop at) body in
+      let run = stmts_needs at body in
       let n = both value run in
       let high = (in_left value run).stack in
       let some = peak_some v.scope e in
@@ -171,25 +169,24 @@ module _ (v : Visible) (w : Ways) (old : Draft) where
       (stays_code old (coded old a) n old.labels b (0 + peak v.scope e) (omega (arith, high)) condition
       (stays_code old old n old.labels a 0 (omega arith) begun (stays_self old n)))) stays))
 
-  pub counted_stays : (place : ℕ) (parameter : Identifier) (reversed : Bool) (range : RangeTree) (body : StmtTrees) (exit : ℕ) (later : Visible) (a : Code)
+  pub counted_stays : (place : ℕ) (parameter : Identifier) (reversed : Bool) (range : RangeTree) (body : StmtTrees) (later : Visible) (a : Code)
       (opened mid : Draft) (d f g h : Code) → later ≡ counted_visible at parameter range → opened.words.taken ≡ old.words.taken + 2
-      → opened.exceptions ≡ old.exceptions → IsShallow old.code a 0
-      → StaysRange v (coded old a) parameter reversed range opened → StaysStatements later (within_loop exit w) opened body mid → IsShallow mid.code d 2
+      → IsShallow old.code a 0
+      → StaysRange v (coded old a) parameter reversed range opened → StaysStatements later opened body mid → IsShallow mid.code d 2
       → IsShallow d f 0 → g.deepest ≡ f.deepest → h.deepest ≡ g.deepest
-      → StaysStatement v w old (Loop place (For parameter reversed range) body) (coded mid h)
-  counted_stays place parameter reversed range body exit later a opened mid d f g h seen same kept begun head stays turned ended patched again =
+      → StaysStatement v old (Loop place (For parameter reversed range) body) (coded mid h)
+  counted_stays place parameter reversed range body later a opened mid d f g h seen same begun head stays turned ended patched again =
       let bounds = head_needs at (For parameter reversed range) in
       let run = stmts_needs (inside_counted at parameter range) body in
       let n = both bounds run in
       let high = (in_left bounds run).stack in
       let two = range_two at parameter reversed range in
-      let inside : around later (within_loop exit w) opened ≡ inside_counted at parameter range =
-      around_is (counted_visible at parameter range) later (within_loop exit w) opened (old.words.taken + 2) old.exceptions.items seen same
-      (ap (λ l. l.items) kept) in
+      let inside : around later opened ≡ inside_counted at parameter range =
+      around_is (counted_visible at parameter range) later opened (old.words.taken + 2) seen same in
       stays_as old (coded mid f) n (stmts_labels old.labels body) h (again ∙ patched)
       (stays_code old (coded mid d) n (stmts_labels old.labels body) f 0 (omega arith) ended
       (stays_code old mid n (stmts_labels old.labels body) d 2 (omega (arith, two, high)) turned
-      (stays_then old opened mid n (stmts_needs (around later (within_loop exit w) opened) body) old.labels (λ l. stmts_labels l body)
+      (stays_then old opened mid n (stmts_needs (around later opened) body) old.labels (λ l. stmts_labels l body)
       (λ r. stmts_rows r body)
       (subst (λ x. Within (stmts_needs x body) n) (sym inside) (in_right bounds run))
       (stays_then old (coded old a) opened n bounds old.labels (λ l. l) (λ r. r) (in_left bounds run)
@@ -198,11 +195,11 @@ module _ (v : Visible) (w : Ways) (old : Draft) where
   -- ---- a `case`
 
   pub alternative_stays : (place : ℕ) (choices : ChoicesTree) (body : StmtTrees) (a : Code) (mid : Draft) (d f : Code)
-      → IsShallow old.code a (choices_needs v.scope choices).stack → StaysStatements v w (coded old a) body mid → IsShallow mid.code d 0
+      → IsShallow old.code a (choices_needs choices).stack → StaysStatements v (coded old a) body mid → IsShallow mid.code d 0
       → f.deepest ≡ d.deepest
-      → StaysAlternatives v w old (alternatives_of ((place, (choices, body)) ∷ [])) (coded mid f)
+      → StaysAlternatives v old (alternatives_of ((place, (choices, body)) ∷ [])) (coded mid f)
   alternative_stays place choices body a mid d f chosen stays left rejoined =
-      let test = choices_needs v.scope choices in
+      let test = choices_needs choices in
       let run = stmts_needs at body in
       let n = both test (both run nothing) in
       let high = (in_left test (both run nothing)).stack in
@@ -215,20 +212,20 @@ module _ (v : Visible) (w : Ways) (old : Draft) where
       → IsLike old mid
       → Stays old (alternatives_needs at (alternative_trees all)) (alternatives_labels old.labels (alternative_trees (take n all)))
       (alternatives_rows (length old.rows.items) (alternative_trees (take n all))) mid
-      → StaysAlternatives v w mid (alternatives_of (alternative_tree x ∷ [])) new
+      → StaysAlternatives v mid (alternatives_of (alternative_tree x ∷ [])) new
       → Stays old (alternatives_needs at (alternative_trees all)) (alternatives_labels old.labels (alternative_trees (take (n + 1) all)))
       (alternatives_rows (length old.rows.items) (alternative_trees (take (n + 1) all))) new
   alternatives_stay mid new all n x less is same p q =
       let part = alternatives_of (alternative_tree x ∷ []) in
       stays_is old new (alternatives_needs at (alternative_trees all)) (alternatives_next old.labels all n x less is)
       (alternatives_counted (length old.rows.items) all n x less is)
-      (stays_then old mid new (alternatives_needs at (alternative_trees all)) (alternatives_needs (around v w mid) part)
+      (stays_then old mid new (alternatives_needs at (alternative_trees all)) (alternatives_needs (around v mid) part)
       (alternatives_labels old.labels (alternative_trees (take n all))) (λ l. alternatives_labels l part) (λ r. alternatives_rows r part)
       (same_within mid (λ a. alternatives_needs a part) (alternatives_needs at (alternative_trees all)) same (alternatives_among at all n x less is).1) p q)
 
   pub case_stays : (place : ℕ) (e : ExprTree) (all : AlternativeTrees) (a : Code) (mid : Draft) (d f : Code) → IsShallow old.code a (0 + peak v.scope e)
-      → StaysAlternatives v w (coded old a) all mid → IsShallow mid.code d 1 → f.deepest ≡ d.deepest
-      → StaysStatement v w old (Case place e all) (coded mid f)
+      → StaysAlternatives v (coded old a) all mid → IsShallow mid.code d 1 → f.deepest ≡ d.deepest
+      → StaysStatement v old (Case place e all) (coded mid f)
   case_stays place e all a mid d f selected stays dropped rejoined =
       let value = value_needs v e in
       let rest = alternatives_needs at all in
@@ -245,12 +242,12 @@ module _ (v : Visible) (w : Ways) (old : Draft) where
   pub statements_stay : (mid new : Draft) (all : List Stmt) (n : ℕ) (x : Stmt) → n < length all → x ≡ get_or all n x → IsLike old mid
       → Stays old (stmts_needs at (stmt_trees all)) (stmts_labels old.labels (stmt_trees (take n all)))
       (stmts_rows (length old.rows.items) (stmt_trees (take n all))) mid
-      → StaysStatement v w mid (stmt_tree x) new
+      → StaysStatement v mid (stmt_tree x) new
       → Stays old (stmts_needs at (stmt_trees all)) (stmts_labels old.labels (stmt_trees (take (n + 1) all)))
       (stmts_rows (length old.rows.items) (stmt_trees (take (n + 1) all))) new
   statements_stay mid new all n x less is same p q =
       stays_is old new (stmts_needs at (stmt_trees all)) (stmts_next old.labels all n x less is) (stmts_counted (length old.rows.items) all n x less is)
-      (stays_then old mid new (stmts_needs at (stmt_trees all)) (stmt_needs (around v w mid) (stmt_tree x)) (stmts_labels old.labels (stmt_trees (take n all)))
+      (stays_then old mid new (stmts_needs at (stmt_trees all)) (stmt_needs (around v mid) (stmt_tree x)) (stmts_labels old.labels (stmt_trees (take n all)))
       (λ l. stmt_labels l (stmt_tree x)) (λ r. stmt_rows r (stmt_tree x))
       (same_within mid (λ a. stmt_needs a (stmt_tree x)) (stmts_needs at (stmt_trees all)) same (statements_among at all n x less is).1) p q)
 
@@ -258,16 +255,15 @@ module _ (v : Visible) (w : Ways) (old : Draft) where
 
   pub block_stays : (place : ℕ) (ds : List DeclarationTree) (body : StmtTrees) (later : Visible) (declared mid : Draft)
       → later ≡ locals_visible v old.words.taken ds → declared.words.taken ≡ old.words.taken + locals_words v.scope ds
-      → declared.exceptions ≡ old.exceptions → StaysDeclarations v old ds declared
-      → StaysStatements later w declared body mid → StaysStatement v w old (Block place ds body NoHandlers) mid
-  block_stays place ds body later declared mid seen same kept p q =
+      → StaysDeclarations v old ds declared
+      → StaysStatements later declared body mid → StaysStatement v old (Block place ds body NoHandlers) mid
+  block_stays place ds body later declared mid seen same p q =
       let locals = locals_needs v old.words.taken ds in
       let run = stmts_needs (behind_locals at ds) body in
       let n = both locals (both run nothing) in
-      let inside : around later w declared ≡ behind_locals at ds =
-      around_is (locals_visible v old.words.taken ds) later w declared (old.words.taken + locals_words v.scope ds) old.exceptions.items seen same
-      (ap (λ l. l.items) kept) in
-      stays_then old declared mid n (stmts_needs (around later w declared) body) old.labels (λ l. stmts_labels l body) (λ r. stmts_rows r body)
+      let inside : around later declared ≡ behind_locals at ds =
+      around_is (locals_visible v old.words.taken ds) later declared (old.words.taken + locals_words v.scope ds) seen same in
+      stays_then old declared mid n (stmts_needs (around later declared) body) old.labels (λ l. stmts_labels l body) (λ r. stmts_rows r body)
       (subst (λ x. Within (stmts_needs x body) n) (sym inside) (of_right run locals (both run nothing) (in_left run nothing)))
       (stays_more old declared locals n old.labels (in_left locals (both run nothing)) p) q
 
@@ -326,25 +322,20 @@ range_stays v old parameter reversed range a b c t null words first last begins 
     (stays_code old (coded old a) n old.labels b (1 + peak v.scope range.last) (omega (arith, in_two)) last
     (stays_code old old n old.labels a (0 + peak v.scope range.first) (omega (arith, in_one)) first (stays_self old n))))
 
-pub run_stays : (v : Visible) (old : Draft) (ds : List DeclarationTree) (body : StmtTrees) (all : HandlerTrees) (later : Visible) (out : ℕ)
-    (declared : Draft) (a : Code)
-    (mid : Draft)
-    (d : Code) → later ≡ locals_visible v old.words.taken ds → declared.words.taken ≡ old.words.taken + locals_words v.scope ds
-    → declared.exceptions ≡ old.exceptions → StaysDeclarations v old ds declared → IsShallow declared.code a 0
-    → StaysSequence later (record { exit = None; return = Some out; handled = None }) (coded declared a) body all mid → d.deepest ≡ mid.code.deepest
+pub run_stays : (v : Visible) (old : Draft) (ds : List DeclarationTree) (body : StmtTrees) (all : HandlerTrees) (later : Visible) (declared : Draft) (a : Code)
+    (mid : Draft) (d : Code) → later ≡ locals_visible v old.words.taken ds → declared.words.taken ≡ old.words.taken + locals_words v.scope ds
+    → StaysDeclarations v old ds declared → IsShallow declared.code a 0
+    → StaysSequence later (coded declared a) body all mid → d.deepest ≡ mid.code.deepest
     → StaysRun v old ds body all (coded mid d)
-run_stays v old ds body all later out declared a mid d seen same kept p begun q patched =
+run_stays v old ds body all later declared a mid d seen same p begun q patched =
     let locals = locals_needs v old.words.taken ds in
-    let inner : Standpoint = behind_locals (in_body v old.words.taken old.exceptions.items) ds in
+    let inner : Standpoint = behind_locals (in_body v old.words.taken) ds in
     let run = sequence_needs inner body all in
     let n = both locals run in
-    let inside : around later (record { exit = None; return = Some out; handled = None }) (coded declared a) ≡ inner =
-    around_is (locals_visible v old.words.taken ds) later (record { exit = None; return = Some out; handled = None }) (coded declared a)
-    (old.words.taken + locals_words v.scope ds) old.exceptions.items seen same (ap (λ l. l.items) kept) in
+    let inside : around later (coded declared a) ≡ inner =
+    around_is (locals_visible v old.words.taken ds) later (coded declared a) (old.words.taken + locals_words v.scope ds) seen same in
     stays_as old mid n (handlers_labels (stmts_labels old.labels body) all) d patched
-    (stays_then old (coded declared a) mid n
-    (sequence_needs (around later (record { exit = None; return = Some out; handled = None }) (coded declared a)) body all)
-    old.labels
+    (stays_then old (coded declared a) mid n (sequence_needs (around later (coded declared a)) body all) old.labels
     (λ l. handlers_labels (stmts_labels l body) all) (λ r. handlers_rows (stmts_rows r body) all)
     (subst (λ x. Within (sequence_needs x body all) n) (sym inside) (in_right locals run))
     (stays_code old declared n old.labels a 0 (omega arith) begun (stays_more old declared locals n old.labels (in_left locals run) p)) q)

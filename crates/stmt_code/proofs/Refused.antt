@@ -66,14 +66,14 @@ module _ (a : Standpoint) where
   alternatives_among (y ∷ ys) zero x less is =
       subst (AmongAlternatives (y ∷ ys) zero) (sym is) (
         omega arith,
-        front_within (choices_needs a.visible.scope (alternative_tree y).1.0) (stmts_needs a (alternative_tree y).1.1)
+        front_within (choices_needs (alternative_tree y).1.0) (stmts_needs a (alternative_tree y).1.1)
             (alternatives_needs a (alternative_trees ys)),
       )
   alternatives_among (y ∷ ys) (suc n) x less is =
       let rest = alternatives_among ys n x (omega (arith, less)) is in
       let up = rest.0 in (
         omega (arith, up),
-        behind_within (alternatives_needs a (alternatives_of (alternative_tree x ∷ []))) (choices_needs a.visible.scope (alternative_tree y).1.0)
+        behind_within (alternatives_needs a (alternatives_of (alternative_tree x ∷ []))) (choices_needs (alternative_tree y).1.0)
             (stmts_needs a (alternative_tree y).1.1) (alternatives_needs a (alternative_trees ys)) rest.1,
       )
 

@@ -3,7 +3,7 @@ use Rattle.std.proofs.Common.{◌≡◌, ℕ, suc, ◌+◌, [], Some, sym, ap, �
 use Rattle.std.specs.Prelude.{slice_get}
 use Rattle.ada_tree.specs.ExpressionTree.{ExprTree}
 use Rattle.ada_tree.specs.StatementTree as statements
-use Rattle.ada_tree.specs.StatementTree.{Forever, IterationTree, StmtTrees, While}
+use Rattle.ada_tree.specs.StatementTree.{Forever, StmtTrees, While}
 use Rattle.image.specs.Sections.{Sections}
 use Rattle.image.specs.Rules.{has_depth}
 use Rattle.image.specs.declared.instruction.Operation.{Operation}
@@ -19,10 +19,11 @@ use Rattle.expr_code.specs.Flows.{AreKeptBetween}
 use Rattle.expr_code.specs.declared.visible.Visible.{Visible}
 use Rattle.expr_code.proofs.Flowing.{kept_then}
 use Rattle.expr_code.proofs.Growing.{added_extends, added_here, extends_trans, patched_extends, patched_here, patched_holds, patched_other}
-use Rattle.stmt_code.specs.Emitting.{Allows, AreLegalStatements, EmitsStatement, EmitsStatements, HasLabels, IsLegalStatement, Serves}
+use Rattle.stmt_code.specs.Emitting.{Allows, AreAcceptedStatements, EmitsStatement, EmitsStatements, HasLabels, IsAcceptedStatement, Serves}
 use Rattle.part_code.specs.Emitting.{BeginsLoop, EndsLoop, IsReachable}
 use Rattle.part_code.specs.Statements.{AreStatements, Ways, within_loop}
 use Rattle.stmt_code.specs.declared.draft.Draft.{Draft}
+use Rattle.stmt_code.proofs.Accepting.{ways_in_loop}
 use Rattle.stmt_code.proofs.Adding.{IsBeside, labels_before, labels_beside, labels_then, most_beside, taken_beside}
 use Rattle.part_code.proofs.Jumps.{depth_there, jump_kept}
 use Rattle.part_code.proofs.Jumps.{added_is, patched_is}
@@ -170,12 +171,19 @@ module _ (v : Visible) (w : Ways) where
 
 -- ---- what is legal
 
-module _ (s : Scope) (place : ℕ) (body : StmtTrees) where
-  pub forever_body : IsLegalStatement s (statements.Loop place Forever body) → AreLegalStatements s body
-  forever_body h = record { around = in_loop h.around; unbroken = h.unbroken }
+module _ (s : Scope) (w : Ways) (place : ℕ) (body : StmtTrees) where
+  pub forever_body : (exit : ℕ) → IsAcceptedStatement s w (statements.Loop place Forever body) → AreAcceptedStatements s (within_loop exit w) body
+  forever_body exit h =
+      record { around = in_loop h.around; ways = ways_in_loop w h.around exit h.ways; unbroken = h.unbroken; restricted = h.restricted }
 
-  pub while_condition : (e : ExprTree) → IsLegalStatement s (statements.Loop place (While e) body) → condition_faults s e ≡ []
+  pub while_condition : (e : ExprTree) → IsAcceptedStatement s w (statements.Loop place (While e) body) → condition_faults s e ≡ []
   while_condition e h = front_empty (condition_faults s e) (stmts_faults s (in_loop h.around) body) h.unbroken
 
-  pub while_body : (e : ExprTree) → IsLegalStatement s (statements.Loop place (While e) body) → AreLegalStatements s body
-  while_body e h = record { around = in_loop h.around; unbroken = back_empty (condition_faults s e) (stmts_faults s (in_loop h.around) body) h.unbroken }
+  pub while_body : (exit : ℕ) (e : ExprTree) → IsAcceptedStatement s w (statements.Loop place (While e) body)
+      → AreAcceptedStatements s (within_loop exit w) body
+  while_body exit e h = record {
+    around = in_loop h.around;
+    ways = ways_in_loop w h.around exit h.ways;
+    unbroken = back_empty (condition_faults s e) (stmts_faults s (in_loop h.around) body) h.unbroken;
+    restricted = h.restricted;
+  }

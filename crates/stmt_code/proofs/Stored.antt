@@ -1,5 +1,5 @@
 -- Code of assignments that was added: the value of a whole object of one word, and what stores it.
-use Rattle.std.proofs.Common.{◌≡◌, ℕ, suc, ◌≤◌, ◌⊎◌, inl, inr, length, true, ◌&&◌, not, Some, None, refl, sym, ap, ◌∙◌, subst, arith}
+use Rattle.std.proofs.Common.{◌≡◌, ℕ, suc, ◌≤◌, length, true, ◌&&◌, not, Some, None, refl, sym, ap, ◌∙◌, subst, arith}
 use Rattle.std.specs.Prelude.{is_some}
 use Rattle.ada_tree.specs.declared.expression.Identifier.{Identifier}
 use Rattle.ada_tree.specs.ExpressionTree.{ExprTree, MoreSelectors, Named, NameTree, NoSelectors, SelectorTrees, bare_name}

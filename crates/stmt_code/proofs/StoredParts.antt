@@ -17,11 +17,6 @@ use Rattle.types.specs.Layouts.{words_of}
 use Rattle.types.specs.Scopes.{Scope, number_of}
 use Rattle.types.specs.Shapes.{shape_of}
 use Rattle.types.specs.Standings.{select_all, standing_of, stands_first}
-use Rattle.expr_soundness.specs.expr_rules.specs.ExpressionRules.{faults_of, name_faults, selectors_faults, target_faults}
-use Rattle.expr_soundness.specs.expr_rules.specs.NameRules.{variable_rule}
-use Rattle.expr_soundness.specs.expr_rules.specs.declared.own.Wanted.TheVariants.{Anything}
-use Rattle.expr_soundness.specs.expr_rules.proofs.TypedLaw.{back_empty, front_empty}
-use Rattle.part_code.specs.stmt_rules.specs.SimpleRules.{assigned_wanted}
 use Rattle.expr_soundness.specs.Laws.{AgreementIsKept, CallsAreTyped}
 use Rattle.expr_soundness.specs.SoundScopes.{IsKnown, SoundScope}
 use Rattle.expr_soundness.proofs.Goods.{object_known}
@@ -31,7 +26,7 @@ use Rattle.expr_code.specs.Code.{Adds, Extends, Holds, here}
 use Rattle.expr_code.specs.Computing.{ComputesChecked}
 use Rattle.expr_code.specs.Emitting.{EmitsFitting}
 use Rattle.expr_code.specs.Flows.{Flows}
-use Rattle.expr_code.specs.Going.{EmitsAddress, EndsAt, IsLegalPath}
+use Rattle.expr_code.specs.Going.{EmitsAddress, EndsAt}
 use Rattle.expr_code.specs.Locating.{IsPath}
 use Rattle.expr_code.specs.Seeing.{Package, Sees, Suits, library_of, slot_of}
 use Rattle.expr_code.specs.declared.code.Code.{Code}
@@ -39,7 +34,7 @@ use Rattle.expr_code.specs.declared.visible.Slot.{Slot}
 use Rattle.expr_code.specs.declared.visible.Visible.{Visible}
 use Rattle.expr_code.proofs.Flowing.{flows_then, instruction_flows, widened}
 use Rattle.expr_code.proofs.Growing.{added_at, added_extends, added_here, extends_trans, holds_before, holds_later}
-use Rattle.stmt_code.specs.Emitting.{EmitsStatement, IsLegalStatement}
+use Rattle.stmt_code.specs.Emitting.{EmitsStatement}
 use Rattle.part_code.specs.Emitting.{stored_at}
 use Rattle.part_code.specs.Layout.{IsLaidOut, IsVariable, NamesObject}
 use Rattle.part_code.specs.Resting.{Framed}
@@ -57,18 +52,6 @@ use Rattle.part_code.proofs.FormalFlows.{flows_under}
 -- ---- what is legal
 
 module _ (s : Scope) (name : NameTree) (e : ExprTree) (r : Role) (t : Subtype) (stands : stands_first s (number_of s name.first.name) ≡ standing.Part r t) where
-  pub assigned_path : IsLegalStatement s (statements.Assignment name e) → IsLegalPath s t name.selectors
-  assigned_path legal =
-      let target = front_empty (target_faults s name.first name.selectors) (faults_of s (assigned_wanted s name) e) legal.unbroken in
-      let whole = front_empty (name_faults s name.first name.selectors)
-      (variable_rule s name.first.place Anything (standing_of s name.first name.selectors)) target in
-      record {
-        role = r;
-        place = name.first.place;
-        unbroken = ap (λ u. selectors_faults s name.first.place u name.selectors) (sym stands)
-            ∙ back_empty _ (selectors_faults s name.first.place (stands_first s (number_of s name.first.name)) name.selectors) whole;
-      }
-
   pub part_stands : (last : Subtype) → EndsAt s t name.selectors last → standing_of s name.first name.selectors ≡ standing.Part r last
   part_stands last ends = ap (λ u. select_all s u name.selectors) stands ∙ ends r
 

@@ -3,7 +3,7 @@ use Rattle.std.proofs.Common.{◌≡◌, ◌≢◌, ℕ, suc, ◌+◌, ◌≤◌
 use Rattle.std.specs.Prelude.{slice_get}
 use Rattle.ada_tree.specs.ExpressionTree.{ExprTree}
 use Rattle.ada_tree.specs.StatementTree as statements
-use Rattle.ada_tree.specs.StatementTree.{Forever, IterationTree, StmtTrees, While}
+use Rattle.ada_tree.specs.StatementTree.{StmtTrees, While}
 use Rattle.image.specs.Sections.{Sections}
 use Rattle.image.specs.Rules.{has_depth}
 use Rattle.image.specs.declared.instruction.Operation.{Operation}

@@ -1,14 +1,13 @@
 -- What refuses the code of whole procedures and functions: of their parameters, of their parts, and of a frame with its operand stack.
-use Rattle.std.proofs.Common.{◌≡◌, ◌≤◌, ◌+◌, ◌*◌, inl, inr, ℕ, suc, List, length, false, ◌||◌, not, sym, ap, ◌∙◌, subst, arith}
+use Rattle.std.proofs.Common.{◌≡◌, ◌≤◌, ◌+◌, ◌*◌, inl, inr, ℕ, suc, List, length, sym, ap, ◌∙◌, subst, arith}
 use Rattle.std.specs.Prelude.{max}
 use Rattle.ada_tree.specs.declared.declaration.Formal.{Formal}
 use Rattle.ada_tree.specs.ExpressionTree.{ExprTree}
 use Rattle.ada_tree.specs.ProgramTree.{BodyTree}
 use Rattle.ada_tree.specs.Size.{expr_size, total}
-use Rattle.types.specs.declared.entity.Subtype.{Subtype}
 use Rattle.declaring.specs.LocalRules.{locals_scope}
 use Rattle.expr_code.specs.Code.{IsShallow, here}
-use Rattle.expr_code.specs.Refusing.{HasUnfitObject, IsRefused, RefusesChecked, checked_peak, is_outside, is_passable, peak}
+use Rattle.expr_code.specs.Refusing.{HasUnfitObject, IsRefused, RefusesChecked, checked_peak, peak}
 use Rattle.expr_code.specs.declared.code.Code.{Code}
 use Rattle.expr_code.specs.declared.refusal.Refusal.{Refusal}
 use Rattle.expr_code.specs.declared.visible.Visible.{Visible}
@@ -29,7 +28,7 @@ use Rattle.stmt_code.proofs.WholeBounds.{formals_total}
 use Rattle.stmt_code.proofs.WholePlaces.{items_are, later_is, taken_is}
 
 together_within : (n : Needs) → Within n (together n)
-together_within n = record { stack = omega arith; frame = omega arith; unfit = λ h. h; outside = λ h. h }
+together_within n = record { stack = omega arith; frame = omega arith; unfit = λ h. h }
 
 over : (p k l : ℕ) → p ≤ k → p ≤ max k l
 over p k l h = omega (arith, h)
@@ -53,19 +52,19 @@ module _ (v : Visible) (fs : List Formal) (b : BodyTree) (old : Draft) where
   first = outs_needs inner xs
 
   abbrev runs : Needs
-  runs = run_needs inner frame old.exceptions.items b.declarations b.statements b.handlers
+  runs = run_needs inner frame b.declarations b.statements b.handlers
 
   abbrev given : Needs
   given = stacked (all_given inner.scope xs)
 
   abbrev inside : Needs
-  inside = inside_needs inner xs frame old.exceptions.items b
+  inside = inside_needs inner xs frame b
 
   abbrev parts : Needs
   parts = both formal inside
 
   abbrev whole : Needs
-  whole = procedure_needs v old.exceptions.items fs b
+  whole = procedure_needs v fs b
 
   part_in : (m : Needs) → Within m inside → Within m parts
   part_in m p = of_right m formal inside p
@@ -110,10 +109,10 @@ module _ (v : Visible) (fs : List Formal) (b : BodyTree) (old : Draft) where
         (subst (λ n. Within n whole) (λ j. outs_needs (sym (later_is v fs later words placed p) j) (sym (items_are v fs later words placed p) j))
         (within_whole first first_in)) why r)
 
-    pub run_refuses : (begun : Draft) (why : Refusal) → begun.words.taken ≡ words.taken → begun.exceptions ≡ old.exceptions → begun.labels ≡ old.labels
+    pub run_refuses : (begun : Draft) (why : Refusal) → begun.words.taken ≡ words.taken → begun.labels ≡ old.labels
         → here begun.code ≤ here old.code + (2 * length items + total (placed_words later.scope) items)
         → RefusesRun later begun b.declarations b.statements b.handlers why → RefusesProcedure v old fs b why
-    run_refuses begun why taken kept labels up r = by_kind r
+    run_refuses begun why taken labels up r = by_kind r
       where
         formals : formals_words v.scope later.scope fs ≡ formals_words v.scope inner.scope fs
         formals = ap (λ s. formals_words v.scope s fs) p.scope
@@ -134,10 +133,10 @@ module _ (v : Visible) (fs : List Formal) (b : BodyTree) (old : Draft) where
         by_kind : RefusesRun later begun b.declarations b.statements b.handlers why → RefusesProcedure v old fs b why
         by_kind (inl n) =
             inl (needing_refused (here begun.code + run_bound later.scope b.declarations b.statements b.handlers) bound
-            (run_needs later begun.words.taken begun.exceptions.items b.declarations b.statements b.handlers) whole
+            (run_needs later begun.words.taken b.declarations b.statements b.handlers) whole
             (omega (arith, up, long, sums, formals, locals, inside_words, handled_words))
             (subst (λ m. Within m whole)
-            (λ j. run_needs (sym (later_is v fs later words placed p) j) (sym same j) (sym kept j).items b.declarations b.statements b.handlers)
+            (λ j. run_needs (sym (later_is v fs later words placed p) j) (sym same j) b.declarations b.statements b.handlers)
             (within_whole runs runs_in)) why n)
         by_kind (inr h) =
             inr (labelled (body_labels begun.labels b) (body_labels old.labels b)
@@ -159,12 +158,12 @@ module _ (v : Visible) (fs : List Formal) (b : BodyTree) (old : Draft) where
         (over (all_given later.scope items) whole.stack whole.frame (omega (arith, high, same))) r)
 
     -- the words of the frame, and those of the operand stack
-    module _ (begun run : Draft) (end : Code) (taken : begun.words.taken ≡ words.taken) (kept : begun.exceptions ≡ old.exceptions)
+    module _ (begun run : Draft) (end : Code) (taken : begun.words.taken ≡ words.taken)
         (most : begun.words.most ≡ words.taken)
         (stays : StaysRun later begun b.declarations b.statements b.handlers run) where
-      needed : run_needs later begun.words.taken begun.exceptions.items b.declarations b.statements b.handlers ≡ runs
-      needed = λ j. run_needs (later_is v fs later words placed p j) ((taken ∙ taken_is v fs later words placed p) j)
-          (kept j).items b.declarations b.statements b.handlers
+      needed : run_needs later begun.words.taken b.declarations b.statements b.handlers ≡ runs
+      needed = λ j. run_needs (later_is v fs later words placed p j) ((taken ∙ taken_is v fs later words placed p) j) b.declarations b.statements
+          b.handlers
 
       frame_few : run.words.most ≤ parts.frame
       frame_few =
@@ -173,7 +172,7 @@ module _ (v : Visible) (fs : List Formal) (b : BodyTree) (old : Draft) where
           let two = runs_in.frame in
           let n = ap (λ m. m.frame) needed in
           most_of run.words.most begun.words.most
-          (run_needs later begun.words.taken begun.exceptions.items b.declarations b.statements b.handlers).frame parts.frame stays.frame
+          (run_needs later begun.words.taken b.declarations b.statements b.handlers).frame parts.frame stays.frame
           (omega (arith, most, same, one)) (omega (arith, n, two))
         where
           most_of : (r m k l : ℕ) → r ≤ max m k → m ≤ l → k ≤ l → r ≤ l
@@ -192,37 +191,37 @@ module _ (v : Visible) (fs : List Formal) (b : BodyTree) (old : Draft) where
             let given_same : all_given later.scope items ≡ given.stack = λ j. all_given (p.scope j) (items_are v fs later words placed p j) in
             let all = shallow_next start run.code end (all_given later.scope items) parts.stack (omega (arith, given_same, three))
             (shallow_next start begun.code run.code
-            (run_needs later begun.words.taken begun.exceptions.items b.declarations b.statements b.handlers).stack parts.stack (omega (arith, n, two))
+            (run_needs later begun.words.taken b.declarations b.statements b.handlers).stack parts.stack (omega (arith, n, two))
             (shallow_more start begun.code (outs_needs later items).stack parts.stack (omega (arith, same, one)) outs) stays.stack) back in
             deep start.deepest end.deepest parts.stack none all
           where
             deep : (a e m : ℕ) → a ≡ 0 → e ≤ max a m → e ≤ m
             deep a e m z h = omega (arith, z, h)
 
-        pub frame_refuses : (why : Refusal) → IsRefused 0 (run.words.most + end.deepest) false why → RefusesProcedure v old fs b why
+        pub frame_refuses : (why : Refusal) → IsRefused 0 (run.words.most + end.deepest) why → RefusesProcedure v old fs b why
         frame_refuses why r =
             inl (plain_needing 0 bound (run.words.most + end.deepest) whole why (omega arith)
             (over (run.words.most + end.deepest) whole.stack whole.frame (omega (arith, frame_few, stack_few))) r)
 
 -- ---- functions
 
-module _ (v : Visible) (fs : List Formal) (t : Subtype) (e : ExprTree) (old : Draft) where
+module _ (v : Visible) (fs : List Formal) (e : ExprTree) (old : Draft) where
   abbrev formal_part : Needs
   formal_part = formals_needs v.scope fs
 
   abbrev valued : Visible → Needs
-  valued x = returned_needs x t e
+  valued x = returned_needs x e
 
   abbrev both_parts : Needs
   both_parts = both formal_part (valued (formals_visible v fs))
 
   abbrev function_whole : Needs
-  function_whole = function_needs v fs t e
+  function_whole = function_needs v fs e
 
   abbrev function_end : ℕ
   function_end = here old.code + function_bound fs e
 
-  pub function_formals_refuse : (why : Refusal) → RefusesFormals v.scope fs why → RefusesFunction v old fs t e why
+  pub function_formals_refuse : (why : Refusal) → RefusesFormals v.scope fs why → RefusesFunction v old fs e why
   function_formals_refuse why r =
       needing_refused 0 function_end formal_part function_whole (omega arith)
       (within_then formal_part both_parts function_whole (in_left formal_part (valued (formals_visible v fs))) (together_within both_parts)) why r
@@ -235,15 +234,15 @@ module _ (v : Visible) (fs : List Formal) (t : Subtype) (e : ExprTree) (old : Dr
     value_within : Within (valued later) function_whole
     value_within = within_then (valued later) both_parts function_whole value_in (together_within both_parts)
 
-    pub checked_refuses : (start : Code) (why : Refusal) → here start ≡ here old.code → RefusesChecked later start 0 t e why → RefusesFunction v old fs t e why
+    pub checked_refuses : (start : Code) (why : Refusal) → here start ≡ here old.code → RefusesChecked later start 0 e why → RefusesFunction v old fs e why
     checked_refuses start why same r =
         code_refused (HasUnfitObject later) (here start + (20 * expr_size e + 3)) function_end (0 + checked_peak (peak later.scope e))
-        (not (is_passable later.scope t) || is_outside later e) function_whole (omega (arith, same))
+        function_whole (omega (arith, same))
         (over (0 + checked_peak (peak later.scope e)) function_whole.stack function_whole.frame (let high = value_within.stack in omega (arith, high)))
-        (λ u. value_within.unfit (unfit_there later u)) value_within.outside why r
+        (λ u. value_within.unfit (unfit_there later u)) why r
 
-    pub return_refuses : (value : Code) (why : Refusal) → here value ≤ here old.code + (20 * expr_size e + 3) → IsRefused (here value + 1) 1 false why
-        → RefusesFunction v old fs t e why
+    pub return_refuses : (value : Code) (why : Refusal) → here value ≤ here old.code + (20 * expr_size e + 3) → IsRefused (here value + 1) 1 why
+        → RefusesFunction v old fs e why
     return_refuses value why up r =
         plain_needing (here value + 1) function_end 1 function_whole why (omega (arith, up))
         (over 1 function_whole.stack function_whole.frame
@@ -253,8 +252,8 @@ module _ (v : Visible) (fs : List Formal) (t : Subtype) (e : ExprTree) (old : Dr
         three k = omega arith
 
     pub function_frame_refuses : (start value end : Code) (most : ℕ) (why : Refusal) → most ≡ words.taken → start.deepest ≡ 0
-        → IsShallow start value (0 + checked_peak (peak later.scope e)) → IsShallow value end 1 → IsRefused 0 (most + end.deepest) false why
-        → RefusesFunction v old fs t e why
+        → IsShallow start value (0 + checked_peak (peak later.scope e)) → IsShallow value end 1 → IsRefused 0 (most + end.deepest) why
+        → RefusesFunction v old fs e why
     function_frame_refuses start value end most why same none shallow back r =
         let taken = taken_is v fs later words placed p in
         let frame_high = (in_left formal_part (valued (formals_visible v fs))).frame in

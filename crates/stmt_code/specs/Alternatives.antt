@@ -5,21 +5,25 @@ use Rattle.ada_tree.specs.StatementTree.{AlternativeTrees, ChoicesTree, MoreAlte
 use Rattle.types.specs.declared.entity.Value.{Value as Scalar}
 use Rattle.types.specs.Scopes.{Scope}
 use Rattle.expr_soundness.specs.expr_rules.specs.Typing.{own_of}
+use Rattle.part_code.specs.step_soundness.specs.body_restrictions.specs.BodyRules as restrictions
 use Rattle.part_code.specs.stmt_rules.specs.declared.around.Around.{Around}
 use Rattle.part_code.specs.stmt_rules.specs.CaseRules.{choices_wanted}
 use Rattle.part_code.specs.stmt_rules.specs.StatementRules.{alternatives_faults}
 use Rattle.expr_code.specs.declared.visible.Visible.{Visible}
 use Rattle.part_code.specs.Bounds.{alternatives_bound}
-use Rattle.stmt_code.specs.Emitting.{EmitsOpen, MeantTo}
+use Rattle.stmt_code.specs.Emitting.{EmitsOpen, HasWays, MeantTo}
 use Rattle.part_code.specs.Statements.{AreAlternatives, Ways}
 use Rattle.stmt_code.specs.declared.draft.Draft.{Draft}
 
 -- ---- what is asked
 
-pub record AreLegalAlternatives (s : Scope) (e : ExprTree) (all : AlternativeTrees) : Type 0 where
+-- no rule and no restriction is broken in alternatives for values of this expression, behind others that choose some values, with these ways out
+pub record AreAcceptedAlternatives (s : Scope) (w : Ways) (e : ExprTree) (all : AlternativeTrees) : Type 0 where
   pub around : Around
+  pub ways : HasWays w around
   pub before : List Scalar
   pub unbroken : alternatives_faults s around (choices_wanted s (own_of s e)) before all ≡ []
+  pub restricted : restrictions.alternatives_faults all ≡ []
 
 -- ---- alternatives
 

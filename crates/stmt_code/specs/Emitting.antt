@@ -1,6 +1,6 @@
 -- What methods that add the code of statements promise.
 use Rattle.std.specs.List.{All}
-use Rattle.std.specs.Prelude.{◌≡◌, ℕ, ◌+◌, ◌≤◌, ◌<◌, true, List, [], ◌∷◌, ◌++◌, length, take, Some, None, slice_get}
+use Rattle.std.specs.Prelude.{◌≡◌, ◌≢◌, ℕ, ◌+◌, ◌≤◌, ◌<◌, true, List, [], ◌∷◌, ◌++◌, length, take, Option, Some, None, is_some, slice_get}
 use Rattle.ada_tree.specs.ExpressionTree.{ExprTree, ArgumentTree}
 use Rattle.ada_tree.specs.StatementTree.{DeclarationTree, ElsifTrees, HandlerTrees, MoreElsifs, StmtTree, StmtTrees, elsifs_of}
 use Rattle.handlers.specs.Nesting.{all_nested}
@@ -14,8 +14,11 @@ use Rattle.types.specs.Entities.{Entity, Profile, ProtectedObject, Protected}
 use Rattle.types.specs.Places.{Place, is_among}
 use Rattle.types.specs.Scopes.{Scope}
 use Rattle.declaring.specs.LocalRules.{locals_faults, locals_scope}
+use Rattle.part_code.specs.step_soundness.specs.body_restrictions.specs.BodyRules as restrictions
 use Rattle.part_code.specs.stmt_rules.specs.declared.around.Around.{Around}
-use Rattle.part_code.specs.stmt_rules.specs.StatementRules.{elsifs_faults, more_handlers_faults, stmt_faults, stmts_faults}
+use Rattle.part_code.specs.stmt_rules.specs.declared.around.BodyKind.{BodyKind}
+use Rattle.part_code.specs.stmt_rules.specs.declared.around.BodyKind.TheVariants as kinds
+use Rattle.part_code.specs.stmt_rules.specs.StatementRules.{elsifs_faults, in_body, more_handlers_faults, stmt_faults, stmts_faults}
 use Rattle.expr_soundness.specs.Agreeing.{Agrees}
 use Rattle.expr_soundness.specs.SoundScopes.{SoundScope}
 use Rattle.expr_soundness.specs.meaning.specs.Calls.{procedure_here, procedure_among}
@@ -44,24 +47,45 @@ use Rattle.part_code.specs.Passing.{EmitsCopies, EmitsPassedActuals}
 
 -- ---- what is asked
 
--- no rule is broken in a statement, in statements, and in parts of an `if`, wherever they stand
+-- no rule is broken in a statement, wherever it stands
 pub record IsLegalStatement (s : Scope) (x : StmtTree) : Type 0 where
   pub around : Around
   pub unbroken : stmt_faults s around x ≡ []
 
-pub record AreLegalStatements (s : Scope) (body : StmtTrees) : Type 0 where
+-- What is known of the ways out, where a statement stands in the body of no function: that of the loop around it, if one is, that of the body, and the word
+-- with the exception of the handler around it, if one is.
+pub record HasWays (w : Ways) (a : Around) : Type 0 where
+  pub exit : a.in_loop ≡ true → is_some w.exit ≡ true
+  pub return : is_some w.return ≡ true
+  pub handled : a.in_handler ≡ true → is_some w.handled ≡ true
+  pub gives_nothing : (t : Option ℕ) → a.kind ≢ kinds.Function t
+
+-- no rule and no restriction is broken in a statement that has these ways out; in statements, and in parts of an `if`
+pub record IsAcceptedStatement (s : Scope) (w : Ways) (x : StmtTree) : Type 0 where
   pub around : Around
+  pub ways : HasWays w around
+  pub unbroken : stmt_faults s around x ≡ []
+  pub restricted : restrictions.stmt_faults x ≡ []
+
+pub record AreAcceptedStatements (s : Scope) (w : Ways) (body : StmtTrees) : Type 0 where
+  pub around : Around
+  pub ways : HasWays w around
   pub unbroken : stmts_faults s around body ≡ []
+  pub restricted : restrictions.stmts_faults body ≡ []
+
+pub record AreAcceptedElsifs (s : Scope) (w : Ways) (all : ElsifTrees) : Type 0 where
+  pub around : Around
+  pub ways : HasWays w around
+  pub unbroken : elsifs_faults s around all ≡ []
+  pub restricted : restrictions.elsifs_faults all ≡ []
 
 -- ... in handlers, behind others that name some exceptions
-pub record AreLegalHandlers (s : Scope) (all : HandlerTrees) : Type 0 where
+pub record AreAcceptedHandlers (s : Scope) (w : Ways) (all : HandlerTrees) : Type 0 where
   pub around : Around
+  pub ways : HasWays w around
   pub before : List (List ℕ)
   pub unbroken : more_handlers_faults s around before all ≡ []
-
-pub record AreLegalElsifs (s : Scope) (all : ElsifTrees) : Type 0 where
-  pub around : Around
-  pub unbroken : elsifs_faults s around all ≡ []
+  pub restricted : restrictions.handlers_faults all ≡ []
 
 -- ---- what is known where the code stands
 
@@ -238,11 +262,14 @@ pub record AddsParts (v : Visible) (w : Ways) (old : Draft) (all : List (ExprTre
 
 -- ---- bodies
 
--- no rule is broken in the declarations, the statements and the handlers of a body
-pub record IsLegalRun (s : Scope) (ds : List DeclarationTree) (body : StmtTrees) (all : HandlerTrees) : Type 0 where
+-- no rule and no restriction is broken in the declarations, the statements and the handlers of a body, which is that of no function
+pub record IsAcceptedRun (s : Scope) (ds : List DeclarationTree) (body : StmtTrees) (all : HandlerTrees) : Type 0 where
+  pub kind : BodyKind
+  pub gives_nothing : (t : Option ℕ) → kind ≢ kinds.Function t
   pub declared : locals_faults s ds ≡ []
-  pub statements : AreLegalStatements (locals_scope s ds) body
-  pub handled : AreLegalHandlers (locals_scope s ds) all
+  pub statements : stmts_faults (locals_scope s ds) (in_body kind) body ≡ []
+  pub handled : more_handlers_faults (locals_scope s ds) (in_body kind) [] all ≡ []
+  pub restricted : (restrictions.locals_faults ds ++ restrictions.stmts_faults body) ++ restrictions.handlers_faults all ≡ []
 
 abbrev pub no_ways : Ways
 no_ways = record { exit = None; return = None; handled = None }

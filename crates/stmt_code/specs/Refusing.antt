@@ -1,9 +1,8 @@
--- When code of statements isn't made: memory was refused, a limit of images would be passed, or a statement has what nothing is promised of yet.
-use Rattle.std.specs.Prelude.{ℕ, ◌+◌, ◌*◌, Bool, true, false, not, List, Option, Some, None, is_none, is_some, ◌⊎◌}
+-- When code of statements isn't made: memory was refused, or a limit of images may be passed.
+use Rattle.std.specs.Prelude.{ℕ, ◌+◌, ◌*◌, Bool, false, List, Option, Some, None, ◌⊎◌}
 use Rattle.ada_tree.specs.declared.expression.Identifier.{Identifier}
-use Rattle.ada_tree.specs.declared.statement.ExceptionChoice.{ExceptionChoice}
 use Rattle.ada_tree.specs.ExpressionTree.{ExprTree, NameTree}
-use Rattle.ada_tree.specs.StatementTree.{AlternativeTrees, Assignment, Block, Call, Case, DeclarationTree, DelayUntil, ElsifTrees, Exit, For, Forever, HandlerTrees, If, IterationTree, Loop, MoreAlternatives, MoreElsifs, MoreHandlers, MoreStmts, NoAlternatives, NoElsifs, NoHandlers, NoStmts, Null, RangeTree, Raise, Return, StmtTree, StmtTrees, While}
+use Rattle.ada_tree.specs.StatementTree.{AlternativeTrees, Assignment, Block, Call, Case, DeclarationTree, DelayUntil, ElsifTrees, Exit, For, Forever, HandlerTrees, If, IterationTree, Loop, MoreAlternatives, MoreElsifs, MoreHandlers, MoreStmts, NoAlternatives, NoElsifs, NoHandlers, NoStmts, Null, RangeTree, Raise, StmtTree, StmtTrees, While}
 use Rattle.ada_tree.specs.Size.{expr_size}
 use Rattle.declaring.specs.BodyNames.{loop_scope}
 use Rattle.expr_code.specs.Code.{here}
@@ -11,10 +10,8 @@ use Rattle.expr_code.specs.declared.refusal.Refusal.{Refusal}
 use Rattle.expr_code.specs.declared.visible.Visible.{Visible}
 use Rattle.part_code.specs.Bounds.{alternatives_bound, declarations_bound, elsifs_bound, handlers_bound, locals_words, run_bound, sequence_bound, stmt_bound, stmts_bound}
 use Rattle.part_code.specs.Labels.{alternatives_labels, elsifs_labels, handlers_labels, stmt_labels, stmts_labels}
-use Rattle.part_code.specs.Raising.{are_numbered, number_among}
-use Rattle.part_code.specs.Statements.{Ways}
 use Rattle.stmt_code.specs.declared.draft.Draft.{Draft}
-use Rattle.part_code.specs.Needs.{Needs, nothing, beyond_if, beyond, framed, stacked_unless, both, needs_above, value_needs, with_object, locals_visible, locals_needs, assignment_needs, call_needs, choices_needs, IsNeeding, HasManyLabels}
+use Rattle.part_code.specs.Needs.{Needs, nothing, framed, stacked, both, needs_above, value_needs, with_object, locals_visible, locals_needs, assignment_needs, call_needs, choices_needs, IsNeeding, HasManyLabels}
 
 -- ---- what code needs
 
@@ -24,67 +21,23 @@ needs_if_any v (Some e) = value_needs v e
 
 -- ---- where a statement stands
 
--- what is visible there, the words of the frame that are taken, whether a loop stands around it, whether a return may be left by, whether a handler stands
--- around it, and the program's exceptions
+-- what is visible there, and the words of the frame that are taken
 pub record Standpoint : Type 0 where
   pub visible : Visible
   pub taken : ℕ
-  pub looped : Bool
-  pub returns : Bool
-  pub handled : Bool
-  pub exceptions : List (List ℕ)
 
-abbrev pub around : Visible → Ways → Draft → Standpoint
-around v w d =
-    record {
-      visible = v;
-      taken = d.words.taken;
-      looped = is_some w.exit;
-      returns = is_some w.return;
-      handled = is_some w.handled;
-      exceptions = d.exceptions.items;
-    }
-
-abbrev pub inside_loop : Standpoint → Standpoint
-inside_loop a = record a { looped = true }
+abbrev pub around : Visible → Draft → Standpoint
+around v d = record { visible = v; taken = d.words.taken }
 
 -- in a loop over a range, which takes two words: those of its parameter and of the parameter's last value
 abbrev pub counted_visible : Standpoint → Identifier → RangeTree → Visible
 counted_visible a parameter range = with_object a.visible (loop_scope a.visible.scope parameter range) a.taken
 
 abbrev pub inside_counted : Standpoint → Identifier → RangeTree → Standpoint
-inside_counted a parameter range =
-    record {
-      visible = counted_visible a parameter range;
-      taken = a.taken + 2;
-      looped = true;
-      returns = a.returns;
-      handled = a.handled;
-      exceptions = a.exceptions;
-    }
+inside_counted a parameter range = record { visible = counted_visible a parameter range; taken = a.taken + 2 }
 
 abbrev pub behind_locals : Standpoint → List DeclarationTree → Standpoint
-behind_locals a ds =
-    record {
-      visible = locals_visible a.visible a.taken ds;
-      taken = a.taken + locals_words a.visible.scope ds;
-      looped = a.looped;
-      returns = a.returns;
-      handled = a.handled;
-      exceptions = a.exceptions;
-    }
-
--- ---- calls of procedures
-
--- a return of a value has no code yet
-abbrev pub return_needs : (returns : Bool) → Option ExprTree → Needs
-return_needs returns None = beyond_if (not returns)
-return_needs returns (Some e) = beyond
-
--- of a raise: its exception, which is one of the program, or that of a handler around
-abbrev pub raise_needs : Standpoint → Option Identifier → Needs
-raise_needs a (Some name) = stacked_unless (is_none (number_among a.exceptions name.name)) 1
-raise_needs a None = stacked_unless (not a.handled) 1
+behind_locals a ds = record { visible = locals_visible a.visible a.taken ds; taken = a.taken + locals_words a.visible.scope ds }
 
 -- ---- statements
 
@@ -97,23 +50,22 @@ head_needs a (For parameter reversed range) =
 
 abbrev pub in_loop : Standpoint → IterationTree → Standpoint
 in_loop a (For parameter reversed range) = inside_counted a parameter range
-in_loop a iteration = inside_loop a
+in_loop a iteration = a
 
--- of a handler: the exception on the operand stack, and a word of the frame for it; each choice is one of the program's exceptions, or stands for all
-abbrev pub handler_needs : Standpoint → List ExceptionChoice → Needs
-handler_needs a choices = record { stack = 1; frame = a.taken + 1; unfit = false; outside = not (are_numbered a.exceptions choices) }
+-- of a handler: the exception on the operand stack, and a word of the frame for it
+abbrev pub handler_needs : Standpoint → Needs
+handler_needs a = record { stack = 1; frame = a.taken + 1; unfit = false }
 
 abbrev pub inside_handler : Standpoint → Standpoint
-inside_handler a = record a { taken = a.taken + 1; handled = true }
+inside_handler a = record a { taken = a.taken + 1 }
 
 abbrev mutual
   pub stmt_needs : Standpoint → StmtTree → Needs
   stmt_needs a (Null place) = nothing
   stmt_needs a (Assignment target value) = assignment_needs a.visible target value
   stmt_needs a (Call name) = call_needs a.visible name
-  stmt_needs a (Exit place condition) = both (beyond_if (not a.looped)) (needs_if_any a.visible condition)
-  stmt_needs a (Return place value) = return_needs a.returns value
-  stmt_needs a (Raise place name) = raise_needs a name
+  stmt_needs a (Exit place condition) = needs_if_any a.visible condition
+  stmt_needs a (Raise place name) = stacked 1
   stmt_needs a (DelayUntil place e) = value_needs a.visible e
   stmt_needs a (If place condition body elsifs others) =
       both (value_needs a.visible condition) (both (stmts_needs a body) (both (elsifs_needs a elsifs) (stmts_needs a others)))
@@ -121,7 +73,7 @@ abbrev mutual
   stmt_needs a (Loop place iteration body) = both (head_needs a iteration) (stmts_needs (in_loop a iteration) body)
   stmt_needs a (Block place ds body all) =
       both (locals_needs a.visible a.taken ds) (both (stmts_needs (behind_locals a ds) body) (handlers_needs (behind_locals a ds) all))
-  stmt_needs a other = beyond
+  stmt_needs a other = nothing
 
   pub stmts_needs : Standpoint → StmtTrees → Needs
   stmts_needs a NoStmts = nothing
@@ -134,12 +86,12 @@ abbrev mutual
   pub alternatives_needs : Standpoint → AlternativeTrees → Needs
   alternatives_needs a NoAlternatives = nothing
   alternatives_needs a (MoreAlternatives place choices body rest) =
-      both (choices_needs a.visible.scope choices) (both (stmts_needs a body) (alternatives_needs a rest))
+      both (choices_needs choices) (both (stmts_needs a body) (alternatives_needs a rest))
 
   pub handlers_needs : Standpoint → HandlerTrees → Needs
   handlers_needs a NoHandlers = nothing
   handlers_needs a (MoreHandlers choices body rest) =
-      both (handler_needs a choices) (both (stmts_needs (inside_handler a) body) (handlers_needs a rest))
+      both (handler_needs a) (both (stmts_needs (inside_handler a) body) (handlers_needs a rest))
 
 -- of statements with their handlers
 abbrev pub sequence_needs : Standpoint → StmtTrees → HandlerTrees → Needs
@@ -151,34 +103,34 @@ sequence_needs a body all = both (stmts_needs a body) (handlers_needs a all)
 abbrev pub Refuses : (old : Draft) → (labels : List (List ℕ)) → (bound : ℕ) → Needs → Refusal → Type 0
 Refuses old labels bound n why = IsNeeding (here old.code + bound) n why ⊎ HasManyLabels labels why
 
-abbrev pub RefusesStatement : Visible → Ways → (old : Draft) → StmtTree → Refusal → Type 0
-RefusesStatement v w old x why = Refuses old (stmt_labels old.labels x) (stmt_bound v.scope x) (stmt_needs (around v w old) x) why
+abbrev pub RefusesStatement : Visible → (old : Draft) → StmtTree → Refusal → Type 0
+RefusesStatement v old x why = Refuses old (stmt_labels old.labels x) (stmt_bound v.scope x) (stmt_needs (around v old) x) why
 
 -- ... of a call, by what this one needs
 abbrev pub RefusesCall : Visible → (old : Draft) → NameTree → Needs → Refusal → Type 0
 RefusesCall v old name n why = Refuses old (stmt_labels old.labels (Call name)) (stmt_bound v.scope (Call name)) n why
 
-abbrev pub RefusesStatements : Visible → Ways → (old : Draft) → StmtTrees → Refusal → Type 0
-RefusesStatements v w old body why = Refuses old (stmts_labels old.labels body) (stmts_bound v.scope body) (stmts_needs (around v w old) body) why
+abbrev pub RefusesStatements : Visible → (old : Draft) → StmtTrees → Refusal → Type 0
+RefusesStatements v old body why = Refuses old (stmts_labels old.labels body) (stmts_bound v.scope body) (stmts_needs (around v old) body) why
 
-abbrev pub RefusesParts : Visible → Ways → (old : Draft) → ElsifTrees → Refusal → Type 0
-RefusesParts v w old all why = Refuses old (elsifs_labels old.labels all) (elsifs_bound v.scope all) (elsifs_needs (around v w old) all) why
+abbrev pub RefusesParts : Visible → (old : Draft) → ElsifTrees → Refusal → Type 0
+RefusesParts v old all why = Refuses old (elsifs_labels old.labels all) (elsifs_bound v.scope all) (elsifs_needs (around v old) all) why
 
-abbrev pub RefusesAlternatives : Visible → Ways → (old : Draft) → AlternativeTrees → Refusal → Type 0
-RefusesAlternatives v w old all why =
-    Refuses old (alternatives_labels old.labels all) (alternatives_bound v.scope all) (alternatives_needs (around v w old) all) why
+abbrev pub RefusesAlternatives : Visible → (old : Draft) → AlternativeTrees → Refusal → Type 0
+RefusesAlternatives v old all why =
+    Refuses old (alternatives_labels old.labels all) (alternatives_bound v.scope all) (alternatives_needs (around v old) all) why
 
-abbrev pub RefusesHandlers : Visible → Ways → (old : Draft) → HandlerTrees → Refusal → Type 0
-RefusesHandlers v w old all why = Refuses old (handlers_labels old.labels all) (handlers_bound v.scope all) (handlers_needs (around v w old) all) why
+abbrev pub RefusesHandlers : Visible → (old : Draft) → HandlerTrees → Refusal → Type 0
+RefusesHandlers v old all why = Refuses old (handlers_labels old.labels all) (handlers_bound v.scope all) (handlers_needs (around v old) all) why
 
 -- statements with their handlers, if they have any, and a jump over these
-abbrev pub RefusesSequence : Visible → Ways → (old : Draft) → StmtTrees → HandlerTrees → Refusal → Type 0
-RefusesSequence v w old body all why =
-    Refuses old (handlers_labels (stmts_labels old.labels body) all) (sequence_bound v.scope body all + 1) (sequence_needs (around v w old) body all) why
+abbrev pub RefusesSequence : Visible → (old : Draft) → StmtTrees → HandlerTrees → Refusal → Type 0
+RefusesSequence v old body all why =
+    Refuses old (handlers_labels (stmts_labels old.labels body) all) (sequence_bound v.scope body all + 1) (sequence_needs (around v old) body all) why
 
 -- statements that handlers cover, and a jump over these
-abbrev pub RefusesCovered : Visible → Ways → (old : Draft) → StmtTrees → Refusal → Type 0
-RefusesCovered v w old body why = Refuses old (stmts_labels old.labels body) (stmts_bound v.scope body + 1) (stmts_needs (around v w old) body) why
+abbrev pub RefusesCovered : Visible → (old : Draft) → StmtTrees → Refusal → Type 0
+RefusesCovered v old body why = Refuses old (stmts_labels old.labels body) (stmts_bound v.scope body + 1) (stmts_needs (around v old) body) why
 
 abbrev pub RefusesDeclarations : Visible → (old : Draft) → List DeclarationTree → Refusal → Type 0
 RefusesDeclarations v old ds why = IsNeeding (here old.code + declarations_bound v.scope ds) (locals_needs v old.words.taken ds) why
@@ -189,18 +141,17 @@ RefusesDeclarations v old ds why = IsNeeding (here old.code + declarations_bound
 abbrev pub RefusesRange : Visible → (old : Draft) → Identifier → (reversed : Bool) → RangeTree → Refusal → Type 0
 RefusesRange v old parameter reversed range why =
     IsNeeding (here old.code + (6 + 20 * (expr_size range.first + expr_size range.last)))
-    (head_needs (around v (record { exit = None; return = None; handled = None }) old) (For parameter reversed range)) why
+    (head_needs (around v old) (For parameter reversed range)) why
 
 -- ---- bodies
 
--- the ways out of a body: a return alone
-abbrev pub in_body : Visible → (taken : ℕ) → (exceptions : List (List ℕ)) → Standpoint
-in_body v taken exceptions = record { visible = v; taken = taken; looped = false; returns = true; handled = false; exceptions = exceptions }
+abbrev pub in_body : Visible → (taken : ℕ) → Standpoint
+in_body v taken = record { visible = v; taken = taken }
 
-abbrev pub run_needs : Visible → (taken : ℕ) → (exceptions : List (List ℕ)) → List DeclarationTree → StmtTrees → HandlerTrees → Needs
-run_needs v taken exceptions ds body all = both (locals_needs v taken ds) (sequence_needs (behind_locals (in_body v taken exceptions) ds) body all)
+abbrev pub run_needs : Visible → (taken : ℕ) → List DeclarationTree → StmtTrees → HandlerTrees → Needs
+run_needs v taken ds body all = both (locals_needs v taken ds) (sequence_needs (behind_locals (in_body v taken) ds) body all)
 
 abbrev pub RefusesRun : Visible → (old : Draft) → List DeclarationTree → StmtTrees → HandlerTrees → Refusal → Type 0
 RefusesRun v old ds body all why =
     Refuses old (handlers_labels (stmts_labels old.labels body) all) (run_bound v.scope ds body all)
-    (run_needs v old.words.taken old.exceptions.items ds body all) why
+    (run_needs v old.words.taken ds body all) why

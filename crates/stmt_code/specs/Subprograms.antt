@@ -1,5 +1,5 @@
 -- What methods promise that add the code of whole subprograms: of procedures and functions of a package, and of main (docs/CODEGEN.md).
-use Rattle.std.specs.Prelude.{◌≡◌, ℕ, suc, ◌+◌, ◌≤◌, Bool, true, false, List, [], map, None, Some, ⊤}
+use Rattle.std.specs.Prelude.{◌≡◌, ℕ, suc, ◌+◌, ◌≤◌, Bool, true, false, List, [], ◌∷◌, length, map, None, Some, is_some, ⊤}
 use Rattle.std.specs.List.{All}
 use Rattle.base.specs.declared.limits.TheConstants.{FRAME_WORDS, INSTRUCTIONS}
 use Rattle.ada_tree.specs.declared.declaration.Formal.{Formal}
@@ -19,7 +19,9 @@ use Rattle.types.specs.Layouts.{words_of}
 use Rattle.types.specs.Scopes.{Scope}
 use Rattle.type_rules.specs.ProfileRules.{formal_parameters}
 use Rattle.expr_soundness.specs.Agreeing.{parameter_subtype}
-use Rattle.expr_soundness.specs.SoundScopes.{AreIn, IsKnown}
+use Rattle.type_rules.specs.SubtypeNames.{subtype_of}
+use Rattle.declaring.specs.BodyNames.{formals_scope}
+use Rattle.expr_soundness.specs.SoundScopes.{AreIn, IsKnown, SoundScope}
 use Rattle.expr_code.specs.Code.{Adds, Extends, Holds, StandsFrom, here}
 use Rattle.expr_code.specs.Emitting.{EmitsChecked}
 use Rattle.expr_code.specs.Flows.{AreKeptBetween}
@@ -36,6 +38,21 @@ use Rattle.part_code.specs.declared.frame_words.FrameWords.{FrameWords}
 use Rattle.part_code.specs.declared.formals.PlacedFormals.{PlacedFormals}
 use Rattle.stmt_code.specs.declared.subprogram.SubprogramWords.{SubprogramWords}
 use Rattle.part_code.specs.MainCalls.{AddsCalls}
+
+-- ---- what is asked
+
+-- what is named as the subtype of each formal is one
+abbrev pub NameSubtypes : Scope → List Formal → Type 0
+NameSubtypes s [] = ⊤
+NameSubtypes s (f ∷ fs) = (is_some (subtype_of s f.subtype) ≡ true) × NameSubtypes s fs
+
+-- legal formals in front of which these names are visible: each has a name of its own
+pub record AreLegalFormals (s : Scope) (fs : List Formal) : Type 0 where
+  pub named : NameSubtypes s fs
+  pub new_names : length (formals_scope s fs) ≡ length s + length fs
+  pub sound : SoundScope (formals_scope s fs)
+
+-- ---- code that was added
 
 -- code behind which a subprogram begins, of which nothing stood on the operand stack yet
 abbrev pub fresh : Code → Code

@@ -1,5 +1,5 @@
 -- When code of whole procedures and functions is refused: what their parameters, declarations, statements and values need, in one frame.
-use Rattle.std.specs.Prelude.{ℕ, ◌+◌, List, [], ◌∷◌, ◌++◌, ◌||◌, map, not, Option, Some, None, ◌⊎◌}
+use Rattle.std.specs.Prelude.{ℕ, ◌+◌, List, [], ◌∷◌, ◌++◌, map, Option, Some, None, ◌⊎◌}
 use Rattle.ada_tree.specs.declared.declaration.Formal.{Formal}
 use Rattle.ada_tree.specs.declared.declaration.Mode.{Mode}
 use Rattle.ada_tree.specs.declared.declaration.Mode.TheVariants as mode
@@ -11,7 +11,7 @@ use Rattle.types.specs.Scopes.{Scope}
 use Rattle.type_rules.specs.SubtypeNames.{subtype_of}
 use Rattle.declaring.specs.BodyNames.{formals_scope}
 use Rattle.expr_code.specs.Code.{here}
-use Rattle.expr_code.specs.Refusing.{checked_peak, is_outside, is_passable, peak}
+use Rattle.expr_code.specs.Refusing.{checked_peak, peak}
 use Rattle.expr_code.specs.declared.refusal.Refusal.{Refusal}
 use Rattle.expr_code.specs.declared.visible.Visible.{Visible}
 use Rattle.part_code.specs.Bounds.{function_bound, procedure_bound, words_named}
@@ -45,7 +45,7 @@ out_behind mode.In many out = out
 out_behind mode.Out many out = out + many
 out_behind mode.InOut many out = out
 
--- all of them; code isn't made where what is named is no subtype
+-- all of them; each names a subtype
 abbrev pub placed_if : Mode → (from out : ℕ) → Option Subtype → (rest : List PlacedFormal) → List PlacedFormal
 placed_if m from out None rest = []
 placed_if m from out (Some t) rest = placed_as m t from out ∷ rest
@@ -72,22 +72,21 @@ formals_visible v fs =
 
 -- ---- what code needs
 
-abbrev pub inside_needs : Visible → List PlacedFormal → (taken : ℕ) → (exceptions : List (List ℕ)) → BodyTree → Needs
-inside_needs v xs taken exceptions b =
-    both (outs_needs v xs) (both (run_needs v taken exceptions b.declarations b.statements b.handlers) (stacked (all_given v.scope xs)))
+abbrev pub inside_needs : Visible → List PlacedFormal → (taken : ℕ) → BodyTree → Needs
+inside_needs v xs taken b =
+    both (outs_needs v xs) (both (run_needs v taken b.declarations b.statements b.handlers) (stacked (all_given v.scope xs)))
 
-abbrev pub procedure_needs : Visible → (exceptions : List (List ℕ)) → List Formal → BodyTree → Needs
-procedure_needs v exceptions fs b =
+abbrev pub procedure_needs : Visible → List Formal → BodyTree → Needs
+procedure_needs v fs b =
     together (both (formals_needs v.scope fs)
-    (inside_needs (formals_visible v fs) (formals_placed v.scope fs) (formals_frame v.scope fs) exceptions b))
+    (inside_needs (formals_visible v fs) (formals_placed v.scope fs) (formals_frame v.scope fs) b))
 
 -- of the value of a function, which is checked
-abbrev pub returned_needs : Visible → Subtype → ExprTree → Needs
-returned_needs v t e =
-    record { stack = checked_peak (peak v.scope e); frame = 0; unfit = has_unfit v; outside = not (is_passable v.scope t) || is_outside v e }
+abbrev pub returned_needs : Visible → ExprTree → Needs
+returned_needs v e = record { stack = checked_peak (peak v.scope e); frame = 0; unfit = has_unfit v }
 
-abbrev pub function_needs : Visible → List Formal → Subtype → ExprTree → Needs
-function_needs v fs t e = together (both (formals_needs v.scope fs) (returned_needs (formals_visible v fs) t e))
+abbrev pub function_needs : Visible → List Formal → ExprTree → Needs
+function_needs v fs e = together (both (formals_needs v.scope fs) (returned_needs (formals_visible v fs) e))
 
 -- ---- refusals
 
@@ -96,8 +95,8 @@ abbrev pub body_labels : (before : List (List ℕ)) → BodyTree → List (List 
 body_labels before b = handlers_labels (stmts_labels before b.statements) b.handlers
 
 abbrev pub RefusesProcedure : Visible → (old : Draft) → List Formal → BodyTree → Refusal → Type 0
-RefusesProcedure v old fs b why = IsNeeding (here old.code + procedure_bound v.scope fs b) (procedure_needs v old.exceptions.items fs b) why
+RefusesProcedure v old fs b why = IsNeeding (here old.code + procedure_bound v.scope fs b) (procedure_needs v fs b) why
     ⊎ HasManyLabels (body_labels old.labels b) why
 
-abbrev pub RefusesFunction : Visible → (old : Draft) → List Formal → Subtype → ExprTree → Refusal → Type 0
-RefusesFunction v old fs t e why = IsNeeding (here old.code + function_bound fs e) (function_needs v fs t e) why
+abbrev pub RefusesFunction : Visible → (old : Draft) → List Formal → ExprTree → Refusal → Type 0
+RefusesFunction v old fs e why = IsNeeding (here old.code + function_bound fs e) (function_needs v fs e) why

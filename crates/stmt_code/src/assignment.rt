@@ -8,6 +8,7 @@ ghost use Rattle.types.specs.Layouts.{words_of};
 ghost use Rattle.types.specs.Scopes.{number_of};
 ghost use Rattle.types.specs.Standings.{stands_first};
 ghost use Rattle.expr_code.specs.Seeing.{slot_of};
+ghost use Rattle.expr_code.specs.Providing.{HasWhatExpressionsNeed};
 ghost use Rattle.stmt_code.specs.Staying.{Stays};
 ghost use Rattle.part_code.specs.Bounds.{stmt_bound};
 ghost use Rattle.stmt_code.specs.Emitting.{EmitsStatement, IsLegalStatement};
@@ -35,6 +36,7 @@ impl Draft {
         value: &Expr,
     ) -> Result<(), Refusal>
         requires sound { SoundScope visible.now.scope }
+        requires covered { HasWhatExpressionsNeed visible.now }
         requires legal { IsLegalStatement visible.now.scope (Assignment (name_tree name.now) (expr_tree value.now)) }
         ensures emits { (w : Ways) → OnOk result (EmitsStatement visible.now w self.old (Assignment (name_tree name.now) (expr_tree value.now)) self.new) }
         ensures refused { IfErr result (λ why. Refuses self.old self.old.labels (stmt_bound visible.now.scope
@@ -43,10 +45,10 @@ impl Draft {
             (length self.old.rows.items) self.new) }
     {
         let Standing::Part(_, subtype) = visible.scope.stands_first(&name.first) else {
-            return Err(Refusal::Outside);
+            unreachable!();
         };
         let Some(slot) = visible.slot(&name.first.name) else {
-            return Err(Refusal::Outside);
+            unreachable!();
         };
         if is_composite(visible, subtype) && names_composite(visible, name) {
             return self.assign_composite(visible, slot, subtype, name, value);
@@ -70,6 +72,7 @@ impl Draft {
         value: &Expr,
     ) -> Result<(), Refusal>
         requires sound { SoundScope visible.now.scope }
+        requires covered { HasWhatExpressionsNeed visible.now }
         requires legal { IsLegalStatement visible.now.scope (Assignment (name_tree name.now) (expr_tree value.now)) }
         requires stands { (r : Role) × (stands_first visible.now.scope (number_of visible.now.scope (name_tree name.now).first.name) ≡ standing.Part r
             subtype) }
@@ -100,6 +103,7 @@ impl Draft {
         value: &Expr,
     ) -> Result<(), Refusal>
         requires sound { SoundScope visible.now.scope }
+        requires covered { HasWhatExpressionsNeed visible.now }
         requires legal { IsLegalStatement visible.now.scope (Assignment (name_tree name.now) (expr_tree value.now)) }
         requires stands { (r : Role) × (stands_first visible.now.scope (number_of visible.now.scope (name_tree name.now).first.name) ≡ standing.Part r
             subtype) }

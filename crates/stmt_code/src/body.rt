@@ -2,8 +2,9 @@
 ghost use Rattle.std.specs.Prelude.{◌≡◌, map, IfErr, None, OnOk};
 ghost use Rattle.ada_tree.specs.StatementTree.{declaration_tree, handler_trees, stmt_trees};
 ghost use Rattle.stmt_code.specs.Staying.{StaysRun};
+ghost use Rattle.part_code.specs.Providing.{HasWhatCodeNeeds};
 ghost use Rattle.part_code.specs.Emitting.{HasEntries};
-ghost use Rattle.stmt_code.specs.Emitting.{EmitsRun, IsLegalRun};
+ghost use Rattle.stmt_code.specs.Emitting.{EmitsRun, IsAcceptedRun};
 ghost use Rattle.stmt_code.specs.Refusing.{RefusesRun};
 ghost use Rattle.expr_soundness.specs.SoundScopes.{SoundScope};
 
@@ -26,7 +27,8 @@ impl Draft {
     ) -> Result<(), Refusal>
         requires sound { SoundScope visible.old.scope }
         requires entries { HasEntries visible.old }
-        requires legal { IsLegalRun visible.old.scope (map declaration_tree declarations.now) (stmt_trees statements.now) (handler_trees all.now) }
+        requires covered { HasWhatCodeNeeds self.old.exceptions.items visible.old }
+        requires legal { IsAcceptedRun visible.old.scope (map declaration_tree declarations.now) (stmt_trees statements.now) (handler_trees all.now) }
         ensures emits { OnOk result (EmitsRun visible.old self.old (map declaration_tree declarations.now) (stmt_trees statements.now)
             (handler_trees all.now) self.new) }
         ensures refused { IfErr result (λ why. RefusesRun visible.old self.old (map declaration_tree declarations.now) (stmt_trees statements.now)

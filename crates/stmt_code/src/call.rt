@@ -1,16 +1,18 @@
 //! The code of calls of procedures (RM 6.4) and entries (RM 9.5.3): the actual parameters in order, each checked against the subtype of its formal, the call,
 //! and what is copied back.
-ghost use Rattle.std.specs.Prelude.{◌≡◌, ◌+◌, ◌*◌, length, map, true, IfErr, OnOk, Some};
+ghost use Rattle.std.specs.Prelude.{◌≡◌, ◌+◌, ◌*◌, length, map, None, true, IfErr, OnOk, Some};
 ghost use Rattle.ada_tree.specs.ExpressionTree.{argument_tree, argument_trees, name_tree};
 ghost use Rattle.ada_tree.specs.Size.{argument_size, total};
 ghost use Rattle.ada_tree.specs.StatementTree.{Call};
 ghost use Rattle.expr_code.specs.Actuals.{ArePassedLegally};
 ghost use Rattle.expr_code.specs.Code.{here, IsShallow};
 ghost use Rattle.expr_code.specs.Seeing.{external_profile, NamesProfile};
+ghost use Rattle.expr_code.specs.Providing.{HasWhatExpressionsNeed};
+ghost use Rattle.part_code.specs.Providing.{HasWhatCodeNeeds};
 ghost use Rattle.stmt_code.specs.Staying.{StaysCall};
 ghost use Rattle.stmt_code.specs.Emitting.{AddsInvocation, EmitsStatement, IsLegalStatement};
 ghost use Rattle.part_code.specs.EntryNames.{entry_behind, is_own_entry};
-ghost use Rattle.part_code.specs.Needs.{call_needs, entry_needs, external_needs, invoked_needs, IsNeeding, nothing, passed_needs};
+ghost use Rattle.part_code.specs.Needs.{behind_needs, call_needs, invoked_needs, IsNeeding, nothing, passed_needs};
 ghost use Rattle.part_code.specs.Passing.{operation_behind};
 ghost use Rattle.stmt_code.specs.Refusing.{RefusesCall};
 ghost use Rattle.part_code.specs.step_soundness.specs.Fitting.{entity_named};
@@ -35,6 +37,7 @@ fn add_invocation(
     call: Operation,
 ) -> Result<(), Refusal>
     requires sound { SoundScope visible.now.scope }
+    requires covered { HasWhatExpressionsNeed visible.now }
     requires known { AreKnown visible.now.scope formals.now }
     requires as_many { length arguments.now ≡ length formals.now }
     requires legal { ArePassedLegally visible.now.scope formals.now (map argument_tree arguments.now) }
@@ -53,6 +56,7 @@ impl Draft {
     /// Adds the code of a call of a procedure or an entry, which may be named behind its protected object, or of a line.
     pub(crate) fn call(&mut self, visible: &Visible, name: &NameExpr) -> Result<(), Refusal>
         requires sound { SoundScope visible.now.scope }
+        requires covered { HasWhatCodeNeeds self.old.exceptions.items visible.now }
         requires legal { IsLegalStatement visible.now.scope (Call (name_tree name.now)) }
         ensures emits { (w : Ways) → OnOk result (EmitsStatement visible.now w self.old (Call (name_tree name.now)) self.new) }
         ensures refused { IfErr result (λ why. RefusesCall visible.now self.old (name_tree name.now) (call_needs visible.now (name_tree name.now)) why) }
@@ -88,6 +92,7 @@ impl Draft {
         profile: &Profile,
     ) -> Result<(), Refusal>
         requires sound { SoundScope visible.now.scope }
+        requires covered { HasWhatCodeNeeds self.old.exceptions.items visible.now }
         requires names { NamesProfile visible.now.scope name.now.first.name (profile_value profile.now) }
         requires legal { IsLegalStatement visible.now.scope (Call (name_tree name.now)) }
         ensures emits { (w : Ways) → OnOk result (EmitsStatement visible.now w self.old (Call (name_tree name.now)) self.new) }
@@ -98,10 +103,10 @@ impl Draft {
     {
         quiet_stays();
         let Some(number) = visible.subprogram(&name.first.name) else {
-            return Err(Refusal::Outside);
+            unreachable!();
         };
         let Some(arguments) = actuals_of(name) else {
-            return Err(Refusal::Outside);
+            unreachable!();
         };
         let call = Operation::Call(number);
         add_invocation(&mut self.code, visible, &profile.formals, arguments, call)
@@ -116,23 +121,25 @@ impl Draft {
         arguments: &[Argument],
     ) -> Result<(), Refusal>
         requires sound { SoundScope visible.now.scope }
+        requires covered { HasWhatCodeNeeds self.old.exceptions.items visible.now }
         requires behind { operation_behind (name_tree name.now).selectors ≡ Some
             (record { operation = operation.now; arguments = argument_trees arguments.now }) }
+        requires none { entry_behind visible.now.scope name.now.first.name operation.now.name ≡ None }
         requires legal { IsLegalStatement visible.now.scope (Call (name_tree name.now)) }
         ensures emits { (w : Ways) → OnOk result (EmitsStatement visible.now w self.old (Call (name_tree name.now)) self.new) }
         ensures refused { IfErr result (λ why. RefusesCall visible.now self.old (name_tree name.now)
-            (external_needs visible.now name.now.first.name (record { operation = operation.now; arguments = argument_trees arguments.now })
+            (behind_needs visible.now (record { operation = operation.now; arguments = argument_trees arguments.now })
             (external_profile visible.now.scope name.now.first.name operation.now.name)) why) }
-        ensures stays { OnOk result (StaysCall self.old (name_tree name.now) (external_needs visible.now name.now.first.name
+        ensures stays { OnOk result (StaysCall self.old (name_tree name.now) (behind_needs visible.now
             (record { operation = operation.now; arguments = argument_trees arguments.now })
             (external_profile visible.now.scope name.now.first.name operation.now.name)) self.new) }
     {
         quiet_stays();
         let Some(profile) = visible.external_profile(&name.first.name, &operation.name) else {
-            return Err(Refusal::Outside);
+            unreachable!();
         };
         let Some(number) = visible.external(&name.first.name, &operation.name) else {
-            return Err(Refusal::Outside);
+            unreachable!();
         };
         let call = Operation::ProtectedCall(number);
         add_invocation(&mut self.code, visible, &profile.formals, arguments, call)
@@ -149,21 +156,22 @@ impl Draft {
         object: u16,
     ) -> Result<(), Refusal>
         requires sound { SoundScope visible.now.scope }
+        requires covered { HasWhatCodeNeeds self.old.exceptions.items visible.now }
         requires behind { operation_behind (name_tree name.now).selectors ≡ Some
             (record { operation = operation.now; arguments = argument_trees arguments.now }) }
         requires entry { entry_behind visible.now.scope name.now.first.name operation.now.name ≡ Some object }
         requires legal { IsLegalStatement visible.now.scope (Call (name_tree name.now)) }
         ensures emits { (w : Ways) → OnOk result (EmitsStatement visible.now w self.old (Call (name_tree name.now)) self.new) }
         ensures refused { IfErr result (λ why. RefusesCall visible.now self.old (name_tree name.now)
-            (entry_needs visible.now (record { operation = operation.now; arguments = argument_trees arguments.now })
+            (behind_needs visible.now (record { operation = operation.now; arguments = argument_trees arguments.now })
             (external_profile visible.now.scope name.now.first.name operation.now.name)) why) }
-        ensures stays { OnOk result (StaysCall self.old (name_tree name.now) (entry_needs visible.now
+        ensures stays { OnOk result (StaysCall self.old (name_tree name.now) (behind_needs visible.now
             (record { operation = operation.now; arguments = argument_trees arguments.now })
             (external_profile visible.now.scope name.now.first.name operation.now.name)) self.new) }
     {
         quiet_stays();
         let Some(profile) = visible.external_profile(&name.first.name, &operation.name) else {
-            return Err(Refusal::Outside);
+            unreachable!();
         };
         self.code.emit(0, Operation::CheckBlocking)?;
         let entry = Operation::EntryCall(object);

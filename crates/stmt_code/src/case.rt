@@ -3,9 +3,10 @@ ghost use Rattle.std.specs.Prelude.{◌≡◌, ◌∷◌, [], map, IfErr, OnOk};
 ghost use Rattle.ada_tree.specs.ExpressionTree.{expr_tree};
 ghost use Rattle.ada_tree.specs.StatementTree.{alternative_tree, alternative_trees, alternatives_of, Case, choices_tree, stmt_trees};
 ghost use Rattle.stmt_code.specs.Staying.{StaysAlternatives, StaysStatement};
-ghost use Rattle.stmt_code.specs.Alternatives.{AddsAlternatives, AreLegalAlternatives};
+ghost use Rattle.stmt_code.specs.Alternatives.{AddsAlternatives, AreAcceptedAlternatives};
 ghost use Rattle.part_code.specs.Choices.{AreLegalChoices};
-ghost use Rattle.stmt_code.specs.Emitting.{AreLegalStatements, EmitsStatement, IsLegalStatement};
+ghost use Rattle.stmt_code.specs.Emitting.{AreAcceptedStatements, EmitsStatement, IsAcceptedStatement};
+ghost use Rattle.part_code.specs.Providing.{HasWhatCodeNeeds};
 ghost use Rattle.part_code.specs.Emitting.{HasEntries, ways_of};
 ghost use Rattle.stmt_code.specs.Refusing.{RefusesAlternatives, RefusesStatement};
 ghost use Rattle.part_code.specs.stmt_rules.specs.CaseRules.{selecting_faults};
@@ -33,12 +34,13 @@ impl Draft {
     ) -> Result<(), Refusal>
         requires sound { SoundScope visible.old.scope }
         requires entries { HasEntries visible.old }
-        requires legal { IsLegalStatement visible.old.scope (Case place (expr_tree value.now) (alternative_trees alternatives.now)) }
+        requires covered { HasWhatCodeNeeds self.old.exceptions.items visible.old }
+        requires legal { IsAcceptedStatement visible.old.scope (ways_of leaving) (Case place (expr_tree value.now) (alternative_trees alternatives.now)) }
         ensures emits { OnOk result (EmitsStatement visible.old (ways_of leaving) self.old
             (Case place (expr_tree value.now) (alternative_trees alternatives.now)) self.new) }
-        ensures refused { IfErr result (λ why. RefusesStatement visible.old (ways_of leaving) self.old
+        ensures refused { IfErr result (λ why. RefusesStatement visible.old self.old
             (Case place (expr_tree value.now) (alternative_trees alternatives.now)) why) }
-        ensures stays { OnOk result (StaysStatement visible.old (ways_of leaving) self.old
+        ensures stays { OnOk result (StaysStatement visible.old self.old
             (Case place (expr_tree value.now) (alternative_trees alternatives.now)) self.new) }
         ensures same { OnOk result (visible.new ≡ visible.old) }
     {
@@ -61,12 +63,13 @@ impl Draft {
     ) -> Result<(), Refusal>
         requires sound { SoundScope visible.old.scope }
         requires entries { HasEntries visible.old }
+        requires covered { HasWhatCodeNeeds self.old.exceptions.items visible.old }
         requires selecting { selecting_faults visible.old.scope (expr_tree value.now) ≡ [] }
-        requires legal { AreLegalAlternatives visible.old.scope (expr_tree value.now) (alternative_trees all.now) }
+        requires legal { AreAcceptedAlternatives visible.old.scope (ways_of leaving) (expr_tree value.now) (alternative_trees all.now) }
         ensures adds { OnOk result (AddsAlternatives visible.old (ways_of leaving) (expr_tree value.now) self.old (map alternative_tree all.now)
             waiting.old.items waiting.new.items self.new) }
-        ensures refused { IfErr result (λ why. RefusesAlternatives visible.old (ways_of leaving) self.old (alternative_trees all.now) why) }
-        ensures stays { OnOk result (StaysAlternatives visible.old (ways_of leaving) self.old (alternative_trees all.now) self.new) }
+        ensures refused { IfErr result (λ why. RefusesAlternatives visible.old self.old (alternative_trees all.now) why) }
+        ensures stays { OnOk result (StaysAlternatives visible.old self.old (alternative_trees all.now) self.new) }
         ensures same { OnOk result (visible.new ≡ visible.old) }
     {
         for alternative in all {
@@ -87,14 +90,15 @@ impl Draft {
     ) -> Result<(), Refusal>
         requires sound { SoundScope visible.old.scope }
         requires entries { HasEntries visible.old }
+        requires covered { HasWhatCodeNeeds self.old.exceptions.items visible.old }
         requires selecting { selecting_faults visible.old.scope (expr_tree value.now) ≡ [] }
         requires choices { AreLegalChoices visible.old.scope (expr_tree value.now) (choices_tree alternative.now.choices) }
-        requires legal { AreLegalStatements visible.old.scope (stmt_trees alternative.now.statements.items) }
+        requires legal { AreAcceptedStatements visible.old.scope (ways_of leaving) (stmt_trees alternative.now.statements.items) }
         ensures adds { OnOk result (AddsAlternatives visible.old (ways_of leaving) (expr_tree value.now) self.old
             (alternative_tree alternative.now ∷ []) waiting.old.items waiting.new.items self.new) }
-        ensures refused { IfErr result (λ why. RefusesAlternatives visible.old (ways_of leaving) self.old
+        ensures refused { IfErr result (λ why. RefusesAlternatives visible.old self.old
             (alternatives_of (alternative_tree alternative.now ∷ [])) why) }
-        ensures stays { OnOk result (StaysAlternatives visible.old (ways_of leaving) self.old
+        ensures stays { OnOk result (StaysAlternatives visible.old self.old
             (alternatives_of (alternative_tree alternative.now ∷ [])) self.new) }
         ensures same { OnOk result (visible.new ≡ visible.old) }
     {

@@ -3,6 +3,8 @@ ghost use Rattle.std.specs.Prelude.{◌≡◌, ◌+◌, ◌∷◌, [], map, IfEr
 ghost use Rattle.ada_tree.specs.StatementTree.{declaration_tree, LocalObject, object_tree};
 ghost use Rattle.declaring.specs.LocalRules.{local_faults, locals_faults};
 ghost use Rattle.type_rules.specs.ObjectRules.{local_object_faults};
+ghost use Rattle.part_code.specs.Providing.{HasWhatCodeNeeds};
+ghost use Rattle.part_code.specs.step_soundness.specs.body_restrictions.specs.BodyRules as restrictions;
 ghost use Rattle.stmt_code.specs.Staying.{StaysDeclarations};
 ghost use Rattle.stmt_code.specs.Emitting.{EmitsDeclarations};
 ghost use Rattle.part_code.specs.Emitting.{HasEntries};
@@ -30,10 +32,13 @@ impl Draft {
     ) -> Result<(), Refusal>
         requires sound { SoundScope visible.old.scope }
         requires entries { HasEntries visible.old }
+        requires covered { HasWhatCodeNeeds self.old.exceptions.items visible.old }
         requires legal { locals_faults visible.old.scope (map declaration_tree all.now) ≡ [] }
+        requires restricted { restrictions.locals_faults (map declaration_tree all.now) ≡ [] }
         ensures emits { OnOk result (EmitsDeclarations visible.old self.old (map declaration_tree all.now) visible.new self.new) }
         ensures shown { OnOk result (visible.new ≡ locals_visible visible.old self.old.words.taken (map declaration_tree all.now)) }
         ensures taken { OnOk result (self.new.words.taken ≡ self.old.words.taken + locals_words visible.old.scope (map declaration_tree all.now)) }
+        ensures covered { OnOk result (HasWhatCodeNeeds self.new.exceptions.items visible.new) }
         ensures refused { IfErr result (λ why. RefusesDeclarations visible.old self.old (map declaration_tree all.now) why) }
         ensures stays { OnOk result (StaysDeclarations visible.old self.old (map declaration_tree all.now) self.new) }
     {
@@ -51,16 +56,19 @@ impl Draft {
     ) -> Result<(), Refusal>
         requires sound { SoundScope visible.old.scope }
         requires entries { HasEntries visible.old }
+        requires covered { HasWhatCodeNeeds self.old.exceptions.items visible.old }
         requires legal { local_faults visible.old.scope (declaration_tree declaration.now) ≡ [] }
+        requires restricted { restrictions.local_faults (declaration_tree declaration.now) ≡ [] }
         ensures emits { OnOk result (EmitsDeclarations visible.old self.old (declaration_tree declaration.now ∷ []) visible.new self.new) }
         ensures shown { OnOk result (visible.new ≡ local_visible visible.old self.old.words.taken (declaration_tree declaration.now)) }
         ensures taken { OnOk result (self.new.words.taken ≡ self.old.words.taken + local_words visible.old.scope (declaration_tree declaration.now)) }
+        ensures covered { OnOk result (HasWhatCodeNeeds self.new.exceptions.items visible.new) }
         ensures refused { IfErr result (λ why. RefusesDeclarations visible.old self.old (declaration_tree declaration.now ∷ []) why) }
         ensures stays { OnOk result (StaysDeclarations visible.old self.old (declaration_tree declaration.now ∷ []) self.new) }
     {
         match declaration {
             Declaration::Object(object) => self.object(visible, object),
-            _ => Err(Refusal::Outside),
+            _ => unreachable!(),
         }
     }
 
@@ -68,10 +76,12 @@ impl Draft {
     fn object(&mut self, visible: &mut Visible, object: &ObjectDeclaration) -> Result<(), Refusal>
         requires sound { SoundScope visible.old.scope }
         requires entries { HasEntries visible.old }
+        requires covered { HasWhatCodeNeeds self.old.exceptions.items visible.old }
         requires legal { local_object_faults visible.old.scope (object_tree object.now) ≡ [] }
         ensures emits { OnOk result (EmitsDeclarations visible.old self.old (LocalObject (object_tree object.now) ∷ []) visible.new self.new) }
         ensures shown { OnOk result (visible.new ≡ local_visible visible.old self.old.words.taken (LocalObject (object_tree object.now))) }
         ensures taken { OnOk result (self.new.words.taken ≡ self.old.words.taken + local_words visible.old.scope (LocalObject (object_tree object.now))) }
+        ensures covered { OnOk result (HasWhatCodeNeeds self.new.exceptions.items visible.new) }
         ensures refused { IfErr result (λ why. RefusesDeclarations visible.old self.old (LocalObject (object_tree object.now) ∷ []) why) }
         ensures stays { OnOk result (StaysDeclarations visible.old self.old (LocalObject (object_tree object.now) ∷ []) self.new) }
     {
@@ -83,7 +93,7 @@ impl Draft {
         shapes_stay();
         values_have_words();
         let Some(subtype) = subtype_of(&visible.scope, &object.subtype) else {
-            return Err(Refusal::Outside);
+            unreachable!();
         };
         let first = self.words.take(visible.scope.words(subtype))?;
         add_object(&mut self.code, visible, first, subtype, &object.value)?;

@@ -6,6 +6,7 @@ ghost use Rattle.expr_soundness.specs.SoundScopes.{SoundScope};
 ghost use Rattle.part_code.specs.Bounds.{stmt_bound};
 ghost use Rattle.part_code.specs.Needs.{value_needs};
 ghost use Rattle.part_code.specs.Statements.{Ways};
+ghost use Rattle.expr_code.specs.Providing.{HasWhatExpressionsNeed};
 ghost use Rattle.stmt_code.specs.Emitting.{EmitsStatement, IsLegalStatement};
 ghost use Rattle.stmt_code.specs.Refusing.{Refuses};
 ghost use Rattle.stmt_code.specs.Staying.{Stays};
@@ -25,6 +26,7 @@ impl Draft {
         until: &Expr,
     ) -> Result<(), Refusal>
         requires sound { SoundScope visible.now.scope }
+        requires covered { HasWhatExpressionsNeed visible.now }
         requires legal { IsLegalStatement visible.now.scope (DelayUntil place (expr_tree until.now)) }
         ensures emits { (w : Ways) → OnOk result (EmitsStatement visible.now w self.old (DelayUntil place (expr_tree until.now)) self.new) }
         ensures refused { IfErr result (λ why. Refuses self.old self.old.labels (stmt_bound visible.now.scope

@@ -43,7 +43,7 @@ impl Labels {
         ensures stay { OnOk result (StandsFrom 0 self.old self.new) }
         ensures number { IfOk result (λ number. slice_get self.new number ≡ Some label.now) }
         ensures labels { OnOk result (self.new ≡ with_label self.old label.now) }
-        ensures refused { IfErr result (λ why. IsRefused 0 0 false why ⊎ HasManyLabels (with_label self.old label.now) why) }
+        ensures refused { IfErr result (λ why. IsRefused 0 0 why ⊎ HasManyLabels (with_label self.old label.now) why) }
     {
         let (number, _) = self.labels.insert_full(label.clone()?)?;
         if LABELS <= number {
@@ -55,7 +55,7 @@ impl Labels {
     /// The labels by their numbers, as an image has them (docs/FORMATS.md).
     pub fn texts(&self, alloc: Global) -> Result<Vec<Text>, Refusal>
         ensures texts { IfOk result (λ texts. texts.items ≡ self.now) }
-        ensures refused { IfErr result (λ why. IsRefused 0 0 false why) }
+        ensures refused { IfErr result (λ why. IsRefused 0 0 why) }
     {
         let mut texts = Vec::new(alloc);
         for label in self.labels.as_slice() {

@@ -1,12 +1,15 @@
 //! The code of handlers (RM 11.2, 11.4), and of the statements that they cover.
-ghost use Rattle.std.specs.Prelude.{◌≡◌, ◌+◌, ◌<◌, ◌∷◌, [], length, map, IfErr, IfOk, OnOk};
+ghost use Rattle.std.specs.Prelude.{◌≡◌, ◌+◌, ◌<◌, ◌∷◌, [], length, map, true, ℕ, IfErr, IfOk, OnOk};
 ghost use Rattle.ada_tree.specs.StatementTree.{handler_tree, handler_trees, handlers_of, stmt_trees};
 ghost use Rattle.expr_code.specs.Code.{here};
 ghost use Rattle.stmt_code.specs.Covering.{AddsCovered, AddsHandled, AddsHandlers, EmitsSequence};
-ghost use Rattle.stmt_code.specs.Emitting.{AreLegalStatements, AreLegalHandlers};
+ghost use Rattle.stmt_code.specs.Emitting.{AreAcceptedStatements, AreAcceptedHandlers};
+ghost use Rattle.part_code.specs.Providing.{HasWhatCodeNeeds};
 ghost use Rattle.part_code.specs.Emitting.{HasEntries, ways_of};
 ghost use Rattle.stmt_code.specs.Refusing.{RefusesCovered, RefusesHandlers, RefusesSequence};
+ghost use Rattle.part_code.specs.Raising.{are_numbered};
 ghost use Rattle.part_code.specs.Rows.{choices_many};
+ghost use Rattle.part_code.specs.Statements.{within_handler};
 ghost use Rattle.stmt_code.specs.Staying.{StaysHandled, StaysHandlers, StaysSequence, StaysStatements};
 ghost use Rattle.expr_soundness.specs.SoundScopes.{SoundScope};
 
@@ -38,11 +41,12 @@ impl Draft {
     ) -> Result<(), Refusal>
         requires sound { SoundScope visible.old.scope }
         requires entries { HasEntries visible.old }
-        requires legal { AreLegalStatements visible.old.scope (stmt_trees body.now) }
-        requires handled { AreLegalHandlers visible.old.scope (handler_trees all.now) }
+        requires covered { HasWhatCodeNeeds self.old.exceptions.items visible.old }
+        requires legal { AreAcceptedStatements visible.old.scope (ways_of leaving) (stmt_trees body.now) }
+        requires handled { AreAcceptedHandlers visible.old.scope (ways_of leaving) (handler_trees all.now) }
         ensures emits { OnOk result (EmitsSequence visible.old (ways_of leaving) self.old (stmt_trees body.now) (handler_trees all.now) self.new) }
-        ensures refused { IfErr result (λ why. RefusesSequence visible.old (ways_of leaving) self.old (stmt_trees body.now) (handler_trees all.now) why) }
-        ensures stays { OnOk result (StaysSequence visible.old (ways_of leaving) self.old (stmt_trees body.now) (handler_trees all.now) self.new) }
+        ensures refused { IfErr result (λ why. RefusesSequence visible.old self.old (stmt_trees body.now) (handler_trees all.now) why) }
+        ensures stays { OnOk result (StaysSequence visible.old self.old (stmt_trees body.now) (handler_trees all.now) self.new) }
         ensures same { OnOk result (visible.new ≡ visible.old) }
     {
         rows_inside();
@@ -64,10 +68,11 @@ impl Draft {
     ) -> Result<Cover, Refusal>
         requires sound { SoundScope visible.old.scope }
         requires entries { HasEntries visible.old }
-        requires legal { AreLegalStatements visible.old.scope (stmt_trees body.now) }
+        requires covered { HasWhatCodeNeeds self.old.exceptions.items visible.old }
+        requires legal { AreAcceptedStatements visible.old.scope (ways_of leaving) (stmt_trees body.now) }
         ensures covers { IfOk result (λ cover. AddsCovered visible.old (ways_of leaving) self.old (stmt_trees body.now) cover self.new) }
-        ensures refused { IfErr result (λ why. RefusesCovered visible.old (ways_of leaving) self.old (stmt_trees body.now) why) }
-        ensures stays { OnOk result (StaysStatements visible.old (ways_of leaving) self.old (stmt_trees body.now) self.new) }
+        ensures refused { IfErr result (λ why. RefusesCovered visible.old self.old (stmt_trees body.now) why) }
+        ensures stays { OnOk result (StaysStatements visible.old self.old (stmt_trees body.now) self.new) }
         ensures same { OnOk result (visible.new ≡ visible.old) }
     {
         let start = self.code.end()?;
@@ -95,11 +100,12 @@ impl Draft {
     ) -> Result<(), Refusal>
         requires sound { SoundScope visible.old.scope }
         requires entries { HasEntries visible.old }
-        requires legal { AreLegalHandlers visible.old.scope (handler_trees all.now) }
+        requires covered { HasWhatCodeNeeds self.old.exceptions.items visible.old }
+        requires legal { AreAcceptedHandlers visible.old.scope (ways_of leaving) (handler_trees all.now) }
         requires there { cover.jump < here self.old.code }
         ensures handles { OnOk result (AddsHandled visible.old (ways_of leaving) self.old (map handler_tree all.now) cover self.new) }
-        ensures refused { IfErr result (λ why. RefusesHandlers visible.old (ways_of leaving) self.old (handler_trees all.now) why) }
-        ensures stays { OnOk result (StaysHandled visible.old (ways_of leaving) self.old (handler_trees all.now) self.new) }
+        ensures refused { IfErr result (λ why. RefusesHandlers visible.old self.old (handler_trees all.now) why) }
+        ensures stays { OnOk result (StaysHandled visible.old self.old (handler_trees all.now) self.new) }
         ensures same { OnOk result (visible.new ≡ visible.old) }
     {
         let mut own = Vec::new(self.code.alloc);
@@ -123,11 +129,12 @@ impl Draft {
     ) -> Result<(), Refusal>
         requires sound { SoundScope visible.old.scope }
         requires entries { HasEntries visible.old }
-        requires legal { AreLegalHandlers visible.old.scope (handler_trees all.now) }
+        requires covered { HasWhatCodeNeeds self.old.exceptions.items visible.old }
+        requires legal { AreAcceptedHandlers visible.old.scope (ways_of leaving) (handler_trees all.now) }
         ensures adds { OnOk result (AddsHandlers visible.old (ways_of leaving) region self.old (map handler_tree all.now) waiting.old.items
             waiting.new.items own.old.items own.new.items self.new) }
-        ensures refused { IfErr result (λ why. RefusesHandlers visible.old (ways_of leaving) self.old (handler_trees all.now) why) }
-        ensures stays { OnOk result (StaysHandlers visible.old (ways_of leaving) self.old (handler_trees all.now) self.new) }
+        ensures refused { IfErr result (λ why. RefusesHandlers visible.old self.old (handler_trees all.now) why) }
+        ensures stays { OnOk result (StaysHandlers visible.old self.old (handler_trees all.now) self.new) }
         ensures many { OnOk result (length own.new.items ≡ length own.old.items + choices_many (handler_trees all.now)) }
         ensures same { OnOk result (visible.new ≡ visible.old) }
     {
@@ -151,11 +158,14 @@ impl Draft {
     ) -> Result<(), Refusal>
         requires sound { SoundScope visible.old.scope }
         requires entries { HasEntries visible.old }
-        requires legal { AreLegalStatements visible.old.scope (stmt_trees handler.now.statements.items) }
+        requires covered { HasWhatCodeNeeds self.old.exceptions.items visible.old }
+        requires numbered { are_numbered self.old.exceptions.items handler.now.choices.items ≡ true }
+        requires legal { (word : ℕ) → AreAcceptedStatements visible.old.scope (within_handler word (ways_of leaving))
+            (stmt_trees handler.now.statements.items) }
         ensures adds { OnOk result (AddsHandlers visible.old (ways_of leaving) region self.old (handler_tree handler.now ∷ []) waiting.old.items
             waiting.new.items own.old.items own.new.items self.new) }
-        ensures refused { IfErr result (λ why. RefusesHandlers visible.old (ways_of leaving) self.old (handlers_of (handler_tree handler.now ∷ [])) why) }
-        ensures stays { OnOk result (StaysHandlers visible.old (ways_of leaving) self.old (handlers_of (handler_tree handler.now ∷ [])) self.new) }
+        ensures refused { IfErr result (λ why. RefusesHandlers visible.old self.old (handlers_of (handler_tree handler.now ∷ [])) why) }
+        ensures stays { OnOk result (StaysHandlers visible.old self.old (handlers_of (handler_tree handler.now ∷ [])) self.new) }
         ensures many { OnOk result (length own.new.items ≡ length own.old.items + length handler.now.choices.items) }
         ensures same { OnOk result (visible.new ≡ visible.old) }
     {

@@ -9,6 +9,7 @@ ghost use Rattle.types.specs.Scopes.{form_at, number_of};
 ghost use Rattle.types.specs.Standings.{standing_of, stands_first};
 ghost use Rattle.expr_code.specs.Emitting.{is_composite};
 ghost use Rattle.expr_code.specs.Seeing.{slot_of};
+ghost use Rattle.expr_code.specs.Providing.{HasWhatExpressionsNeed};
 ghost use Rattle.stmt_code.specs.Emitting.{EmitsStatement, IsLegalStatement};
 ghost use Rattle.part_code.specs.Moving.{is_moved, names_composite};
 ghost use Rattle.part_code.specs.Bounds.{stmt_bound};
@@ -38,6 +39,7 @@ impl Draft {
         value: &Expr,
     ) -> Result<(), Refusal>
         requires sound { SoundScope visible.now.scope }
+        requires covered { HasWhatExpressionsNeed visible.now }
         requires legal { IsLegalStatement visible.now.scope (Assignment (name_tree name.now) (expr_tree value.now)) }
         requires stands { (r : Role) × (stands_first visible.now.scope (number_of visible.now.scope (name_tree name.now).first.name) ≡ standing.Part r
             subtype) }
@@ -66,6 +68,7 @@ impl Draft {
         value: &Expr,
     ) -> Result<(), Refusal>
         requires sound { SoundScope visible.now.scope }
+        requires covered { HasWhatExpressionsNeed visible.now }
         requires legal { IsLegalStatement visible.now.scope (Assignment (name_tree name.now) (expr_tree value.now)) }
         requires stands { (r : Role) × (stands_first visible.now.scope (number_of visible.now.scope (name_tree name.now).first.name) ≡ standing.Part r
             subtype) }

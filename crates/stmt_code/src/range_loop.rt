@@ -3,7 +3,8 @@ ghost use Rattle.std.specs.Prelude.{◌≡◌, ◌+◌, [], IfErr, IfOk, OnOk};
 ghost use Rattle.ada_tree.specs.StatementTree.{For, Loop, range_tree, stmt_trees};
 ghost use Rattle.declaring.specs.BodyNames.{loop_faults};
 ghost use Rattle.stmt_code.specs.Staying.{StaysRange, StaysStatement};
-ghost use Rattle.stmt_code.specs.Emitting.{EmitsStatement, IsLegalStatement};
+ghost use Rattle.stmt_code.specs.Emitting.{EmitsStatement, IsAcceptedStatement};
+ghost use Rattle.part_code.specs.Providing.{HasWhatCodeNeeds};
 ghost use Rattle.part_code.specs.Emitting.{HasEntries, ways_of};
 ghost use Rattle.stmt_code.specs.Refusing.{RefusesRange, RefusesStatement};
 ghost use Rattle.stmt_code.specs.Turns.{BeginsRange};
@@ -30,9 +31,12 @@ impl Draft {
         range: &Range,
     ) -> Result<(Turns, usize), Refusal>
         requires sound { SoundScope visible.old.scope }
+        requires entries { HasEntries visible.old }
+        requires covered { HasWhatCodeNeeds self.old.exceptions.items visible.old }
         requires legal { loop_faults visible.old.scope parameter.now (range_tree range.now) ≡ [] }
         ensures begins { IfOk result (λ begun. BeginsRange visible.old self.old parameter.now reversed (range_tree range.now) begun.0 begun.1
             visible.new self.new) }
+        ensures covered { OnOk result (HasWhatCodeNeeds self.new.exceptions.items visible.new) }
         ensures refused { IfErr result (λ why. RefusesRange visible.old self.old parameter.now reversed (range_tree range.now) why) }
         ensures stays { OnOk result (StaysRange visible.old self.old parameter.now reversed (range_tree range.now) self.new) }
     {
@@ -68,12 +72,14 @@ impl Draft {
     ) -> Result<(), Refusal>
         requires sound { SoundScope visible.old.scope }
         requires entries { HasEntries visible.old }
-        requires legal { IsLegalStatement visible.old.scope (Loop place (For parameter.now reversed (range_tree range.now)) (stmt_trees body.now)) }
+        requires covered { HasWhatCodeNeeds self.old.exceptions.items visible.old }
+        requires legal { IsAcceptedStatement visible.old.scope (ways_of leaving)
+            (Loop place (For parameter.now reversed (range_tree range.now)) (stmt_trees body.now)) }
         ensures emits { OnOk result (EmitsStatement visible.old (ways_of leaving) self.old
             (Loop place (For parameter.now reversed (range_tree range.now)) (stmt_trees body.now)) self.new) }
-        ensures refused { IfErr result (λ why. RefusesStatement visible.old (ways_of leaving) self.old
+        ensures refused { IfErr result (λ why. RefusesStatement visible.old self.old
             (Loop place (For parameter.now reversed (range_tree range.now)) (stmt_trees body.now)) why) }
-        ensures stays { OnOk result (StaysStatement visible.old (ways_of leaving) self.old
+        ensures stays { OnOk result (StaysStatement visible.old self.old
             (Loop place (For parameter.now reversed (range_tree range.now)) (stmt_trees body.now)) self.new) }
         ensures same { OnOk result (visible.new ≡ visible.old) }
     {

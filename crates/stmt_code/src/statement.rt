@@ -3,7 +3,9 @@ ghost use Rattle.std.specs.Prelude.{◌≡◌, ◌∷◌, [], map, IfErr, OnOk};
 ghost use Rattle.ada_tree.specs.ExpressionTree.{expr_tree};
 ghost use Rattle.ada_tree.specs.StatementTree.{Block, declaration_tree, elsif_tree, elsif_trees, elsifs_of, Exit, iteration_tree, Loop, NoHandlers, optional_tree, Return, stmt_tree, stmt_trees};
 ghost use Rattle.stmt_code.specs.Staying.{StaysParts, StaysStatement, StaysStatements};
-ghost use Rattle.stmt_code.specs.Emitting.{AddsParts, AreLegalStatements, AreLegalElsifs, EmitsStatement, EmitsStatements, IsLegalStatement};
+ghost use Rattle.stmt_code.specs.Emitting.{AddsParts, AreAcceptedStatements, AreAcceptedElsifs, EmitsStatement, EmitsStatements, IsAcceptedStatement};
+ghost use Rattle.expr_code.specs.Providing.{HasWhatExpressionsNeed};
+ghost use Rattle.part_code.specs.Providing.{HasWhatCodeNeeds};
 ghost use Rattle.part_code.specs.Emitting.{HasEntries, ways_of};
 ghost use Rattle.stmt_code.specs.Refusing.{RefusesParts, RefusesStatement, RefusesStatements};
 ghost use Rattle.part_code.specs.stmt_rules.specs.SimpleRules.{condition_faults};
@@ -28,14 +30,15 @@ impl Draft {
         condition: &Option<Expr>,
     ) -> Result<(), Refusal>
         requires sound { SoundScope visible.now.scope }
-        requires legal { IsLegalStatement visible.now.scope (Exit place (optional_tree expr_tree condition.now)) }
+        requires covered { HasWhatExpressionsNeed visible.now }
+        requires legal { IsAcceptedStatement visible.now.scope (ways_of leaving) (Exit place (optional_tree expr_tree condition.now)) }
         ensures emits { OnOk result (EmitsStatement visible.now (ways_of leaving) self.old (Exit place (optional_tree expr_tree condition.now)) self.new) }
-        ensures refused { IfErr result (λ why. RefusesStatement visible.now (ways_of leaving) self.old
+        ensures refused { IfErr result (λ why. RefusesStatement visible.now self.old
             (Exit place (optional_tree expr_tree condition.now)) why) }
-        ensures stays { OnOk result (StaysStatement visible.now (ways_of leaving) self.old (Exit place (optional_tree expr_tree condition.now)) self.new) }
+        ensures stays { OnOk result (StaysStatement visible.now self.old (Exit place (optional_tree expr_tree condition.now)) self.new) }
     {
         let Some(exit) = leaving.exit else {
-            return Err(Refusal::Outside);
+            unreachable!();
         };
         match condition {
             None => self.code.emit(0, Operation::Jump(exit)),
@@ -54,13 +57,14 @@ impl Draft {
         place: u32,
         value: &Option<Expr>,
     ) -> Result<(), Refusal>
+        requires legal { IsAcceptedStatement visible.now.scope (ways_of leaving) (Return place (optional_tree expr_tree value.now)) }
         ensures emits { OnOk result (EmitsStatement visible.now (ways_of leaving) self.old (Return place (optional_tree expr_tree value.now)) self.new) }
-        ensures refused { IfErr result (λ why. RefusesStatement visible.now (ways_of leaving) self.old (Return place (optional_tree expr_tree value.now)) why) }
-        ensures stays { OnOk result (StaysStatement visible.now (ways_of leaving) self.old (Return place (optional_tree expr_tree value.now)) self.new) }
+        ensures refused { IfErr result (λ why. RefusesStatement visible.now self.old (Return place (optional_tree expr_tree value.now)) why) }
+        ensures stays { OnOk result (StaysStatement visible.now self.old (Return place (optional_tree expr_tree value.now)) self.new) }
     {
         match (leaving.return_, value) {
             (Some(end), None) => self.code.emit(0, Operation::Jump(end)),
-            _ => Err(Refusal::Outside),
+            _ => unreachable!(),
         }
     }
 
@@ -74,10 +78,11 @@ impl Draft {
     ) -> Result<(), Refusal>
         requires sound { SoundScope visible.old.scope }
         requires entries { HasEntries visible.old }
-        requires legal { IsLegalStatement visible.old.scope (stmt_tree statement.now) }
+        requires covered { HasWhatCodeNeeds self.old.exceptions.items visible.old }
+        requires legal { IsAcceptedStatement visible.old.scope (ways_of leaving) (stmt_tree statement.now) }
         ensures emits { OnOk result (EmitsStatement visible.old (ways_of leaving) self.old (stmt_tree statement.now) self.new) }
-        ensures refused { IfErr result (λ why. RefusesStatement visible.old (ways_of leaving) self.old (stmt_tree statement.now) why) }
-        ensures stays { OnOk result (StaysStatement visible.old (ways_of leaving) self.old (stmt_tree statement.now) self.new) }
+        ensures refused { IfErr result (λ why. RefusesStatement visible.old self.old (stmt_tree statement.now) why) }
+        ensures stays { OnOk result (StaysStatement visible.old self.old (stmt_tree statement.now) self.new) }
         ensures same { OnOk result (visible.new ≡ visible.old) }
     {
         statements_by_parts();
@@ -113,12 +118,12 @@ impl Draft {
                 Ok(())
             }
             Stmt::Raise(place, name) => self.raise(visible, leaving, *place, name),
-            Stmt::Delay(..) => Err(Refusal::Outside),
+            Stmt::Delay(..) => unreachable!(),
             Stmt::DelayUntil(place, until) => self.delay_until(visible, *place, until),
-            Stmt::Abort(..) => Err(Refusal::Outside),
-            Stmt::Requeue(..) => Err(Refusal::Outside),
-            Stmt::Accept(..) => Err(Refusal::Outside),
-            Stmt::Select(..) => Err(Refusal::Outside),
+            Stmt::Abort(..) => unreachable!(),
+            Stmt::Requeue(..) => unreachable!(),
+            Stmt::Accept(..) => unreachable!(),
+            Stmt::Select(..) => unreachable!(),
         }
     }
 
@@ -132,10 +137,11 @@ impl Draft {
     ) -> Result<(), Refusal>
         requires sound { SoundScope visible.old.scope }
         requires entries { HasEntries visible.old }
-        requires legal { AreLegalStatements visible.old.scope (stmt_trees all.now) }
+        requires covered { HasWhatCodeNeeds self.old.exceptions.items visible.old }
+        requires legal { AreAcceptedStatements visible.old.scope (ways_of leaving) (stmt_trees all.now) }
         ensures emits { OnOk result (EmitsStatements visible.old (ways_of leaving) self.old (stmt_trees all.now) self.new) }
-        ensures refused { IfErr result (λ why. RefusesStatements visible.old (ways_of leaving) self.old (stmt_trees all.now) why) }
-        ensures stays { OnOk result (StaysStatements visible.old (ways_of leaving) self.old (stmt_trees all.now) self.new) }
+        ensures refused { IfErr result (λ why. RefusesStatements visible.old self.old (stmt_trees all.now) why) }
+        ensures stays { OnOk result (StaysStatements visible.old self.old (stmt_trees all.now) self.new) }
         ensures same { OnOk result (visible.new ≡ visible.old) }
     {
         for statement in all {
@@ -156,13 +162,14 @@ impl Draft {
     ) -> Result<(), Refusal>
         requires sound { SoundScope visible.old.scope }
         requires entries { HasEntries visible.old }
+        requires covered { HasWhatCodeNeeds self.old.exceptions.items visible.old }
         requires condition { condition_faults visible.old.scope (expr_tree condition.now) ≡ [] }
-        requires legal { AreLegalStatements visible.old.scope (stmt_trees body.now) }
+        requires legal { AreAcceptedStatements visible.old.scope (ways_of leaving) (stmt_trees body.now) }
         ensures adds { OnOk result (AddsParts visible.old (ways_of leaving) self.old ((expr_tree condition.now, stmt_trees body.now) ∷ [])
             waiting.old.items waiting.new.items self.new) }
-        ensures refused { IfErr result (λ why. RefusesParts visible.old (ways_of leaving) self.old
+        ensures refused { IfErr result (λ why. RefusesParts visible.old self.old
             (elsifs_of ((expr_tree condition.now, stmt_trees body.now) ∷ [])) why) }
-        ensures stays { OnOk result (StaysParts visible.old (ways_of leaving) self.old
+        ensures stays { OnOk result (StaysParts visible.old self.old
             (elsifs_of ((expr_tree condition.now, stmt_trees body.now) ∷ [])) self.new) }
         ensures same { OnOk result (visible.new ≡ visible.old) }
     {
@@ -183,10 +190,11 @@ impl Draft {
     ) -> Result<(), Refusal>
         requires sound { SoundScope visible.old.scope }
         requires entries { HasEntries visible.old }
-        requires legal { AreLegalElsifs visible.old.scope (elsif_trees elsifs.now) }
+        requires covered { HasWhatCodeNeeds self.old.exceptions.items visible.old }
+        requires legal { AreAcceptedElsifs visible.old.scope (ways_of leaving) (elsif_trees elsifs.now) }
         ensures adds { OnOk result (AddsParts visible.old (ways_of leaving) self.old (map elsif_tree elsifs.now) waiting.old.items waiting.new.items self.new) }
-        ensures refused { IfErr result (λ why. RefusesParts visible.old (ways_of leaving) self.old (elsif_trees elsifs.now) why) }
-        ensures stays { OnOk result (StaysParts visible.old (ways_of leaving) self.old (elsif_trees elsifs.now) self.new) }
+        ensures refused { IfErr result (λ why. RefusesParts visible.old self.old (elsif_trees elsifs.now) why) }
+        ensures stays { OnOk result (StaysParts visible.old self.old (elsif_trees elsifs.now) self.new) }
         ensures same { OnOk result (visible.new ≡ visible.old) }
     {
         for part in elsifs {
@@ -207,12 +215,13 @@ impl Draft {
     ) -> Result<(), Refusal>
         requires sound { SoundScope visible.old.scope }
         requires entries { HasEntries visible.old }
-        requires legal { IsLegalStatement visible.old.scope (Loop place (iteration_tree iteration.now) (stmt_trees body.now)) }
+        requires covered { HasWhatCodeNeeds self.old.exceptions.items visible.old }
+        requires legal { IsAcceptedStatement visible.old.scope (ways_of leaving) (Loop place (iteration_tree iteration.now) (stmt_trees body.now)) }
         ensures emits { OnOk result (EmitsStatement visible.old (ways_of leaving) self.old
             (Loop place (iteration_tree iteration.now) (stmt_trees body.now)) self.new) }
-        ensures refused { IfErr result (λ why. RefusesStatement visible.old (ways_of leaving) self.old
+        ensures refused { IfErr result (λ why. RefusesStatement visible.old self.old
             (Loop place (iteration_tree iteration.now) (stmt_trees body.now)) why) }
-        ensures stays { OnOk result (StaysStatement visible.old (ways_of leaving) self.old
+        ensures stays { OnOk result (StaysStatement visible.old self.old
             (Loop place (iteration_tree iteration.now) (stmt_trees body.now)) self.new) }
         ensures same { OnOk result (visible.new ≡ visible.old) }
     {
@@ -250,12 +259,14 @@ impl Draft {
     ) -> Result<(), Refusal>
         requires sound { SoundScope visible.old.scope }
         requires entries { HasEntries visible.old }
-        requires legal { IsLegalStatement visible.old.scope (Block place (map declaration_tree declarations.now) (stmt_trees body.now) NoHandlers) }
+        requires covered { HasWhatCodeNeeds self.old.exceptions.items visible.old }
+        requires legal { IsAcceptedStatement visible.old.scope (ways_of leaving)
+            (Block place (map declaration_tree declarations.now) (stmt_trees body.now) NoHandlers) }
         ensures emits { OnOk result (EmitsStatement visible.old (ways_of leaving) self.old
             (Block place (map declaration_tree declarations.now) (stmt_trees body.now) NoHandlers) self.new) }
-        ensures refused { IfErr result (λ why. RefusesStatement visible.old (ways_of leaving) self.old
+        ensures refused { IfErr result (λ why. RefusesStatement visible.old self.old
             (Block place (map declaration_tree declarations.now) (stmt_trees body.now) NoHandlers) why) }
-        ensures stays { OnOk result (StaysStatement visible.old (ways_of leaving) self.old
+        ensures stays { OnOk result (StaysStatement visible.old self.old
             (Block place (map declaration_tree declarations.now) (stmt_trees body.now) NoHandlers) self.new) }
         ensures same { OnOk result (visible.new ≡ visible.old) }
     {

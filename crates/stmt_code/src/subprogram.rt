@@ -8,11 +8,14 @@ ghost use Rattle.expr_code.specs.Emitting.{IsFit};
 ghost use Rattle.expr_code.specs.Refusing.{IsRefused};
 ghost use Rattle.stmt_code.specs.WholeRefusals.{body_labels, RefusesFunction, RefusesProcedure};
 ghost use Rattle.part_code.specs.Bounds.{main_bound};
-ghost use Rattle.part_code.specs.Needs.{RefusesMain};
+ghost use Rattle.part_code.specs.Needs.{are_unknown, RefusesMain};
+ghost use Rattle.part_code.specs.Providing.{HasWhatCodeNeeds};
+ghost use Rattle.expr_code.specs.Providing.{is_scalar_form};
+ghost use Rattle.types.specs.Scopes.{form_at};
 ghost use Rattle.part_code.specs.Emitting.{HasEntries};
-ghost use Rattle.stmt_code.specs.Emitting.{IsLegalRun};
+ghost use Rattle.stmt_code.specs.Emitting.{IsAcceptedRun};
 ghost use Rattle.part_code.specs.Rows.{body_rows};
-ghost use Rattle.stmt_code.specs.Subprograms.{AddsFunction, AddsMain, AddsProcedure, CallsProcedures, IsCalledFunction, IsCalledProcedure, KeepsRules};
+ghost use Rattle.stmt_code.specs.Subprograms.{AddsFunction, AddsMain, AddsProcedure, AreLegalFormals, CallsProcedures, IsCalledFunction, IsCalledProcedure, KeepsRules};
 ghost use Rattle.expr_soundness.specs.SoundScopes.{SoundScope};
 
 use crate::draft::Draft;
@@ -38,7 +41,7 @@ impl SubprogramWords {
     fn within_frame(self) -> Result<SubprogramWords, Refusal>
         ensures same { IfOk result (λ words. words ≡ self) }
         ensures fits { OnOk result (self.locals + self.stack ≤ FRAME_WORDS) }
-        ensures refused { IfErr result (λ why. IsRefused 0 (self.locals + self.stack) false why) }
+        ensures refused { IfErr result (λ why. IsRefused 0 (self.locals + self.stack) why) }
     {
         behind(self.locals, self.stack)?;
         Ok(self)
@@ -54,10 +57,10 @@ impl Draft {
         body: &Body,
     ) -> Result<SubprogramWords, Refusal>
         requires front { SoundScope visible.old.scope }
-        requires sound { SoundScope (formals_scope visible.old.scope formals.now) }
+        requires head { AreLegalFormals visible.old.scope formals.now }
         requires entries { HasEntries visible.old }
-        requires new_names { length (formals_scope visible.old.scope formals.now) ≡ length visible.old.scope + length formals.now }
-        requires legal { IsLegalRun (formals_scope visible.old.scope formals.now) (body_tree body.now).declarations (body_tree body.now).statements
+        requires covered { HasWhatCodeNeeds self.old.exceptions.items visible.old }
+        requires legal { IsAcceptedRun (formals_scope visible.old.scope formals.now) (body_tree body.now).declarations (body_tree body.now).statements
             (body_tree body.now).handlers }
         ensures adds { IfOk result (λ words. AddsProcedure visible.old self.old formals.now (body_tree body.now) words self.new) }
         ensures called { IfOk result (λ words. IsCalledProcedure visible.old.scope formals.now words) }
@@ -101,12 +104,14 @@ impl Draft {
         value: &Expr,
     ) -> Result<SubprogramWords, Refusal>
         requires front { SoundScope visible.old.scope }
-        requires sound { SoundScope (formals_scope visible.old.scope formals.now) }
+        requires head { AreLegalFormals visible.old.scope formals.now }
         requires entries { HasEntries visible.old }
+        requires covered { HasWhatCodeNeeds self.old.exceptions.items visible.old }
+        requires scalar { is_scalar_form (form_at visible.old.scope subtype.type_number) ≡ true }
         requires fit { IsFit (formals_scope visible.old.scope formals.now) subtype (expr_tree value.now) }
         ensures adds { IfOk result (λ words. AddsFunction visible.old self.old formals.now subtype (expr_tree value.now) words self.new) }
         ensures called { IfOk result (λ words. IsCalledFunction visible.old.scope formals.now subtype words) }
-        ensures refused { IfErr result (λ why. RefusesFunction visible.old self.old formals.now subtype (expr_tree value.now) why) }
+        ensures refused { IfErr result (λ why. RefusesFunction visible.old self.old formals.now (expr_tree value.now) why) }
         ensures labels { OnOk result (self.new.labels ≡ self.old.labels) }
         ensures rows { OnOk result (self.new.rows ≡ self.old.rows) }
         ensures keeps { IfOk result (λ words. KeepsRules false visible.old self.old words self.new) }
@@ -137,6 +142,7 @@ impl Draft {
         statements: &[MainStatement],
     ) -> Result<SubprogramWords, Refusal>
         requires called { CallsProcedures visible.now.scope statements.now }
+        requires known { are_unknown visible.now statements.now ≡ false }
         ensures adds { IfOk result (λ words. AddsMain visible.now self.old statements.now words self.new) }
         ensures refused { IfErr result (λ why. RefusesMain visible.now self.old.code statements.now (main_bound statements.now) why) }
         ensures labels { OnOk result (self.new.labels ≡ self.old.labels) }

@@ -6,7 +6,7 @@ use Rattle.expr_code.specs.Actuals.{IsPassedLegally}
 use Rattle.expr_code.proofs.Actuals.{nothing_behind}
 use Rattle.part_code.proofs.CallsShallow.{in_out_shallow, in_shallow, out_shallow, value_shallow}
 use Rattle.part_code.proofs.InTurn.{adds_one, in_emits}
-use Rattle.part_code.proofs.TargetsAdded.{both_emits, both_takes, name_legal, out_emits, out_takes}
+use Rattle.part_code.proofs.TargetsAdded.{actual_object, both_emits, both_takes, name_legal, out_emits, out_takes}
 use Rattle.part_code.proofs.TargetsRefused.{both_refused, both_told, in_refused, in_told, in_words_refused, none_fit, one_fit, out_refused, out_told, out_word_refused, told_always, value_refused}
 use Rattle.part_code.proofs.call.add_actual.Goals as goal
 
@@ -21,6 +21,20 @@ add_target-requires-in-InOut-Expr-clause-legal c =
     let f = c.args.formal.now in
     name_legal c.args.visible.now.scope f (expr_tree c.in-InOut-Expr.e) (both_takes f c.in-InOut-Expr.is-0)
     (subst (IsPassedLegally c.args.visible.now.scope f) (ap argument_tree c.in-InOut-Expr.is-1) c.requires.legal)
+
+pub add_target-requires-clause-object : goal.add_target-requires-clause-object
+add_target-requires-clause-object c =
+    let v = c.args.visible.now in
+    let f = c.args.formal.now in
+    actual_object v c.requires.sound c.requires.covered f (expr_tree c.in-Out-Expr.e) (out_takes f c.in-Out-Expr.is-0)
+    (subst (IsPassedLegally v.scope f) (ap argument_tree c.in-Out-Expr.is-1) c.requires.legal)
+
+pub add_target-requires-in-InOut-Expr-clause-object : goal.add_target-requires-in-InOut-Expr-clause-object
+add_target-requires-in-InOut-Expr-clause-object c =
+    let v = c.args.visible.now in
+    let f = c.args.formal.now in
+    actual_object v c.requires.sound c.requires.covered f (expr_tree c.in-InOut-Expr.e) (both_takes f c.in-InOut-Expr.is-0)
+    (subst (IsPassedLegally v.scope f) (ap argument_tree c.in-InOut-Expr.is-1) c.requires.legal)
 
 pub returns-in_ok-words-in-In-Expr-clause-emits : goal.returns-in_ok-words-in-In-Expr-clause-emits
 returns-in_ok-words-in-In-Expr-clause-emits c =

@@ -1,5 +1,5 @@
-use Rattle.std.proofs.Common.{length, ltb-true, rules, sym}
-use Rattle.part_code.proofs.CallsRefused.{actual_refuses, actuals_short, told_all, told_next, told_none}
+use Rattle.std.proofs.Common.{◌≤◌, arith, length, ltb-true, rules, sym}
+use Rattle.part_code.proofs.CallsRefused.{actual_refuses, told_all, told_next, told_none}
 use Rattle.ada_tree.specs.ExpressionTree.{argument_tree, argument_trees}
 use Rattle.expr_code.proofs.Actuals.{got, mapped}
 use Rattle.expr_code.proofs.Shallow.{shallow_self}
@@ -66,9 +66,12 @@ returns-in_err-height-clause-refused c =
     c.index-arguments-index.is added.emits c.in_err-height.ensures.refused in
     search (rules, whole)
 
-pub returns-in_default-clause-refused : goal.returns-in_default-clause-refused
-returns-in_default-clause-refused c =
-    actuals_short c.args.visible.now 0 c.args.formals.now c.args.arguments.now c.loop-index.index (search rules) c.loop-index-test.true
+pub unreachable-requires : goal.unreachable-requires
+unreachable-requires c =
+    let short : length c.args.formals.now ≤ c.loop-index.index = search rules in
+    let less = c.loop-index-test.true in
+    let many = c.requires.as_many in
+    omega (arith, short, less, many)
 
 pub returns-clause-shallow : goal.returns-clause-shallow
 returns-clause-shallow c = c.loop-index.invariant.2

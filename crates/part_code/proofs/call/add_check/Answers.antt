@@ -1,9 +1,9 @@
-use Rattle.std.proofs.Common.{◌∙◌, ap, arith, refl, sym}
-use Rattle.std.specs.Prelude.{None, option_map, Some}
+use Rattle.std.proofs.Common.{◌∙◌, ap, arith, sym}
+use Rattle.std.specs.Prelude.{option_map, Some}
 use Rattle.std.proofs.lemmas.Result.{IfErr-weaker}
 use Rattle.types.specs.Entities.{form_value}
 use Rattle.part_code.specs.Needs.{check_words}
-use Rattle.part_code.proofs.TargetsRefused.{check_refused, untaken}
+use Rattle.part_code.proofs.TargetsRefused.{check_refused, formless}
 use Rattle.part_code.proofs.call.add_check.Goals as goal
 
 pub returns-in-Some-Integer-clause-refused : goal.returns-in-Some-Integer-clause-refused
@@ -28,6 +28,6 @@ returns-in-Some-TimeSpan-clause-refused c =
     (ap check_words (sym c.in-Some-TimeSpan.ensures ∙ ap (λ f. Some (form_value f)) c.in-Some-TimeSpan.field-0-is)) r)
     c.add_range-in-Some-TimeSpan.ensures.refused
 
-pub returns-in-None-clause-refused : goal.returns-in-None-clause-refused
-returns-in-None-clause-refused c =
-    untaken c.args.visible.now.scope c.args.subtype None (sym c.form.ensures ∙ ap (option_map (λ f. form_value f.now)) c.in-None.is) refl
+pub unreachable-requires : goal.unreachable-requires
+unreachable-requires c =
+    formless c.args.visible.now.scope c.args.subtype (sym c.form.ensures ∙ ap (option_map (λ f. form_value f.now)) c.in-None.is) c.requires.taken

@@ -10,11 +10,10 @@ use Rattle.part_code.proofs.choices.add_choices.Goals as goal
 
 pub returns-in-Values-clause-refused : goal.returns-in-Values-clause-refused
 returns-in-Values-clause-refused c =
-    let s = c.args.scope.now in
     let all = c.in-Values.choices.items in
     IfErr-weaker _ _ _
     (λ why r.
-    subst (λ x. RefusesChoices s c.args.code.now (choices_tree x) (20 * choices_size (choices_tree x) + 2) why) (sym c.in-Values.is)
-    (choices_counted s (map expr_tree all) c.args.code.now (length all) why (sym (length-map all expr_tree))
-    (subst (λ l. RefusesChoices s c.args.code.now (Values (map expr_tree l)) (4 * length l + 2) why) c.deref.ensures.value r)))
+    subst (λ x. RefusesChoices c.args.code.now (choices_tree x) (20 * choices_size (choices_tree x) + 2) why) (sym c.in-Values.is)
+    (choices_counted (map expr_tree all) c.args.code.now (length all) why (sym (length-map all expr_tree))
+    (subst (λ l. RefusesChoices c.args.code.now (Values (map expr_tree l)) (4 * length l + 2) why) c.deref.ensures.value r)))
     c.add_values.ensures.refused

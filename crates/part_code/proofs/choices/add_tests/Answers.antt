@@ -1,10 +1,10 @@
-use Rattle.std.specs.Prelude.{is_some}
-use Rattle.std.proofs.Common.{◌≡◌, ap, map, rules, refl, sym, subst, take, to_z, of_z, w64}
+use Rattle.std.specs.Prelude.{is_none}
+use Rattle.std.proofs.Common.{◌≡◌, ◌∙◌, true, false, ap, map, rules, refl, sym, subst, take, to_z, of_z, w64}
 use Rattle.ada_tree.specs.ExpressionTree.{expr_tree}
 use Rattle.expr_code.specs.Naming.{scalar_word}
 use Rattle.part_code.specs.Choices.{AddsTest, TestsAll}
 use Rattle.part_code.proofs.Lists.{mapped_next, take_all}
-use Rattle.part_code.proofs.Choosable.{fault_among, test_among}
+use Rattle.part_code.proofs.Choosable.{static_at, test_among}
 use Rattle.part_code.proofs.Selecting.{tests_more}
 use Rattle.part_code.proofs.choices.add_tests.Goals as goal
 
@@ -30,10 +30,12 @@ pub returns-clause-tests : goal.returns-clause-tests
 returns-clause-tests c = subst (λ l. TestsAll c.args.scope.now c.args.label c.args.code.now (map expr_tree l) c.loop-choice.code)
     (take_all c.args.choices.now c.loop-choice.choice-index c.loop-choice-test.false) c.loop-choice.invariant
 
-pub returns-in_default-clause-refused : goal.returns-in_default-clause-refused
-returns-in_default-clause-refused c =
-    fault_among c.args.scope.now c.args.choices.now c.loop-choice.choice-index c.choice-item.result c.loop-choice-test.true c.choice-item.is
-    (ap is_some c.in_default.ensures.fault)
+pub unreachable-requires : goal.unreachable-requires
+unreachable-requires c =
+    let s = c.args.scope.now in
+    let static = static_at s c.args.choices.now c.loop-choice.choice-index c.choice-item.result c.loop-choice-test.true c.choice-item.is c.requires.statics in
+    let never : false ≡ true = ap is_none (sym c.in_default.ensures.fault) ∙ static in
+    cc
 
 pub returns-in_err-add_test-clause-refused : goal.returns-in_err-add_test-clause-refused
 returns-in_err-add_test-clause-refused c =

@@ -28,7 +28,7 @@ pub returns-in_err-emit-clause-refused : goal.returns-in_err-emit-clause-refused
 returns-in_err-emit-clause-refused c =
     let long = tests_here _ _ _ _ _ c.in_ok-add_tests.ensures.tests in
     let many = length-map c.args.choices.now expr_tree in
-    let whole = values_refused c.args.scope.now (map expr_tree c.args.choices.now) c.args.code.now _ (4 * length c.args.choices.now + 2)
+    let whole = values_refused (map expr_tree c.args.choices.now) c.args.code.now _ (4 * length c.args.choices.now + 2)
     c.in_err-emit.field-0.0 (omega (arith, long, many)) c.in_err-emit.ensures.refused in
     search (rules, whole)
 
@@ -37,6 +37,6 @@ returns-in_err-emit-2-clause-refused c =
     let long = tests_here _ _ _ _ _ c.in_ok-add_tests.ensures.tests in
     let many = length-map c.args.choices.now expr_tree in
     let one = added_here _ _ _ _ c.in_ok-emit.ensures.adds in
-    let whole = values_refused c.args.scope.now (map expr_tree c.args.choices.now) c.args.code.now _ (4 * length c.args.choices.now + 2)
+    let whole = values_refused (map expr_tree c.args.choices.now) c.args.code.now _ (4 * length c.args.choices.now + 2)
     c.in_err-emit-2.field-0.0 (omega (arith, long, many, one)) c.in_err-emit-2.ensures.refused in
     search (rules, whole)

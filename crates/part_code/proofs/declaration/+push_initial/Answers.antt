@@ -1,21 +1,26 @@
-use Rattle.std.specs.Prelude.{option_map}
-use Rattle.std.proofs.Common.{None, Some, arith, pos, refl, rules, sym, ap, ◌∙◌, subst}
+use Rattle.std.specs.Prelude.{is_some, option_map}
+use Rattle.std.proofs.Common.{◌≡◌, true, false, Some, arith, pos, refl, rules, sym, ap, ◌∙◌, subst}
 use Rattle.std.proofs.lemmas.Result.{IfOk-weaker}
 use Rattle.types.specs.Entities.{Booleans, Integers, Records, Spans, Times, form_value}
 use Rattle.types.specs.Shapes.{component_shapes, fields_words, initial, initial_fields, repeated, shapes, values_words}
 use Rattle.part_code.specs.Emitting.{HasPushed}
 use Rattle.part_code.proofs.Lists.{take_all}
-use Rattle.part_code.proofs.Initials.{array_pushed, earlier_component, earlier_element, elements_next, fields_next, record_pushed, word_pushed}
+use Rattle.part_code.proofs.Initials.{array_pushed, earlier_component, earlier_element, elements_next, fields_next, known_component, known_element, record_pushed, word_pushed}
 use Rattle.std.proofs.lemmas.Result.{IfErr-weaker}
-use Rattle.part_code.proofs.Lacking.{component_refused, element_refused, lacking, word_refused}
+use Rattle.part_code.proofs.Lacking.{component_refused, element_refused, word_refused}
 use Rattle.part_code.proofs.declaration.+push_initial.Goals as goal
 
 pub push_initial-requires : goal.push_initial-requires
 push_initial-requires t c =
     let form = sym c.in-Some-Array.ensures ∙ ap (λ f. Some (form_value f)) c.in-Some-Array.field-0-is in
     let less = earlier_element c.args.visible.now.scope c.requires.sound c.args.subtype c.in-Some-Array.field-0-0 c.in-Some-Array.many
-    c.in-Some-Array.element form in
-    (omega (arith, less, c.decreases), c.requires.sound)
+    c.in-Some-Array.element form in (
+      omega (arith, less, c.decreases),
+      (
+        c.requires.sound,
+        known_element c.args.visible.now.scope c.requires.sound c.args.subtype c.in-Some-Array.field-0-0 c.in-Some-Array.many c.in-Some-Array.element form,
+      ),
+    )
 
 pub loop-preserved : goal.loop-preserved
 loop-preserved t c =
@@ -27,8 +32,14 @@ push_initial-requires-in-loop-component t c =
     let form = sym c.in-Some-Record.ensures ∙ ap (λ f. Some (form_value f)) c.in-Some-Record.field-0-is
     ∙ ap (λ l. Some (Records l)) (sym c.as_slice-component-items.ensures) in
     let less = earlier_component c.args.visible.now.scope c.requires.sound c.args.subtype c.as_slice-component-items.result.now c.loop-component.component-index
-    c.component-item.result form c.loop-component-test.true c.component-item.is in
-    (omega (arith, less, c.decreases), c.requires.sound)
+    c.component-item.result form c.loop-component-test.true c.component-item.is in (
+      omega (arith, less, c.decreases),
+      (
+        c.requires.sound,
+        known_component c.args.visible.now.scope c.requires.sound c.args.subtype c.as_slice-component-items.result.now c.loop-component.component-index
+            c.component-item.result form c.loop-component-test.true c.component-item.is,
+      ),
+    )
 
 pub loop-component-preserved : goal.loop-component-preserved
 loop-component-preserved t c =
@@ -128,6 +139,6 @@ returns-in-Some-TimeSpan-clause-pushes t c = IfOk-weaker _ _ _
     (Some Spans) (sym c.in-Some-TimeSpan.ensures ∙ ap (λ f. Some (form_value f)) c.in-Some-TimeSpan.field-0-is) refl p)
     c.push_word-in-Some-TimeSpan.ensures.pushes
 
-pub returns-in-None-clause-refused : goal.returns-in-None-clause-refused
-returns-in-None-clause-refused t c =
-    lacking c.args.visible.now.scope c.args.subtype None (sym c.form.ensures ∙ ap (option_map (λ f. form_value f.now)) c.in-None.is) refl refl
+pub unreachable-requires : goal.unreachable-requires
+unreachable-requires t c =
+    let never : false ≡ true = ap is_some (sym (sym c.form.ensures ∙ ap (option_map (λ f. form_value f.now)) c.in-None.is)) ∙ c.requires.known in cc

@@ -16,8 +16,8 @@ returns-in-Some-clause-refused c =
     let v = c.args.visible.now in
     IfErr-weaker _ _ _
     (λ why r.
-    subst (λ o. RefusesSingle v c.args.code.now c.args.subtype (optional_tree expr_tree o) 0 why) (sym c.in-Some.is)
-    (checked_single v c.args.code.now c.args.subtype (expr_tree c.in-Some.value) why r))
+    subst (λ o. RefusesSingle v c.args.code.now (optional_tree expr_tree o) 0 why) (sym c.in-Some.is)
+    (checked_single v c.args.code.now (expr_tree c.in-Some.value) why r))
     c.checked.ensures.refused
 
 pub returns-in-Some-clause-shallow : goal.returns-in-Some-clause-shallow
@@ -25,7 +25,7 @@ returns-in-Some-clause-shallow c =
     let v = c.args.visible.now in
     let t = c.args.subtype in
     let e = expr_tree c.in-Some.value in
-    subst (λ o. OnOk c.checked.result (IsShallow c.args.code.now c.checked.new.self (single_needs v t (optional_tree expr_tree o)).stack)) (sym c.in-Some.is)
+    subst (λ o. OnOk c.checked.result (IsShallow c.args.code.now c.checked.new.self (single_needs v (optional_tree expr_tree o)).stack)) (sym c.in-Some.is)
     (on_ok_weaker c.checked.result
     (λ (p : IsShallow c.args.code.now c.checked.new.self (0 + checked_peak (peak v.scope e))). single_some v t e c.args.code.now c.checked.new.self p)
     c.checked.ensures.shallow)

@@ -1,4 +1,3 @@
-use Rattle.std.proofs.Common.{◌∙◌, sym}
 use Rattle.std.proofs.lemmas.Result.{IfErr-weaker, on_ok_weaker}
 use Rattle.ada_tree.specs.ExpressionTree.{expr_tree}
 use Rattle.ada_tree.specs.StatementTree.{optional_tree}
@@ -10,8 +9,7 @@ pub returns-else-is_composite-clause-refused : goal.returns-else-is_composite-cl
 returns-else-is_composite-clause-refused c =
     IfErr-weaker _ _ _
     (λ why r.
-    single_refused c.args.visible.now c.args.code.now c.args.subtype (optional_tree expr_tree c.args.value.now) why
-    (sym c.is_composite.ensures ∙ c.if-is_composite.false) r)
+    single_refused c.args.visible.now c.args.code.now c.args.subtype (optional_tree expr_tree c.args.value.now) why r)
     c.add_word.ensures.refused
 
 pub returns-else-is_composite-clause-shallow : goal.returns-else-is_composite-clause-shallow

@@ -4,7 +4,7 @@ use Rattle.std.proofs.lemmas.List.Elements.{All-append, All-cons, All-nil}
 use Rattle.part_code.specs.Formals.{HasValue, StandsAt}
 use Rattle.types.specs.Layouts.{words_of}
 use Rattle.part_code.proofs.FormalWords.{PlacedSoFar, placed_all, placed_next}
-use Rattle.part_code.proofs.FormalsRefused.{nameless, place_refused, wordless, wordless_among, words_go_on}
+use Rattle.part_code.proofs.FormalsRefused.{nameless, place_refused, worded, worded_among, words_go_on}
 use Rattle.part_code.proofs.formals.place_all.Goals as goal
 
 pub loop-formal-preserved : goal.loop-formal-preserved
@@ -30,7 +30,8 @@ loop-formal-preserved c =
       subst (All (HasValue s)) (sym c.in_ok-push.ensures.items)
           (All-append (HasValue s) c.loop-formal.placed.items (x ∷ []) c.loop-formal.invariant.2
           (All-cons (HasValue s) x []
-          (let own : 1 ≤ words_of s c.in-Some.subtype = omega (arith, many) in subst (λ t. 1 ≤ words_of s t) (sym c.in_ok-one.ensures.subtype) own)
+          (subst (λ t. 1 ≤ words_of s t) (sym c.in_ok-one.ensures.subtype)
+          (worded s f c.in-Some.subtype (worded_among s fs n f c.loop-formal-test.true c.formal-item.is c.requires.some) (sym c.in-Some.ensures)))
           (All-nil (HasValue s)))),
       words_go_on s start fs n c.loop-formal.from c.loop-formal.words.taken f c.in-Some.subtype c.loop-formal-test.true c.formal-item.is (sym c.in-Some.ensures)
           c.loop-formal.invariant.3 x c.in_ok-one.next c.place.new.words.taken
@@ -44,19 +45,12 @@ returns-clause-stand c =
     placed_all c.args.scope.now c.args.words.now.taken c.args.formals.now c.loop-formal.formal-index c.loop-formal.from c.loop-formal.words.taken
     c.loop-formal.placed.items c.loop-formal-test.false c.loop-formal.invariant.0
 
-pub returns-in_default-clause-refused : goal.returns-in_default-clause-refused
-returns-in_default-clause-refused c =
+pub unreachable-requires : goal.unreachable-requires
+unreachable-requires c =
     let s = c.args.scope.now in
     let f = c.formal-item.result in
-    wordless_among s c.args.formals.now c.loop-formal.formal-index f c.loop-formal-test.true c.formal-item.is
-    (nameless s f (sym c.subtype_of.ensures ∙ c.in_default.is))
-
-pub returns-then-many-eq0-clause-refused : goal.returns-then-many-eq0-clause-refused
-returns-then-many-eq0-clause-refused c =
-    let s = c.args.scope.now in
-    let f = c.formal-item.result in
-    wordless_among s c.args.formals.now c.loop-formal.formal-index f c.loop-formal-test.true c.formal-item.is
-    (wordless s f c.in-Some.subtype (sym c.in-Some.ensures) (sym c.words-many.ensures ∙ c.if-many-eq0.true))
+    nameless s f (worded_among s c.args.formals.now c.loop-formal.formal-index f c.loop-formal-test.true c.formal-item.is c.requires.some)
+    (sym c.subtype_of.ensures ∙ c.in_default.is)
 
 pub returns-in_err-one-clause-refused : goal.returns-in_err-one-clause-refused
 returns-in_err-one-clause-refused c =

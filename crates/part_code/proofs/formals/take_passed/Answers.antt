@@ -1,6 +1,6 @@
 use Rattle.std.proofs.Common.{arith, rules}
 use Rattle.part_code.proofs.FormalWords.{passed_done, passed_next}
-use Rattle.part_code.proofs.FormalsRefused.{passed_refused}
+use Rattle.part_code.proofs.FormalsRefused.{passed_refused, worded_among}
 use Rattle.part_code.proofs.formals.take_passed.Goals as goal
 
 pub loop-formal-preserved : goal.loop-formal-preserved
@@ -31,3 +31,9 @@ returns-in_err-passed_words-clause-refused c =
 
 pub returns-clause-same : goal.returns-clause-same
 returns-clause-same c = c.loop-formal.invariant.2
+
+pub passed_words-requires : goal.passed_words-requires
+passed_words-requires c = record {
+  some = worded_among c.args.scope.now c.args.formals.now c.loop-formal.formal-index c.formal-item.result c.loop-formal-test.true c.formal-item.is
+      c.requires.some;
+}

@@ -1,6 +1,7 @@
 use Rattle.std.proofs.Common.{◌+◌, ◌∙◌, ap, refl, rules, subst, sym}
 use Rattle.part_code.proofs.FormalWords.{CallsSoFar, call_next, call_past, calls_all, calls_begin}
-use Rattle.part_code.proofs.CallsRefused.{main_refuses}
+use Rattle.part_code.proofs.CallsRefused.{known_among, main_refuses}
+use Rattle.part_code.specs.Needs.{is_unknown}
 use Rattle.part_code.proofs.main_calls.add_calls.Goals as goal
 use Rattle.part_code.proofs.main_calls.add_calls.Goals.{in-Call+in_ok-add_call-in-Call, in-Null}
 
@@ -39,6 +40,15 @@ returns-clause-shallow c = c.loop-statement.invariant.1
 pub returns-in_err-add_call-in-Call-clause-refused : goal.returns-in_err-add_call-in-Call-clause-refused
 returns-in_err-add_call-in-Call-clause-refused c =
     let whole = main_refuses c.args.visible.now c.args.code.now c.loop-statement.code c.args.statements.now c.loop-statement.statement-index
-    c.statement-item.result c.in-Call.field-0 c.in-Call.procedure c.in_err-add_call-in-Call.field-0.0 c.loop-statement-test.true c.statement-item.is
-    c.loop-statement.invariant.0 c.in-Call.is c.in_err-add_call-in-Call.ensures.refused in
+    c.statement-item.result c.in_err-add_call-in-Call.field-0.0 c.loop-statement-test.true c.statement-item.is c.loop-statement.invariant.0
+    c.in_err-add_call-in-Call.ensures.refused in
     search (rules, whole)
+
+pub add_call-requires : goal.add_call-requires
+add_call-requires c =
+    let v = c.args.visible.now in
+    record {
+      known = ap (is_unknown v) (sym c.in-Call.is)
+          ∙ known_among v c.args.statements.now c.loop-statement.statement-index c.statement-item.result c.loop-statement-test.true c.statement-item.is
+          c.requires.known;
+    }

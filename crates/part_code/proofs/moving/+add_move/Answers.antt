@@ -20,8 +20,10 @@ use Rattle.part_code.proofs.moving.+add_move.Goals as goal
 -- ---- a branch
 
 pub add_branch-add_move-requires : goal.add_branch-add_move-requires
-add_branch-add_move-requires t c =
-    (search (rules, expressions.the_lemmas), (c.requires.sound, (c.requires.legal, (c.requires.moved, (c.requires.block, c.requires.holds)))))
+add_branch-add_move-requires t c = (
+  search (rules, expressions.the_lemmas),
+  (c.requires.sound, (c.requires.covered, (c.requires.legal, (c.requires.moved, (c.requires.block, c.requires.holds))))),
+)
 
 pub add_branch-returns-clause-adds : goal.add_branch-returns-clause-adds
 add_branch-returns-clause-adds t c =
@@ -90,14 +92,17 @@ add_branches-add_branch-requires t c =
       (
         c.requires.sound,
         (
-          legal.0,
+          c.requires.covered,
           (
-            wide.0,
+            legal.0,
             (
-              legal.1,
+              wide.0,
               (
-                branch_moved v all _ c.elsif-item.result c.loop-elsif-test.true c.elsif-item.is c.requires.moved,
-                (c.requires.block, c.requires.holds),
+                legal.1,
+                (
+                  branch_moved v all _ c.elsif-item.result c.loop-elsif-test.true c.elsif-item.is c.requires.moved,
+                  (c.requires.block, c.requires.holds),
+                ),
               ),
             ),
           ),
@@ -153,14 +158,17 @@ add_move-add_branch-requires t c =
       (
         c.requires.sound,
         (
-          subst (λ e. IsLegalExpression v.scope (expr_tree e)) (sym c.deref-in-Conditional-2.ensures) moved.legal.condition,
+          c.requires.covered,
           (
-            subst (λ e. width_of v.scope (expr_tree e) ≡ 1) (sym c.deref-in-Conditional-2.ensures) words.condition,
+            subst (λ e. IsLegalExpression v.scope (expr_tree e)) (sym c.deref-in-Conditional-2.ensures) moved.legal.condition,
             (
-              subst (λ e. IsLegalExpression v.scope (expr_tree e)) (sym c.deref-in-Conditional.ensures) moved.legal.value,
+              subst (λ e. width_of v.scope (expr_tree e) ≡ 1) (sym c.deref-in-Conditional-2.ensures) words.condition,
               (
-                subst (λ e. is_moved v (expr_tree e) ≡ true) (sym c.deref-in-Conditional.ensures) moved.value_moved,
-                (c.requires.block, c.requires.holds),
+                subst (λ e. IsLegalExpression v.scope (expr_tree e)) (sym c.deref-in-Conditional.ensures) moved.legal.value,
+                (
+                  subst (λ e. is_moved v (expr_tree e) ≡ true) (sym c.deref-in-Conditional.ensures) moved.value_moved,
+                  (c.requires.block, c.requires.holds),
+                ),
               ),
             ),
           ),
@@ -173,24 +181,27 @@ add_move-add_branches-requires t c = (
   rw c.deref-in-Conditional-3.ensures.value (search (rules, expressions.the_lemmas)),
   (
     c.requires.sound,
-    let v = c.args.visible.now in
-        let tree = ap expr_tree c.in-Conditional.is ∙ c.conditional_by_parts.ensures c.in-Conditional.field-0 c.in-Conditional.condition c.in-Conditional.value
-        c.in-Conditional.elsifs c.in-Conditional.last in
-        let words = conditional_words v.scope c.requires.sound _ c.in-Conditional.field-0 _ _ c.in-Conditional.elsifs.items _ tree c.requires.legal in
-        let moved = parts_moved v _ c.in-Conditional.field-0 _ _ c.in-Conditional.elsifs.items _ tree c.requires.legal c.requires.moved in (
-          subst (λ l. AreLegalBranches v.scope (map branch_of l)) (sym c.deref-in-Conditional-3.ensures.value) moved.legal.elsifs,
-          (
+    (
+      c.requires.covered,
+      let v = c.args.visible.now in
+          let tree = ap expr_tree c.in-Conditional.is ∙ c.conditional_by_parts.ensures c.in-Conditional.field-0 c.in-Conditional.condition c.in-Conditional.value
+          c.in-Conditional.elsifs c.in-Conditional.last in
+          let words = conditional_words v.scope c.requires.sound _ c.in-Conditional.field-0 _ _ c.in-Conditional.elsifs.items _ tree c.requires.legal in
+          let moved = parts_moved v _ c.in-Conditional.field-0 _ _ c.in-Conditional.elsifs.items _ tree c.requires.legal c.requires.moved in (
+            subst (λ l. AreLegalBranches v.scope (map branch_of l)) (sym c.deref-in-Conditional-3.ensures.value) moved.legal.elsifs,
             (
-              width_of v.scope (expr_tree c.in-Conditional.value.value),
-              subst (λ l. AreWide v.scope (width_of v.scope (expr_tree c.in-Conditional.value.value)) (map branch_of l))
-                  (sym c.deref-in-Conditional-3.ensures.value) words.elsifs,
-            ),
-            (
-              subst (λ l. are_moved v (alone (map branch_of l)) ≡ true) (sym c.deref-in-Conditional-3.ensures.value) moved.elsifs_moved,
-              (c.requires.block, c.requires.holds),
+              (
+                width_of v.scope (expr_tree c.in-Conditional.value.value),
+                subst (λ l. AreWide v.scope (width_of v.scope (expr_tree c.in-Conditional.value.value)) (map branch_of l))
+                    (sym c.deref-in-Conditional-3.ensures.value) words.elsifs,
+              ),
+              (
+                subst (λ l. are_moved v (alone (map branch_of l)) ≡ true) (sym c.deref-in-Conditional-3.ensures.value) moved.elsifs_moved,
+                (c.requires.block, c.requires.holds),
+              ),
             ),
           ),
-        ),
+    ),
   ),
 )
 
@@ -204,10 +215,13 @@ add_move-add_move-requires-in-Conditional t c =
       (
         c.requires.sound,
         (
-          subst (λ e. IsLegalExpression v.scope (expr_tree e)) (sym c.deref-in-Conditional-4.ensures) moved.legal.last,
+          c.requires.covered,
           (
-            subst (λ e. is_moved v (expr_tree e) ≡ true) (sym c.deref-in-Conditional-4.ensures) moved.last_moved,
-            (c.requires.block, c.requires.holds),
+            subst (λ e. IsLegalExpression v.scope (expr_tree e)) (sym c.deref-in-Conditional-4.ensures) moved.legal.last,
+            (
+              subst (λ e. is_moved v (expr_tree e) ≡ true) (sym c.deref-in-Conditional-4.ensures) moved.last_moved,
+              (c.requires.block, c.requires.holds),
+            ),
           ),
         ),
       ),

@@ -1,6 +1,7 @@
-use Rattle.std.proofs.Common.{◌+◌, rules, sym, subst}
+use Rattle.std.proofs.Common.{◌+◌, rules, ap, sym, subst}
 use Rattle.std.proofs.lemmas.Result.{IfErr-weaker, on_ok_weaker}
 use Rattle.ada_tree.specs.ExpressionTree.{name_tree, selector_trees}
+use Rattle.types.specs.Evaluating.{fixed_value}
 use Rattle.expr_code.specs.Code.{IsShallow}
 use Rattle.expr_code.specs.Going.{EmitsAddress, IsLegalPath}
 use Rattle.expr_code.specs.Refusing.{RefusesAddress, selectors_peak}
@@ -16,7 +17,7 @@ address-requires-clause-legal c =
     let x = c.in-Some.source in
     let from = source_is v name x (search rules) in
     subst (λ l. IsLegalPath v.scope x.whole (selector_trees l)) (sym c.deref.ensures.value)
-    (whole_path v.scope name.first name.selectors from.role x.whole c.requires.legal from.stands)
+    (whole_path v.scope c.requires.sound name.first name.selectors from.role x.whole c.requires.legal from.stands (ap fixed_value from.names))
 
 pub returns-clause-emits : goal.returns-clause-emits
 returns-clause-emits c =

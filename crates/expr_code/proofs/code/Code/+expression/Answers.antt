@@ -255,7 +255,10 @@ ranged-of_width-requires t c =
       search (rules, expressions.the_lemmas),
       (
         c.requires.sound,
-        (fit_legal s c.args.subtype _ c.requires.fit, numbers_fit_width s c.requires.sound c.args.subtype _ c.requires.fit c.requires.numbers),
+        (
+          c.requires.covered,
+          (fit_legal s c.args.subtype _ c.requires.fit, numbers_fit_width s c.requires.sound c.args.subtype _ c.requires.fit c.requires.numbers),
+        ),
       ),
     )
 
@@ -263,7 +266,13 @@ pub checked-of_width-requires : goal.checked-of_width-requires
 checked-of_width-requires t c =
     let s = c.args.visible.now.scope in (
       search (rules, expressions.the_lemmas),
-      (c.requires.sound, (fit_legal s c.args.subtype _ c.requires.fit, booleans_fit_width s c.requires.sound c.args.subtype _ c.requires.fit (search rules))),
+      (
+        c.requires.sound,
+        (
+          c.requires.covered,
+          (fit_legal s c.args.subtype _ c.requires.fit, booleans_fit_width s c.requires.sound c.args.subtype _ c.requires.fit (search rules)),
+        ),
+      ),
     )
 
 pub ranged-returns-clause-emits : goal.ranged-returns-clause-emits
@@ -279,8 +288,8 @@ checked-returns-in-Some-Boolean-clause-emits t c =
     on_ok_weaker _ (λ p. unchecked_emits c.quiet_stays.ensures c.expressions_are_typed.ensures c.values_have_words.ensures c.args.visible.now _ _
     c.args.depth c.args.subtype _ c.requires.fit p (search rules)) c.of_width.ensures.emits
 
-pub conversion-returns-in-Expr-clause-width : goal.conversion-returns-in-Expr-clause-width
-conversion-returns-in-Expr-clause-width t c =
+pub conversion-returns-clause-width : goal.conversion-returns-clause-width
+conversion-returns-clause-width t c =
     let one = one_argument c.args.arguments.now c.in-Expr.e c.argument-item.result c.in-len1.len_at_least c.in-len1.len_below c.argument-item.is c.in-Expr.is in
     let s = c.args.visible.now.scope in
     let words : width_of s (Named c.args.first.now (MoreSelectors (Arguments (argument_trees c.args.arguments.now)) NoSelectors)) ≡ 1 =
@@ -289,8 +298,8 @@ conversion-returns-in-Expr-clause-width t c =
     (subst (λ all. IsLegalExpression s (Named c.args.first.now (MoreSelectors (Arguments all) NoSelectors))) one c.requires.legal) in
     on_ok_weaker _ (λ p. words) c.checked.ensures.emits
 
-pub conversion-returns-in-Expr-clause-emits : goal.conversion-returns-in-Expr-clause-emits
-conversion-returns-in-Expr-clause-emits t c =
+pub conversion-returns-clause-emits : goal.conversion-returns-clause-emits
+conversion-returns-clause-emits t c =
     let one = one_argument c.args.arguments.now c.in-Expr.e c.argument-item.result c.in-len1.len_at_least c.in-len1.len_below c.argument-item.is c.in-Expr.is in
     on_ok_weaker _ (λ p. subst
     (λ all. EmitsExpression c.args.visible.now c.args.self.now c.args.depth 1 (Named c.args.first.now (MoreSelectors (Arguments all) NoSelectors))
@@ -311,8 +320,8 @@ name-returns-in_ok-emit-in-Some-clause-emits t c =
     fixed_emits c.quiet_stays.ensures c.args.visible.now _ _ c.args.depth c.args.name.now.first _ _ c.in-Some.value (search rules) c.requires.legal
     (sym (ap fixed_value c.standing.ensures) ∙ sym c.fixed_value.ensures ∙ c.in-Some.is) c.in_ok-emit-in-Some.ensures.adds
 
-pub called-returns-in_ok-with_actuals-in-Arguments-clause-emits : goal.called-returns-in_ok-with_actuals-in-Arguments-clause-emits
-called-returns-in_ok-with_actuals-in-Arguments-clause-emits t c =
+pub called-returns-clause-emits : goal.called-returns-clause-emits
+called-returns-clause-emits t c =
     let tree = ap selector_tree c.in-Arguments.is ∙ c.arguments_by_parts.ensures c.in-Arguments.arguments ∙ ap (λ l. Arguments (argument_trees l))
     (sym c.deref.ensures.value) in
     let same = one_selector c.args.selectors.now c.selector-item.result _ c.in-len1.len_at_least c.in-len1.len_below c.selector-item.is tree in
@@ -356,8 +365,10 @@ path-select-requires t c =
       search (rules, expressions.the_lemmas),
       (
         c.requires.sound,
-        first_part s c.loop-selector.last _ _ (subst (λ l. IsLegalPath s c.loop-selector.last (selector_trees l)) rest
-            c.loop-selector.invariant.1),
+        (
+          c.requires.covered,
+          first_part s c.loop-selector.last _ _ (subst (λ l. IsLegalPath s c.loop-selector.last (selector_trees l)) rest c.loop-selector.invariant.1),
+        ),
       ),
     )
 
@@ -382,8 +393,10 @@ path-loop-selector-preserved t c =
 pub select-element-requires : goal.select-element-requires
 select-element-requires t c =
     let tree = ap selector_tree c.in-Arguments.is ∙ c.arguments_by_parts.ensures c.in-Arguments.arguments ∙ ap (λ l. Arguments (argument_trees l))
-    (sym c.deref.ensures.value) in
-    (search (rules, expressions.the_lemmas), (c.requires.sound, subst (λ x. IsLegalPart c.args.visible.now.scope c.args.subtype x) tree c.requires.legal))
+    (sym c.deref.ensures.value) in (
+      search (rules, expressions.the_lemmas),
+      (c.requires.sound, (c.requires.covered, subst (λ x. IsLegalPart c.args.visible.now.scope c.args.subtype x) tree c.requires.legal)),
+    )
 
 pub select-returns-in-Arguments-clause-emits : goal.select-returns-in-Arguments-clause-emits
 select-returns-in-Arguments-clause-emits t c =
@@ -454,12 +467,6 @@ of_number-returns-in-Microseconds-clause-emits = calls.of_number-returns-in-Micr
 pub of_one-of_number-requires : goal.of_one-of_number-requires
 of_one-of_number-requires = calls.of_one-of_number-requires
 
-pub of_one-returns-in_default-clause-refused : goal.of_one-returns-in_default-clause-refused
-of_one-returns-in_default-clause-refused = calls.of_one-returns-in_default-clause-refused
-
-pub of_one-returns-in_default-2-clause-refused : goal.of_one-returns-in_default-2-clause-refused
-of_one-returns-in_default-2-clause-refused = calls.of_one-returns-in_default-2-clause-refused
-
 pub predefined-returns-in-Clock-clause-width : goal.predefined-returns-in-Clock-clause-width
 predefined-returns-in-Clock-clause-width = calls.predefined-returns-in-Clock-clause-width
 
@@ -477,7 +484,14 @@ read-returns-clause-emits = calls.read-returns-clause-emits
 pub part-path-requires : goal.part-path-requires
 part-path-requires t c = (
   search (rules, expressions.the_lemmas),
-  (c.requires.sound, whole_path c.args.visible.now.scope c.args.first.now _ c.requires.stands.0 c.args.subtype c.requires.legal c.requires.stands.1),
+  (
+    c.requires.sound,
+    (
+      c.requires.covered,
+      whole_path c.args.visible.now.scope c.requires.sound c.args.first.now _ c.requires.stands.0 c.args.subtype c.requires.legal c.requires.stands.1
+          c.requires.valueless,
+    ),
+  ),
 )
 
 -- ---- refusals of names, parts, conversions and calls
@@ -487,21 +501,6 @@ called-with_actuals-requires = refused.called-with_actuals-requires
 
 pub called-returns-in_err-with_actuals-in-Arguments-clause-refused : goal.called-returns-in_err-with_actuals-in-Arguments-clause-refused
 called-returns-in_err-with_actuals-in-Arguments-clause-refused = refused.called-returns-in_err-with_actuals-in-Arguments-clause-refused
-
-pub called-returns-in_default-2-clause-refused : goal.called-returns-in_default-2-clause-refused
-called-returns-in_default-2-clause-refused = refused.called-returns-in_default-2-clause-refused
-
-pub converted-returns-in_default-2-clause-refused : goal.converted-returns-in_default-2-clause-refused
-converted-returns-in_default-2-clause-refused = refused.converted-returns-in_default-2-clause-refused
-
-pub conversion-returns-in_default-2-clause-refused : goal.conversion-returns-in_default-2-clause-refused
-conversion-returns-in_default-2-clause-refused = refused.conversion-returns-in_default-2-clause-refused
-
-pub named-returns-in_default : goal.named-returns-in_default
-named-returns-in_default = refused.named-returns-in_default
-
-pub element-returns-in_default-2-clause-refused : goal.element-returns-in_default-2-clause-refused
-element-returns-in_default-2-clause-refused = refused.element-returns-in_default-2-clause-refused
 
 pub element-returns-then-from-gt-WORDS-clause-refused : goal.element-returns-then-from-gt-WORDS-clause-refused
 element-returns-then-from-gt-WORDS-clause-refused = refused.element-returns-then-from-gt-WORDS-clause-refused
@@ -556,14 +555,14 @@ ranged-returns-clause-shallow = stack.ranged-returns-clause-shallow
 pub checked-returns-in-Some-Boolean-clause-shallow : goal.checked-returns-in-Some-Boolean-clause-shallow
 checked-returns-in-Some-Boolean-clause-shallow = stack.checked-returns-in-Some-Boolean-clause-shallow
 
-pub conversion-returns-in-Expr-clause-shallow : goal.conversion-returns-in-Expr-clause-shallow
-conversion-returns-in-Expr-clause-shallow = stack.conversion-returns-in-Expr-clause-shallow
+pub conversion-returns-clause-shallow : goal.conversion-returns-clause-shallow
+conversion-returns-clause-shallow = stack.conversion-returns-clause-shallow
 
 pub name-returns-in_ok-emit-in-Some-clause-shallow : goal.name-returns-in_ok-emit-in-Some-clause-shallow
 name-returns-in_ok-emit-in-Some-clause-shallow = stack.name-returns-in_ok-emit-in-Some-clause-shallow
 
-pub called-returns-in_ok-with_actuals-in-Arguments-clause-shallow : goal.called-returns-in_ok-with_actuals-in-Arguments-clause-shallow
-called-returns-in_ok-with_actuals-in-Arguments-clause-shallow = stack.called-returns-in_ok-with_actuals-in-Arguments-clause-shallow
+pub called-returns-clause-shallow : goal.called-returns-clause-shallow
+called-returns-clause-shallow = stack.called-returns-clause-shallow
 
 pub element-returns-clause-shallow : goal.element-returns-clause-shallow
 element-returns-clause-shallow = stack.element-returns-clause-shallow
@@ -735,9 +734,6 @@ element-returns-in_err-offset-clause-kept = kept.element-returns-in_err-offset-c
 pub call-returns-clause-kept : goal.call-returns-clause-kept
 call-returns-clause-kept = kept.call-returns-clause-kept
 
-pub actuals-returns-in_default-clause-kept : goal.actuals-returns-in_default-clause-kept
-actuals-returns-in_default-clause-kept = kept.actuals-returns-in_default-clause-kept
-
 pub actuals-returns-in_err-actual-clause-kept : goal.actuals-returns-in_err-actual-clause-kept
 actuals-returns-in_err-actual-clause-kept = kept.actuals-returns-in_err-actual-clause-kept
 
@@ -746,29 +742,8 @@ actuals-returns-in_err-height-clause-kept = kept.actuals-returns-in_err-height-c
 
 -- ---- found by the second and fourth of the searches that are tried where nothing is answered, each of which takes seconds before
 
-pub conversion-returns-in_default-clause-refused : goal.conversion-returns-in_default-clause-refused
-conversion-returns-in_default-clause-refused t c = search (tests, rules, folds.the_lemmas, common_steps)
-
-pub conversion-returns-in-Expr-clause-refused : goal.conversion-returns-in-Expr-clause-refused
-conversion-returns-in-Expr-clause-refused t c = search (tests, rules, folds.the_lemmas, common_steps)
-
-pub conversion-returns-in-Label-clause-refused : goal.conversion-returns-in-Label-clause-refused
-conversion-returns-in-Label-clause-refused t c = search (tests, rules, folds.the_lemmas, common_steps)
-
-pub converted-returns-in_default-clause-refused : goal.converted-returns-in_default-clause-refused
-converted-returns-in_default-clause-refused t c = search (tests, rules, folds.the_lemmas, common_steps)
-
-pub converted-returns-in-Component-clause-refused : goal.converted-returns-in-Component-clause-refused
-converted-returns-in-Component-clause-refused t c = search (tests, rules, folds.the_lemmas, common_steps)
-
-pub converted-returns-in-Component-2-clause-refused : goal.converted-returns-in-Component-2-clause-refused
-converted-returns-in-Component-2-clause-refused t c = search (tests, rules, folds.the_lemmas, common_steps)
-
-pub element-returns-in_default-clause-refused : goal.element-returns-in_default-clause-refused
-element-returns-in_default-clause-refused t c = search (tests, rules, folds.the_lemmas, common_steps)
-
-pub element-returns-in_default-argument-clause-refused : goal.element-returns-in_default-argument-clause-refused
-element-returns-in_default-argument-clause-refused t c = search (tests, rules, folds.the_lemmas, common_steps)
+pub conversion-returns-clause-refused : goal.conversion-returns-clause-refused
+conversion-returns-clause-refused t c = search (tests, rules, folds.the_lemmas, common_steps)
 
 pub path-returns-clause-stands : goal.path-returns-clause-stands
 path-returns-clause-stands t c = grind (arith, common_steps)
@@ -784,14 +759,52 @@ external_with-actuals-requires = externals.external_with-actuals-requires
 pub external_with-returns-in_err-height-in-Some-clause-refused : goal.external_with-returns-in_err-height-in-Some-clause-refused
 external_with-returns-in_err-height-in-Some-clause-refused = externals.external_with-returns-in_err-height-in-Some-clause-refused
 
-pub external_with-returns-in_ok-height-in-Some-clause-refused : goal.external_with-returns-in_ok-height-in-Some-clause-refused
-external_with-returns-in_ok-height-in-Some-clause-refused = externals.external_with-returns-in_ok-height-in-Some-clause-refused
+pub external_with-returns-clause-refused : goal.external_with-returns-clause-refused
+external_with-returns-clause-refused = externals.external_with-returns-clause-refused
 
-pub external_with-returns-in_ok-height-in-Some-clause-shallow : goal.external_with-returns-in_ok-height-in-Some-clause-shallow
-external_with-returns-in_ok-height-in-Some-clause-shallow = externals.external_with-returns-in_ok-height-in-Some-clause-shallow
+pub external_with-returns-clause-shallow : goal.external_with-returns-clause-shallow
+external_with-returns-clause-shallow = externals.external_with-returns-clause-shallow
 
-pub external_with-returns-in_ok-height-in-Some-clause-emits : goal.external_with-returns-in_ok-height-in-Some-clause-emits
-external_with-returns-in_ok-height-in-Some-clause-emits = externals.external_with-returns-in_ok-height-in-Some-clause-emits
+pub external_with-returns-clause-emits : goal.external_with-returns-clause-emits
+external_with-returns-clause-emits = externals.external_with-returns-clause-emits
 
-pub external-returns-in_default-3-clause-refused : goal.external-returns-in_default-3-clause-refused
-external-returns-in_default-3-clause-refused = externals.external-returns-in_default-3-clause-refused
+-- ---- where legal names lead to no other arm
+
+pub called-unreachable-requires : goal.called-unreachable-requires
+called-unreachable-requires = refused.called-unreachable-requires
+
+pub converted-unreachable-requires : goal.converted-unreachable-requires
+converted-unreachable-requires = refused.converted-unreachable-requires
+
+pub conversion-unreachable-requires : goal.conversion-unreachable-requires
+conversion-unreachable-requires = refused.conversion-unreachable-requires
+
+pub named-unreachable-requires-in_default : goal.named-unreachable-requires-in_default
+named-unreachable-requires-in_default = refused.named-unreachable-requires-in_default
+
+pub with_actuals-unreachable-requires : goal.with_actuals-unreachable-requires
+with_actuals-unreachable-requires = refused.with_actuals-unreachable-requires
+
+pub element-unreachable-requires : goal.element-unreachable-requires
+element-unreachable-requires = refused.element-unreachable-requires
+
+pub element-checked-requires : goal.element-checked-requires
+element-checked-requires = refused.element-checked-requires
+
+pub call-invoke-requires : goal.call-invoke-requires
+call-invoke-requires = calls.call-invoke-requires
+
+pub of_one-unreachable-requires : goal.of_one-unreachable-requires
+of_one-unreachable-requires = calls.of_one-unreachable-requires
+
+pub external_with-invoke_external-requires : goal.external_with-invoke_external-requires
+external_with-invoke_external-requires = externals.external_with-invoke_external-requires
+
+pub external_with-unreachable-requires : goal.external_with-unreachable-requires
+external_with-unreachable-requires = externals.external_with-unreachable-requires
+
+pub external-unreachable-requires-in_default : goal.external-unreachable-requires-in_default
+external-unreachable-requires-in_default = externals.external-unreachable-requires-in_default
+
+pub external-unreachable-requires-in_default-2 : goal.external-unreachable-requires-in_default-2
+external-unreachable-requires-in_default-2 = externals.external-unreachable-requires-in_default-2

@@ -2,10 +2,17 @@ use Rattle.std.proofs.Common.{arith}
 use Rattle.std.proofs.lemmas.Result.{IfErr-weaker, on_ok_weaker}
 use Rattle.expr_code.proofs.Actuals.{call_alone_emits}
 use Rattle.expr_code.proofs.CallsRefused.{alone_refused}
+use Rattle.expr_code.proofs.CoveredNames.{named_called}
 use Rattle.ada_tree.specs.ExpressionTree.{Named, NoSelectors}
 use Rattle.expr_code.proofs.Shallow.{word_shallow}
 use Rattle.expr_code.proofs.Widths.{call_alone_width}
 use Rattle.expr_code.proofs.code.Code.call_alone.Goals as goal
+
+pub invoke-requires : goal.invoke-requires
+invoke-requires c =
+    record {
+      called = (named_called c.args.visible.now c.requires.sound c.requires.covered c.args.first.now NoSelectors _ c.requires.names c.requires.legal).called;
+    }
 
 pub returns-clause-width : goal.returns-clause-width
 returns-clause-width c =
@@ -13,7 +20,7 @@ returns-clause-width c =
 
 pub returns-clause-refused : goal.returns-clause-refused
 returns-clause-refused c =
-    IfErr-weaker _ _ _ (λ why p. alone_refused c.args.visible.now c.args.first.now _ c.requires.names c.args.self.now c.args.depth why p)
+    IfErr-weaker _ _ _ (λ why p. alone_refused c.args.visible.now c.args.first.now c.args.self.now c.args.depth why p)
     c.invoke.ensures.refused
 
 pub returns-clause-emits : goal.returns-clause-emits

@@ -2,7 +2,7 @@ use Rattle.std.proofs.Common.{inr, rules, sym, ◌∙◌}
 use Rattle.types.specs.Shapes.{shapes}
 use Rattle.expr_code.proofs.FitShapes.{far_offset, no_offset}
 use Rattle.expr_code.proofs.Going.{component_goes, uncapped}
-use Rattle.expr_code.proofs.Growing.{added_kept}
+use Rattle.expr_code.proofs.Growing.{added_extends, added_kept}
 use Rattle.expr_code.proofs.Shallow.{component_shallow}
 use Rattle.expr_code.proofs.code.Code.component.Goals as goal
 
@@ -11,10 +11,15 @@ returns-clause-emits c =
     component_goes c.args.visible.now _ _ _ c.args.depth _ _ c.args.subtype c.in-Some.last _ c.args.name.now c.in-Some-component_offset.offset _ c.in_ok-address.ensures.more c.in_ok-above.ensures.more (search rules)
     (search rules) (search rules) (uncapped _ _ (sym c.component_offset.ensures ∙ c.in-Some-component_offset.is) (search rules)) (search rules) c.in_ok-emit.ensures.adds c.in_ok-emit-2.ensures.adds
 
-pub returns-in_default-component_offset-clause-refused : goal.returns-in_default-component_offset-clause-refused
-returns-in_default-component_offset-clause-refused c =
-    absurd (no_offset (shapes c.args.visible.now.scope) _ c.args.name.now.name c.in-Some.last (search rules)
-    (sym c.component_offset.ensures ∙ c.in_default-component_offset.is))
+pub unreachable-requires-in_default-component_offset : goal.unreachable-requires-in_default-component_offset
+unreachable-requires-in_default-component_offset c =
+    no_offset (shapes c.args.visible.now.scope) _ c.args.name.now.name c.in-Some.last (search rules)
+    (sym c.component_offset.ensures ∙ c.in_default-component_offset.is)
+
+pub returns-in_err-above-clause-kept : goal.returns-in_err-above-clause-kept
+returns-in_err-above-clause-kept c =
+    let whole = added_extends _ _ _ _ c.in_ok-emit.ensures.adds in
+    search (rules, whole)
 
 pub returns-then-from-gt-WORDS-clause-refused : goal.returns-then-from-gt-WORDS-clause-refused
 returns-then-from-gt-WORDS-clause-refused c =

@@ -18,15 +18,18 @@ use Rattle.stmt_code.specs.Refusing.{alternatives_needs, around, elsifs_needs}
 use Rattle.stmt_code.specs.Staying.{StaysAlternatives, StaysParts}
 use Rattle.stmt_code.specs.Alternatives.{AddsAlternatives}
 use Rattle.part_code.specs.Choices.{AreLegalChoices}
-use Rattle.stmt_code.specs.Emitting.{AddsParts, AreLegalStatements, EmitsStatement, EmitsStatements, IsLegalStatement}
+use Rattle.stmt_code.specs.Emitting.{AddsParts, AreAcceptedStatements, EmitsStatement, EmitsStatements, IsAcceptedStatement}
 use Rattle.part_code.specs.Emitting.{EndsLoop, HasEntries, ways_of}
-use Rattle.stmt_code.proofs.Adding.{block_body, block_declarations, block_emits, wanted_legal, without_handlers}
-use Rattle.stmt_code.proofs.Alternatives.{all_alternatives, alternative_closed, alternative_legal, alternatives_next, case_alternatives, case_emits, case_selecting, case_waiting, choices_waiting, no_alternatives, selecting_legal}
-use Rattle.stmt_code.proofs.Opening.{all_parts, branch_closed, no_parts, part_legal, parts_next}
+use Rattle.part_code.specs.Statements.{within_loop}
+use Rattle.stmt_code.proofs.Accepting.{covered_still}
+use Rattle.stmt_code.proofs.Adding.{block_body, block_declarations, block_emits, block_restricted, wanted_legal, without_handlers}
+use Rattle.stmt_code.proofs.Alternatives.{all_alternatives, alternative_closed, alternative_accepted, alternatives_next, case_alternatives, case_emits, case_selecting, case_waiting, choices_waiting, no_alternatives, selecting_legal}
+use Rattle.stmt_code.proofs.Opening.{all_parts, branch_closed, no_parts, part_accepted, parts_next}
 use Rattle.stmt_code.proofs.Bounded.{entries_inside, loop_body, loop_range, range_type, slots_stay, sound_inside, subprograms_stay}
 use Rattle.stmt_code.proofs.Ranged.{range_emits}
 use Rattle.stmt_code.proofs.PartsStay.{alternatives_end, alternatives_stay, parts_end, parts_stay}
-use Rattle.stmt_code.proofs.Repeating.{forever_emits, while_body, while_condition}
+use Rattle.stmt_code.proofs.Repeating.{forever_body, forever_emits, while_body, while_condition}
+use Rattle.stmt_code.proofs.StaticChoices.{choices_static}
 use Rattle.stmt_code.proofs.Staying.{stays_self}
 use Rattle.part_code.proofs.Selecting.{choices_select, selecting_width}
 use Rattle.stmt_code.proofs.Testing.{while_emits}
@@ -42,7 +45,7 @@ pub branch-of_width-requires-clause-wide : goal.branch-of_width-requires-clause-
 branch-of_width-requires-clause-wide t c = condition_width c.args.visible.now.scope c.requires.sound (expr_tree c.args.condition.now) c.requires.condition
 
 pub branch-statements-requires : goal.branch-statements-requires
-branch-statements-requires t c = (search (rules, statements.the_lemmas), (c.requires.sound, (c.requires.entries, c.requires.legal)))
+branch-statements-requires t c = (search (rules, statements.the_lemmas), (c.requires.sound, (c.requires.entries, (c.requires.covered, c.requires.legal))))
 
 pub branch-returns-clause-adds : goal.branch-returns-clause-adds
 branch-returns-clause-adds t c = on_ok_weaker _
@@ -60,22 +63,28 @@ pub elsifs-loop-part-init : goal.elsifs-loop-part-init
 elsifs-loop-part-init t c = (
   no_parts c.args.visible.now (ways_of c.args.leaving) c.args.self.now c.args.waiting.now.items,
   refl,
-  stays_self c.args.self.now (elsifs_needs (around c.args.visible.now (ways_of c.args.leaving) c.args.self.now) (elsif_trees c.args.elsifs.now)),
+  stays_self c.args.self.now (elsifs_needs (around c.args.visible.now c.args.self.now) (elsif_trees c.args.elsifs.now)),
 )
 
 pub elsifs-branch-self-requires : goal.elsifs-branch-self-requires
 elsifs-branch-self-requires t c =
-    let s = c.args.visible.now.scope in
+    let v = c.args.visible.now in
+    let w = ways_of c.args.leaving in
     let there = sym c.loop-part.invariant.1 in
-    let legal = part_legal s c.args.elsifs.now _ c.part-item.result c.loop-part-test.true c.part-item.is c.requires.legal in (
+    let legal = part_accepted v.scope w c.args.elsifs.now _ c.part-item.result c.loop-part-test.true c.part-item.is c.requires.legal in (
       search (rules, statements.the_lemmas),
       (
         subst (λ x. SoundScope x.scope) there c.requires.sound,
         (
           subst HasEntries there c.requires.entries,
           (
-            subst (λ x. condition_faults x.scope (expr_tree c.part-item.result.condition) ≡ []) there legal.condition,
-            subst (λ x. AreLegalStatements x.scope (stmt_trees c.deref.result.now)) there (subst (λ l. AreLegalStatements s (stmt_trees l)) (sym c.deref.ensures.value) legal.body),
+            covered_still v c.loop-part.visible c.args.self.now c.loop-part.self c.loop-part.invariant.0.emits.rows.exceptions c.loop-part.invariant.1
+                c.requires.covered,
+            (
+              subst (λ x. condition_faults x.scope (expr_tree c.part-item.result.condition) ≡ []) there legal.condition,
+              subst (λ x. AreAcceptedStatements x.scope w (stmt_trees c.deref.result.now)) there
+                  (subst (λ l. AreAcceptedStatements v.scope w (stmt_trees l)) (sym c.deref.ensures.value) legal.body),
+            ),
           ),
         ),
       ),
@@ -93,10 +102,10 @@ elsifs-loop-part-preserved t c =
           (subst (λ l. AddsParts c.loop-part.visible w c.loop-part.self ((expr_tree c.part-item.result.condition, stmt_trees l) ∷ []) c.loop-part.waiting.items
           c.branch-self.new.waiting.items c.branch-self.new.self) c.deref.ensures.value c.in_ok-branch.ensures.adds)),
       c.in_ok-branch.ensures.same ∙ there,
-      parts_stay v w c.args.self.now c.loop-part.self c.branch-self.new.self c.args.elsifs.now _ c.part-item.result c.loop-part-test.true c.part-item.is
-          (c.loop-part.invariant.0.emits.taken, c.loop-part.invariant.0.emits.rows.exceptions) c.loop-part.invariant.2
-          (subst (λ x. StaysParts x w c.loop-part.self (elsifs_of (elsif_tree c.part-item.result ∷ [])) c.branch-self.new.self) there
-          (subst (λ l. StaysParts c.loop-part.visible w c.loop-part.self (elsifs_of ((expr_tree c.part-item.result.condition, stmt_trees l) ∷ []))
+      parts_stay v c.args.self.now c.loop-part.self c.branch-self.new.self c.args.elsifs.now _ c.part-item.result c.loop-part-test.true c.part-item.is
+          c.loop-part.invariant.0.emits.taken c.loop-part.invariant.2
+          (subst (λ x. StaysParts x c.loop-part.self (elsifs_of (elsif_tree c.part-item.result ∷ [])) c.branch-self.new.self) there
+          (subst (λ l. StaysParts c.loop-part.visible c.loop-part.self (elsifs_of ((expr_tree c.part-item.result.condition, stmt_trees l) ∷ []))
           c.branch-self.new.self) c.deref.ensures.value c.in_ok-branch.ensures.stays)),
     )
 
@@ -111,6 +120,12 @@ pub elsifs-returns-clause-same : goal.elsifs-returns-clause-same
 elsifs-returns-clause-same t c = c.loop-part.invariant.1
 
 -- ---- alternatives
+
+pub alternative-add_choices-requires : goal.alternative-add_choices-requires
+alternative-add_choices-requires t c = record {
+  statics = choices_static c.args.visible.now.scope c.requires.sound (expr_tree c.args.value.now) (choices_tree c.args.alternative.now.choices)
+      c.requires.choices;
+}
 
 pub alternative-rejoin-requires : goal.alternative-rejoin-requires
 alternative-rejoin-requires t c =
@@ -151,25 +166,30 @@ pub alternatives-loop-alternative-init : goal.alternatives-loop-alternative-init
 alternatives-loop-alternative-init t c = (
   no_alternatives c.args.visible.now (ways_of c.args.leaving) (expr_tree c.args.value.now) c.args.self.now c.args.waiting.now.items,
   refl,
-  stays_self c.args.self.now (alternatives_needs (around c.args.visible.now (ways_of c.args.leaving) c.args.self.now) (alternative_trees c.args.all.now)),
+  stays_self c.args.self.now (alternatives_needs (around c.args.visible.now c.args.self.now) (alternative_trees c.args.all.now)),
 )
 
 pub alternatives-alternative-requires : goal.alternatives-alternative-requires
 alternatives-alternative-requires t c =
-    let s = c.args.visible.now.scope in
+    let v = c.args.visible.now in
+    let w = ways_of c.args.leaving in
     let e = expr_tree c.args.value.now in
     let there = sym c.loop-alternative.invariant.1 in
-    let legal = alternative_legal s e c.args.all.now _ c.alternative-item.result c.loop-alternative-test.true c.alternative-item.is c.requires.legal in (
+    let legal = alternative_accepted v.scope w e c.args.all.now _ c.alternative-item.result c.loop-alternative-test.true c.alternative-item.is c.requires.legal in (
       search (rules, statements.the_lemmas),
       (
         subst (λ x. SoundScope x.scope) there c.requires.sound,
         (
           subst HasEntries there c.requires.entries,
           (
-            subst (λ x. selecting_faults x.scope e ≡ []) there c.requires.selecting,
+            covered_still v c.loop-alternative.visible c.args.self.now c.loop-alternative.self c.loop-alternative.invariant.0.emits.rows.exceptions
+                c.loop-alternative.invariant.1 c.requires.covered,
             (
-              subst (λ x. AreLegalChoices x.scope e (choices_tree c.alternative-item.result.choices)) there legal.choices,
-              subst (λ x. AreLegalStatements x.scope (stmt_trees c.alternative-item.result.statements.items)) there legal.body,
+              subst (λ x. selecting_faults x.scope e ≡ []) there c.requires.selecting,
+              (
+                subst (λ x. AreLegalChoices x.scope e (choices_tree c.alternative-item.result.choices)) there legal.choices,
+                subst (λ x. AreAcceptedStatements x.scope w (stmt_trees c.alternative-item.result.statements.items)) there legal.body,
+              ),
             ),
           ),
         ),
@@ -187,10 +207,10 @@ alternatives-loop-alternative-preserved t c =
           (subst (λ x. AddsAlternatives x w e c.loop-alternative.self (alternative_tree c.alternative-item.result ∷ []) c.loop-alternative.waiting.items
           c.alternative.new.waiting.items c.alternative.new.self) there c.in_ok-alternative.ensures.adds),
       c.in_ok-alternative.ensures.same ∙ there,
-      alternatives_stay v w c.args.self.now c.loop-alternative.self c.alternative.new.self c.args.all.now _ c.alternative-item.result
+      alternatives_stay v c.args.self.now c.loop-alternative.self c.alternative.new.self c.args.all.now _ c.alternative-item.result
           c.loop-alternative-test.true c.alternative-item.is
-          (c.loop-alternative.invariant.0.emits.taken, c.loop-alternative.invariant.0.emits.rows.exceptions) c.loop-alternative.invariant.2
-          (subst (λ x. StaysAlternatives x w c.loop-alternative.self (alternatives_of (alternative_tree c.alternative-item.result ∷ []))
+          c.loop-alternative.invariant.0.emits.taken c.loop-alternative.invariant.2
+          (subst (λ x. StaysAlternatives x c.loop-alternative.self (alternatives_of (alternative_tree c.alternative-item.result ∷ []))
           c.alternative.new.self) there
           c.in_ok-alternative.ensures.stays),
     )
@@ -210,23 +230,27 @@ pub case-of_width-requires-clause-legal : goal.case-of_width-requires-clause-leg
 case-of_width-requires-clause-legal t c =
     let s = c.args.visible.now.scope in
     let e = expr_tree c.args.value.now in
-    selecting_legal s e (case_selecting s c.args.place e (alternative_trees c.args.alternatives.now) c.requires.legal)
+    selecting_legal s e (case_selecting s (ways_of c.args.leaving) c.args.place e (alternative_trees c.args.alternatives.now) c.requires.legal)
 
 pub case-of_width-requires-clause-wide : goal.case-of_width-requires-clause-wide
 case-of_width-requires-clause-wide t c =
     let s = c.args.visible.now.scope in
     let e = expr_tree c.args.value.now in
-    selecting_width s e (case_selecting s c.args.place e (alternative_trees c.args.alternatives.now) c.requires.legal)
+    selecting_width s e (case_selecting s (ways_of c.args.leaving) c.args.place e (alternative_trees c.args.alternatives.now) c.requires.legal)
 
 pub case-alternatives-requires : goal.case-alternatives-requires
 case-alternatives-requires t c =
     let s = c.args.visible.now.scope in
+    let w = ways_of c.args.leaving in
     let e = expr_tree c.args.value.now in
     let all = alternative_trees c.args.alternatives.now in (
       search (rules, statements.the_lemmas),
       (
         c.requires.sound,
-        (c.requires.entries, (case_selecting s c.args.place e all c.requires.legal, case_alternatives s c.args.place e all c.requires.legal)),
+        (
+          c.requires.entries,
+          (c.requires.covered, (case_selecting s w c.args.place e all c.requires.legal, case_alternatives s w c.args.place e all c.requires.legal)),
+        ),
       ),
     )
 
@@ -260,29 +284,64 @@ case-returns-clause-emits t c =
 
 -- ---- loops
 
+pub repeated-statements-requires : goal.repeated-statements-requires
+repeated-statements-requires t c =
+    let s = c.args.visible.now.scope in
+    let w = ways_of c.args.leaving in
+    let body = stmt_trees c.args.body.now in
+    let legal = subst (λ i. IsAcceptedStatement s w (Loop c.args.place (iteration_tree i) body)) c.in-Forever.is c.requires.legal in (
+      search (rules, statements.the_lemmas),
+      (
+        c.requires.sound,
+        (
+          c.requires.entries,
+          (
+            c.requires.covered,
+            subst (λ x. AreAcceptedStatements s x body) (sym c.in_loop.ensures)
+                (forever_body s w c.args.place body c.in_ok-head-in-Forever.head.exit legal),
+          ),
+        ),
+      ),
+    )
+
 pub repeated-of_width-requires-clause-legal : goal.repeated-of_width-requires-clause-legal
 repeated-of_width-requires-clause-legal t c =
     let s = c.args.visible.now.scope in
+    let w = ways_of c.args.leaving in
     let e = expr_tree c.in-While.condition in
     let body = stmt_trees c.args.body.now in
-    let legal = subst (λ i. IsLegalStatement s (Loop c.args.place (iteration_tree i) body)) c.in-While.is c.requires.legal in
-    wanted_legal s boolean_wanted e (while_condition s c.args.place body e legal)
+    let legal = subst (λ i. IsAcceptedStatement s w (Loop c.args.place (iteration_tree i) body)) c.in-While.is c.requires.legal in
+    wanted_legal s boolean_wanted e (while_condition s w c.args.place body e legal)
 
 pub repeated-of_width-requires-clause-wide : goal.repeated-of_width-requires-clause-wide
 repeated-of_width-requires-clause-wide t c =
     let s = c.args.visible.now.scope in
+    let w = ways_of c.args.leaving in
     let e = expr_tree c.in-While.condition in
     let body = stmt_trees c.args.body.now in
-    let legal = subst (λ i. IsLegalStatement s (Loop c.args.place (iteration_tree i) body)) c.in-While.is c.requires.legal in
-    condition_width s c.requires.sound e (while_condition s c.args.place body e legal)
+    let legal = subst (λ i. IsAcceptedStatement s w (Loop c.args.place (iteration_tree i) body)) c.in-While.is c.requires.legal in
+    condition_width s c.requires.sound e (while_condition s w c.args.place body e legal)
 
 pub repeated-statements-requires-in-While : goal.repeated-statements-requires-in-While
 repeated-statements-requires-in-While t c =
     let s = c.args.visible.now.scope in
+    let w = ways_of c.args.leaving in
     let e = expr_tree c.in-While.condition in
     let body = stmt_trees c.args.body.now in
-    let legal = subst (λ i. IsLegalStatement s (Loop c.args.place (iteration_tree i) body)) c.in-While.is c.requires.legal in
-    (search (rules, statements.the_lemmas), (c.requires.sound, (c.requires.entries, while_body s c.args.place body e legal)))
+    let legal = subst (λ i. IsAcceptedStatement s w (Loop c.args.place (iteration_tree i) body)) c.in-While.is c.requires.legal in (
+      search (rules, statements.the_lemmas),
+      (
+        c.requires.sound,
+        (
+          c.requires.entries,
+          (
+            c.requires.covered,
+            subst (λ x. AreAcceptedStatements s x body) (sym c.in_loop-in-While.ensures)
+                (while_body s w c.args.place body c.in_ok-head-in-While.head.exit e legal),
+          ),
+        ),
+      ),
+    )
 
 pub repeated-returns-in_ok-end_loop-in-Forever-clause-emits : goal.repeated-returns-in_ok-end_loop-in-Forever-clause-emits
 repeated-returns-in_ok-end_loop-in-Forever-clause-emits t c =
@@ -300,10 +359,6 @@ repeated-returns-in_ok-end_loop-in-Forever-clause-emits t c =
 
 pub repeated-returns-in_ok-end_loop-in-Forever-clause-same : goal.repeated-returns-in_ok-end_loop-in-Forever-clause-same
 repeated-returns-in_ok-end_loop-in-Forever-clause-same t c =
-    let v = c.args.visible.now in
-    let w = ways_of c.args.leaving in
-    let body = stmt_trees c.args.body.now in
-    let begun : Draft = record c.args.self.now { code = c.begin_loop.new.code } in
     let ended : Draft = record c.statements.new.self { code = c.end_loop.new.code } in c.in_ok-statements-in-Forever.ensures.same
 
 pub repeated-returns-in_ok-end-in-While-clause-emits : goal.repeated-returns-in_ok-end-in-While-clause-emits
@@ -328,20 +383,15 @@ repeated-returns-in_ok-end-in-While-clause-emits t c =
 
 pub repeated-returns-in_ok-end-in-While-clause-same : goal.repeated-returns-in_ok-end-in-While-clause-same
 repeated-returns-in_ok-end-in-While-clause-same t c =
-    let v = c.args.visible.now in
-    let w = ways_of c.args.leaving in
-    let body = stmt_trees c.args.body.now in
-    let begun : Draft = record c.args.self.now { code = c.begin_loop-in-While.new.code } in
-    let jumped : Draft = record c.args.self.now { code = c.test.new.self } in
-    let ended : Draft = record c.statements-in-While.new.self { code = c.end_loop-in-While.new.code } in
     let whole : Draft = record c.statements-in-While.new.self { code = c.patch.new.self } in c.in_ok-statements-in-While.ensures.same
 
 pub repeated-counted-requires : goal.repeated-counted-requires
 repeated-counted-requires t c =
     let s = c.args.visible.now.scope in
+    let w = ways_of c.args.leaving in
     let body = stmt_trees c.args.body.now in
-    let legal = subst (λ i. IsLegalStatement s (Loop c.args.place (iteration_tree i) body)) c.in-For.is c.requires.legal in
-    (search (rules, statements.the_lemmas), (c.requires.sound, (c.requires.entries, legal)))
+    let legal = subst (λ i. IsAcceptedStatement s w (Loop c.args.place (iteration_tree i) body)) c.in-For.is c.requires.legal in
+    (search (rules, statements.the_lemmas), (c.requires.sound, (c.requires.entries, (c.requires.covered, legal))))
 
 pub repeated-returns-in-For-clause-emits : goal.repeated-returns-in-For-clause-emits
 repeated-returns-in-For-clause-emits t c =
@@ -353,15 +403,13 @@ repeated-returns-in-For-clause-emits t c =
 
 pub repeated-returns-in-For-clause-same : goal.repeated-returns-in-For-clause-same
 repeated-returns-in-For-clause-same t c =
-    let v = c.args.visible.now in
-    let w = ways_of c.args.leaving in
     let body = stmt_trees c.args.body.now in c.counted.ensures.same
 
 -- ---- loops over ranges
 
 pub counted-begin_range-requires-clause-legal : goal.counted-begin_range-requires-clause-legal
 counted-begin_range-requires-clause-legal t c =
-    loop_range c.args.visible.now.scope c.args.place c.args.parameter.now c.args.reversed (range_tree c.args.range.now) (stmt_trees c.args.body.now)
+    loop_range c.args.visible.now.scope (ways_of c.args.leaving) c.args.place c.args.parameter.now c.args.reversed (range_tree c.args.range.now) (stmt_trees c.args.body.now)
     c.requires.legal
 
 pub counted-statements-requires : goal.counted-statements-requires
@@ -369,7 +417,7 @@ counted-statements-requires t c =
     let v = c.args.visible.now in
     let range = range_tree c.args.range.now in
     let begun : Draft = record c.args.self.now { code = c.begin_loop.new.code } in
-    let legal = loop_range v.scope c.args.place c.args.parameter.now c.args.reversed range (stmt_trees c.args.body.now) c.requires.legal in
+    let legal = loop_range v.scope (ways_of c.args.leaving) c.args.place c.args.parameter.now c.args.reversed range (stmt_trees c.args.body.now) c.requires.legal in
     let type_is = range_type v.scope c.args.parameter.now range legal c.requires.sound in
     let r = c.in_ok-turns.ensures.begins in (
       search (rules, statements.the_lemmas),
@@ -379,8 +427,13 @@ counted-statements-requires t c =
         (
           entries_inside c.shapes_stay.ensures v c.begin_range.new.visible begun c.begin_range.new.self c.args.parameter.now c.args.reversed range _ _
               c.requires.sound c.requires.entries legal type_is r,
-          subst (λ s. AreLegalStatements s (stmt_trees c.args.body.now)) (sym r.scope)
-              (loop_body v.scope c.args.place c.args.parameter.now c.args.reversed range (stmt_trees c.args.body.now) c.requires.legal),
+          (
+            c.in_ok-turns.ensures.covered,
+            subst (λ x. AreAcceptedStatements c.begin_range.new.visible.scope x (stmt_trees c.args.body.now)) (sym c.in_loop.ensures)
+                (subst (λ s. AreAcceptedStatements s (within_loop c.in_ok-head.head.exit (ways_of c.args.leaving)) (stmt_trees c.args.body.now)) (sym r.scope)
+                (loop_body v.scope (ways_of c.args.leaving) c.args.place c.args.parameter.now c.args.reversed range (stmt_trees c.args.body.now)
+                c.requires.legal c.in_ok-head.head.exit)),
+          ),
         ),
       ),
     )
@@ -393,7 +446,7 @@ counted-returns-clause-emits t c =
     let later = c.begin_range.new.visible in
     let begun : Draft = record c.args.self.now { code = c.begin_loop.new.code } in
     let opened = c.begin_range.new.self in
-    let legal = loop_range v.scope c.args.place c.args.parameter.now c.args.reversed range body c.requires.legal in
+    let legal = loop_range v.scope (ways_of c.args.leaving) c.args.place c.args.parameter.now c.args.reversed range body c.requires.legal in
     let statements = subst (λ x. EmitsStatements later x opened body c.statements.new.self) c.in_loop.ensures c.in_ok-statements.ensures.emits in
     let ends = subst (λ n. EndsLoop c.end_turn.new.code c.in_ok-head.head.exit n c.end_loop.new.code) c.in_ok-turn.ensures.end c.in_ok-end.ensures.ends in
     let words = c.restore.ensures.words ∙ ap (λ n. record c.statements.new.self.words { taken = n }) c.of-extent.ensures.taken in
@@ -410,7 +463,7 @@ counted-returns-clause-same t c =
     let v = c.args.visible.now in
     let range = range_tree c.args.range.now in
     let begun : Draft = record c.args.self.now { code = c.begin_loop.new.code } in
-    let legal = loop_range v.scope c.args.place c.args.parameter.now c.args.reversed range (stmt_trees c.args.body.now) c.requires.legal in
+    let legal = loop_range v.scope (ways_of c.args.leaving) c.args.place c.args.parameter.now c.args.reversed range (stmt_trees c.args.body.now) c.requires.legal in
     let type_is = range_type v.scope c.args.parameter.now range legal c.requires.sound in
     let r = c.in_ok-turns.ensures.begins in
     let there = c.in_ok-statements.ensures.same in
@@ -429,20 +482,29 @@ counted-returns-clause-same t c =
 
 pub block-declarations-requires-clause-legal : goal.block-declarations-requires-clause-legal
 block-declarations-requires-clause-legal t c =
-    block_declarations c.args.visible.now.scope c.args.place (map declaration_tree c.args.declarations.now)
+    block_declarations c.args.visible.now.scope (ways_of c.args.leaving) c.args.place (map declaration_tree c.args.declarations.now)
+    (stmt_trees c.args.body.now) NoHandlers c.requires.legal
+
+pub block-declarations-requires-clause-restricted : goal.block-declarations-requires-clause-restricted
+block-declarations-requires-clause-restricted t c =
+    block_restricted c.args.visible.now.scope (ways_of c.args.leaving) c.args.place (map declaration_tree c.args.declarations.now)
     (stmt_trees c.args.body.now) NoHandlers c.requires.legal
 
 pub block-statements-requires : goal.block-statements-requires
 block-statements-requires t c =
-    let declared = c.in_ok-declarations.ensures.emits in (
+    let declared = c.in_ok-declarations.ensures.emits in
+    let w = ways_of c.args.leaving in (
       search (rules, statements.the_lemmas),
       (
         declared.sound,
         (
           declared.entries,
-          subst (λ s. AreLegalStatements s (stmt_trees c.args.body.now)) (sym declared.scope)
-              (block_body c.args.visible.now.scope c.args.place (map declaration_tree c.args.declarations.now)
-              (stmt_trees c.args.body.now) NoHandlers c.requires.legal),
+          (
+            c.in_ok-declarations.ensures.covered,
+            subst (λ s. AreAcceptedStatements s w (stmt_trees c.args.body.now)) (sym declared.scope)
+                (block_body c.args.visible.now.scope w c.args.place (map declaration_tree c.args.declarations.now)
+                (stmt_trees c.args.body.now) NoHandlers c.requires.legal),
+          ),
         ),
       ),
     )
@@ -675,23 +737,8 @@ statement-returns-in-Raise-clause-stays = stays.statement-returns-in-Raise-claus
 pub statement-returns-in-Raise-clause-refused : goal.statement-returns-in-Raise-clause-refused
 statement-returns-in-Raise-clause-refused = refused.statement-returns-in-Raise-clause-refused
 
-pub statement-returns-in-Delay-clause-refused : goal.statement-returns-in-Delay-clause-refused
-statement-returns-in-Delay-clause-refused = refused.statement-returns-in-Delay-clause-refused
-
 pub statement-returns-in-DelayUntil-clause-refused : goal.statement-returns-in-DelayUntil-clause-refused
 statement-returns-in-DelayUntil-clause-refused = refused.statement-returns-in-DelayUntil-clause-refused
-
-pub statement-returns-in-Abort-clause-refused : goal.statement-returns-in-Abort-clause-refused
-statement-returns-in-Abort-clause-refused = refused.statement-returns-in-Abort-clause-refused
-
-pub statement-returns-in-Requeue-clause-refused : goal.statement-returns-in-Requeue-clause-refused
-statement-returns-in-Requeue-clause-refused = refused.statement-returns-in-Requeue-clause-refused
-
-pub statement-returns-in-Accept-clause-refused : goal.statement-returns-in-Accept-clause-refused
-statement-returns-in-Accept-clause-refused = refused.statement-returns-in-Accept-clause-refused
-
-pub statement-returns-in-Select-clause-refused : goal.statement-returns-in-Select-clause-refused
-statement-returns-in-Select-clause-refused = refused.statement-returns-in-Select-clause-refused
 
 -- ---- what stays within bounds
 
@@ -766,6 +813,12 @@ each_handler-returns-clause-many = covered.each_handler-returns-clause-many
 pub each_handler-returns-clause-same : goal.each_handler-returns-clause-same
 each_handler-returns-clause-same = covered.each_handler-returns-clause-same
 
+pub handler-add_choice_rows-requires : goal.handler-add_choice_rows-requires
+handler-add_choice_rows-requires = covered.handler-add_choice_rows-requires
+
+pub handler-statements-requires : goal.handler-statements-requires
+handler-statements-requires = covered.handler-statements-requires
+
 pub handler-returns-clause-adds : goal.handler-returns-clause-adds
 handler-returns-clause-adds = covered.handler-returns-clause-adds
 
@@ -780,6 +833,9 @@ handlers-returns-clause-stays = covered.handlers-returns-clause-stays
 
 pub statement-declarations-requires-clause-legal : goal.statement-declarations-requires-clause-legal
 statement-declarations-requires-clause-legal = covered.statement-declarations-requires-clause-legal
+
+pub statement-declarations-requires-clause-restricted : goal.statement-declarations-requires-clause-restricted
+statement-declarations-requires-clause-restricted = covered.statement-declarations-requires-clause-restricted
 
 pub statement-covered-requires : goal.statement-covered-requires
 statement-covered-requires = covered.statement-covered-requires

@@ -7,14 +7,16 @@ use Rattle.expr_code.specs.Refusing.{RefusesAddress, selectors_peak}
 use Rattle.stmt_code.proofs.LeavesStay.{part_stays}
 use Rattle.part_code.proofs.AssignmentsRefused.{address_refuses, store_refuses, value_refuses}
 use Rattle.stmt_code.proofs.Stored.{assigned_fit, assigned_variable}
-use Rattle.stmt_code.proofs.StoredParts.{assigned_part_emits, assigned_path, part_stands}
+use Rattle.stmt_code.proofs.AssignedNames.{assigned_known, assigned_path}
+use Rattle.stmt_code.proofs.StoredParts.{assigned_part_emits, part_stands}
 use Rattle.stmt_code.proofs.draft.Draft.assign_part.Goals as goal
 
 pub address-requires-clause-legal : goal.address-requires-clause-legal
 address-requires-clause-legal c =
     let s = c.args.visible.now.scope in
     subst (λ l. IsLegalPath s c.args.subtype (selector_trees l)) (sym c.deref.ensures.value)
-    (assigned_path s (name_tree c.args.name.now) (expr_tree c.args.value.now) c.requires.stands.0 c.args.subtype c.requires.stands.1 c.requires.legal)
+    (assigned_path c.args.visible.now c.requires.sound c.requires.covered (name_tree c.args.name.now) (expr_tree c.args.value.now) c.requires.legal
+    c.requires.stands.0 c.args.subtype c.requires.stands.1)
 
 pub of_subtype-requires-clause-fit : goal.of_subtype-requires-clause-fit
 of_subtype-requires-clause-fit c =
@@ -25,6 +27,16 @@ of_subtype-requires-clause-fit c =
     let ends = subst (λ l. EndsAt s c.args.subtype (selector_trees l) c.in_ok-last.last) c.deref.ensures.value c.in_ok-last.ensures.ends in
     assigned_fit s name e r c.in_ok-last.last
     (part_stands s name e r c.args.subtype c.requires.stands.1 c.in_ok-last.last ends) c.requires.legal
+
+pub of_subtype-requires-clause-known : goal.of_subtype-requires-clause-known
+of_subtype-requires-clause-known c =
+    let v = c.args.visible.now in
+    let name = name_tree c.args.name.now in
+    let e = expr_tree c.args.value.now in
+    let r = c.requires.stands.0 in
+    let ends = subst (λ l. EndsAt v.scope c.args.subtype (selector_trees l) c.in_ok-last.last) c.deref.ensures.value c.in_ok-last.ensures.ends in
+    assigned_known v c.requires.sound c.requires.covered name e c.requires.legal r c.in_ok-last.last
+    (part_stands v.scope name e r c.args.subtype c.requires.stands.1 c.in_ok-last.last ends)
 
 pub returns-clause-emits : goal.returns-clause-emits
 returns-clause-emits c =

@@ -3,6 +3,7 @@ use Rattle.std.proofs.lemmas.Result.{IfErr-weaker, on_ok_weaker}
 use Rattle.ada_tree.specs.ExpressionTree.{expr_tree, name_tree}
 use Rattle.expr_code.specs.Code.{Adds}
 use Rattle.expr_code.proofs.Fitting.{fitting_checked}
+use Rattle.stmt_code.proofs.AssignedNames.{assigned_known}
 use Rattle.stmt_code.proofs.LeavesStay.{word_stays}
 use Rattle.part_code.proofs.AssignmentsRefused.{store_refuses, value_refuses}
 use Rattle.stmt_code.proofs.Stored.{assigned_emits, assigned_fit, assigned_variable, whole_stands}
@@ -14,6 +15,13 @@ of_subtype-requires-clause-fit c =
     let name = name_tree c.args.name.now in
     assigned_fit s name (expr_tree c.args.value.now) c.requires.stands.0 c.args.subtype
     (whole_stands s name c.requires.stands.0 c.args.subtype c.requires.whole c.requires.stands.1) c.requires.legal
+
+pub of_subtype-requires-clause-known : goal.of_subtype-requires-clause-known
+of_subtype-requires-clause-known c =
+    let v = c.args.visible.now in
+    let name = name_tree c.args.name.now in
+    assigned_known v c.requires.sound c.requires.covered name (expr_tree c.args.value.now) c.requires.legal c.requires.stands.0 c.args.subtype
+    (whole_stands v.scope name c.requires.stands.0 c.args.subtype c.requires.whole c.requires.stands.1)
 
 pub returns-clause-emits : goal.returns-clause-emits
 returns-clause-emits c =

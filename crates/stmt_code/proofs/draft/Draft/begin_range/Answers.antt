@@ -1,5 +1,7 @@
-use Rattle.std.proofs.Common.{refl, rules, arith}
-use Rattle.stmt_code.proofs.PartsRefused.{first_refused, last_refused}
+use Rattle.std.proofs.Common.{refl, rules, arith, subst, sym}
+use Rattle.part_code.specs.Providing.{HasWhatCodeNeeds}
+use Rattle.stmt_code.proofs.CoveredScopes.{covered_loop}
+use Rattle.stmt_code.proofs.PartsRefused.{first_refused, last_refused, range_seen}
 use Rattle.stmt_code.proofs.PartsStay.{range_stays}
 use Rattle.ada_tree.specs.StatementTree.{range_tree}
 use Rattle.stmt_code.proofs.Bounded.{first_legal, integer_legal, integer_width, last_legal}
@@ -66,3 +68,11 @@ returns-clause-stays c =
     range_stays c.args.visible.now c.args.self.now c.args.parameter.now c.args.reversed (range_tree c.args.range.now) c.of_width.new.self c.of_width-2.new.self
     c.begin.new.code _ _ c.take.new.self c.in_ok-of_width.ensures.shallow c.in_ok-of_width-2.ensures.shallow c.in_ok-null.ensures.begins
     c.in_ok-counter.ensures.most
+
+pub returns-clause-covered : goal.returns-clause-covered
+returns-clause-covered c =
+    let v = c.args.visible.now in
+    let exceptions = c.args.self.now.exceptions.items in
+    subst (HasWhatCodeNeeds exceptions) (sym (range_seen _ _ _ _ _ _ _ _ _ (returns-clause-begins c)))
+    (covered_loop exceptions v c.requires.sound c.requires.entries c.requires.covered c.args.self.now.words.taken c.args.parameter.now
+    (range_tree c.args.range.now) c.requires.legal)

@@ -1,7 +1,7 @@
 use Rattle.std.proofs.Common.{◌+◌, ap, arith, map, refl, rules, sym, ◌∙◌}
 use Rattle.ada_tree.specs.StatementTree.{declaration_tree}
 use Rattle.declaring.specs.LocalRules.{local_faults}
-use Rattle.stmt_code.proofs.Declared.{all_declarations, declaration_legal, declarations_next, no_declarations}
+use Rattle.stmt_code.proofs.Declared.{all_declarations, declaration_allowed, declaration_legal, declarations_next, no_declarations}
 use Rattle.part_code.specs.Bounds.{local_words, locals_words}
 use Rattle.part_code.specs.Needs.{local_visible, locals_needs, locals_visible}
 use Rattle.part_code.proofs.Lists.{take_all}
@@ -16,6 +16,7 @@ loop-declaration-init c = (
   refl,
   omega arith,
   stays_self c.args.self.now (locals_needs c.args.visible.now c.args.self.now.words.taken (map declaration_tree c.args.all.now)),
+  c.requires.covered,
 )
 
 pub declaration-requires-clause-sound : goal.declaration-requires-clause-sound
@@ -28,6 +29,13 @@ pub declaration-requires-clause-legal : goal.declaration-requires-clause-legal
 declaration-requires-clause-legal c =
     ap (λ s. local_faults s (declaration_tree c.declaration-item.result)) c.loop-declaration.invariant.0.scope
     ∙ declaration_legal c.args.visible.now.scope c.args.all.now _ c.declaration-item.result c.loop-declaration-test.true c.declaration-item.is c.requires.legal
+
+pub declaration-requires-clause-restricted : goal.declaration-requires-clause-restricted
+declaration-requires-clause-restricted c =
+    declaration_allowed c.args.all.now _ c.declaration-item.result c.loop-declaration-test.true c.declaration-item.is c.requires.restricted
+
+pub declaration-requires-clause-covered : goal.declaration-requires-clause-covered
+declaration-requires-clause-covered c = c.loop-declaration.invariant.4
 
 pub loop-declaration-preserved : goal.loop-declaration-preserved
 loop-declaration-preserved c =
@@ -47,10 +55,14 @@ loop-declaration-preserved c =
       locals_stay v c.loop-declaration.visible c.args.self.now c.loop-declaration.self c.declaration.new.self c.args.all.now _ c.declaration-item.result
           c.loop-declaration-test.true c.declaration-item.is c.loop-declaration.invariant.1 c.loop-declaration.invariant.2 c.loop-declaration.invariant.3
           c.in_ok-declaration.ensures.stays,
+      c.in_ok-declaration.ensures.covered,
     )
 
 pub returns-clause-stays : goal.returns-clause-stays
 returns-clause-stays c = c.loop-declaration.invariant.3
+
+pub returns-clause-covered : goal.returns-clause-covered
+returns-clause-covered c = c.loop-declaration.invariant.4
 
 pub returns-clause-emits : goal.returns-clause-emits
 returns-clause-emits c = all_declarations c.args.visible.now c.loop-declaration.visible c.args.self.now c.loop-declaration.self c.args.all.now _ c.loop-declaration-test.false

@@ -1,10 +1,12 @@
-use Rattle.std.proofs.Common.{◌+◌, ◌≤◌, ap, refl, rules, subst, sym}
+use Rattle.std.proofs.Common.{◌≡◌, ◌+◌, ◌≤◌, ap, refl, rules, subst, sym, true}
 use Rattle.base.specs.declared.limits.TheConstants.{FRAME_WORDS}
 use Rattle.ada_tree.specs.ExpressionTree.{expr_tree}
 use Rattle.expr_code.specs.Code.{here}
 use Rattle.expr_code.specs.Emitting.{EmitsChecked}
 use Rattle.stmt_code.specs.Subprograms.{fresh}
+use Rattle.expr_code.specs.Providing.{is_passable}
 use Rattle.stmt_code.proofs.Called.{function_called}
+use Rattle.stmt_code.proofs.FormalNames.{result_passable}
 use Rattle.stmt_code.proofs.Keeping.{function_keeps}
 use Rattle.stmt_code.proofs.WholeBounds.{function_few}
 use Rattle.stmt_code.proofs.WholeRefused.{checked_refuses, function_formals_refuse, function_frame_refuses, return_refuses}
@@ -48,7 +50,7 @@ returns-clause-keeps c =
 
 pub returns-in_err-placed-clause-refused : goal.returns-in_err-placed-clause-refused
 returns-in_err-placed-clause-refused c =
-    let whole = function_formals_refuse c.args.visible.now c.args.formals.now c.args.subtype (expr_tree c.args.value.now) c.args.self.now
+    let whole = function_formals_refuse c.args.visible.now c.args.formals.now (expr_tree c.args.value.now) c.args.self.now
     c.in_err-placed.field-0.0 c.in_err-placed.ensures.refused in
     search (rules, whole)
 
@@ -56,13 +58,12 @@ pub returns-in_err-checked-clause-refused : goal.returns-in_err-checked-clause-r
 returns-in_err-checked-clause-refused c =
     let v = c.args.visible.now in
     let fs = c.args.formals.now in
-    let t = c.args.subtype in
     let e = expr_tree c.args.value.now in
     let later = c.formals.new.visible in
     let words = c.formals.new.self.words in
     let placed = c.in_ok-placed.placed in
     let places = c.in_ok-placed.ensures.places in
-    let whole = checked_refuses v fs t e c.args.self.now later words placed places (fresh c.formals.new.self.code) c.in_err-checked.field-0.0
+    let whole = checked_refuses v fs e c.args.self.now later words placed places (fresh c.formals.new.self.code) c.in_err-checked.field-0.0
     (ap here c.in_ok-placed.ensures.code) c.in_err-checked.ensures.refused in
     search (rules, whole)
 
@@ -79,7 +80,7 @@ returns-in_err-emit-clause-refused c =
     let emits : EmitsChecked later (fresh c.args.self.now.code) 0 t e c.checked.new.self =
     subst (λ z. EmitsChecked later (fresh z) 0 t e c.checked.new.self) c.in_ok-placed.ensures.code c.in_ok-checked.ensures.emits in
     let long = emits.sized in
-    let whole = return_refuses v fs t e c.args.self.now later words placed places c.checked.new.self c.in_err-emit.field-0.0 long
+    let whole = return_refuses v fs e c.args.self.now later words placed places c.checked.new.self c.in_err-emit.field-0.0 long
     c.in_err-emit.ensures.refused in
     search (rules, whole)
 
@@ -87,16 +88,20 @@ pub returns-in_err-words-clause-refused : goal.returns-in_err-words-clause-refus
 returns-in_err-words-clause-refused c =
     let v = c.args.visible.now in
     let fs = c.args.formals.now in
-    let t = c.args.subtype in
     let e = expr_tree c.args.value.now in
     let later = c.formals.new.visible in
     let words = c.formals.new.self.words in
     let placed = c.in_ok-placed.placed in
     let places = c.in_ok-placed.ensures.places in
-    let whole = function_frame_refuses v fs t e c.args.self.now later words placed places (fresh c.formals.new.self.code) c.checked.new.self c.emit.new.self
+    let whole = function_frame_refuses v fs e c.args.self.now later words placed places (fresh c.formals.new.self.code) c.checked.new.self c.emit.new.self
     words.most c.in_err-words.field-0.0 c.in_ok-placed.ensures.most refl c.in_ok-checked.ensures.shallow c.in_ok-emit.ensures.adds.shallow
     c.in_err-words.ensures.refused in
     search (rules, whole)
 
 pub returns-clause-labels : goal.returns-clause-labels
 returns-clause-labels c = c.in_ok-placed.ensures.labels
+
+pub checked-requires-clause-passable : goal.checked-requires-clause-passable
+checked-requires-clause-passable c =
+    subst (λ s. is_passable s c.args.subtype ≡ true) (sym c.in_ok-placed.ensures.places.scope)
+    (result_passable c.args.visible.now.scope c.args.formals.now c.args.subtype c.requires.head.named c.requires.scalar)

@@ -10,7 +10,7 @@ use Rattle.expr_code.specs.Actuals.{ArePassedLegally}
 use Rattle.expr_code.specs.Code.{IsShallow, here}
 use Rattle.expr_code.specs.Seeing.{external_profile}
 use Rattle.expr_code.proofs.Growing.{added_here}
-use Rattle.part_code.specs.Needs.{entry_needs, IsNeeding, passed_needs}
+use Rattle.part_code.specs.Needs.{behind_needs, IsNeeding, passed_needs}
 use Rattle.part_code.specs.Passing.{ExternalName}
 use Rattle.stmt_code.specs.Emitting.{AddsInvocation}
 use Rattle.stmt_code.specs.Refusing.{RefusesCall}
@@ -57,7 +57,7 @@ returns-in_err-emit-clause-refused c =
     let v = c.args.visible.now in
     let name = name_tree c.args.name.now in
     let x : ExternalName = record { operation = c.args.operation.now; arguments = argument_trees c.args.arguments.now } in
-    let whole = test_refused v c.args.self.now name (entry_needs v x (external_profile v.scope name.first.name c.args.operation.now.name))
+    let whole = test_refused v c.args.self.now name (behind_needs v x (external_profile v.scope name.first.name c.args.operation.now.name))
     c.in_err-emit.field-0.0 c.in_err-emit.ensures.refused in
     search (rules, whole)
 
@@ -71,7 +71,7 @@ returns-clause-refused c =
     let next = added_here c.args.self.now.code c.emit.new.self 0 op.CheckBlocking c.in_ok-emit.ensures.adds in
     IfErr-weaker _ _ _
     (λ why r.
-    subst (λ o. RefusesCall v c.args.self.now name (entry_needs v x o) why) c.in-Some.ensures
+    subst (λ o. RefusesCall v c.args.self.now name (behind_needs v x o) why) c.in-Some.ensures
     (entry_refused v c.args.self.now c.emit.new.self name c.args.operation.now all c.requires.behind profile.formals next why
     (subst (λ l. IsNeeding (here c.emit.new.self + (20 * total argument_size (map argument_tree all) + 1)) (passed_needs v l (Some (argument_trees all))) why)
     c.deref.ensures.value r)))
@@ -86,7 +86,7 @@ returns-clause-stays c =
     let x : ExternalName = record { operation = c.args.operation.now; arguments = argument_trees all } in
     on_ok_weaker _
     (λ r.
-    subst (λ o. StaysCall c.args.self.now name (entry_needs v x o) (coded c.args.self.now c.add_invocation.new.code)) c.in-Some.ensures
+    subst (λ o. StaysCall c.args.self.now name (behind_needs v x o) (coded c.args.self.now c.add_invocation.new.code)) c.in-Some.ensures
     (entry_stays v c.args.self.now c.emit.new.self name c.args.operation.now all c.requires.behind profile.formals c.add_invocation.new.code
     c.in_ok-emit.ensures.adds.shallow
     (subst (λ l. IsShallow c.emit.new.self c.add_invocation.new.code (passed_needs v l (Some (argument_trees all))).stack) c.deref.ensures.value r)))

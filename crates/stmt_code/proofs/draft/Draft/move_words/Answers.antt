@@ -10,14 +10,16 @@ use Rattle.stmt_code.proofs.Moved.{moved_emits}
 use Rattle.part_code.proofs.MovesRefused.{move_refuses, target_refuses, words_refuse}
 use Rattle.stmt_code.proofs.MovedStays.{moved_stays}
 use Rattle.stmt_code.proofs.Stored.{assigned_fit, assigned_variable}
-use Rattle.stmt_code.proofs.StoredParts.{assigned_path, part_stands}
+use Rattle.stmt_code.proofs.AssignedNames.{assigned_path}
+use Rattle.stmt_code.proofs.StoredParts.{part_stands}
 use Rattle.stmt_code.proofs.draft.Draft.move_words.Goals as goal
 
 pub address-requires-clause-legal : goal.address-requires-clause-legal
 address-requires-clause-legal c =
     let s = c.args.visible.now.scope in
     subst (λ l. IsLegalPath s c.args.subtype (selector_trees l)) (sym c.deref.ensures.value)
-    (assigned_path s (name_tree c.args.name.now) (expr_tree c.args.value.now) c.requires.stands.0 c.args.subtype c.requires.stands.1 c.requires.legal)
+    (assigned_path c.args.visible.now c.requires.sound c.requires.covered (name_tree c.args.name.now) (expr_tree c.args.value.now) c.requires.legal
+    c.requires.stands.0 c.args.subtype c.requires.stands.1)
 
 pub add_move-requires-clause-legal : goal.add_move-requires-clause-legal
 add_move-requires-clause-legal c =

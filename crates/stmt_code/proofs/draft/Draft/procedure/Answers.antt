@@ -1,10 +1,12 @@
+use Rattle.std.specs.List.{All}
 use Rattle.std.proofs.Common.{◌≡◌, ◌+◌, ◌≤◌, ◌∙◌, ap, arith, length, map, refl, rules, subst, sym}
 use Rattle.base.specs.declared.limits.TheConstants.{FRAME_WORDS}
 use Rattle.ada_tree.specs.ProgramTree.{body_tree}
 use Rattle.ada_tree.specs.StatementTree.{declaration_tree, handler_trees, stmt_trees}
 use Rattle.expr_code.specs.Code.{IsShallow, here}
 use Rattle.stmt_code.specs.Emitting.{EmitsRun}
-use Rattle.part_code.specs.Formals.{Initialises, Returns}
+use Rattle.expr_soundness.specs.SoundScopes.{IsKnown}
+use Rattle.part_code.specs.Formals.{HasValue, Initialises, Returns}
 use Rattle.part_code.specs.Needs.{RefusesOuts, RefusesReturned, all_given, outs_needs}
 use Rattle.stmt_code.specs.Refusing.{RefusesRun}
 use Rattle.part_code.specs.Rows.{body_rows}
@@ -14,7 +16,8 @@ use Rattle.stmt_code.specs.WholeRefusals.{body_labels}
 use Rattle.stmt_code.specs.declared.draft.Draft.{Draft}
 use Rattle.part_code.proofs.FormalWords.{formals_entries}
 use Rattle.stmt_code.proofs.Called.{procedure_called}
-use Rattle.stmt_code.proofs.Keeping.{procedure_keeps}
+use Rattle.stmt_code.proofs.FormalNames.{placed_behind, values_behind}
+use Rattle.stmt_code.proofs.Keeping.{procedure_keeps, wider}
 use Rattle.stmt_code.proofs.Running.{body_parts}
 use Rattle.stmt_code.proofs.WholeBounds.{procedure_few}
 use Rattle.stmt_code.proofs.WholeRefused.{formals_refuse, frame_refuses, outs_refuse, returned_refuses, run_refuses}
@@ -23,7 +26,7 @@ use Rattle.stmt_code.proofs.draft.Draft.procedure.Goals as goal
 pub run-requires-clause-entries : goal.run-requires-clause-entries
 run-requires-clause-entries c =
     formals_entries c.args.visible.now c.formals.new.visible c.args.formals.now c.formals.new.self.words c.in_ok-placed.placed c.in_ok-placed.ensures.places
-    c.requires.entries c.requires.new_names
+    c.requires.entries c.requires.head.new_names
 
 pub returns-clause-adds : goal.returns-clause-adds
 returns-clause-adds c =
@@ -91,7 +94,6 @@ returns-in_err-initialise_all-clause-refused c =
     let words = c.formals.new.self.words in
     let placed = c.in_ok-placed.placed in
     let places = c.in_ok-placed.ensures.places in
-    let begun : Draft = record c.formals.new.self { code = c.initialise_all.new.code; words = words } in
     let why = c.in_err-initialise_all.field-0.0 in
     let whole = outs_refuse v fs b c.args.self.now later words placed places (fresh c.formals.new.self.code) why (ap here c.in_ok-placed.ensures.code)
     (subst (λ l. RefusesOuts later (fresh c.formals.new.self.code) l why) c.deref.ensures.value c.in_err-initialise_all.ensures.refused) in
@@ -113,7 +115,7 @@ returns-in_err-run-clause-refused c =
     c.in_ok-initialise_all.ensures.adds) in
     let long = initialises.sized in
     let why = c.in_err-run.field-0.0 in
-    let whole = run_refuses v fs b c.args.self.now later words placed places begun why refl c.in_ok-placed.ensures.exceptions c.in_ok-placed.ensures.labels long
+    let whole = run_refuses v fs b c.args.self.now later words placed places begun why refl c.in_ok-placed.ensures.labels long
     (body_parts (λ ds body all. RefusesRun later begun ds body all why) _ _ _ _ _ _ c.deref-2.ensures.value c.deref-3.ensures.value c.deref-4.ensures.value
     c.in_err-run.ensures.refused) in
     search (rules, whole)
@@ -159,7 +161,7 @@ returns-in_err-words-clause-refused c =
     let back = subst (λ z. IsShallow c.run.new.self.code c.return_all.new.code (all_given z.scope placed.formals.items)) c.in_ok-run.ensures.same
     (subst (λ l. IsShallow c.run.new.self.code c.return_all.new.code (all_given c.run.new.visible.scope l)) c.deref-5.ensures.value
     c.in_ok-results.ensures.shallow) in
-    let whole = frame_refuses v fs b c.args.self.now later words placed places begun c.run.new.self c.return_all.new.code refl c.in_ok-placed.ensures.exceptions
+    let whole = frame_refuses v fs b c.args.self.now later words placed places begun c.run.new.self c.return_all.new.code refl
     c.in_ok-placed.ensures.most stays
     (fresh c.formals.new.self.code) refl outs back c.in_err-words.field-0.0 c.in_err-words.ensures.refused in
     search (rules, whole)
@@ -179,3 +181,25 @@ returns-clause-rows c =
     let stays = body_parts (λ ds body all. StaysRun later begun ds body all c.run.new.self) _ _ _ _ _ _ c.deref-2.ensures.value c.deref-3.ensures.value
     c.deref-4.ensures.value c.in_ok-run.ensures.stays in
     stays.rows ∙ ap (λ l. body_rows (length l.items) (body_tree c.args.body.now)) c.in_ok-placed.ensures.rows
+
+pub initialise_all-requires-clause-known : goal.initialise_all-requires-clause-known
+initialise_all-requires-clause-known c =
+    let v = c.args.visible.now in
+    let places = c.in_ok-placed.ensures.places in
+    let items = c.in_ok-placed.placed.formals.items in
+    subst (All (λ x. IsKnown c.formals.new.visible.scope x.subtype)) (sym c.deref.ensures.value)
+    (subst (λ s. All (λ x. IsKnown s x.subtype) items) (sym places.scope)
+    (placed_behind v.scope c.requires.front c.args.formals.now items 0 c.in_ok-placed.placed.passed c.in_ok-placed.placed.passed c.formals.new.self.words.taken
+    places.stand c.requires.head.named))
+
+pub initialise_all-requires-clause-some : goal.initialise_all-requires-clause-some
+initialise_all-requires-clause-some c =
+    let v = c.args.visible.now in
+    let later = c.formals.new.visible in
+    let places = c.in_ok-placed.ensures.places in
+    let items = c.in_ok-placed.placed.formals.items in
+    subst (All (HasValue later.scope)) (sym c.deref.ensures.value)
+    (values_behind v.scope later.scope c.requires.front
+    (wider c.shapes_stay.ensures c.names_are_added.ensures v later c.args.formals.now c.formals.new.self.words c.in_ok-placed.placed c.requires.front
+    c.requires.entries places)
+    c.args.formals.now items 0 c.in_ok-placed.placed.passed c.in_ok-placed.placed.passed c.formals.new.self.words.taken places.stand places.some)

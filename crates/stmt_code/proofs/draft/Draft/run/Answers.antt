@@ -1,9 +1,12 @@
-use Rattle.std.proofs.Common.{◌∙◌, ap, arith, length, map, refl, rules, subst, take}
+use Rattle.std.proofs.Common.{◌∙◌, ap, arith, length, map, None, refl, rules, Some, subst, sym, take}
 use Rattle.ada_tree.specs.StatementTree.{declaration_tree, handler_trees, stmt_trees}
 use Rattle.image.specs.declared.instruction.Operation.TheVariants as op
 use Rattle.expr_code.specs.Code.{Patches}
+use Rattle.part_code.specs.Statements.{Ways}
+use Rattle.stmt_code.specs.Emitting.{AreAcceptedHandlers, AreAcceptedStatements}
 use Rattle.stmt_code.specs.declared.draft.Draft.{Draft}
 use Rattle.part_code.specs.Bounds.{sequence_bound}
+use Rattle.stmt_code.proofs.Accepting.{run_allowed, run_handlers, run_statements}
 use Rattle.stmt_code.proofs.PartsRefused.{begun_here, run_body_refused, run_locals_refused, run_refused}
 use Rattle.stmt_code.proofs.PartsStay.{begun_shallow, run_stays}
 use Rattle.stmt_code.proofs.Running.{run_emits}
@@ -54,8 +57,8 @@ returns-in_err-sequence-clause-refused c =
     let begun : Draft = record c.declarations.new.self { code = c.begin_loop.new.code } in
     let whole = run_body_refused c.args.visible.now c.args.self.now c.in_err-sequence.field-0.0
     (map declaration_tree c.args.declarations.now) (stmt_trees c.args.statements.now)
-    (handler_trees c.args.all.now) c.declarations.new.visible c.in_ok-head.head.exit begun
-    c.in_ok-declarations.ensures.shown declared.scope c.in_ok-declarations.ensures.taken declared.exceptions c.in_ok-declarations.ensures.stays.labels
+    (handler_trees c.args.all.now) c.declarations.new.visible begun
+    c.in_ok-declarations.ensures.shown declared.scope c.in_ok-declarations.ensures.taken c.in_ok-declarations.ensures.stays.labels
     (omega (arith, one, two)) c.in_err-sequence.ensures.refused in
     search (rules, whole)
 
@@ -73,14 +76,34 @@ returns-in_err-end-clause-refused c =
 
 pub returns-clause-stays : goal.returns-clause-stays
 returns-clause-stays c =
-    let begun : Draft = record c.declarations.new.self { code = c.begin_loop.new.code } in
     let patches : Patches c.sequence.new.self.code c.in_ok-head.head.exit (op.Jump c.in_ok-end.end) c.patch.new.self =
     subst (λ n. Patches c.sequence.new.self.code n (op.Jump c.in_ok-end.end) c.patch.new.self) c.from.ensures c.patch.ensures.patches in
     stays_words c.args.self.now _ _ (record c.sequence.new.self { code = c.patch.new.self }) _
     (c.restore.ensures.words ∙ ap (λ n. record c.sequence.new.self.words { taken = n }) c.of-extent.ensures.taken)
     (run_stays c.args.visible.now c.args.self.now (map declaration_tree c.args.declarations.now) (stmt_trees c.args.statements.now)
     (handler_trees c.args.all.now) c.declarations.new.visible
-    c.in_ok-head.head.exit c.declarations.new.self c.begin_loop.new.code c.sequence.new.self c.patch.new.self c.in_ok-declarations.ensures.shown
-    c.in_ok-declarations.ensures.taken c.in_ok-declarations.ensures.emits.exceptions c.in_ok-declarations.ensures.stays
+    c.declarations.new.self c.begin_loop.new.code c.sequence.new.self c.patch.new.self c.in_ok-declarations.ensures.shown
+    c.in_ok-declarations.ensures.taken c.in_ok-declarations.ensures.stays
     (begun_shallow _ _ c.in_ok-head.ensures.begins)
     c.in_ok-sequence.ensures.stays patches.deepest)
+
+pub declarations-requires-clause-restricted : goal.declarations-requires-clause-restricted
+declarations-requires-clause-restricted c =
+    run_allowed c.args.visible.now.scope (map declaration_tree c.args.declarations.now) (stmt_trees c.args.statements.now) (handler_trees c.args.all.now)
+    c.requires.legal
+
+pub sequence-requires-clause-legal : goal.sequence-requires-clause-legal
+sequence-requires-clause-legal c =
+    let body = stmt_trees c.args.statements.now in
+    let w : Ways = record { exit = None; return = Some c.in_ok-head.head.exit; handled = None } in
+    subst (λ s. AreAcceptedStatements s w body) (sym c.in_ok-declarations.ensures.emits.scope)
+    (run_statements c.args.visible.now.scope (map declaration_tree c.args.declarations.now) body (handler_trees c.args.all.now) c.requires.legal
+    c.in_ok-head.head.exit)
+
+pub sequence-requires-clause-handled : goal.sequence-requires-clause-handled
+sequence-requires-clause-handled c =
+    let all = handler_trees c.args.all.now in
+    let w : Ways = record { exit = None; return = Some c.in_ok-head.head.exit; handled = None } in
+    subst (λ s. AreAcceptedHandlers s w all) (sym c.in_ok-declarations.ensures.emits.scope)
+    (run_handlers c.args.visible.now.scope (map declaration_tree c.args.declarations.now) (stmt_trees c.args.statements.now) all c.requires.legal
+    c.in_ok-head.head.exit)

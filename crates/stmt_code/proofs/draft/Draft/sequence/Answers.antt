@@ -24,12 +24,12 @@ pub returns-then-is_empty-clause-refused : goal.returns-then-is_empty-clause-ref
 returns-then-is_empty-clause-refused c =
     IfErr-weaker _ _ _
     (λ why r.
-    sequence_alone c.args.visible.now (ways_of c.args.leaving) c.args.self.now why (stmt_trees c.args.body.now) (handler_trees c.args.all.now) r)
+    sequence_alone c.args.visible.now c.args.self.now why (stmt_trees c.args.body.now) (handler_trees c.args.all.now) r)
     c.statements.ensures.refused
 
 pub returns-in_err-cover-clause-refused : goal.returns-in_err-cover-clause-refused
 returns-in_err-cover-clause-refused c =
-    let whole = sequence_covered c.args.visible.now (ways_of c.args.leaving) c.args.self.now c.in_err-cover.field-0.0 (stmt_trees c.args.body.now)
+    let whole = sequence_covered c.args.visible.now c.args.self.now c.in_err-cover.field-0.0 (stmt_trees c.args.body.now)
     (handler_trees c.args.all.now) c.in_err-cover.ensures.refused in
     search (rules, whole)
 
@@ -54,8 +54,8 @@ returns-clause-refused c =
     let covers = c.in_ok-cover.ensures.covers in
     IfErr-weaker _ _ _
     (λ why r.
-    sequence_handled v w c.args.self.now why c.covered.new.self body (handler_trees c.args.all.now)
+    sequence_handled v c.args.self.now why c.covered.new.self body (handler_trees c.args.all.now)
     (cover_like v w c.args.self.now c.covered.new.self c.in_ok-cover.cover body covers) c.in_ok-cover.ensures.stays.labels
     (cover_here v w c.args.self.now c.covered.new.self c.in_ok-cover.cover body covers)
-    (subst (λ x. RefusesHandlers x w c.covered.new.self (handler_trees c.args.all.now) why) c.in_ok-cover.ensures.same r))
+    (subst (λ x. RefusesHandlers x c.covered.new.self (handler_trees c.args.all.now) why) c.in_ok-cover.ensures.same r))
     c.handlers.ensures.refused

@@ -1,5 +1,5 @@
 -- Calls: actual parameters, functions of the program, and those of the language.
-use Rattle.std.proofs.Common.{arith, length, ltb-true, map, rules, subst, sym, ap, take, ◌∙◌}
+use Rattle.std.proofs.Common.{◌≡◌, true, ◌||◌, arith, length, ltb-true, map, rules, subst, sym, ap, take, ◌∙◌, ◌<◌, ◌≤◌}
 use Rattle.std.proofs.lemmas.Result.{IfErr-weaker, on_ok_weaker}
 use Rattle.ada_tree.specs.declared.expression.Expr as expressions
 use Rattle.ada_tree.specs.ExpressionTree.{argument_tree, argument_trees, Arguments, expr_tree, MoreArguments, MoreSelectors, Named, NoArguments, NoSelectors, Value}
@@ -8,10 +8,13 @@ use Rattle.types.specs.Scopes.{integer}
 use Rattle.expr_soundness.specs.Agreeing.{parameter_subtype}
 use Rattle.expr_soundness.specs.SoundScopes.{AreIn}
 use Rattle.expr_code.specs.Actuals.{ArePassedLegally, EmitsActuals}
-use Rattle.expr_code.specs.Emitting.{IsLegalExpression}
+use Rattle.expr_code.specs.Emitting.{has_numbers, IsLegalExpression}
+use Rattle.expr_code.specs.Providing.{are_passable}
+use Rattle.expr_soundness.specs.expr_rules.specs.Typing.{is_booleans}
 use Rattle.expr_code.proofs.Actuals.{actuals_next, all_actuals, all_legal, as_many, call_emits, got, mapped, sizes_are}
 use Rattle.expr_code.proofs.CallsRefused.{actual_refused, call_ins, call_refused, counted_high, word_passed}
 use Rattle.expr_code.proofs.Checking.{fit_legal}
+use Rattle.expr_code.proofs.CoveredNames.{named_called, passable_at}
 use Rattle.expr_code.proofs.Going.{one_argument}
 use Rattle.expr_code.proofs.Growing.{added_kept, then_kept}
 use Rattle.expr_code.proofs.Language.{clock_with_emits, counts_one, microseconds_emits, milliseconds_emits, one_fit, read_emits, with_width}
@@ -19,6 +22,7 @@ use Rattle.expr_code.proofs.LegalNames.{in_at}
 use Rattle.expr_code.proofs.Shallow.{passed_shallow}
 use Rattle.expr_code.proofs.Widths.{call_width, integers_fit_width}
 use Rattle.expr_code.proofs.code.Code.+expression.Goals as goal
+use Rattle.expr_code.proofs.code.Code.+expression.Goals.{of_one-in_default-via-then-arguments-lt1, of_one-in_default-via-else-arguments-lt1+else-arguments-lt2}
 
 pub call-actuals-requires : goal.call-actuals-requires
 call-actuals-requires t c = (
@@ -26,16 +30,29 @@ call-actuals-requires t c = (
   (
     c.requires.sound,
     (
-      as_many c.args.visible.now c.args.first.now _ c.requires.names c.args.arguments.now c.requires.legal ∙ ap length (sym c.deref.ensures.value),
+      c.requires.covered,
       (
-        subst AreIn (sym c.deref.ensures.value)
-            (call_ins c.args.visible.now c.args.first.now _ c.requires.names (argument_trees c.args.arguments.now) c.requires.sound c.requires.legal),
-        subst (λ l. ArePassedLegally c.args.visible.now.scope l (map argument_tree c.args.arguments.now)) (sym c.deref.ensures.value)
-            (all_legal c.args.visible.now c.args.first.now _ c.requires.names c.args.arguments.now c.requires.legal),
+        as_many c.args.visible.now c.args.first.now _ c.requires.names c.args.arguments.now c.requires.legal ∙ ap length (sym c.deref.ensures.value),
+        (
+          subst AreIn (sym c.deref.ensures.value)
+              (call_ins c.args.visible.now c.args.first.now _ c.requires.names (argument_trees c.args.arguments.now) c.requires.sound c.requires.legal),
+          (
+            subst (λ l. are_passable c.args.visible.now.scope l ≡ true) (sym c.deref.ensures.value)
+                (named_called c.args.visible.now c.requires.sound c.requires.covered c.args.first.now _ _ c.requires.names c.requires.legal).passable,
+            subst (λ l. ArePassedLegally c.args.visible.now.scope l (map argument_tree c.args.arguments.now)) (sym c.deref.ensures.value)
+                (all_legal c.args.visible.now c.args.first.now _ c.requires.names c.args.arguments.now c.requires.legal),
+          ),
+        ),
       ),
     ),
   ),
 )
+
+pub call-invoke-requires : goal.call-invoke-requires
+call-invoke-requires t c =
+    record {
+      called = (named_called c.args.visible.now c.requires.sound c.requires.covered c.args.first.now _ _ c.requires.names c.requires.legal).called;
+    }
 
 pub call-returns-clause-width : goal.call-returns-clause-width
 call-returns-clause-width t c =
@@ -50,7 +67,7 @@ call-returns-clause-refused t c =
     let counts = sizes_are c.args.arguments.now in
     let high = counted_high v c.args.arguments.now in
     let told = c.in_ok-height.ensures.high in
-    IfErr-weaker _ _ _ (λ why p. call_refused v c.args.first.now _ c.requires.names c.args.self.now c.args.depth why (argument_trees c.args.arguments.now) _ _
+    IfErr-weaker _ _ _ (λ why p. call_refused v c.args.first.now c.args.self.now c.args.depth why (argument_trees c.args.arguments.now) _ _
     (omega (arith, before, counts)) (omega (arith, high, told)) p) c.invoke.ensures.refused
 
 pub call-returns-clause-emits : goal.call-returns-clause-emits
@@ -70,18 +87,16 @@ actuals-returns-clause-emits t c =
 pub actuals-returns-in_err-actual-clause-refused : goal.actuals-returns-in_err-actual-clause-refused
 actuals-returns-in_err-actual-clause-refused t c =
     let v = c.args.visible.now in
-    let formal = got c.args.formals.now c.loop-index.index c.in-Some.formal.now
-    (ltb-true c.loop-index.index (length c.args.formals.now) (sym c.in-Some.ensures.lookup.0)) c.in-Some.ensures.lookup.1 in
     let argument = got c.args.arguments.now c.loop-index.index _ c.loop-index-test.true c.index-arguments-index.is in
     let before = c.loop-index.invariant.0.sized in
-    let whole = actual_refused v c.args.self.now c.loop-index.self c.args.depth c.loop-index.height c.args.formals.now c.args.arguments.now c.loop-index.index _
-    c.in_err-actual.field-0.0 argument c.loop-index.invariant.1 c.in-Some.formal.now formal before c.in_err-actual.ensures.refused in
+    let whole = actual_refused v c.args.self.now c.loop-index.self c.args.depth c.loop-index.height c.args.arguments.now c.loop-index.index _
+    c.in_err-actual.field-0.0 argument c.loop-index.invariant.1 before c.in_err-actual.ensures.refused in
     search (rules, whole)
 
 pub actuals-returns-in_err-height-clause-refused : goal.actuals-returns-in_err-height-clause-refused
 actuals-returns-in_err-height-clause-refused t c =
     let argument = got c.args.arguments.now c.loop-index.index _ c.loop-index-test.true c.index-arguments-index.is in
-    let whole = word_passed c.args.visible.now c.args.self.now c.loop-index.self c.args.depth c.loop-index.height c.args.formals.now c.args.arguments.now
+    let whole = word_passed c.args.visible.now c.args.self.now c.loop-index.self c.args.depth c.loop-index.height c.args.arguments.now
     c.loop-index.index _ c.in_err-height.field-0.0 argument c.loop-index.invariant.1 _ _ (omega arith) (omega arith) c.in_err-height.ensures.refused in
     search (rules, whole)
 
@@ -93,10 +108,15 @@ actuals-actual-requires t c =
       (
         c.requires.sound,
         (
-          in_at c.args.formals.now c.loop-index.index c.in-Some.formal.now formal c.requires.ins,
-          c.requires.legal c.loop-index.index c.in-Some.formal.now _ formal
-              (mapped argument_tree c.args.arguments.now c.loop-index.index _
-              (got c.args.arguments.now c.loop-index.index _ c.loop-index-test.true c.index-arguments-index.is)),
+          c.requires.covered,
+          (
+            in_at c.args.formals.now c.loop-index.index c.in-Some.formal.now formal c.requires.ins,
+            (
+              passable_at c.args.visible.now.scope c.args.formals.now c.loop-index.index c.in-Some.formal.now formal c.requires.passable,
+              c.requires.legal c.loop-index.index c.in-Some.formal.now _ formal
+                  (mapped argument_tree c.args.arguments.now c.loop-index.index _ (got c.args.arguments.now c.loop-index.index _ c.loop-index-test.true c.index-arguments-index.is)),
+            ),
+          ),
         ),
       ),
     )
@@ -124,7 +144,13 @@ milliseconds-checked-requires t c = (
   search (rules, expressions.the_lemmas),
   (
     c.requires.sound,
-    one_fit c.args.visible.now.scope c.requires.sound c.args.first.now Milliseconds c.requires.names (expr_tree c.args.e.now) (λ is. cc) c.requires.legal,
+    (
+      c.requires.covered,
+      (
+        ap (λ o. has_numbers o || is_booleans o) c.requires.sound.integer,
+        one_fit c.args.visible.now.scope c.requires.sound c.args.first.now Milliseconds c.requires.names (expr_tree c.args.e.now) (λ is. cc) c.requires.legal,
+      ),
+    ),
   ),
 )
 
@@ -153,8 +179,14 @@ of_number-checked-requires t c = (
   search (rules, expressions.the_lemmas),
   (
     c.requires.sound,
-    one_fit c.args.visible.now.scope c.requires.sound c.args.first.now c.args.operation c.requires.names (expr_tree c.args.e.now) c.requires.takes
-        c.requires.legal,
+    (
+      c.requires.covered,
+      (
+        ap (λ o. has_numbers o || is_booleans o) c.requires.sound.integer,
+        one_fit c.args.visible.now.scope c.requires.sound c.args.first.now c.args.operation c.requires.names (expr_tree c.args.e.now) c.requires.takes
+            c.requires.legal,
+      ),
+    ),
   ),
 )
 
@@ -186,28 +218,27 @@ of_one-of_number-requires t c =
       (
         c.requires.sound,
         (
-          c.requires.names,
+          c.requires.covered,
           (
-            c.requires.takes,
-            subst (λ all. IsLegalExpression c.args.visible.now.scope (Named c.args.first.now (MoreSelectors (Arguments all) NoSelectors))) one c.requires.legal,
+            c.requires.names,
+            (
+              c.requires.takes,
+              subst (λ all. IsLegalExpression c.args.visible.now.scope (Named c.args.first.now (MoreSelectors (Arguments all) NoSelectors))) one
+                  c.requires.legal,
+            ),
           ),
         ),
       ),
     )
 
-pub of_one-returns-in_default-clause-refused : goal.of_one-returns-in_default-clause-refused
-of_one-returns-in_default-clause-refused t c =
+pub of_one-unreachable-requires : goal.of_one-unreachable-requires
+of_one-unreachable-requires t c =
     let one = counts_one c.args.visible.now.scope c.requires.sound c.args.first.now c.args.operation c.requires.names c.args.arguments.now c.requires.takes
     c.requires.legal in
-    let few = c.in_default.len_below in
-    absurd (omega (arith, one, few))
-
-pub of_one-returns-in_default-2-clause-refused : goal.of_one-returns-in_default-2-clause-refused
-of_one-returns-in_default-2-clause-refused t c =
-    let one = counts_one c.args.visible.now.scope c.requires.sound c.args.first.now c.args.operation c.requires.names c.args.arguments.now c.requires.takes
-    c.requires.legal in
-    let many = c.in_default.len_at_least in
-    absurd (omega (arith, one, many))
+    elim c.in_default.branch [
+      | of_one-in_default-via-then-arguments-lt1 w ↦ let few : length c.args.arguments.now < 1 = search rules in omega (arith, one, few)
+      | of_one-in_default-via-else-arguments-lt1+else-arguments-lt2 w ↦ let many : 2 ≤ length c.args.arguments.now = search rules in omega (arith, one, many)
+    ]
 
 pub predefined-returns-in-Clock-clause-width : goal.predefined-returns-in-Clock-clause-width
 predefined-returns-in-Clock-clause-width t c =
@@ -227,8 +258,11 @@ read-of_width-requires t c =
       (
         c.requires.sound,
         (
-          fit_legal s integer (expr_tree c.args.e.now) fit,
-          integers_fit_width s c.requires.sound integer (expr_tree c.args.e.now) fit c.requires.sound.integer,
+          c.requires.covered,
+          (
+            fit_legal s integer (expr_tree c.args.e.now) fit,
+            integers_fit_width s c.requires.sound integer (expr_tree c.args.e.now) fit c.requires.sound.integer,
+          ),
         ),
       ),
     )

@@ -22,9 +22,12 @@ expression-of_width-requires-in-Chain t c =
       (
         c.requires.sound,
         (
-          subst (λ e. IsLegalExpression c.args.visible.now.scope (expr_tree e)) (sym c.deref-in-Chain.ensures)
-              (first_legal c.args.visible.now _ _ c.in-Chain.second.value c.in-Chain.more.items tree c.requires.legal),
-          subst (λ e. width_of c.args.visible.now.scope (expr_tree e) ≡ 1) (sym c.deref-in-Chain.ensures) words.first,
+          c.requires.covered,
+          (
+            subst (λ e. IsLegalExpression c.args.visible.now.scope (expr_tree e)) (sym c.deref-in-Chain.ensures)
+                (first_legal c.args.visible.now _ _ c.in-Chain.second.value c.in-Chain.more.items tree c.requires.legal),
+            subst (λ e. width_of c.args.visible.now.scope (expr_tree e) ≡ 1) (sym c.deref-in-Chain.ensures) words.first,
+          ),
         ),
       ),
     )
@@ -37,9 +40,12 @@ expression-operand-requires t c =
       (
         c.requires.sound,
         (
-          subst (λ o. IsLegalExpression c.args.visible.now.scope (expr_tree o.value)) (sym c.deref-in-Chain-2.ensures)
-              (second_legal c.args.visible.now _ _ c.in-Chain.second.value c.in-Chain.more.items tree c.requires.legal),
-          subst (λ o. width_of c.args.visible.now.scope (expr_tree o.value) ≡ 1) (sym c.deref-in-Chain-2.ensures) words.others.0,
+          c.requires.covered,
+          (
+            subst (λ o. IsLegalExpression c.args.visible.now.scope (expr_tree o.value)) (sym c.deref-in-Chain-2.ensures)
+                (second_legal c.args.visible.now _ _ c.in-Chain.second.value c.in-Chain.more.items tree c.requires.legal),
+            subst (λ o. width_of c.args.visible.now.scope (expr_tree o.value) ≡ 1) (sym c.deref-in-Chain-2.ensures) words.others.0,
+          ),
         ),
       ),
     )
@@ -52,9 +58,12 @@ expression-operands-requires t c =
       (
         c.requires.sound,
         (
-          subst (λ all. AreLegalOperands c.args.visible.now.scope all) (sym c.deref-in-Chain-3.ensures.value)
-              (more_legal c.args.visible.now _ _ c.in-Chain.second.value c.in-Chain.more.items tree c.requires.legal),
-          subst (λ all. AreSingle c.args.visible.now.scope all) (sym c.deref-in-Chain-3.ensures.value) words.others.1,
+          c.requires.covered,
+          (
+            subst (λ all. AreLegalOperands c.args.visible.now.scope all) (sym c.deref-in-Chain-3.ensures.value)
+                (more_legal c.args.visible.now _ _ c.in-Chain.second.value c.in-Chain.more.items tree c.requires.legal),
+            subst (λ all. AreSingle c.args.visible.now.scope all) (sym c.deref-in-Chain-3.ensures.value) words.others.1,
+          ),
         ),
       ),
     )
@@ -73,8 +82,11 @@ operands-operand-requires t c = (
   (
     c.requires.sound,
     (
-      legal_at c.args.visible.now.scope c.args.all.now _ _ c.loop-operand-test.true c.operand-item.is c.requires.legal,
-      single_at c.args.visible.now.scope c.args.all.now _ _ c.loop-operand-test.true c.operand-item.is c.requires.single,
+      c.requires.covered,
+      (
+        legal_at c.args.visible.now.scope c.args.all.now _ _ c.loop-operand-test.true c.operand-item.is c.requires.legal,
+        single_at c.args.visible.now.scope c.args.all.now _ _ c.loop-operand-test.true c.operand-item.is c.requires.single,
+      ),
     ),
   ),
 )
@@ -97,8 +109,11 @@ expression-of_width-requires t c =
       (
         c.requires.sound,
         (
-          subst (λ e. IsLegalExpression s (expr_tree e)) (sym c.deref-in-Unary.ensures) (legal_operand s _ _ _ legal),
-          subst (λ e. width_of s (expr_tree e) ≡ 1) (sym c.deref-in-Unary.ensures) (unary_width s c.requires.sound _ _ _ legal).left,
+          c.requires.covered,
+          (
+            subst (λ e. IsLegalExpression s (expr_tree e)) (sym c.deref-in-Unary.ensures) (legal_operand s _ _ _ legal),
+            subst (λ e. width_of s (expr_tree e) ≡ 1) (sym c.deref-in-Unary.ensures) (unary_width s c.requires.sound _ _ _ legal).left,
+          ),
         ),
       ),
     )
@@ -114,9 +129,11 @@ expression-of_width-requires-in-Conditional t c =
       (
         c.requires.sound,
         (
-          subst (λ e. IsLegalExpression s (expr_tree e)) (sym c.deref-in-Conditional.ensures) parts.condition,
-          subst (λ e. width_of s (expr_tree e) ≡ 1)
-              (sym c.deref-in-Conditional.ensures) words.condition,
+          c.requires.covered,
+          (
+            subst (λ e. IsLegalExpression s (expr_tree e)) (sym c.deref-in-Conditional.ensures) parts.condition,
+            subst (λ e. width_of s (expr_tree e) ≡ 1) (sym c.deref-in-Conditional.ensures) words.condition,
+          ),
         ),
       ),
     )
@@ -126,8 +143,10 @@ expression-expression-requires-in-Conditional t c =
     let s = c.args.visible.now.scope in
     let tree = ap expr_tree c.in-Conditional.is ∙ c.conditional_by_parts.ensures c.in-Conditional.field-0 c.in-Conditional.condition c.in-Conditional.value
     c.in-Conditional.elsifs c.in-Conditional.last in
-    let parts = conditional_legal s _ c.in-Conditional.field-0 _ _ c.in-Conditional.elsifs.items _ tree c.requires.legal in
-    (search (rules, expressions.the_lemmas), (c.requires.sound, subst (λ e. IsLegalExpression s (expr_tree e)) (sym c.deref-in-Conditional-2.ensures) parts.value))
+    let parts = conditional_legal s _ c.in-Conditional.field-0 _ _ c.in-Conditional.elsifs.items _ tree c.requires.legal in (
+      search (rules, expressions.the_lemmas),
+      (c.requires.sound, (c.requires.covered, subst (λ e. IsLegalExpression s (expr_tree e)) (sym c.deref-in-Conditional-2.ensures) parts.value)),
+    )
 
 pub expression-elsifs-requires : goal.expression-elsifs-requires
 expression-elsifs-requires t c =
@@ -141,9 +160,12 @@ expression-elsifs-requires t c =
       (
         c.requires.sound,
         (
-          subst (λ all. AreLegalBranches s (map branch_of all)) (sym c.deref-in-Conditional-3.ensures.value) parts.elsifs,
-          subst (λ all. AreWide s c.in_ok-width-in-Conditional.width (map branch_of all)) (sym c.deref-in-Conditional-3.ensures.value)
-              (subst (λ n. AreWide s n (map branch_of c.in-Conditional.elsifs.items)) (sym told) words.elsifs),
+          c.requires.covered,
+          (
+            subst (λ all. AreLegalBranches s (map branch_of all)) (sym c.deref-in-Conditional-3.ensures.value) parts.elsifs,
+            subst (λ all. AreWide s c.in_ok-width-in-Conditional.width (map branch_of all)) (sym c.deref-in-Conditional-3.ensures.value)
+                (subst (λ n. AreWide s n (map branch_of c.in-Conditional.elsifs.items)) (sym told) words.elsifs),
+          ),
         ),
       ),
     )
@@ -160,8 +182,11 @@ expression-of_width-requires-in-Conditional-2 t c =
       (
         c.requires.sound,
         (
-          subst (λ e. IsLegalExpression s (expr_tree e)) (sym c.deref-in-Conditional-4.ensures) parts.last,
-          subst (λ e. width_of s (expr_tree e) ≡ c.in_ok-width-in-Conditional.width) (sym c.deref-in-Conditional-4.ensures) (words.last ∙ sym told),
+          c.requires.covered,
+          (
+            subst (λ e. IsLegalExpression s (expr_tree e)) (sym c.deref-in-Conditional-4.ensures) parts.last,
+            subst (λ e. width_of s (expr_tree e) ≡ c.in_ok-width-in-Conditional.width) (sym c.deref-in-Conditional-4.ensures) (words.last ∙ sym told),
+          ),
         ),
       ),
     )
@@ -204,8 +229,11 @@ elsifs-of_width-requires t c = (
   (
     c.requires.sound,
     (
-      (legal_branch c.args.visible.now.scope c.args.elsifs.now _ _ c.loop-elsif-test.true c.elsif-item.is c.requires.legal).0,
-      (wide_at c.args.visible.now.scope c.args.width c.args.elsifs.now _ _ c.loop-elsif-test.true c.elsif-item.is c.requires.wide).0,
+      c.requires.covered,
+      (
+        (legal_branch c.args.visible.now.scope c.args.elsifs.now _ _ c.loop-elsif-test.true c.elsif-item.is c.requires.legal).0,
+        (wide_at c.args.visible.now.scope c.args.width c.args.elsifs.now _ _ c.loop-elsif-test.true c.elsif-item.is c.requires.wide).0,
+      ),
     ),
   ),
 )
@@ -216,8 +244,11 @@ elsifs-of_width-requires-in-loop-elsif t c = (
   (
     c.requires.sound,
     (
-      (legal_branch c.args.visible.now.scope c.args.elsifs.now _ _ c.loop-elsif-test.true c.elsif-item.is c.requires.legal).1,
-      (wide_at c.args.visible.now.scope c.args.width c.args.elsifs.now _ _ c.loop-elsif-test.true c.elsif-item.is c.requires.wide).1,
+      c.requires.covered,
+      (
+        (legal_branch c.args.visible.now.scope c.args.elsifs.now _ _ c.loop-elsif-test.true c.elsif-item.is c.requires.legal).1,
+        (wide_at c.args.visible.now.scope c.args.width c.args.elsifs.now _ _ c.loop-elsif-test.true c.elsif-item.is c.requires.wide).1,
+      ),
     ),
   ),
 )

@@ -252,10 +252,6 @@ pub call-returns-clause-kept : goal.call-returns-clause-kept
 call-returns-clause-kept t c =
     IfErr-weaker _ _ _ (λ why p. then_kept c.in_ok-height.ensures.emits.extends p) c.invoke.ensures.kept
 
-pub actuals-returns-in_default-clause-kept : goal.actuals-returns-in_default-clause-kept
-actuals-returns-in_default-clause-kept t c =
-    c.loop-index.invariant.0.extends
-
 pub actuals-returns-in_err-actual-clause-kept : goal.actuals-returns-in_err-actual-clause-kept
 actuals-returns-in_err-actual-clause-kept t c =
     let whole = then_kept c.loop-index.invariant.0.extends c.in_err-actual.ensures.kept in

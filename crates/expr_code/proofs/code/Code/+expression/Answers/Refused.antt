@@ -1,24 +1,32 @@
 -- What refuses the code of expressions, answered for the methods that add it.
-use Rattle.std.proofs.Common.{inr, ◌≡◌, ◌+◌, ◌*◌, None, arith, map, rules, refl, sym, ap, ◌∙◌, ◌≤◌, ◌∷◌, [], subst}
+use Rattle.std.proofs.Common.{inr, ◌≡◌, ◌||◌, Some, ◌+◌, ◌*◌, None, arith, map, rules, refl, sym, ap, ◌∙◌, ◌≤◌, ◌∷◌, [], subst, ◌<◌, length}
 use Rattle.ada_tree.specs.declared.expression.Expr as expressions
 use Rattle.ada_tree.specs.ExpressionTree.{argument_trees, Arguments, expr_tree, MoreSelectors, Named, NoSelectors, selector_tree, selector_trees}
 use Rattle.expr_code.specs.Branches.{AddsBranches, branch_of}
-use Rattle.expr_code.specs.Emitting.{EmitsExpression, IsLegalExpression}
+use Rattle.expr_code.specs.Emitting.{EmitsExpression, has_numbers, IsLegalExpression}
+use Rattle.expr_code.specs.Going.{IsLegalPart}
+use Rattle.expr_code.specs.Seeing.{profile_named}
+use Rattle.expr_soundness.specs.expr_rules.specs.Typing.{is_booleans}
+use Rattle.types.specs.Entities.{Arrays}
 use Rattle.types.specs.Evaluating.{fixed_value}
-use Rattle.types.specs.Scopes.{number_of}
+use Rattle.types.specs.Scopes.{form_at, number_of}
 use Rattle.types.specs.Standings.{standing_of, stands_first}
-use Rattle.expr_code.proofs.Going.{index_integers, one_argument, path_counts}
+use Rattle.expr_code.proofs.Going.{index_fit, index_integers, one_argument, path_counts}
 use Rattle.expr_code.proofs.FitShapes.{large_unfit, many_unfit}
-use Rattle.expr_code.proofs.LegalNames.{array_part, begins_otherwise, called_once, converted_once, one_converted}
-use Rattle.expr_code.proofs.NamesRefused.{begin_outside, behind_outside, index_refused, load_refused, selector_refused}
+use Rattle.expr_code.proofs.LegalNames.{applied_once, array_part, begins_otherwise, called_applied, converted_applied, one_converted, one_of_two}
+use Rattle.expr_code.proofs.NamesRefused.{index_refused, load_refused, selector_refused}
 use Rattle.expr_code.specs.Widths.{width_of}
 use Rattle.expr_code.specs.Code.{here}
 use Rattle.expr_code.specs.Refusing.{operands_size, RefusesBranches, RefusesExpression, RefusesOperands, RefusesPath}
-use Rattle.expr_code.proofs.Growing.{added_here, extends_self}
+use Rattle.expr_code.proofs.Growing.{added_here}
 use Rattle.expr_code.proofs.Refusals.{between_refused, closed_here, condition_refused, else_refused, first_refused, jump_refused, more_refused, others_refused, second_refused, value_refused, word_refused}
 use Rattle.expr_code.proofs.Selecting.{one_selector}
 use Rattle.expr_code.proofs.Widths.{conditional_words}
 use Rattle.expr_code.proofs.code.Code.+expression.Goals as goal
+use Rattle.expr_code.proofs.code.Code.+expression.Goals.{element-in_default-via-then-arguments-lt1, element-in_default-via-else-arguments-lt1+else-arguments-lt2}
+use Rattle.expr_code.proofs.code.Code.+expression.Goals.{conversion-in_default-via-then-arguments-lt1, conversion-in_default-via-else-arguments-lt1+else-arguments-lt2}
+use Rattle.expr_code.proofs.code.Code.+expression.Goals.{converted-in_default-via-then-selectors-lt1, converted-in_default-via-else-selectors-lt1+else-selectors-lt2}
+use Rattle.expr_code.proofs.code.Code.+expression.Goals.{called-in_default-via-then-selectors-lt1, called-in_default-via-else-selectors-lt1+else-selectors-lt2}
 use Rattle.expr_code.proofs.code.Code.+expression.Goals.{element-then-from-gt-WORDS-via-then-from-gt-WORDS, element-then-from-gt-WORDS-via-else-from-gt-WORDS+then-from-gt-WORDS-2}
 
 -- ---- refusals
@@ -199,10 +207,13 @@ called-with_actuals-requires t c =
       (
         c.requires.sound,
         (
-          c.requires.stands,
+          c.requires.covered,
           (
-            subst (λ x. IsLegalExpression c.args.visible.now.scope (Named c.args.first.now x)) same c.requires.legal,
-            subst (λ x. fixed_value (standing_of c.args.visible.now.scope c.args.first.now x) ≡ None) same c.requires.valueless,
+            c.requires.stands,
+            (
+              subst (λ x. IsLegalExpression c.args.visible.now.scope (Named c.args.first.now x)) same c.requires.legal,
+              subst (λ x. fixed_value (standing_of c.args.visible.now.scope c.args.first.now x) ≡ None) same c.requires.valueless,
+            ),
           ),
         ),
       ),
@@ -218,39 +229,76 @@ called-returns-in_err-with_actuals-in-Arguments-clause-refused t c =
     c.in_err-with_actuals-in-Arguments.ensures.refused in
     search (rules, whole)
 
-pub called-returns-in_default-2-clause-refused : goal.called-returns-in_default-2-clause-refused
-called-returns-in_default-2-clause-refused t c =
-    absurd (called_once c.args.visible.now.scope c.requires.sound c.args.first.now c.args.selectors.now c.requires.stands.0 c.requires.stands.1
-    c.requires.legal (omega (arith, c.in_default.len_at_least)))
+pub called-unreachable-requires : goal.called-unreachable-requires
+called-unreachable-requires t c =
+    let one = applied_once c.args.selectors.now (called_applied c.args.visible.now.scope c.requires.sound c.args.first.now c.requires.stands.0
+    c.requires.stands.1 (selector_trees c.args.selectors.now) c.requires.legal c.requires.parts) in
+    elim c.in_default.branch [
+      | called-in_default-via-then-selectors-lt1 w ↦ let few : length c.args.selectors.now < 1 = search rules in omega (arith, one, few)
+      | called-in_default-via-else-selectors-lt1+else-selectors-lt2 w ↦ let many : 2 ≤ length c.args.selectors.now = search rules in omega (arith, one, many)
+    ]
 
-pub converted-returns-in_default-2-clause-refused : goal.converted-returns-in_default-2-clause-refused
-converted-returns-in_default-2-clause-refused t c =
-    behind_outside c.args.visible.now c.args.first.now (selector_trees c.args.selectors.now) c.requires.valueless
-    (converted_once c.args.visible.now.scope c.requires.sound c.args.first.now c.args.visible.now c.args.selectors.now c.args.subtype c.requires.stands
-    c.requires.legal (omega (arith, c.in_default.len_at_least)))
+pub converted-unreachable-requires : goal.converted-unreachable-requires
+converted-unreachable-requires t c =
+    let one = applied_once c.args.selectors.now (converted_applied c.args.visible.now.scope c.requires.sound c.args.first.now c.args.subtype c.requires.stands
+    (selector_trees c.args.selectors.now) c.requires.legal c.requires.valueless) in
+    elim c.in_default.branch [
+      | converted-in_default-via-then-selectors-lt1 w ↦ let few : length c.args.selectors.now < 1 = search rules in omega (arith, one, few)
+      | converted-in_default-via-else-selectors-lt1+else-selectors-lt2 w ↦ let many : 2 ≤ length c.args.selectors.now = search rules in omega (arith, one, many)
+    ]
 
-pub conversion-returns-in_default-2-clause-refused : goal.conversion-returns-in_default-2-clause-refused
-conversion-returns-in_default-2-clause-refused t c =
-    absurd (one_converted c.args.visible.now.scope c.requires.sound c.args.first.now c.args.arguments.now c.args.subtype c.requires.stands c.requires.legal
-    (omega (arith, c.in_default.len_at_least)))
+pub conversion-unreachable-requires : goal.conversion-unreachable-requires
+conversion-unreachable-requires t c =
+    let one = one_converted c.args.visible.now.scope c.requires.sound c.args.first.now c.args.arguments.now c.args.subtype c.requires.stands c.requires.legal in
+    elim c.in_default.branch [
+      | conversion-in_default-via-then-arguments-lt1 w ↦ let few : length c.args.arguments.now < 1 = search rules in omega (arith, one, few)
+      | conversion-in_default-via-else-arguments-lt1+else-arguments-lt2 w ↦
+          let many : 2 ≤ length c.args.arguments.now = search rules in omega (arith, one, many)
+    ]
 
-pub named-returns-in_default : goal.named-returns-in_default
-named-returns-in_default t c =
-    let v = c.args.visible.now in
-    let all = selector_trees c.args.selectors.now in
-    let made = begins_otherwise v.scope c.args.first.now all c.requires.legal c.requires.sound c.requires.valueless v
-    (stands_first v.scope (number_of v.scope c.args.first.now.name)) refl
+pub named-unreachable-requires-in_default : goal.named-unreachable-requires-in_default
+named-unreachable-requires-in_default t c =
+    let s = c.args.visible.now.scope in
+    begins_otherwise s c.args.first.now (selector_trees c.args.selectors.now) c.requires.legal c.requires.sound c.requires.valueless
+    (stands_first s (number_of s c.args.first.now.name)) refl
     (λ r u e. c.in_default.not-Part r u (c.stands_first.ensures ∙ e)) (λ u e. c.in_default.not-Named u (c.stands_first.ensures ∙ e))
-    (λ f e. c.in_default.not-Callee f (c.stands_first.ensures ∙ e))
-    (λ n e. absurd (c.in_default.not-Protected n (c.stands_first.ensures ∙ e))) in
-    record { width = tt; refused = begin_outside v c.args.first.now all c.requires.valueless made; kept = extends_self c.args.self.now; shallow = tt; emits = tt }
+    (λ f e. c.in_default.not-Callee f (c.stands_first.ensures ∙ e)) (λ n e. c.in_default.not-Protected n (c.stands_first.ensures ∙ e))
 
-pub element-returns-in_default-2-clause-refused : goal.element-returns-in_default-2-clause-refused
-element-returns-in_default-2-clause-refused t c =
+pub with_actuals-unreachable-requires : goal.with_actuals-unreachable-requires
+with_actuals-unreachable-requires t c =
+    let s = c.args.visible.now.scope in
+    let none : profile_named s c.args.first.now.name ≡ None = search rules in
+    one_of_two s c.requires.sound c.requires.covered.formals c.args.first.now _ c.requires.stands.0 c.requires.stands.1 c.requires.legal
+    (sym c.predefined.ensures.is ∙ c.in-None.is) none
+
+pub element-unreachable-requires : goal.element-unreachable-requires
+element-unreachable-requires t c =
     let it = array_part c.args.visible.now.scope c.args.subtype c.args.arguments.now c.requires.legal in
     let one = it.4 in
-    let long = c.in_default.len_at_least in
-    absurd (omega (arith, one, long))
+    elim c.in_default.branch [
+      | element-in_default-via-then-arguments-lt1 w ↦ let few : length c.args.arguments.now < 1 = search rules in omega (arith, one, few)
+      | element-in_default-via-else-arguments-lt1+else-arguments-lt2 w ↦ let many : 2 ≤ length c.args.arguments.now = search rules in omega (arith, one, many)
+    ]
+
+pub element-checked-requires : goal.element-checked-requires
+element-checked-requires t c =
+    let s = c.args.visible.now.scope in
+    let one = one_argument c.args.arguments.now c.in-Expr.e c.argument-item.result c.in-len1.len_at_least c.in-len1.len_below c.argument-item.is c.in-Expr.is in
+    let form : form_at s c.args.subtype.type_number ≡ Some (Arrays c.in-Some-Array.index c.in-Some-Array.many c.in-Some-Array.last) = search rules in (
+      search (rules, expressions.the_lemmas),
+      (
+        c.requires.sound,
+        (
+          c.requires.covered,
+          (
+            ap (λ o. has_numbers o || is_booleans o)
+                (index_integers s c.requires.sound c.args.subtype c.in-Some-Array.index c.in-Some-Array.many c.in-Some-Array.last form),
+            index_fit s c.args.subtype c.in-Some-Array.index c.in-Some-Array.last c.in-Some-Array.many (expr_tree c.in-Expr.e) form
+                (subst (λ all. IsLegalPart s c.args.subtype (Arguments all)) one c.requires.legal),
+          ),
+        ),
+      ),
+    )
 
 pub element-returns-then-from-gt-WORDS-clause-refused : goal.element-returns-then-from-gt-WORDS-clause-refused
 element-returns-then-from-gt-WORDS-clause-refused t c =
@@ -271,10 +319,8 @@ element-returns-in_err-checked-clause-refused t c =
     let one = one_argument c.args.arguments.now c.in-Expr.e c.argument-item.result c.in-len1.len_at_least c.in-len1.len_below c.argument-item.is c.in-Expr.is in
     let why = c.in_err-checked.field-0.0 in
     let whole = subst (λ all. RefusesPath v c.args.self.now c.args.depth c.args.subtype (MoreSelectors (Arguments all) NoSelectors) why) (sym one)
-    (index_refused v c.args.self.now c.args.depth c.args.subtype (expr_tree c.in-Expr.e) c.args.self.now _ c.in-Some-Array.index why (omega arith)
-    c.in_ok-address.ensures.more
-    (index_integers v.scope c.requires.sound c.args.subtype c.in-Some-Array.index c.in-Some-Array.many c.in-Some-Array.last (search rules))
-    c.in_err-checked.ensures.refused) in
+    (index_refused v c.args.self.now c.args.depth c.args.subtype (expr_tree c.in-Expr.e) c.args.self.now _ why (omega arith)
+    c.in_ok-address.ensures.more c.in_err-checked.ensures.refused) in
     search (rules, whole)
 
 pub part-returns-in_err-load_block-clause-refused : goal.part-returns-in_err-load_block-clause-refused
@@ -285,7 +331,7 @@ part-returns-in_err-load_block-clause-refused t c =
     let same = path_counts c.args.selectors.now in
     let above = c.in_ok-address.ensures.more in
     let whole = load_refused v c.args.first.now c.args.slot c.requires.stands.0 c.args.subtype c.requires.stands.1 c.requires.there
-    (selector_trees c.args.selectors.now) c.requires.valueless c.args.self.now c.args.depth _ _ c.words-words.result c.in_ok-last.last
+    (selector_trees c.args.selectors.now) c.args.self.now c.args.depth _ _ c.words-words.result c.in_ok-last.last
     c.in_err-load_block.field-0.0 c.words-words.ensures c.in_ok-last.ensures.fit (omega (arith, next, behind, same)) (omega (arith, above))
     c.in_err-load_block.ensures.refused in
     search (rules, whole)

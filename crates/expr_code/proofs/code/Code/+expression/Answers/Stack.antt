@@ -13,7 +13,6 @@ use Rattle.expr_code.proofs.Shallow.{argument_shallow, call_shallow, chain_shall
 use Rattle.expr_code.proofs.Selecting.{one_selector}
 use Rattle.expr_code.proofs.Widths.{conditional_words}
 use Rattle.expr_code.proofs.code.Code.+expression.Goals as goal
-use Rattle.expr_code.proofs.code.Code.+expression.Goals.{element-then-from-gt-WORDS-via-then-from-gt-WORDS, element-then-from-gt-WORDS-via-else-from-gt-WORDS+then-from-gt-WORDS-2}
 
 -- ---- words on the operand stack
 
@@ -116,8 +115,8 @@ checked-returns-in-Some-Boolean-clause-shallow t c =
     on_ok_weaker _ (λ p. unchecked_shallow c.args.visible.now c.args.depth (expr_tree c.args.e.now) c.args.self.now c.of_width.new.self p)
     c.of_width.ensures.shallow
 
-pub conversion-returns-in-Expr-clause-shallow : goal.conversion-returns-in-Expr-clause-shallow
-conversion-returns-in-Expr-clause-shallow t c =
+pub conversion-returns-clause-shallow : goal.conversion-returns-clause-shallow
+conversion-returns-clause-shallow t c =
     let v = c.args.visible.now in
     let one = one_argument c.args.arguments.now c.in-Expr.e c.argument-item.result c.in-len1.len_at_least c.in-len1.len_below c.argument-item.is c.in-Expr.is in
     on_ok_weaker _ (λ p. subst
@@ -130,8 +129,8 @@ name-returns-in_ok-emit-in-Some-clause-shallow t c =
     word_deep c.args.visible.now c.args.depth (Named (name_tree c.args.name.now).first (name_tree c.args.name.now).selectors) _ _ c.args.depth (omega arith)
     c.in_ok-emit-in-Some.ensures.adds.shallow
 
-pub called-returns-in_ok-with_actuals-in-Arguments-clause-shallow : goal.called-returns-in_ok-with_actuals-in-Arguments-clause-shallow
-called-returns-in_ok-with_actuals-in-Arguments-clause-shallow t c =
+pub called-returns-clause-shallow : goal.called-returns-clause-shallow
+called-returns-clause-shallow t c =
     let tree = ap selector_tree c.in-Arguments.is ∙ c.arguments_by_parts.ensures c.in-Arguments.arguments ∙ ap (λ l. Arguments (argument_trees l))
     (sym c.deref.ensures.value) in
     let same = one_selector c.args.selectors.now c.selector-item.result _ c.in-len1.len_at_least c.in-len1.len_below c.selector-item.is tree in

@@ -7,9 +7,10 @@ use Rattle.ada_tree.specs.StatementTree.{Block, Case, Loop, NoHandlers, alternat
 use Rattle.expr_soundness.specs.SoundScopes.{SoundScope}
 use Rattle.stmt_code.specs.Refusing.{around, stmts_needs}
 use Rattle.stmt_code.specs.Staying.{StaysStatement}
-use Rattle.stmt_code.specs.Emitting.{AddsParts, AreLegalStatements, AreLegalElsifs, EmitsStatement, EmitsStatements, IsLegalStatement}
+use Rattle.stmt_code.specs.Emitting.{AddsParts, AreAcceptedElsifs, AreAcceptedStatements, EmitsStatement, EmitsStatements, IsAcceptedStatement}
 use Rattle.part_code.specs.Emitting.{HasEntries, ways_of}
-use Rattle.stmt_code.proofs.Adding.{all_statements, no_statements, none_there, null_emits, statement_legal, statements_next}
+use Rattle.stmt_code.proofs.Accepting.{covered_still}
+use Rattle.stmt_code.proofs.Adding.{all_statements, no_statements, none_there, null_emits, statement_accepted, statements_next}
 use Rattle.stmt_code.proofs.Opening.{if_body, if_condition, if_elsifs, if_emits, if_others, waiting_there}
 use Rattle.stmt_code.proofs.PartsStay.{statements_end, statements_stay}
 use Rattle.stmt_code.proofs.Staying.{stays_self}
@@ -24,17 +25,24 @@ statement-returns-in-Null-clause-emits t c =
 
 pub statement-branch-self-requires : goal.statement-branch-self-requires
 statement-branch-self-requires t c =
-    let tree = ap stmt_tree c.in-If.is
-    ∙ c.statements_by_parts.ensures.ifs c.in-If.field-0 c.in-If.condition c.in-If.body c.in-If.elsifs c.in-If.others in (
+    let s = c.args.visible.now.scope in
+    let w = ways_of c.args.leaving in
+    let x = c.in-If in
+    let tree = ap stmt_tree x.is ∙ c.statements_by_parts.ensures.ifs x.field-0 x.condition x.body x.elsifs x.others in (
       search (rules, statements.the_lemmas),
       (
         c.requires.sound,
         (
           c.requires.entries,
           (
-            if_condition c.args.visible.now.scope (stmt_tree c.args.statement.now) c.in-If.field-0 (expr_tree c.in-If.condition) (stmt_trees c.in-If.body.items) (elsif_trees c.in-If.elsifs.items) (stmt_trees c.in-If.others.items) tree c.requires.legal,
-            subst (λ l. AreLegalStatements c.args.visible.now.scope (stmt_trees l)) (sym c.deref.ensures.value)
-                (if_body c.args.visible.now.scope (stmt_tree c.args.statement.now) c.in-If.field-0 (expr_tree c.in-If.condition) (stmt_trees c.in-If.body.items) (elsif_trees c.in-If.elsifs.items) (stmt_trees c.in-If.others.items) tree c.requires.legal),
+            c.requires.covered,
+            (
+              if_condition s w (stmt_tree c.args.statement.now) x.field-0 (expr_tree x.condition) (stmt_trees x.body.items) (elsif_trees x.elsifs.items)
+                  (stmt_trees x.others.items) tree c.requires.legal,
+              subst (λ l. AreAcceptedStatements s w (stmt_trees l)) (sym c.deref.ensures.value)
+                  (if_body s w (stmt_tree c.args.statement.now) x.field-0 (expr_tree x.condition) (stmt_trees x.body.items) (elsif_trees x.elsifs.items)
+                  (stmt_trees x.others.items) tree c.requires.legal),
+            ),
           ),
         ),
       ),
@@ -42,34 +50,48 @@ statement-branch-self-requires t c =
 
 pub statement-elsifs-requires : goal.statement-elsifs-requires
 statement-elsifs-requires t c =
-    let tree = ap stmt_tree c.in-If.is
-    ∙ c.statements_by_parts.ensures.ifs c.in-If.field-0 c.in-If.condition c.in-If.body c.in-If.elsifs c.in-If.others in (
+    let v = c.args.visible.now in
+    let w = ways_of c.args.leaving in
+    let x = c.in-If in
+    let tree = ap stmt_tree x.is ∙ c.statements_by_parts.ensures.ifs x.field-0 x.condition x.body x.elsifs x.others in
+    let there = c.in_ok-branch-in-If.ensures.same in (
       search (rules, statements.the_lemmas),
       (
-        subst (λ x. SoundScope x.scope) (sym c.in_ok-branch-in-If.ensures.same) c.requires.sound,
+        subst (λ y. SoundScope y.scope) (sym there) c.requires.sound,
         (
-          subst HasEntries (sym c.in_ok-branch-in-If.ensures.same) c.requires.entries,
-          subst (λ x. AreLegalElsifs x.scope (elsif_trees c.deref-in-If.result.now)) (sym c.in_ok-branch-in-If.ensures.same)
-              (subst (λ l. AreLegalElsifs c.args.visible.now.scope (elsif_trees l)) (sym c.deref-in-If.ensures.value)
-              (if_elsifs c.args.visible.now.scope (stmt_tree c.args.statement.now) c.in-If.field-0 (expr_tree c.in-If.condition) (stmt_trees c.in-If.body.items)
-              (elsif_trees c.in-If.elsifs.items) (stmt_trees c.in-If.others.items) tree c.requires.legal)),
+          subst HasEntries (sym there) c.requires.entries,
+          (
+            covered_still v c.branch-self.new.visible c.args.self.now c.branch-self.new.self c.in_ok-branch-in-If.ensures.adds.emits.rows.exceptions there
+                c.requires.covered,
+            subst (λ y. AreAcceptedElsifs y.scope w (elsif_trees c.deref-in-If.result.now)) (sym there)
+                (subst (λ l. AreAcceptedElsifs v.scope w (elsif_trees l)) (sym c.deref-in-If.ensures.value)
+                (if_elsifs v.scope w (stmt_tree c.args.statement.now) x.field-0 (expr_tree x.condition) (stmt_trees x.body.items) (elsif_trees x.elsifs.items)
+                (stmt_trees x.others.items) tree c.requires.legal)),
+          ),
         ),
       ),
     )
 
 pub statement-statements-requires : goal.statement-statements-requires
 statement-statements-requires t c =
-    let tree = ap stmt_tree c.in-If.is
-    ∙ c.statements_by_parts.ensures.ifs c.in-If.field-0 c.in-If.condition c.in-If.body c.in-If.elsifs c.in-If.others in (
+    let v = c.args.visible.now in
+    let w = ways_of c.args.leaving in
+    let x = c.in-If in
+    let tree = ap stmt_tree x.is ∙ c.statements_by_parts.ensures.ifs x.field-0 x.condition x.body x.elsifs x.others in
+    let there = c.in_ok-elsifs-in-If.ensures.same ∙ c.in_ok-branch-in-If.ensures.same in
+    let kept = c.in_ok-elsifs-in-If.ensures.adds.emits.rows.exceptions ∙ c.in_ok-branch-in-If.ensures.adds.emits.rows.exceptions in (
       search (rules, statements.the_lemmas),
       (
-        subst (λ x. SoundScope x.scope) (sym (c.in_ok-elsifs-in-If.ensures.same ∙ c.in_ok-branch-in-If.ensures.same)) c.requires.sound,
+        subst (λ y. SoundScope y.scope) (sym there) c.requires.sound,
         (
-          subst HasEntries (sym (c.in_ok-elsifs-in-If.ensures.same ∙ c.in_ok-branch-in-If.ensures.same)) c.requires.entries,
-          subst (λ x. AreLegalStatements x.scope (stmt_trees c.deref-in-If-2.result.now)) (sym (c.in_ok-elsifs-in-If.ensures.same ∙ c.in_ok-branch-in-If.ensures.same))
-              (subst (λ l. AreLegalStatements c.args.visible.now.scope (stmt_trees l)) (sym c.deref-in-If-2.ensures.value)
-              (if_others c.args.visible.now.scope (stmt_tree c.args.statement.now) c.in-If.field-0 (expr_tree c.in-If.condition) (stmt_trees c.in-If.body.items)
-              (elsif_trees c.in-If.elsifs.items) (stmt_trees c.in-If.others.items) tree c.requires.legal)),
+          subst HasEntries (sym there) c.requires.entries,
+          (
+            covered_still v c.elsifs.new.visible c.args.self.now c.elsifs.new.self kept there c.requires.covered,
+            subst (λ y. AreAcceptedStatements y.scope w (stmt_trees c.deref-in-If-2.result.now)) (sym there)
+                (subst (λ l. AreAcceptedStatements v.scope w (stmt_trees l)) (sym c.deref-in-If-2.ensures.value)
+                (if_others v.scope w (stmt_tree c.args.statement.now) x.field-0 (expr_tree x.condition) (stmt_trees x.body.items) (elsif_trees x.elsifs.items)
+                (stmt_trees x.others.items) tree c.requires.legal)),
+          ),
         ),
       ),
     )
@@ -143,6 +165,7 @@ statement-returns-in_ok-statements-in-If-clause-same t c =
 pub statement-case-requires : goal.statement-case-requires
 statement-case-requires t c =
     let s = c.args.visible.now.scope in
+    let w = ways_of c.args.leaving in
     let e = expr_tree c.in-Case.value in
     let tree = ap stmt_tree c.in-Case.is ∙ c.statements_by_parts.ensures.cases c.in-Case.place c.in-Case.value c.in-Case.all in (
       search (rules, statements.the_lemmas),
@@ -150,7 +173,11 @@ statement-case-requires t c =
         c.requires.sound,
         (
           c.requires.entries,
-          subst (λ l. IsLegalStatement s (Case c.in-Case.place e (alternative_trees l))) (sym c.deref-in-Case.ensures.value) (subst (IsLegalStatement s) tree c.requires.legal),
+          (
+            c.requires.covered,
+            subst (λ l. IsAcceptedStatement s w (Case c.in-Case.place e (alternative_trees l))) (sym c.deref-in-Case.ensures.value)
+                (subst (IsAcceptedStatement s w) tree c.requires.legal),
+          ),
         ),
       ),
     )
@@ -195,14 +222,18 @@ statement-returns-in-DelayUntil-clause-emits t c =
 pub statement-repeated-requires : goal.statement-repeated-requires
 statement-repeated-requires t c =
     let s = c.args.visible.now.scope in
+    let w = ways_of c.args.leaving in
     let tree = ap stmt_tree c.in-Loop.is ∙ c.statements_by_parts.ensures.loops c.in-Loop.place c.in-Loop.iteration c.in-Loop.body in (
       search (rules, statements.the_lemmas),
       (
         c.requires.sound,
         (
           c.requires.entries,
-          subst (λ l. IsLegalStatement s (Loop c.in-Loop.place (iteration_tree c.in-Loop.iteration) (stmt_trees l))) (sym c.deref-in-Loop.ensures.value)
-              (subst (IsLegalStatement s) tree c.requires.legal),
+          (
+            c.requires.covered,
+            subst (λ l. IsAcceptedStatement s w (Loop c.in-Loop.place (iteration_tree c.in-Loop.iteration) (stmt_trees l))) (sym c.deref-in-Loop.ensures.value)
+                (subst (IsAcceptedStatement s w) tree c.requires.legal),
+          ),
         ),
       ),
     )
@@ -220,13 +251,12 @@ statement-returns-in-Loop-clause-emits t c =
 
 pub statement-returns-in-Loop-clause-same : goal.statement-returns-in-Loop-clause-same
 statement-returns-in-Loop-clause-same t c =
-    let v = c.args.visible.now in
-    let w = ways_of c.args.leaving in
     let tree = ap stmt_tree c.in-Loop.is ∙ c.statements_by_parts.ensures.loops c.in-Loop.place c.in-Loop.iteration c.in-Loop.body in c.repeated.ensures.same
 
 pub statement-block-requires : goal.statement-block-requires
 statement-block-requires t c =
     let s = c.args.visible.now.scope in
+    let w = ways_of c.args.leaving in
     let no_handlers : c.in-Block.handlers.items ≡ [] = none_there c.in-Block.handlers.items (search rules) in
     let tree = ap stmt_tree c.in-Block.is
     ∙ c.statements_by_parts.ensures.blocks c.in-Block.place c.in-Block.declarations c.in-Block.body c.in-Block.handlers
@@ -236,10 +266,13 @@ statement-block-requires t c =
         c.requires.sound,
         (
           c.requires.entries,
-          subst (λ l. IsLegalStatement s (Block c.in-Block.place (map declaration_tree l) (stmt_trees c.deref-then-is_empty.result.now) NoHandlers))
-              (sym c.deref-then-is_empty-2.ensures.value)
-              (subst (λ l. IsLegalStatement s (Block c.in-Block.place (map declaration_tree c.in-Block.declarations.items) (stmt_trees l) NoHandlers))
-              (sym c.deref-then-is_empty.ensures.value) (subst (IsLegalStatement s) tree c.requires.legal)),
+          (
+            c.requires.covered,
+            subst (λ l. IsAcceptedStatement s w (Block c.in-Block.place (map declaration_tree l) (stmt_trees c.deref-then-is_empty.result.now) NoHandlers))
+                (sym c.deref-then-is_empty-2.ensures.value)
+                (subst (λ l. IsAcceptedStatement s w (Block c.in-Block.place (map declaration_tree c.in-Block.declarations.items) (stmt_trees l) NoHandlers))
+                (sym c.deref-then-is_empty.ensures.value) (subst (IsAcceptedStatement s w) tree c.requires.legal)),
+          ),
         ),
       ),
     )
@@ -262,8 +295,6 @@ statement-returns-then-is_empty-clause-emits t c =
 
 pub statement-returns-then-is_empty-clause-same : goal.statement-returns-then-is_empty-clause-same
 statement-returns-then-is_empty-clause-same t c =
-    let v = c.args.visible.now in
-    let w = ways_of c.args.leaving in
     let no_handlers : c.in-Block.handlers.items ≡ [] = none_there c.in-Block.handlers.items (search rules) in
     let tree = ap stmt_tree c.in-Block.is
     ∙ c.statements_by_parts.ensures.blocks c.in-Block.place c.in-Block.declarations c.in-Block.body c.in-Block.handlers
@@ -275,19 +306,25 @@ pub statements-loop-statement-init : goal.statements-loop-statement-init
 statements-loop-statement-init t c = (
   no_statements c.args.visible.now (ways_of c.args.leaving) c.args.self.now,
   refl,
-  stays_self c.args.self.now (stmts_needs (around c.args.visible.now (ways_of c.args.leaving) c.args.self.now) (stmt_trees c.args.all.now)),
+  stays_self c.args.self.now (stmts_needs (around c.args.visible.now c.args.self.now) (stmt_trees c.args.all.now)),
 )
 
 pub statements-statement-requires : goal.statements-statement-requires
 statements-statement-requires t c =
+    let v = c.args.visible.now in
+    let w = ways_of c.args.leaving in
     let there = sym c.loop-statement.invariant.1 in (
       search (rules, statements.the_lemmas),
       (
         subst (λ x. SoundScope x.scope) there c.requires.sound,
         (
           subst HasEntries there c.requires.entries,
-          subst (λ x. IsLegalStatement x.scope (stmt_tree c.statement-item.result)) there
-              (statement_legal c.args.visible.now.scope c.args.all.now _ c.statement-item.result c.loop-statement-test.true c.statement-item.is c.requires.legal),
+          (
+            covered_still v c.loop-statement.visible c.args.self.now c.loop-statement.self c.loop-statement.invariant.0.rows.exceptions
+                c.loop-statement.invariant.1 c.requires.covered,
+            subst (λ x. IsAcceptedStatement x.scope w (stmt_tree c.statement-item.result)) there
+                (statement_accepted v.scope w c.args.all.now _ c.statement-item.result c.loop-statement-test.true c.statement-item.is c.requires.legal),
+          ),
         ),
       ),
     )
@@ -300,10 +337,10 @@ statements-loop-statement-preserved t c =
           c.loop-statement-test.true c.statement-item.is c.loop-statement.invariant.0
           (subst (λ x. EmitsStatement x w c.loop-statement.self (stmt_tree c.statement-item.result) c.statement.new.self) there c.in_ok-statement.ensures.emits),
       c.in_ok-statement.ensures.same ∙ there,
-      statements_stay c.args.visible.now w c.args.self.now c.loop-statement.self c.statement.new.self c.args.all.now _ c.statement-item.result
-          c.loop-statement-test.true c.statement-item.is (c.loop-statement.invariant.0.taken, c.loop-statement.invariant.0.rows.exceptions)
+      statements_stay c.args.visible.now c.args.self.now c.loop-statement.self c.statement.new.self c.args.all.now _ c.statement-item.result
+          c.loop-statement-test.true c.statement-item.is c.loop-statement.invariant.0.taken
           c.loop-statement.invariant.2
-          (subst (λ x. StaysStatement x w c.loop-statement.self (stmt_tree c.statement-item.result) c.statement.new.self) there
+          (subst (λ x. StaysStatement x c.loop-statement.self (stmt_tree c.statement-item.result) c.statement.new.self) there
           c.in_ok-statement.ensures.stays),
     )
 

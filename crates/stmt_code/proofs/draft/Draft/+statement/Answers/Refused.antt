@@ -1,10 +1,9 @@
 -- What refuses the code of parts of statements and of whole ones, answered for the methods that add it.
-use Rattle.std.proofs.Common.{◌≡◌, ◌∷◌, [], arith, inl, map, refl, sym, ap, ◌∙◌, rules, subst}
+use Rattle.std.proofs.Common.{◌≡◌, ◌∷◌, [], arith, map, refl, sym, ap, ◌∙◌, rules, subst}
 use Rattle.std.proofs.lemmas.Result.{IfErr-weaker}
 use Rattle.ada_tree.specs.ExpressionTree.{expr_tree}
 use Rattle.ada_tree.specs.StatementTree.{Block, Case, For, Forever, Loop, NoHandlers, While, alternative_tree, alternative_trees, alternatives_of, choices_tree, declaration_tree, elsif_tree, elsif_trees, elsifs_of, handler_trees, iteration_tree, range_tree, stmt_tree, stmt_trees}
 use Rattle.stmt_code.specs.declared.draft.Draft.{Draft}
-use Rattle.expr_code.specs.declared.refusal.Refusal.TheVariants as refusal
 use Rattle.expr_code.proofs.Growing.{added_here}
 use Rattle.expr_code.proofs.Refusals.{peak_some}
 use Rattle.part_code.specs.Bounds.{stmts_bound}
@@ -22,13 +21,13 @@ use Rattle.stmt_code.proofs.draft.Draft.+statement.Goals as goal
 
 pub branch-returns-in_err-of_width-clause-refused : goal.branch-returns-in_err-of_width-clause-refused
 branch-returns-in_err-of_width-clause-refused t c =
-    let whole = condition_refused c.args.visible.now (ways_of c.args.leaving) c.args.self.now c.in_err-of_width.field-0.0
+    let whole = condition_refused c.args.visible.now c.args.self.now c.in_err-of_width.field-0.0
     (expr_tree c.args.condition.now) (stmt_trees c.args.body.now) c.in_err-of_width.ensures.refused in
     search (rules, whole)
 
 pub branch-returns-in_err-test-clause-refused : goal.branch-returns-in_err-test-clause-refused
 branch-returns-in_err-test-clause-refused t c =
-    let whole = test_refused c.args.visible.now (ways_of c.args.leaving) c.args.self.now c.in_err-test.field-0.0
+    let whole = test_refused c.args.visible.now c.args.self.now c.in_err-test.field-0.0
     (expr_tree c.args.condition.now) (stmt_trees c.args.body.now) c.of_width.new.self c.in_ok-of_width.ensures.emits.sized c.in_err-test.ensures.refused in
     search (rules, whole)
 
@@ -37,8 +36,8 @@ branch-returns-in_err-statements-clause-refused t c =
     let first = c.in_ok-of_width.ensures.emits.sized in
     let jump = added_here _ _ _ _ c.in_ok-test.ensures.adds in
     let mid : Draft = record c.args.self.now { code = c.test.new.self } in
-    let whole = body_refused c.args.visible.now (ways_of c.args.leaving) c.args.self.now c.in_err-statements.field-0.0
-    (expr_tree c.args.condition.now) (stmt_trees c.args.body.now) mid (refl, refl) refl (omega (arith, first, jump)) c.in_err-statements.ensures.refused in
+    let whole = body_refused c.args.visible.now c.args.self.now c.in_err-statements.field-0.0
+    (expr_tree c.args.condition.now) (stmt_trees c.args.body.now) mid refl refl (omega (arith, first, jump)) c.in_err-statements.ensures.refused in
     search (rules, whole)
 
 pub branch-returns-clause-refused : goal.branch-returns-clause-refused
@@ -48,23 +47,22 @@ branch-returns-clause-refused t c =
     let second = c.in_ok-statements.ensures.emits.sized in
     IfErr-weaker _ _ _
     (λ why r.
-    close_refused c.args.visible.now (ways_of c.args.leaving) c.args.self.now why (expr_tree c.args.condition.now)
+    close_refused c.args.visible.now c.args.self.now why (expr_tree c.args.condition.now)
     (stmt_trees c.args.body.now) c.statements.new.self.code (omega (arith, first, jump, second)) r)
     c.close.ensures.refused
 
 pub elsifs-returns-in_err-branch-clause-refused : goal.elsifs-returns-in_err-branch-clause-refused
 elsifs-returns-in_err-branch-clause-refused t c =
     let v = c.args.visible.now in
-    let w = ways_of c.args.leaving in
     let there = c.loop-part.invariant.1 in
     let before = c.loop-part.invariant.0.emits in
     let up = before.sized in
-    let part : RefusesParts v w c.loop-part.self (elsifs_of (elsif_tree c.part-item.result ∷ [])) c.in_err-branch.field-0.0 =
-    subst (λ x. RefusesParts x w c.loop-part.self (elsifs_of (elsif_tree c.part-item.result ∷ [])) c.in_err-branch.field-0.0) there
-    (subst (λ l. RefusesParts c.loop-part.visible w c.loop-part.self (elsifs_of ((expr_tree c.part-item.result.condition, stmt_trees l) ∷ []))
+    let part : RefusesParts v c.loop-part.self (elsifs_of (elsif_tree c.part-item.result ∷ [])) c.in_err-branch.field-0.0 =
+    subst (λ x. RefusesParts x c.loop-part.self (elsifs_of (elsif_tree c.part-item.result ∷ [])) c.in_err-branch.field-0.0) there
+    (subst (λ l. RefusesParts c.loop-part.visible c.loop-part.self (elsifs_of ((expr_tree c.part-item.result.condition, stmt_trees l) ∷ []))
     c.in_err-branch.field-0.0) c.deref.ensures.value c.in_err-branch.ensures.refused) in
-    let whole = part_refuses v w c.args.self.now c.in_err-branch.field-0.0 c.loop-part.self c.args.elsifs.now _ c.part-item.result
-    c.loop-part-test.true c.part-item.is (before.taken, before.rows.exceptions) c.loop-part.invariant.2.labels up part in
+    let whole = part_refuses v c.args.self.now c.in_err-branch.field-0.0 c.loop-part.self c.args.elsifs.now _ c.part-item.result
+    c.loop-part-test.true c.part-item.is before.taken c.loop-part.invariant.2.labels up part in
     search (rules, whole)
 
 -- ---- refusals: alternatives
@@ -72,21 +70,20 @@ elsifs-returns-in_err-branch-clause-refused t c =
 pub alternative-returns-in_err-next-clause-refused : goal.alternative-returns-in_err-next-clause-refused
 alternative-returns-in_err-next-clause-refused t c =
     let a = c.args.alternative.now in
-    let whole = choices_refused c.args.visible.now (ways_of c.args.leaving) c.args.self.now c.in_err-next.field-0.0 a.place
+    let whole = choices_refused c.args.visible.now c.args.self.now c.in_err-next.field-0.0 a.place
     (choices_tree a.choices) (stmt_trees a.statements.items) c.in_err-next.ensures.refused in
     search (rules, whole)
 
 pub alternative-returns-in_err-statements-clause-refused : goal.alternative-returns-in_err-statements-clause-refused
 alternative-returns-in_err-statements-clause-refused t c =
     let v = c.args.visible.now in
-    let w = ways_of c.args.leaving in
     let a = c.args.alternative.now in
     let chosen : Draft = record c.args.self.now { code = c.add_choices.new.code } in
     let selects = choices_select c.calls_are_typed.ensures c.static_is_value.ensures c.quiet_stays.ensures v (expr_tree c.args.value.now) c.requires.selecting
     (choices_tree a.choices) c.args.self.now.code c.in_ok-next.next.items c.add_choices.new.code c.requires.choices c.in_ok-next.ensures.adds in
-    let whole = chosen_refused v w c.args.self.now c.in_err-statements.field-0.0 a.place (choices_tree a.choices)
-    (stmt_trees a.statements.items) chosen (refl, refl) refl selects.sized
-    (subst (λ l. RefusesStatements v w chosen (stmt_trees l) c.in_err-statements.field-0.0) c.deref.ensures.value
+    let whole = chosen_refused v c.args.self.now c.in_err-statements.field-0.0 a.place (choices_tree a.choices)
+    (stmt_trees a.statements.items) chosen refl refl selects.sized
+    (subst (λ l. RefusesStatements v chosen (stmt_trees l) c.in_err-statements.field-0.0) c.deref.ensures.value
     c.in_err-statements.ensures.refused) in
     search (rules, whole)
 
@@ -101,7 +98,7 @@ alternative-returns-in_err-emit-clause-refused t c =
     let body = subst (λ l. EmitsStatements v w chosen (stmt_trees l) c.statements.new.self) c.deref.ensures.value c.in_ok-statements.ensures.emits in
     let one = selects.sized in
     let two = body.sized in
-    let whole = leaving_refused v w c.args.self.now c.in_err-emit.field-0.0 a.place (choices_tree a.choices)
+    let whole = leaving_refused v c.args.self.now c.in_err-emit.field-0.0 a.place (choices_tree a.choices)
     (stmt_trees a.statements.items) _ (omega (arith, one, two)) c.in_err-emit.ensures.refused in
     search (rules, whole)
 
@@ -119,33 +116,32 @@ alternative-returns-clause-refused t c =
     let three = added_here _ _ _ _ c.in_ok-emit.ensures.adds in
     IfErr-weaker _ _ _
     (λ why r.
-    leaving_refused v w c.args.self.now why a.place (choices_tree a.choices) (stmt_trees a.statements.items) _
+    leaving_refused v c.args.self.now why a.place (choices_tree a.choices) (stmt_trees a.statements.items) _
     (omega (arith, one, two, three)) r)
     c.rejoin.ensures.refused
 
 pub alternatives-returns-in_err-alternative-clause-refused : goal.alternatives-returns-in_err-alternative-clause-refused
 alternatives-returns-in_err-alternative-clause-refused t c =
     let v = c.args.visible.now in
-    let w = ways_of c.args.leaving in
     let before = c.loop-alternative.invariant.0.emits in
     let up = before.sized in
-    let whole = alternative_refuses v w c.args.self.now c.in_err-alternative.field-0.0 c.loop-alternative.self c.args.all.now _
-    c.alternative-item.result c.loop-alternative-test.true c.alternative-item.is (before.taken, before.rows.exceptions) c.loop-alternative.invariant.2.labels up
-    (subst (λ x. RefusesAlternatives x w c.loop-alternative.self (alternatives_of (alternative_tree c.alternative-item.result ∷ []))
+    let whole = alternative_refuses v c.args.self.now c.in_err-alternative.field-0.0 c.loop-alternative.self c.args.all.now _
+    c.alternative-item.result c.loop-alternative-test.true c.alternative-item.is before.taken c.loop-alternative.invariant.2.labels up
+    (subst (λ x. RefusesAlternatives x c.loop-alternative.self (alternatives_of (alternative_tree c.alternative-item.result ∷ []))
     c.in_err-alternative.field-0.0) c.loop-alternative.invariant.1 c.in_err-alternative.ensures.refused) in
     search (rules, whole)
 
 pub case-returns-in_err-of_width-clause-refused : goal.case-returns-in_err-of_width-clause-refused
 case-returns-in_err-of_width-clause-refused t c =
-    let whole = selected_refused c.args.visible.now (ways_of c.args.leaving) c.args.self.now c.in_err-of_width.field-0.0 c.args.place
+    let whole = selected_refused c.args.visible.now c.args.self.now c.in_err-of_width.field-0.0 c.args.place
     (expr_tree c.args.value.now) (alternative_trees c.args.alternatives.now) c.in_err-of_width.ensures.refused in
     search (rules, whole)
 
 pub case-returns-in_err-alternatives-clause-refused : goal.case-returns-in_err-alternatives-clause-refused
 case-returns-in_err-alternatives-clause-refused t c =
     let valued : Draft = record c.args.self.now { code = c.of_width.new.self } in
-    let whole = alternatives_refused c.args.visible.now (ways_of c.args.leaving) c.args.self.now c.in_err-alternatives.field-0.0
-    c.args.place (expr_tree c.args.value.now) (alternative_trees c.args.alternatives.now) valued (refl, refl) refl c.in_ok-of_width.ensures.emits.sized
+    let whole = alternatives_refused c.args.visible.now c.args.self.now c.in_err-alternatives.field-0.0
+    c.args.place (expr_tree c.args.value.now) (alternative_trees c.args.alternatives.now) valued refl refl c.in_ok-of_width.ensures.emits.sized
     c.in_err-alternatives.ensures.refused in
     search (rules, whole)
 
@@ -153,7 +149,7 @@ pub case-returns-in_err-emit-clause-refused : goal.case-returns-in_err-emit-clau
 case-returns-in_err-emit-clause-refused t c =
     let one = c.in_ok-of_width.ensures.emits.sized in
     let two = c.in_ok-alternatives.ensures.adds.emits.sized in
-    let whole = dropped_refused c.args.visible.now (ways_of c.args.leaving) c.args.self.now c.in_err-emit.field-0.0 c.args.place
+    let whole = dropped_refused c.args.visible.now c.args.self.now c.in_err-emit.field-0.0 c.args.place
     (expr_tree c.args.value.now) (alternative_trees c.args.alternatives.now) _ 1 (omega (arith, one, two)) (omega arith) c.in_err-emit.ensures.refused in
     search (rules, whole)
 
@@ -164,7 +160,7 @@ case-returns-clause-refused t c =
     let three = added_here _ _ _ _ c.in_ok-emit.ensures.adds in
     IfErr-weaker _ _ _
     (λ why r.
-    dropped_refused c.args.visible.now (ways_of c.args.leaving) c.args.self.now why c.args.place
+    dropped_refused c.args.visible.now c.args.self.now why c.args.place
     (expr_tree c.args.value.now) (alternative_trees c.args.alternatives.now) _ 0 (omega (arith, one, two, three)) (omega arith) r)
     c.rejoin.ensures.refused
 
@@ -172,65 +168,60 @@ case-returns-clause-refused t c =
 
 pub repeated-returns-in_err-head-in-Forever-clause-refused : goal.repeated-returns-in_err-head-in-Forever-clause-refused
 repeated-returns-in_err-head-in-Forever-clause-refused t c =
-    let whole = instruction_refuses c.args.visible.now (ways_of c.args.leaving) c.args.self.now c.in_err-head-in-Forever.field-0.0
+    let whole = instruction_refuses c.args.visible.now c.args.self.now c.in_err-head-in-Forever.field-0.0
     c.args.place (iteration_tree c.args.iteration.now) (stmt_trees c.args.body.now) _ 0 (omega arith) (omega arith) c.in_err-head-in-Forever.ensures.refused in
     search (rules, whole)
 
 pub repeated-returns-in_err-statements-in-Forever-clause-refused : goal.repeated-returns-in_err-statements-in-Forever-clause-refused
 repeated-returns-in_err-statements-in-Forever-clause-refused t c =
     let v = c.args.visible.now in
-    let w = ways_of c.args.leaving in
     let body = stmt_trees c.args.body.now in
     let why = c.in_err-statements-in-Forever.field-0.0 in
     let begun : Draft = record c.args.self.now { code = c.begin_loop.new.code } in
     let long = begun_here _ _ c.in_ok-head-in-Forever.ensures.begins in
-    let whole = subst (λ i. RefusesStatement v w c.args.self.now (Loop c.args.place (iteration_tree i) body) why) (sym c.in-Forever.is)
-    (forever_body v w c.args.self.now why c.args.place c.in_ok-head-in-Forever.head.exit body begun (refl, refl) refl (omega (arith, long))
-    (subst (λ x. RefusesStatements v x begun body why) c.in_loop.ensures c.in_err-statements-in-Forever.ensures.refused)) in
+    let whole = subst (λ i. RefusesStatement v c.args.self.now (Loop c.args.place (iteration_tree i) body) why) (sym c.in-Forever.is)
+    (forever_body v c.args.self.now why c.args.place body begun refl refl (omega (arith, long)) c.in_err-statements-in-Forever.ensures.refused) in
     search (rules, whole)
 
 pub repeated-returns-in_err-end_loop-in-Forever-clause-refused : goal.repeated-returns-in_err-end_loop-in-Forever-clause-refused
 repeated-returns-in_err-end_loop-in-Forever-clause-refused t c =
     let v = c.args.visible.now in
-    let w = ways_of c.args.leaving in
     let body = stmt_trees c.args.body.now in
     let why = c.in_err-end_loop-in-Forever.field-0.0 in
     let long = begun_here _ _ c.in_ok-head-in-Forever.ensures.begins in
     let second = c.in_ok-statements-in-Forever.ensures.emits.sized in
-    let whole = subst (λ i. RefusesStatement v w c.args.self.now (Loop c.args.place (iteration_tree i) body) why) (sym c.in-Forever.is)
-    (instruction_refuses v w c.args.self.now why c.args.place Forever body _ 0 (omega (arith, long, second)) (omega arith)
+    let whole = subst (λ i. RefusesStatement v c.args.self.now (Loop c.args.place (iteration_tree i) body) why) (sym c.in-Forever.is)
+    (instruction_refuses v c.args.self.now why c.args.place Forever body _ 0 (omega (arith, long, second)) (omega arith)
     c.in_err-end_loop-in-Forever.ensures.refused) in
     search (rules, whole)
 
 pub repeated-returns-in_err-head-in-While-clause-refused : goal.repeated-returns-in_err-head-in-While-clause-refused
 repeated-returns-in_err-head-in-While-clause-refused t c =
-    let whole = instruction_refuses c.args.visible.now (ways_of c.args.leaving) c.args.self.now c.in_err-head-in-While.field-0.0
+    let whole = instruction_refuses c.args.visible.now c.args.self.now c.in_err-head-in-While.field-0.0
     c.args.place (iteration_tree c.args.iteration.now) (stmt_trees c.args.body.now) _ 0 (omega arith) (omega arith) c.in_err-head-in-While.ensures.refused in
     search (rules, whole)
 
 pub repeated-returns-in_err-of_width-in-While-clause-refused : goal.repeated-returns-in_err-of_width-in-While-clause-refused
 repeated-returns-in_err-of_width-in-While-clause-refused t c =
     let v = c.args.visible.now in
-    let w = ways_of c.args.leaving in
     let body = stmt_trees c.args.body.now in
     let why = c.in_err-of_width-in-While.field-0.0 in
     let long = begun_here _ _ c.in_ok-head-in-While.ensures.begins in
-    let whole = subst (λ i. RefusesStatement v w c.args.self.now (Loop c.args.place (iteration_tree i) body) why) (sym c.in-While.is)
-    (while_condition_refused v w c.args.self.now why c.args.place (expr_tree c.in-While.condition) body c.begin_loop-in-While.new.code
+    let whole = subst (λ i. RefusesStatement v c.args.self.now (Loop c.args.place (iteration_tree i) body) why) (sym c.in-While.is)
+    (while_condition_refused v c.args.self.now why c.args.place (expr_tree c.in-While.condition) body c.begin_loop-in-While.new.code
     (omega (arith, long)) c.in_err-of_width-in-While.ensures.refused) in
     search (rules, whole)
 
 pub repeated-returns-in_err-test-in-While-clause-refused : goal.repeated-returns-in_err-test-in-While-clause-refused
 repeated-returns-in_err-test-in-While-clause-refused t c =
     let v = c.args.visible.now in
-    let w = ways_of c.args.leaving in
     let e = expr_tree c.in-While.condition in
     let body = stmt_trees c.args.body.now in
     let why = c.in_err-test-in-While.field-0.0 in
     let long = begun_here _ _ c.in_ok-head-in-While.ensures.begins in
     let first = c.in_ok-of_width-in-While.ensures.emits.sized in
-    let whole = subst (λ i. RefusesStatement v w c.args.self.now (Loop c.args.place (iteration_tree i) body) why) (sym c.in-While.is)
-    (instruction_refuses v w c.args.self.now why c.args.place (While e) body _ 1 (omega (arith, long, first))
+    let whole = subst (λ i. RefusesStatement v c.args.self.now (Loop c.args.place (iteration_tree i) body) why) (sym c.in-While.is)
+    (instruction_refuses v c.args.self.now why c.args.place (While e) body _ 1 (omega (arith, long, first))
     (let some = peak_some v.scope e in omega (arith, some))
     c.in_err-test-in-While.ensures.refused) in
     search (rules, whole)
@@ -238,24 +229,20 @@ repeated-returns-in_err-test-in-While-clause-refused t c =
 pub repeated-returns-in_err-statements-in-While-clause-refused : goal.repeated-returns-in_err-statements-in-While-clause-refused
 repeated-returns-in_err-statements-in-While-clause-refused t c =
     let v = c.args.visible.now in
-    let w = ways_of c.args.leaving in
     let body = stmt_trees c.args.body.now in
     let why = c.in_err-statements-in-While.field-0.0 in
     let jumped : Draft = record c.args.self.now { code = c.test.new.self } in
     let long = begun_here _ _ c.in_ok-head-in-While.ensures.begins in
     let first = c.in_ok-of_width-in-While.ensures.emits.sized in
     let jump = added_here _ _ _ _ c.in_ok-test-in-While.ensures.adds in
-    let whole = subst (λ i. RefusesStatement v w c.args.self.now (Loop c.args.place (iteration_tree i) body) why) (sym c.in-While.is)
-    (while_body_refused v w c.args.self.now why c.args.place (expr_tree c.in-While.condition) body
-    c.in_ok-head-in-While.head.exit jumped (refl, refl) refl (omega (arith, long, first, jump))
-    (subst (λ x. RefusesStatements v x jumped body why) c.in_loop-in-While.ensures
-    c.in_err-statements-in-While.ensures.refused)) in
+    let whole = subst (λ i. RefusesStatement v c.args.self.now (Loop c.args.place (iteration_tree i) body) why) (sym c.in-While.is)
+    (while_body_refused v c.args.self.now why c.args.place (expr_tree c.in-While.condition) body jumped refl refl (omega (arith, long, first, jump))
+    c.in_err-statements-in-While.ensures.refused) in
     search (rules, whole)
 
 pub repeated-returns-in_err-end-in-While-clause-refused : goal.repeated-returns-in_err-end-in-While-clause-refused
 repeated-returns-in_err-end-in-While-clause-refused t c =
     let v = c.args.visible.now in
-    let w = ways_of c.args.leaving in
     let e = expr_tree c.in-While.condition in
     let body = stmt_trees c.args.body.now in
     let why = c.in_err-end-in-While.field-0.0 in
@@ -263,23 +250,22 @@ repeated-returns-in_err-end-in-While-clause-refused t c =
     let first = c.in_ok-of_width-in-While.ensures.emits.sized in
     let jump = added_here _ _ _ _ c.in_ok-test-in-While.ensures.adds in
     let second = c.in_ok-statements-in-While.ensures.emits.sized in
-    let whole = subst (λ i. RefusesStatement v w c.args.self.now (Loop c.args.place (iteration_tree i) body) why) (sym c.in-While.is)
-    (instruction_refuses v w c.args.self.now why c.args.place (While e) body _ 0 (omega (arith, long, first, jump, second))
+    let whole = subst (λ i. RefusesStatement v c.args.self.now (Loop c.args.place (iteration_tree i) body) why) (sym c.in-While.is)
+    (instruction_refuses v c.args.self.now why c.args.place (While e) body _ 0 (omega (arith, long, first, jump, second))
     (omega arith) c.in_err-end-in-While.ensures.refused) in
     search (rules, whole)
 
 pub repeated-returns-in-For-clause-refused : goal.repeated-returns-in-For-clause-refused
 repeated-returns-in-For-clause-refused t c =
     let v = c.args.visible.now in
-    let w = ways_of c.args.leaving in
     let body = stmt_trees c.args.body.now in
     IfErr-weaker _ _ _
-    (λ why r. subst (λ i. RefusesStatement v w c.args.self.now (Loop c.args.place (iteration_tree i) body) why) (sym c.in-For.is) r)
+    (λ why r. subst (λ i. RefusesStatement v c.args.self.now (Loop c.args.place (iteration_tree i) body) why) (sym c.in-For.is) r)
     c.counted.ensures.refused
 
 pub counted-returns-in_err-head-clause-refused : goal.counted-returns-in_err-head-clause-refused
 counted-returns-in_err-head-clause-refused t c =
-    let whole = instruction_refuses c.args.visible.now (ways_of c.args.leaving) c.args.self.now c.in_err-head.field-0.0 c.args.place
+    let whole = instruction_refuses c.args.visible.now c.args.self.now c.in_err-head.field-0.0 c.args.place
     (For c.args.parameter.now c.args.reversed (range_tree c.args.range.now)) (stmt_trees c.args.body.now) _ 0 (omega arith) (omega arith)
     c.in_err-head.ensures.refused in
     search (rules, whole)
@@ -288,7 +274,7 @@ pub counted-returns-in_err-turns-clause-refused : goal.counted-returns-in_err-tu
 counted-returns-in_err-turns-clause-refused t c =
     let begun : Draft = record c.args.self.now { code = c.begin_loop.new.code } in
     let long = begun_here _ _ c.in_ok-head.ensures.begins in
-    let whole = range_refused c.args.visible.now (ways_of c.args.leaving) c.args.self.now c.in_err-turns.field-0.0 c.args.place
+    let whole = range_refused c.args.visible.now c.args.self.now c.in_err-turns.field-0.0 c.args.place
     c.args.parameter.now c.args.reversed (range_tree c.args.range.now) (stmt_trees c.args.body.now) begun refl (omega (arith, long))
     c.in_err-turns.ensures.refused in
     search (rules, whole)
@@ -297,7 +283,7 @@ pub counted-returns-in_err-turn-clause-refused : goal.counted-returns-in_err-tur
 counted-returns-in_err-turn-clause-refused t c =
     let long = begun_here _ _ c.in_ok-head.ensures.begins in
     let range = range_here _ _ _ _ _ _ _ _ _ c.in_ok-turns.ensures.begins in
-    let whole = instruction_refuses c.args.visible.now (ways_of c.args.leaving) c.args.self.now c.in_err-turn.field-0.0 c.args.place
+    let whole = instruction_refuses c.args.visible.now c.args.self.now c.in_err-turn.field-0.0 c.args.place
     (For c.args.parameter.now c.args.reversed (range_tree c.args.range.now)) (stmt_trees c.args.body.now) _ 0 (omega (arith, long, range)) (omega arith)
     c.in_err-turn.ensures.refused in
     search (rules, whole)
@@ -305,16 +291,13 @@ counted-returns-in_err-turn-clause-refused t c =
 pub counted-returns-in_err-statements-clause-refused : goal.counted-returns-in_err-statements-clause-refused
 counted-returns-in_err-statements-clause-refused t c =
     let v = c.args.visible.now in
-    let w = ways_of c.args.leaving in
     let body = stmt_trees c.args.body.now in
     let why = c.in_err-statements.field-0.0 in
     let long = begun_here _ _ c.in_ok-head.ensures.begins in
     let range = range_here _ _ _ _ _ _ _ _ _ c.in_ok-turns.ensures.begins in
-    let whole = counted_body v w c.args.self.now why c.args.place c.args.parameter.now c.args.reversed (range_tree c.args.range.now) body
-    c.in_ok-head.head.exit c.begin_range.new.visible c.begin_range.new.self (range_seen _ _ _ _ _ _ _ _ _ c.in_ok-turns.ensures.begins)
-    c.in_ok-turns.ensures.begins.takes.taken c.in_ok-turns.ensures.begins.exceptions c.in_ok-turns.ensures.stays.labels (omega (arith, long, range))
-    (subst (λ x. RefusesStatements c.begin_range.new.visible x c.begin_range.new.self body why) c.in_loop.ensures
-    c.in_err-statements.ensures.refused) in
+    let whole = counted_body v c.args.self.now why c.args.place c.args.parameter.now c.args.reversed (range_tree c.args.range.now) body
+    c.begin_range.new.visible c.begin_range.new.self (range_seen _ _ _ _ _ _ _ _ _ c.in_ok-turns.ensures.begins)
+    c.in_ok-turns.ensures.begins.takes.taken c.in_ok-turns.ensures.stays.labels (omega (arith, long, range)) c.in_err-statements.ensures.refused in
     search (rules, whole)
 
 pub counted-returns-in_err-last-clause-refused : goal.counted-returns-in_err-last-clause-refused
@@ -327,10 +310,10 @@ counted-returns-in_err-last-clause-refused t c =
     let bounds = range_here _ _ _ _ _ _ _ _ _ began in
     let turned = c.in_ok-statements.ensures.emits.sized in
     let seen = ap (λ s. stmts_bound s body) began.scope in
-    let whole = instruction_refuses v (ways_of c.args.leaving) c.args.self.now c.in_err-last.field-0.0 c.args.place
-    (For c.args.parameter.now c.args.reversed range) body _ 2 (omega (arith, long, bounds, turned, seen)) (range_two (around v (ways_of c.args.leaving) c.args.self.now) c.args.parameter.now c.args.reversed range)
+    let whole = instruction_refuses v c.args.self.now c.in_err-last.field-0.0 c.args.place
+    (For c.args.parameter.now c.args.reversed range) body _ 2 (omega (arith, long, bounds, turned, seen)) (range_two (around v c.args.self.now) c.args.parameter.now c.args.reversed range)
     c.in_err-last.ensures.refused in
-    search (rules, whole)
+    search (rules, whole, c.from_residual-in_err-last.ensures)
 
 pub counted-returns-in_err-end-clause-refused : goal.counted-returns-in_err-end-clause-refused
 counted-returns-in_err-end-clause-refused t c =
@@ -343,7 +326,7 @@ counted-returns-in_err-end-clause-refused t c =
     let turned = c.in_ok-statements.ensures.emits.sized in
     let seen = ap (λ s. stmts_bound s body) began.scope in
     let ended = turn_here _ _ _ _ c.in_ok-last.ensures.ends in
-    let whole = instruction_refuses v (ways_of c.args.leaving) c.args.self.now c.in_err-end.field-0.0 c.args.place
+    let whole = instruction_refuses v c.args.self.now c.in_err-end.field-0.0 c.args.place
     (For c.args.parameter.now c.args.reversed range) body _ 0 (omega (arith, long, bounds, turned, seen, ended)) (omega arith)
     c.in_err-end.ensures.refused in
     search (rules, whole)
@@ -352,16 +335,16 @@ counted-returns-in_err-end-clause-refused t c =
 
 pub block-returns-in_err-declarations-clause-refused : goal.block-returns-in_err-declarations-clause-refused
 block-returns-in_err-declarations-clause-refused t c =
-    let whole = locals_refused c.args.visible.now (ways_of c.args.leaving) c.args.self.now c.in_err-declarations.field-0.0 c.args.place
+    let whole = locals_refused c.args.visible.now c.args.self.now c.in_err-declarations.field-0.0 c.args.place
     (map declaration_tree c.args.declarations.now) (stmt_trees c.args.body.now) c.in_err-declarations.ensures.refused in
     search (rules, whole)
 
 pub block-returns-in_err-statements-clause-refused : goal.block-returns-in_err-statements-clause-refused
 block-returns-in_err-statements-clause-refused t c =
     let declared = c.in_ok-declarations.ensures.emits in
-    let whole = block_body_refused c.args.visible.now (ways_of c.args.leaving) c.args.self.now c.in_err-statements.field-0.0 c.args.place
+    let whole = block_body_refused c.args.visible.now c.args.self.now c.in_err-statements.field-0.0 c.args.place
     (map declaration_tree c.args.declarations.now) (stmt_trees c.args.body.now) c.declarations.new.visible c.declarations.new.self
-    c.in_ok-declarations.ensures.shown declared.scope c.in_ok-declarations.ensures.taken declared.exceptions c.in_ok-declarations.ensures.stays.labels declared.sized
+    c.in_ok-declarations.ensures.shown declared.scope c.in_ok-declarations.ensures.taken c.in_ok-declarations.ensures.stays.labels declared.sized
     c.in_err-statements.ensures.refused in
     search (rules, whole)
 
@@ -370,14 +353,13 @@ block-returns-in_err-statements-clause-refused t c =
 pub statement-returns-in_err-branch-in-If-clause-refused : goal.statement-returns-in_err-branch-in-If-clause-refused
 statement-returns-in_err-branch-in-If-clause-refused t c =
     let v = c.args.visible.now in
-    let w = ways_of c.args.leaving in
     let why = c.in_err-branch-in-If.field-0.0 in
     let tree = ap stmt_tree c.in-If.is
     ∙ c.statements_by_parts.ensures.ifs c.in-If.field-0 c.in-If.condition c.in-If.body c.in-If.elsifs c.in-If.others in
-    let whole = subst (λ x. RefusesStatement v w c.args.self.now x why) (sym tree)
-    (first_refuses v w c.args.self.now why c.in-If.field-0 (expr_tree c.in-If.condition) (stmt_trees c.in-If.body.items)
+    let whole = subst (λ x. RefusesStatement v c.args.self.now x why) (sym tree)
+    (first_refuses v c.args.self.now why c.in-If.field-0 (expr_tree c.in-If.condition) (stmt_trees c.in-If.body.items)
     (elsif_trees c.in-If.elsifs.items) (stmt_trees c.in-If.others.items)
-    (subst (λ l. RefusesParts v w c.args.self.now (elsifs_of ((expr_tree c.in-If.condition, stmt_trees l) ∷ [])) why) c.deref.ensures.value
+    (subst (λ l. RefusesParts v c.args.self.now (elsifs_of ((expr_tree c.in-If.condition, stmt_trees l) ∷ [])) why) c.deref.ensures.value
     c.in_err-branch-in-If.ensures.refused)) in
     search (rules, whole)
 
@@ -390,14 +372,14 @@ statement-returns-in_err-elsifs-in-If-clause-refused t c =
     ∙ c.statements_by_parts.ensures.ifs c.in-If.field-0 c.in-If.condition c.in-If.body c.in-If.elsifs c.in-If.others in
     let first = subst (λ l. AddsParts v w c.args.self.now ((expr_tree c.in-If.condition, stmt_trees l) ∷ []) c.new-waiting.result.items
     c.branch-self.new.waiting.items c.branch-self.new.self) c.deref.ensures.value c.in_ok-branch-in-If.ensures.adds in
-    let kept = subst (λ l. StaysParts v w c.args.self.now (elsifs_of ((expr_tree c.in-If.condition, stmt_trees l) ∷ [])) c.branch-self.new.self)
+    let kept = subst (λ l. StaysParts v c.args.self.now (elsifs_of ((expr_tree c.in-If.condition, stmt_trees l) ∷ [])) c.branch-self.new.self)
     c.deref.ensures.value c.in_ok-branch-in-If.ensures.stays in
-    let whole = subst (λ x. RefusesStatement v w c.args.self.now x why) (sym tree)
-    (elsifs_refuse v w c.args.self.now why c.in-If.field-0 (expr_tree c.in-If.condition) (stmt_trees c.in-If.body.items)
+    let whole = subst (λ x. RefusesStatement v c.args.self.now x why) (sym tree)
+    (elsifs_refuse v c.args.self.now why c.in-If.field-0 (expr_tree c.in-If.condition) (stmt_trees c.in-If.body.items)
     (elsif_trees c.in-If.elsifs.items) (stmt_trees c.in-If.others.items) c.branch-self.new.self
-    (first.emits.taken, first.emits.rows.exceptions) kept.labels first.emits.sized
-    (subst (λ x. RefusesParts x w c.branch-self.new.self (elsif_trees c.in-If.elsifs.items) why) c.in_ok-branch-in-If.ensures.same
-    (subst (λ l. RefusesParts c.branch-self.new.visible w c.branch-self.new.self (elsif_trees l) why) c.deref-in-If.ensures.value
+    first.emits.taken kept.labels first.emits.sized
+    (subst (λ x. RefusesParts x c.branch-self.new.self (elsif_trees c.in-If.elsifs.items) why) c.in_ok-branch-in-If.ensures.same
+    (subst (λ l. RefusesParts c.branch-self.new.visible c.branch-self.new.self (elsif_trees l) why) c.deref-in-If.ensures.value
     c.in_err-elsifs-in-If.ensures.refused))) in
     search (rules, whole)
 
@@ -417,19 +399,19 @@ statement-returns-in_err-statements-in-If-clause-refused t c =
     c.elsifs.new.self) c.deref-in-If.ensures.value c.in_ok-elsifs-in-If.ensures.adds) in
     let up = first.emits.sized in
     let more = others.emits.sized in
-    let kept = subst (λ l. StaysParts v w c.args.self.now (elsifs_of ((expr_tree c.in-If.condition, stmt_trees l) ∷ [])) c.branch-self.new.self)
+    let kept = subst (λ l. StaysParts v c.args.self.now (elsifs_of ((expr_tree c.in-If.condition, stmt_trees l) ∷ [])) c.branch-self.new.self)
     c.deref.ensures.value c.in_ok-branch-in-If.ensures.stays in
-    let kept_others = subst (λ x. StaysParts x w c.branch-self.new.self (elsif_trees c.in-If.elsifs.items) c.elsifs.new.self) one
-    (subst (λ l. StaysParts c.branch-self.new.visible w c.branch-self.new.self (elsif_trees l) c.elsifs.new.self) c.deref-in-If.ensures.value
+    let kept_others = subst (λ x. StaysParts x c.branch-self.new.self (elsif_trees c.in-If.elsifs.items) c.elsifs.new.self) one
+    (subst (λ l. StaysParts c.branch-self.new.visible c.branch-self.new.self (elsif_trees l) c.elsifs.new.self) c.deref-in-If.ensures.value
     c.in_ok-elsifs-in-If.ensures.stays) in
     let labels = kept_others.labels ∙ ap (λ l. elsifs_labels l (elsif_trees c.in-If.elsifs.items)) kept.labels in
-    let whole = subst (λ x. RefusesStatement v w c.args.self.now x why) (sym tree)
-    (others_refuse v w c.args.self.now why c.in-If.field-0 (expr_tree c.in-If.condition) (stmt_trees c.in-If.body.items)
+    let whole = subst (λ x. RefusesStatement v c.args.self.now x why) (sym tree)
+    (others_refuse v c.args.self.now why c.in-If.field-0 (expr_tree c.in-If.condition) (stmt_trees c.in-If.body.items)
     (elsif_trees c.in-If.elsifs.items) (stmt_trees c.in-If.others.items) c.elsifs.new.self
-    (others.emits.taken ∙ first.emits.taken, others.emits.rows.exceptions ∙ first.emits.rows.exceptions) labels
+    (others.emits.taken ∙ first.emits.taken) labels
     (omega (arith, up, more))
-    (subst (λ x. RefusesStatements x w c.elsifs.new.self (stmt_trees c.in-If.others.items) why) (c.in_ok-elsifs-in-If.ensures.same ∙ one)
-    (subst (λ l. RefusesStatements c.elsifs.new.visible w c.elsifs.new.self (stmt_trees l) why) c.deref-in-If-2.ensures.value
+    (subst (λ x. RefusesStatements x c.elsifs.new.self (stmt_trees c.in-If.others.items) why) (c.in_ok-elsifs-in-If.ensures.same ∙ one)
+    (subst (λ l. RefusesStatements c.elsifs.new.visible c.elsifs.new.self (stmt_trees l) why) c.deref-in-If-2.ensures.value
     c.in_err-statements-in-If.ensures.refused))) in
     search (rules, whole)
 
@@ -455,93 +437,69 @@ statement-returns-in_ok-statements-in-If-clause-refused t c =
     let end = last.sized in
     IfErr-weaker _ _ _
     (λ why r.
-    subst (λ x. RefusesStatement v w c.args.self.now x why) (sym tree)
-    (rejoin_refuses v w c.args.self.now why c.in-If.field-0 (expr_tree c.in-If.condition) (stmt_trees c.in-If.body.items)
+    subst (λ x. RefusesStatement v c.args.self.now x why) (sym tree)
+    (rejoin_refuses v c.args.self.now why c.in-If.field-0 (expr_tree c.in-If.condition) (stmt_trees c.in-If.body.items)
     (elsif_trees c.in-If.elsifs.items) (stmt_trees c.in-If.others.items) c.statements.new.self.code (omega (arith, up, more, end)) r))
     c.rejoin.ensures.refused
 
 pub statement-returns-in-Case-clause-refused : goal.statement-returns-in-Case-clause-refused
 statement-returns-in-Case-clause-refused t c =
     let v = c.args.visible.now in
-    let w = ways_of c.args.leaving in
     let e = expr_tree c.in-Case.value in
     let tree = ap stmt_tree c.in-Case.is ∙ c.statements_by_parts.ensures.cases c.in-Case.place c.in-Case.value c.in-Case.all in
     IfErr-weaker _ _ _
     (λ why r.
-    subst (λ x. RefusesStatement v w c.args.self.now x why) (sym tree)
-    (subst (λ l. RefusesStatement v w c.args.self.now (Case c.in-Case.place e (alternative_trees l)) why) c.deref-in-Case.ensures.value r))
+    subst (λ x. RefusesStatement v c.args.self.now x why) (sym tree)
+    (subst (λ l. RefusesStatement v c.args.self.now (Case c.in-Case.place e (alternative_trees l)) why) c.deref-in-Case.ensures.value r))
     c.case.ensures.refused
 
 pub statement-returns-in-Loop-clause-refused : goal.statement-returns-in-Loop-clause-refused
 statement-returns-in-Loop-clause-refused t c =
     let v = c.args.visible.now in
-    let w = ways_of c.args.leaving in
     let tree = ap stmt_tree c.in-Loop.is ∙ c.statements_by_parts.ensures.loops c.in-Loop.place c.in-Loop.iteration c.in-Loop.body in
     IfErr-weaker _ _ _
     (λ why r.
-    subst (λ x. RefusesStatement v w c.args.self.now x why) (sym tree)
-    (subst (λ l. RefusesStatement v w c.args.self.now (Loop c.in-Loop.place (iteration_tree c.in-Loop.iteration) (stmt_trees l)) why)
+    subst (λ x. RefusesStatement v c.args.self.now x why) (sym tree)
+    (subst (λ l. RefusesStatement v c.args.self.now (Loop c.in-Loop.place (iteration_tree c.in-Loop.iteration) (stmt_trees l)) why)
     c.deref-in-Loop.ensures.value r))
     c.repeated.ensures.refused
 
 pub statement-returns-then-is_empty-clause-refused : goal.statement-returns-then-is_empty-clause-refused
 statement-returns-then-is_empty-clause-refused t c =
     let v = c.args.visible.now in
-    let w = ways_of c.args.leaving in
     let no_handlers : c.in-Block.handlers.items ≡ [] = none_there c.in-Block.handlers.items (search rules) in
     let tree = ap stmt_tree c.in-Block.is
     ∙ c.statements_by_parts.ensures.blocks c.in-Block.place c.in-Block.declarations c.in-Block.body c.in-Block.handlers
     ∙ ap (λ l. Block c.in-Block.place (map declaration_tree c.in-Block.declarations.items) (stmt_trees c.in-Block.body.items) (handler_trees l)) no_handlers in
     IfErr-weaker _ _ _
     (λ why r.
-    subst (λ x. RefusesStatement v w c.args.self.now x why) (sym tree)
-    (subst (λ l. RefusesStatement v w c.args.self.now
+    subst (λ x. RefusesStatement v c.args.self.now x why) (sym tree)
+    (subst (λ l. RefusesStatement v c.args.self.now
     (Block c.in-Block.place (map declaration_tree c.in-Block.declarations.items) (stmt_trees l) NoHandlers) why)
     c.deref-then-is_empty.ensures.value
-    (subst (λ l. RefusesStatement v w c.args.self.now (Block c.in-Block.place (map declaration_tree l) (stmt_trees c.deref-then-is_empty.result.now) NoHandlers)
+    (subst (λ l. RefusesStatement v c.args.self.now (Block c.in-Block.place (map declaration_tree l) (stmt_trees c.deref-then-is_empty.result.now) NoHandlers)
     why) c.deref-then-is_empty-2.ensures.value r)))
     c.block.ensures.refused
 
 pub statements-returns-in_err-statement-clause-refused : goal.statements-returns-in_err-statement-clause-refused
 statements-returns-in_err-statement-clause-refused t c =
     let v = c.args.visible.now in
-    let w = ways_of c.args.leaving in
     let why = c.in_err-statement.field-0.0 in
     let before = c.loop-statement.invariant.0 in
-    let whole = statement_refuses v w c.args.self.now why c.loop-statement.self c.args.all.now _ c.statement-item.result
-    c.loop-statement-test.true c.statement-item.is (before.taken, before.rows.exceptions) c.loop-statement.invariant.2.labels before.sized
-    (subst (λ x. RefusesStatement x w c.loop-statement.self (stmt_tree c.statement-item.result) why) c.loop-statement.invariant.1
+    let whole = statement_refuses v c.args.self.now why c.loop-statement.self c.args.all.now _ c.statement-item.result
+    c.loop-statement-test.true c.statement-item.is before.taken c.loop-statement.invariant.2.labels before.sized
+    (subst (λ x. RefusesStatement x c.loop-statement.self (stmt_tree c.statement-item.result) why) c.loop-statement.invariant.1
     c.in_err-statement.ensures.refused) in
     search (rules, whole)
 
 pub statement-returns-in-Raise-clause-refused : goal.statement-returns-in-Raise-clause-refused
 statement-returns-in-Raise-clause-refused t c =
     IfErr-weaker _ _ _
-    (λ why r. subst (λ x. RefusesStatement c.args.visible.now (ways_of c.args.leaving) c.args.self.now x why) (sym (ap stmt_tree c.in-Raise.is)) r)
+    (λ why r. subst (λ x. RefusesStatement c.args.visible.now c.args.self.now x why) (sym (ap stmt_tree c.in-Raise.is)) r)
     c.raise.ensures.refused
-
-pub statement-returns-in-Delay-clause-refused : goal.statement-returns-in-Delay-clause-refused
-statement-returns-in-Delay-clause-refused t c =
-    subst (λ x. RefusesStatement c.args.visible.now (ways_of c.args.leaving) c.args.self.now x refusal.Outside) (sym (ap stmt_tree c.in-Delay.is)) (inl refl)
 
 pub statement-returns-in-DelayUntil-clause-refused : goal.statement-returns-in-DelayUntil-clause-refused
 statement-returns-in-DelayUntil-clause-refused t c =
     IfErr-weaker _ _ _
-    (λ why r. subst (λ x. RefusesStatement c.args.visible.now (ways_of c.args.leaving) c.args.self.now x why) (sym (ap stmt_tree c.in-DelayUntil.is)) r)
+    (λ why r. subst (λ x. RefusesStatement c.args.visible.now c.args.self.now x why) (sym (ap stmt_tree c.in-DelayUntil.is)) r)
     c.delay_until.ensures.refused
-
-pub statement-returns-in-Abort-clause-refused : goal.statement-returns-in-Abort-clause-refused
-statement-returns-in-Abort-clause-refused t c =
-    subst (λ x. RefusesStatement c.args.visible.now (ways_of c.args.leaving) c.args.self.now x refusal.Outside) (sym (ap stmt_tree c.in-Abort.is)) (inl refl)
-
-pub statement-returns-in-Requeue-clause-refused : goal.statement-returns-in-Requeue-clause-refused
-statement-returns-in-Requeue-clause-refused t c =
-    subst (λ x. RefusesStatement c.args.visible.now (ways_of c.args.leaving) c.args.self.now x refusal.Outside) (sym (ap stmt_tree c.in-Requeue.is)) (inl refl)
-
-pub statement-returns-in-Accept-clause-refused : goal.statement-returns-in-Accept-clause-refused
-statement-returns-in-Accept-clause-refused t c =
-    subst (λ x. RefusesStatement c.args.visible.now (ways_of c.args.leaving) c.args.self.now x refusal.Outside) (sym (ap stmt_tree c.in-Accept.is)) (inl refl)
-
-pub statement-returns-in-Select-clause-refused : goal.statement-returns-in-Select-clause-refused
-statement-returns-in-Select-clause-refused t c =
-    subst (λ x. RefusesStatement c.args.visible.now (ways_of c.args.leaving) c.args.self.now x refusal.Outside) (sym (ap stmt_tree c.in-Select.is)) (inl refl)

@@ -20,7 +20,7 @@ pub branch-returns-clause-stays : goal.branch-returns-clause-stays
 branch-returns-clause-stays t c =
     on_ok_weaker _
     (λ k.
-    branch_stays c.args.visible.now (ways_of c.args.leaving) c.args.self.now (expr_tree c.args.condition.now) (stmt_trees c.args.body.now) c.of_width.new.self
+    branch_stays c.args.visible.now c.args.self.now (expr_tree c.args.condition.now) (stmt_trees c.args.body.now) c.of_width.new.self
     c.test.new.self c.statements.new.self c.close.new.self c.in_ok-of_width.ensures.shallow c.in_ok-test.ensures.adds.shallow
     c.in_ok-statements.ensures.stays (closed_shallow _ _ _ _ _ _ k))
     c.close.ensures.closes
@@ -28,14 +28,13 @@ branch-returns-clause-stays t c =
 pub alternative-returns-clause-stays : goal.alternative-returns-clause-stays
 alternative-returns-clause-stays t c =
     let v = c.args.visible.now in
-    let w = ways_of c.args.leaving in
     let a = c.args.alternative.now in
     let chosen : Draft = record c.args.self.now { code = c.add_choices.new.code } in
     on_ok_weaker _
     (λ r.
-    alternative_stays v w c.args.self.now a.place (choices_tree a.choices) (stmt_trees a.statements.items) c.add_choices.new.code c.statements.new.self
+    alternative_stays v c.args.self.now a.place (choices_tree a.choices) (stmt_trees a.statements.items) c.add_choices.new.code c.statements.new.self
     c.emit.new.self c.rejoin.new.self (choices_shallow _ _ _ _ _ c.in_ok-next.ensures.adds)
-    (subst (λ l. StaysStatements v w chosen (stmt_trees l) c.statements.new.self) c.deref.ensures.value c.in_ok-statements.ensures.stays)
+    (subst (λ l. StaysStatements v chosen (stmt_trees l) c.statements.new.self) c.deref.ensures.value c.in_ok-statements.ensures.stays)
     c.in_ok-emit.ensures.adds.shallow r.deepest)
     c.rejoin.ensures.rejoins
 
@@ -43,7 +42,7 @@ pub case-returns-clause-stays : goal.case-returns-clause-stays
 case-returns-clause-stays t c =
     on_ok_weaker _
     (λ r.
-    case_stays c.args.visible.now (ways_of c.args.leaving) c.args.self.now c.args.place (expr_tree c.args.value.now)
+    case_stays c.args.visible.now c.args.self.now c.args.place (expr_tree c.args.value.now)
     (alternative_trees c.args.alternatives.now) c.of_width.new.self c.alternatives.new.self c.emit.new.self c.rejoin.new.self
     c.in_ok-of_width.ensures.shallow c.in_ok-alternatives.ensures.stays c.in_ok-emit.ensures.adds.shallow r.deepest)
     c.rejoin.ensures.rejoins
@@ -51,63 +50,54 @@ case-returns-clause-stays t c =
 pub repeated-returns-in_ok-end_loop-in-Forever-clause-stays : goal.repeated-returns-in_ok-end_loop-in-Forever-clause-stays
 repeated-returns-in_ok-end_loop-in-Forever-clause-stays t c =
     let v = c.args.visible.now in
-    let w = ways_of c.args.leaving in
     let body = stmt_trees c.args.body.now in
-    let begun : Draft = record c.args.self.now { code = c.begin_loop.new.code } in
     let ended : Draft = record c.statements.new.self { code = c.end_loop.new.code } in
-    subst (λ i. StaysStatement v w c.args.self.now (Loop c.args.place (iteration_tree i) body) ended) (sym c.in-Forever.is)
-    (forever_stays v w c.args.self.now c.args.place c.in_ok-head-in-Forever.head.exit body c.begin_loop.new.code c.statements.new.self c.end_loop.new.code
-    (begun_shallow _ _ c.in_ok-head-in-Forever.ensures.begins)
-    (subst (λ x. StaysStatements v x begun body c.statements.new.self) c.in_loop.ensures c.in_ok-statements-in-Forever.ensures.stays)
+    subst (λ i. StaysStatement v c.args.self.now (Loop c.args.place (iteration_tree i) body) ended) (sym c.in-Forever.is)
+    (forever_stays v c.args.self.now c.args.place body c.begin_loop.new.code c.statements.new.self c.end_loop.new.code
+    (begun_shallow _ _ c.in_ok-head-in-Forever.ensures.begins) c.in_ok-statements-in-Forever.ensures.stays
     (ended_shallow _ _ _ _ c.in_ok-end_loop-in-Forever.ensures.ends))
 
 pub repeated-returns-in_ok-end-in-While-clause-stays : goal.repeated-returns-in_ok-end-in-While-clause-stays
 repeated-returns-in_ok-end-in-While-clause-stays t c =
     let v = c.args.visible.now in
-    let w = ways_of c.args.leaving in
     let body = stmt_trees c.args.body.now in
-    let jumped : Draft = record c.args.self.now { code = c.test.new.self } in
     let whole : Draft = record c.statements-in-While.new.self { code = c.patch.new.self } in
-    subst (λ i. StaysStatement v w c.args.self.now (Loop c.args.place (iteration_tree i) body) whole) (sym c.in-While.is)
-    (while_stays v w c.args.self.now c.args.place c.in_ok-head-in-While.head.exit (expr_tree c.in-While.condition) body c.begin_loop-in-While.new.code
+    subst (λ i. StaysStatement v c.args.self.now (Loop c.args.place (iteration_tree i) body) whole) (sym c.in-While.is)
+    (while_stays v c.args.self.now c.args.place (expr_tree c.in-While.condition) body c.begin_loop-in-While.new.code
     c.of_width.new.self c.test.new.self c.statements-in-While.new.self c.end_loop-in-While.new.code c.patch.new.self
     (begun_shallow _ _ c.in_ok-head-in-While.ensures.begins) c.in_ok-of_width-in-While.ensures.shallow c.in_ok-test-in-While.ensures.adds.shallow
-    (subst (λ x. StaysStatements v x jumped body c.statements-in-While.new.self) c.in_loop-in-While.ensures c.in_ok-statements-in-While.ensures.stays)
+    c.in_ok-statements-in-While.ensures.stays
     (ended_shallow _ _ _ _ c.in_ok-end-in-While.ensures.ends) c.patch.ensures.patches.deepest)
 
 pub repeated-returns-in-For-clause-stays : goal.repeated-returns-in-For-clause-stays
 repeated-returns-in-For-clause-stays t c =
     let v = c.args.visible.now in
-    let w = ways_of c.args.leaving in
     let body = stmt_trees c.args.body.now in
-    on_ok_weaker _ (λ p. subst (λ i. StaysStatement v w c.args.self.now (Loop c.args.place (iteration_tree i) body) c.counted.new.self) (sym c.in-For.is) p)
+    on_ok_weaker _ (λ p. subst (λ i. StaysStatement v c.args.self.now (Loop c.args.place (iteration_tree i) body) c.counted.new.self) (sym c.in-For.is) p)
     c.counted.ensures.stays
 
 pub counted-returns-clause-stays : goal.counted-returns-clause-stays
 counted-returns-clause-stays t c =
     let v = c.args.visible.now in
-    let w = ways_of c.args.leaving in
     let body = stmt_trees c.args.body.now in
     let began = c.in_ok-turns.ensures.begins in
     let words = c.restore.ensures.words ∙ ap (λ n. record c.statements.new.self.words { taken = n }) c.of-extent.ensures.taken in
     stays_words c.args.self.now _ _ (record c.statements.new.self { code = c.patch-2.new.self }) _ words
-    (counted_stays v w c.args.self.now c.args.place c.args.parameter.now c.args.reversed (range_tree c.args.range.now) body c.in_ok-head.head.exit
+    (counted_stays v c.args.self.now c.args.place c.args.parameter.now c.args.reversed (range_tree c.args.range.now) body
     c.begin_range.new.visible c.begin_loop.new.code c.begin_range.new.self c.statements.new.self c.end_turn.new.code c.end_loop.new.code c.patch.new.self
-    c.patch-2.new.self (range_seen _ _ _ _ _ _ _ _ _ began) began.takes.taken began.exceptions (begun_shallow _ _ c.in_ok-head.ensures.begins)
+    c.patch-2.new.self (range_seen _ _ _ _ _ _ _ _ _ began) began.takes.taken (begun_shallow _ _ c.in_ok-head.ensures.begins)
     c.in_ok-turns.ensures.stays
-    (subst (λ x. StaysStatements c.begin_range.new.visible x c.begin_range.new.self body c.statements.new.self) c.in_loop.ensures
-    c.in_ok-statements.ensures.stays)
+    c.in_ok-statements.ensures.stays
     (turn_shallow _ _ _ _ c.in_ok-last.ensures.ends) (ended_shallow _ _ _ _ c.in_ok-end.ensures.ends) c.patch.ensures.patches.deepest
     c.patch-2.ensures.patches.deepest)
 
 pub block-returns-clause-stays : goal.block-returns-clause-stays
 block-returns-clause-stays t c =
-    let declared = c.in_ok-declarations.ensures.emits in
     let words = c.restore.ensures.words ∙ ap (λ n. record c.statements.new.self.words { taken = n }) c.of-extent.ensures.taken in
     stays_words c.args.self.now _ _ c.statements.new.self _ words
-    (block_stays c.args.visible.now (ways_of c.args.leaving) c.args.self.now c.args.place (map declaration_tree c.args.declarations.now)
+    (block_stays c.args.visible.now c.args.self.now c.args.place (map declaration_tree c.args.declarations.now)
     (stmt_trees c.args.body.now) c.declarations.new.visible c.declarations.new.self c.statements.new.self c.in_ok-declarations.ensures.shown
-    c.in_ok-declarations.ensures.taken declared.exceptions c.in_ok-declarations.ensures.stays c.in_ok-statements.ensures.stays)
+    c.in_ok-declarations.ensures.taken c.in_ok-declarations.ensures.stays c.in_ok-statements.ensures.stays)
 
 pub statement-returns-in_ok-statements-in-If-clause-stays : goal.statement-returns-in_ok-statements-in-If-clause-stays
 statement-returns-in_ok-statements-in-If-clause-stays t c =
@@ -124,88 +114,84 @@ statement-returns-in_ok-statements-in-If-clause-stays t c =
     c.elsifs.new.self) one
     (subst (λ l. AddsParts c.branch-self.new.visible w c.branch-self.new.self (map elsif_tree l) c.branch-self.new.waiting.items c.elsifs.new.waiting.items
     c.elsifs.new.self) c.deref-in-If.ensures.value c.in_ok-elsifs-in-If.ensures.adds) in
-    let kept = subst (λ l. StaysParts v w c.args.self.now (elsifs_of ((expr_tree c.in-If.condition, stmt_trees l) ∷ [])) c.branch-self.new.self)
+    let kept = subst (λ l. StaysParts v c.args.self.now (elsifs_of ((expr_tree c.in-If.condition, stmt_trees l) ∷ [])) c.branch-self.new.self)
     c.deref.ensures.value c.in_ok-branch-in-If.ensures.stays in
-    let kept_others = subst (λ x. StaysParts x w c.branch-self.new.self (elsif_trees c.in-If.elsifs.items) c.elsifs.new.self) one
-    (subst (λ l. StaysParts c.branch-self.new.visible w c.branch-self.new.self (elsif_trees l) c.elsifs.new.self) c.deref-in-If.ensures.value
+    let kept_others = subst (λ x. StaysParts x c.branch-self.new.self (elsif_trees c.in-If.elsifs.items) c.elsifs.new.self) one
+    (subst (λ l. StaysParts c.branch-self.new.visible c.branch-self.new.self (elsif_trees l) c.elsifs.new.self) c.deref-in-If.ensures.value
     c.in_ok-elsifs-in-If.ensures.stays) in
-    let last = subst (λ x. StaysStatements x w c.elsifs.new.self (stmt_trees c.in-If.others.items) c.statements.new.self) two
-    (subst (λ l. StaysStatements c.elsifs.new.visible w c.elsifs.new.self (stmt_trees l) c.statements.new.self) c.deref-in-If-2.ensures.value
+    let last = subst (λ x. StaysStatements x c.elsifs.new.self (stmt_trees c.in-If.others.items) c.statements.new.self) two
+    (subst (λ l. StaysStatements c.elsifs.new.visible c.elsifs.new.self (stmt_trees l) c.statements.new.self) c.deref-in-If-2.ensures.value
     c.in_ok-statements-in-If.ensures.stays) in
     on_ok_weaker _
     (λ r.
-    subst (λ x. StaysStatement v w c.args.self.now x
+    subst (λ x. StaysStatement v c.args.self.now x
     (record c.statements.new.self { code = c.rejoin.new.self }))
     (sym tree)
-    (if_stays v w c.args.self.now c.in-If.field-0 (expr_tree c.in-If.condition) (stmt_trees c.in-If.body.items) (elsif_trees c.in-If.elsifs.items)
+    (if_stays v c.args.self.now c.in-If.field-0 (expr_tree c.in-If.condition) (stmt_trees c.in-If.body.items) (elsif_trees c.in-If.elsifs.items)
     (stmt_trees c.in-If.others.items) c.branch-self.new.self c.elsifs.new.self c.statements.new.self c.rejoin.new.self
-    (first.emits.taken, first.emits.rows.exceptions)
-    (others.emits.taken ∙ first.emits.taken, others.emits.rows.exceptions ∙ first.emits.rows.exceptions) kept kept_others last r.deepest))
+    first.emits.taken (others.emits.taken ∙ first.emits.taken) kept kept_others last r.deepest))
     c.rejoin.ensures.rejoins
 
 pub statement-returns-in-Case-clause-stays : goal.statement-returns-in-Case-clause-stays
 statement-returns-in-Case-clause-stays t c =
     let v = c.args.visible.now in
-    let w = ways_of c.args.leaving in
     let e = expr_tree c.in-Case.value in
     let tree = ap stmt_tree c.in-Case.is ∙ c.statements_by_parts.ensures.cases c.in-Case.place c.in-Case.value c.in-Case.all in
     on_ok_weaker _
     (λ r.
-    subst (λ x. StaysStatement v w c.args.self.now x c.case.new.self) (sym tree)
-    (subst (λ l. StaysStatement v w c.args.self.now (Case c.in-Case.place e (alternative_trees l)) c.case.new.self) c.deref-in-Case.ensures.value r))
+    subst (λ x. StaysStatement v c.args.self.now x c.case.new.self) (sym tree)
+    (subst (λ l. StaysStatement v c.args.self.now (Case c.in-Case.place e (alternative_trees l)) c.case.new.self) c.deref-in-Case.ensures.value r))
     c.case.ensures.stays
 
 pub statement-returns-in-Loop-clause-stays : goal.statement-returns-in-Loop-clause-stays
 statement-returns-in-Loop-clause-stays t c =
     let v = c.args.visible.now in
-    let w = ways_of c.args.leaving in
     let tree = ap stmt_tree c.in-Loop.is ∙ c.statements_by_parts.ensures.loops c.in-Loop.place c.in-Loop.iteration c.in-Loop.body in
     on_ok_weaker _
     (λ r.
-    subst (λ x. StaysStatement v w c.args.self.now x c.repeated.new.self) (sym tree)
-    (subst (λ l. StaysStatement v w c.args.self.now (Loop c.in-Loop.place (iteration_tree c.in-Loop.iteration) (stmt_trees l)) c.repeated.new.self)
+    subst (λ x. StaysStatement v c.args.self.now x c.repeated.new.self) (sym tree)
+    (subst (λ l. StaysStatement v c.args.self.now (Loop c.in-Loop.place (iteration_tree c.in-Loop.iteration) (stmt_trees l)) c.repeated.new.self)
     c.deref-in-Loop.ensures.value r))
     c.repeated.ensures.stays
 
 pub statement-returns-then-is_empty-clause-stays : goal.statement-returns-then-is_empty-clause-stays
 statement-returns-then-is_empty-clause-stays t c =
     let v = c.args.visible.now in
-    let w = ways_of c.args.leaving in
     let no_handlers : c.in-Block.handlers.items ≡ [] = none_there c.in-Block.handlers.items (search rules) in
     let tree = ap stmt_tree c.in-Block.is
     ∙ c.statements_by_parts.ensures.blocks c.in-Block.place c.in-Block.declarations c.in-Block.body c.in-Block.handlers
     ∙ ap (λ l. Block c.in-Block.place (map declaration_tree c.in-Block.declarations.items) (stmt_trees c.in-Block.body.items) (handler_trees l)) no_handlers in
     on_ok_weaker _
     (λ r.
-    subst (λ x. StaysStatement v w c.args.self.now x c.block.new.self) (sym tree)
-    (subst (λ l. StaysStatement v w c.args.self.now
+    subst (λ x. StaysStatement v c.args.self.now x c.block.new.self) (sym tree)
+    (subst (λ l. StaysStatement v c.args.self.now
     (Block c.in-Block.place (map declaration_tree c.in-Block.declarations.items) (stmt_trees l) NoHandlers) c.block.new.self)
     c.deref-then-is_empty.ensures.value
-    (subst (λ l. StaysStatement v w c.args.self.now (Block c.in-Block.place (map declaration_tree l) (stmt_trees c.deref-then-is_empty.result.now) NoHandlers)
+    (subst (λ l. StaysStatement v c.args.self.now (Block c.in-Block.place (map declaration_tree l) (stmt_trees c.deref-then-is_empty.result.now) NoHandlers)
     c.block.new.self) c.deref-then-is_empty-2.ensures.value r)))
     c.block.ensures.stays
 
 pub statement-returns-in-Assignment-clause-stays : goal.statement-returns-in-Assignment-clause-stays
 statement-returns-in-Assignment-clause-stays t c =
     on_ok_weaker _
-    (λ r. subst (λ x. StaysStatement c.args.visible.now (ways_of c.args.leaving) c.args.self.now x c.assign.new.self) (sym (ap stmt_tree c.in-Assignment.is)) r)
+    (λ r. subst (λ x. StaysStatement c.args.visible.now c.args.self.now x c.assign.new.self) (sym (ap stmt_tree c.in-Assignment.is)) r)
     c.assign.ensures.stays
 
 pub statement-returns-in-Raise-clause-stays : goal.statement-returns-in-Raise-clause-stays
 statement-returns-in-Raise-clause-stays t c =
     on_ok_weaker _
-    (λ r. subst (λ x. StaysStatement c.args.visible.now (ways_of c.args.leaving) c.args.self.now x c.raise.new.self) (sym (ap stmt_tree c.in-Raise.is)) r)
+    (λ r. subst (λ x. StaysStatement c.args.visible.now c.args.self.now x c.raise.new.self) (sym (ap stmt_tree c.in-Raise.is)) r)
     c.raise.ensures.stays
 
 pub statement-returns-in-Call-clause-stays : goal.statement-returns-in-Call-clause-stays
 statement-returns-in-Call-clause-stays t c =
     on_ok_weaker _
-    (λ r. subst (λ x. StaysStatement c.args.visible.now (ways_of c.args.leaving) c.args.self.now x c.call.new.self) (sym (ap stmt_tree c.in-Call.is)) r)
+    (λ r. subst (λ x. StaysStatement c.args.visible.now c.args.self.now x c.call.new.self) (sym (ap stmt_tree c.in-Call.is)) r)
     c.call.ensures.stays
 
 pub statement-returns-in-DelayUntil-clause-stays : goal.statement-returns-in-DelayUntil-clause-stays
 statement-returns-in-DelayUntil-clause-stays t c =
     on_ok_weaker _
     (λ r.
-    subst (λ x. StaysStatement c.args.visible.now (ways_of c.args.leaving) c.args.self.now x c.delay_until.new.self) (sym (ap stmt_tree c.in-DelayUntil.is)) r)
+    subst (λ x. StaysStatement c.args.visible.now c.args.self.now x c.delay_until.new.self) (sym (ap stmt_tree c.in-DelayUntil.is)) r)
     c.delay_until.ensures.stays
