@@ -1,42 +1,42 @@
 -- Why no sections of a program are put together: what refuses its variables, its bodies, main or its tables refuses the program.
 use Rattle.std.proofs.Common.{◌≡◌, ℕ, suc, ◌+◌, ◌≤◌, ◌<◌, List, [], ◌∷◌, ◌++◌, length, map, take, inl, inr, Bool, true, false, ◌&&◌, Option, Some, None, refl, sym, ap, ◌∙◌, subst, arith, length-append, take_all}
 use Rattle.std.specs.List.{list_all}
-use Rattle.std.specs.Prelude.{nat_le, sum_by, ◌||◌}
+use Rattle.std.specs.Prelude.{nat_le, sum_by}
 use Rattle.base.specs.Names.{is_label, is_name}
 use Rattle.base.specs.declared.limits.TheConstants.{EXCEPTIONS, INSTRUCTIONS, LABELS, OBJECTS, ROWS, SUBPROGRAMS, TASKS, WORDS}
-use Rattle.ada_tree.specs.ProgramTree.{BodyItemTree, ItemTree, OfException, OfItem, OfObject, OfProtected, OfSubprogram, OfTask, OfType, PackageTree, ProgramTree, ProtectedBody, SubprogramBody, TaskBody}
+use Rattle.ada_tree.specs.ProgramTree.{BodyItemTree, ItemTree, OfItem, PackageTree, ProgramTree}
 use Rattle.image.specs.ObjectTable.{ObjectRow}
 use Rattle.image.specs.Sections.{Sections}
 use Rattle.types.specs.Layouts.{total}
 use Rattle.types.specs.Scopes.{Scope}
-use Rattle.meaning.specs.Programs.{components_among, items_among, package_bodies, package_items, program_of}
+use Rattle.meaning.specs.Programs.{components_among, package_bodies, package_items, program_of}
 use Rattle.program_soundness.specs.Fronts.{declared_in}
 use Rattle.expr_code.specs.Code.{here}
 use Rattle.expr_code.specs.Refusing.{IsRefused}
 use Rattle.expr_code.specs.Seeing.{told_of}
 use Rattle.expr_code.specs.declared.refusal.Refusal.{Refusal}
 use Rattle.expr_code.specs.declared.refusal.Refusal.TheVariants as refusal
-use Rattle.expr_code.proofs.Refusals.{or_left, or_right}
 use Rattle.step_simulation.specs.part_code.specs.Bounds.{main_bound}
-use Rattle.step_simulation.specs.part_code.specs.Needs.{RefusesMain, are_unknown, beyond_if}
-use Rattle.step_simulation.specs.part_code.proofs.Within.{needing_refused}
+use Rattle.step_simulation.specs.part_code.specs.Needs.{RefusesMain}
 use Rattle.package_code.specs.Bodies.{bodies_among, bodies_before, names_among, number_from}
 use Rattle.package_code.specs.Counts.{bounds_from}
 use Rattle.package_code.specs.Directory.{HaveBodyNumbers, HasManyBodies, IsDirectory, component_told, entries_among, operation_told}
-use Rattle.package_code.specs.Globals.{AreGlobals, RefusesGlobals, refuses_items}
+use Rattle.package_code.specs.Globals.{AreGlobals, RefusesGlobals}
 use Rattle.package_code.specs.Laws.{HasFew}
 use Rattle.package_code.specs.Package.{first_words_of}
 use Rattle.package_code.specs.Program.{HasProgram, has_texts, is_within_limits}
-use Rattle.package_code.specs.Refusing.{RefusesCode, RefusesSections, RefusesLinking, is_spelled, item_needs, items_labels, items_needs, items_rows, lack_components, program_bound, program_labels, program_needs, program_rows, program_words, seen_at}
+use Rattle.source_laws.specs.Limits.{MayPassLimits}
+use Rattle.source_laws.specs.Spelled.{is_spelled}
+use Rattle.ada_link.specs.Compiled.{RefusesCompiling}
+use Rattle.package_code.specs.Refusing.{RefusesCode, RefusesSections, RefusesLinking, items_labels, items_rows, program_labels, program_rows, program_words, seen_at}
 use Rattle.package_code.specs.Walking.{IsAsTold, IsWalked}
 use Rattle.package_code.specs.declared.directory.Directory.{Directory}
 use Rattle.package_code.specs.declared.globals.Globals.{Globals}
 use Rattle.package_code.specs.declared.walk.Walk.{Walk}
-use Rattle.package_code.specs.Objects.{RefusesObjects, component_slots, lack_objects, object_words}
+use Rattle.package_code.specs.Objects.{RefusesObjects, component_slots, object_words}
 use Rattle.package_code.proofs.ComponentSlots.{components_told}
 use Rattle.package_code.proofs.Numbered.{operations_numbered}
 use Rattle.package_code.proofs.ObjectNumbers.{rows_words}
-use Rattle.package_code.proofs.Placed.{items_are}
 use Rattle.ada_link.proofs.TaskLines.{as_many_tasks, names_told}
 
 -- ---- bodies stand in the package's body
@@ -57,10 +57,10 @@ bodies_are : (o : Option PackageTree) → bodies_among (package_bodies o) ≡ bo
 bodies_are (Some p) = sym (bodies_behind p.declaration.items p.body.items)
 bodies_are None = refl
 
-no_more : (words : ℕ) → IsRefused 0 0 false refusal.Limit → ⊥
-no_more words (inl h) = absurd (omega (arith, h))
-no_more words (inr (inl h)) = absurd (omega (arith, h))
-no_more words (inr (inr h)) = h
+no_more : IsRefused 0 0 refusal.Limit → ⊥
+no_more (inl h) = absurd (omega (arith, h))
+no_more (inr (inl h)) = absurd (omega (arith, h))
+no_more (inr (inr h)) = h
 
 module _ (t : ProgramTree) where
   abbrev all : List BodyItemTree
@@ -103,59 +103,30 @@ module _ (t : ProgramTree) where
 
   -- ---- memory
 
-  pub plain_refused : (why : Refusal) → IsRefused 0 0 false why → RefusesSections t why
+  pub plain_refused : (why : Refusal) → IsRefused 0 0 why → RefusesSections t why
   plain_refused refusal.Memory r = inl (inl tt)
-  plain_refused refusal.Limit r = absurd (no_more 0 r)
-  plain_refused refusal.Outside r = absurd (let never : false ≡ true = r in cc)
+  plain_refused refusal.Limit r = absurd (no_more r)
 
   -- ---- protected objects
-
-  lacking_behind : (k : ℕ) (x : BodyItemTree) (items : List BodyItemTree) → (items_needs t (suc k) items).outside ≡ true
-      → (items_needs t k (x ∷ items)).outside ≡ true
-  lacking_behind k x items h = or_right (item_needs t k x).outside (items_needs t (suc k) items).outside h
-
-  -- where a component's words aren't told, no code is made of the object's declaration
-  lacking : (k : ℕ) (items : List BodyItemTree) → lack_objects whole (items_among items) ≡ true → (items_needs t k items).outside ≡ true
-  lacking k [] h = cc
-  lacking k (OfItem (OfProtected d) ∷ items) h = by_test (lack_components whole d.components) refl h (lacking (suc k) items)
-    where
-      by_test : (b : Bool) → lack_components whole d.components ≡ b → (b || lack_objects whole (items_among items)) ≡ true
-          → (lack_objects whole (items_among items) ≡ true → (items_needs t (suc k) items).outside ≡ true)
-          → (lack_components whole d.components || (items_needs t (suc k) items).outside) ≡ true
-      by_test true is r later = or_left (lack_components whole d.components) (items_needs t (suc k) items).outside is
-      by_test false is r later = or_right (lack_components whole d.components) (items_needs t (suc k) items).outside (later r)
-  lacking k (OfItem (OfType d) ∷ items) h = lacking_behind k (OfItem (OfType d)) items (lacking (suc k) items h)
-  lacking k (OfItem (OfObject d) ∷ items) h = lacking_behind k (OfItem (OfObject d)) items (lacking (suc k) items h)
-  lacking k (OfItem (OfException name) ∷ items) h = lacking_behind k (OfItem (OfException name)) items (lacking (suc k) items h)
-  lacking k (OfItem (OfSubprogram d) ∷ items) h = lacking_behind k (OfItem (OfSubprogram d)) items (lacking (suc k) items h)
-  lacking k (OfItem (OfTask d) ∷ items) h = lacking_behind k (OfItem (OfTask d)) items (lacking (suc k) items h)
-  lacking k (SubprogramBody d b ∷ items) h = lacking_behind k (SubprogramBody d b) items (lacking (suc k) items h)
-  lacking k (TaskBody name b ∷ items) h = lacking_behind k (TaskBody name b) items (lacking (suc k) items h)
-  lacking k (ProtectedBody name parts end_name ∷ items) h = lacking_behind k (ProtectedBody name parts end_name) items (lacking (suc k) items h)
 
   pub objects_refused : (why : Refusal) → RefusesObjects whole (package_items t.package_) why → RefusesSections t why
   objects_refused refusal.Memory r = inl (inl tt)
   objects_refused refusal.Limit r = inr (inl (omega (arith, r)))
-  objects_refused refusal.Outside r =
-      inl (inl (lacking 0 all (ap (lack_objects whole) (sym (items_are t.package_)) ∙ r)))
 
   -- ---- variables and bodies
 
-  pub globals_refused : (refuses_items whole [] (package_items t.package_) ≡ true → (program_needs t).outside ≡ true) → (why : Refusal)
-      → RefusesGlobals whole [] (package_items t.package_) why → RefusesSections t why
-  globals_refused placed refusal.Memory r = inl (inl tt)
-  globals_refused placed refusal.Limit r =
+  pub globals_refused : (why : Refusal) → RefusesGlobals whole [] (package_items t.package_) why → RefusesSections t why
+  globals_refused refusal.Memory r = inl (inl tt)
+  globals_refused refusal.Limit r =
       inr (inl (more (length (first_words_of (program_of t).variables))
       (total (map (λ cs. length (first_words_of cs)) (components_among whole (package_items t.package_)))) r))
     where
       more : (a b : ℕ) → WORDS < a → WORDS < a + b
       more a b h = omega (arith, h)
-  globals_refused placed refusal.Outside r = inl (inl (placed r))
 
   pub bodies_refused : (why : Refusal) → HasManyBodies (package_bodies t.package_) why → RefusesSections t why
   bodies_refused refusal.Memory r = inl (inl tt)
   bodies_refused refusal.Limit r = inr (inr (inl (inl (let e = bodies_are t.package_ in omega (arith, r, e)))))
-  bodies_refused refusal.Outside r = absurd r
 
   pub code_refused : (why : Refusal) → RefusesCode t why → RefusesSections t why
   code_refused why r = inl r
@@ -178,38 +149,26 @@ module _ (t : ProgramTree) where
     pub rows_told : length walk.draft.rows.items ≡ program_rows t
     rows_told = told.rows ∙ ap (items_rows 0) (ap (λ n. take n all) last ∙ take_all (length all) all (omega arith))
 
-    seen : walk.visible ≡ seen_at t (length all)
-    seen = told.seen ∙ ap (seen_at t) last
+    pub seen_last : walk.visible ≡ seen_at t (length all)
+    seen_last = told.seen ∙ ap (seen_at t) last
 
-    pub main_refused : are_unknown (seen_at t (length all)) t.main.statements ≡ false → (why : Refusal)
-        → RefusesMain walk.visible walk.draft.code t.main.statements (main_bound t.main.statements) why → RefusesSections t why
-    main_refused known why r =
-        inl (inl (needing_refused (here walk.draft.code + main_bound t.main.statements) (program_bound t)
-        (beyond_if (are_unknown walk.visible t.main.statements)) (program_needs t)
-        (up (here walk.draft.code) (total (bounds_from t 0 all)) (main_bound t.main.statements) few)
-        (record {
-          stack = omega arith;
-          frame = omega arith;
-          unfit = λ e. absurd (let never : false ≡ true = e in cc);
-          outside = λ e. absurd (let never = sym (ap (λ v. are_unknown v t.main.statements) seen ∙ known) ∙ e in cc);
-        }) why r))
-      where
-        up : (a s m : ℕ) → a ≤ s → a + m ≤ s + m
-        up a s m h = omega (arith, h)
+    pub main_refused : (why : Refusal) → RefusesMain walk.visible walk.draft.code t.main.statements (main_bound t.main.statements) why → RefusesSections t why
+    main_refused refusal.Memory r = inl (inl tt)
+    main_refused refusal.Limit (inl h) = inl (inl (inl (let less = few in omega (arith, h, less))))
+    main_refused refusal.Limit (inr (inl h)) = absurd (omega (arith, h))
+    main_refused refusal.Limit (inr (inr h)) = absurd h
 
     -- main's number, behind those of all bodies
-    pub task_refused : (many : ℕ) → many ≡ bodies_before t walk.place → (why : Refusal) → IsRefused many 0 false why → RefusesSections t why
+    pub task_refused : (many : ℕ) → many ≡ bodies_before t walk.place → (why : Refusal) → IsRefused many 0 why → RefusesSections t why
     task_refused many is refusal.Memory r = inl (inl tt)
-    task_refused many is refusal.Outside r = absurd (let never : false ≡ true = r in cc)
     task_refused many is refusal.Limit (inl h) =
         inr (inr (inl (inl (let e = is ∙ ap bodies_among (ap (λ n. take n all) last ∙ take_all (length all) all (omega arith)) in omega (arith, h, e)))))
     task_refused many is refusal.Limit (inr (inl h)) = absurd (omega (arith, h))
     task_refused many is refusal.Limit (inr (inr h)) = absurd h
 
   -- code that keeps the rules ends within the limit
-  pub row_refused : (end : ℕ) → end ≤ INSTRUCTIONS → (why : Refusal) → IsRefused end 0 false why → RefusesSections t why
+  pub row_refused : (end : ℕ) → end ≤ INSTRUCTIONS → (why : Refusal) → IsRefused end 0 why → RefusesSections t why
   row_refused end up refusal.Memory r = inl (inl tt)
-  row_refused end up refusal.Outside r = absurd (let never : false ≡ true = r in cc)
   row_refused end up refusal.Limit (inl h) = absurd (omega (arith, h, up))
   row_refused end up refusal.Limit (inr (inl h)) = absurd (omega (arith, h))
   row_refused end up refusal.Limit (inr (inr h)) = absurd h
@@ -227,8 +186,8 @@ module _ (t : ProgramTree) where
         named : list_all (λ x. is_name x.name) i.tasks ≡ list_all (λ x. is_name x.name) (program_of t).tasks
         named = names_told t (program_of t).tasks i.tasks h.tasks
 
-    pub texts_refused : has_texts i ≡ false → RefusesSections t refusal.Outside
-    texts_refused missed = inr (inr (inr (inr (sym texts_are ∙ missed))))
+    pub texts_spelled : is_spelled t ≡ true → has_texts i ≡ true
+    texts_spelled spelled = texts_are ∙ spelled
 
     either : (a b : Bool) (C : Type 0) → (a && b) ≡ false → (a ≡ false → C) → (b ≡ false → C) → C
     either false b C e left right = left refl
@@ -264,7 +223,7 @@ module _ (t : ProgramTree) where
         (λ rest. either (nat_le (length i.plain_words + sum_by (λ o. length o.words) i.objects) WORDS) _ (RefusesSections t refusal.Limit) rest
         (λ e. inr (inl (subst (λ n. WORDS < n) all_words (beyond_ (length i.plain_words + sum_by (λ o. length o.words) i.objects) WORDS e))))
         (λ rest. either (nat_le (length i.rows) ROWS) (nat_le (length i.objects) OBJECTS) (RefusesSections t refusal.Limit) rest
-        (λ e. inr (inr (inr (inl (subst (λ n. ROWS < n) rows (beyond_ (length i.rows) ROWS e))))))
+        (λ e. inr (inr (inr (subst (λ n. ROWS < n) rows (beyond_ (length i.rows) ROWS e)))))
         (λ e. inr (inr (inl (inr (inr (inr (subst (λ n. OBJECTS < n) objects (beyond_ (length i.objects) OBJECTS e)))))))))))))
 
   -- ---- no legal program has too many
@@ -274,13 +233,16 @@ module _ (t : ProgramTree) where
   few_refused few why (inr (inr (inr r))) = inr r
   few_refused few refusal.Limit (inl (inr h)) = absurd (let up = few.labels in omega (arith, h, up))
   few_refused few refusal.Memory (inl (inr h)) = absurd h
-  few_refused few refusal.Outside (inl (inr h)) = absurd h
   few_refused few refusal.Limit (inr (inl h)) = absurd (let up = few.words in omega (arith, h, up))
   few_refused few refusal.Memory (inr (inl h)) = absurd h
-  few_refused few refusal.Outside (inr (inl h)) = absurd h
   few_refused few refusal.Limit (inr (inr (inl (inl h)))) = absurd (let up = few.subprograms in omega (arith, h, up))
   few_refused few refusal.Limit (inr (inr (inl (inr (inl h))))) = absurd (let up = few.exceptions in omega (arith, h, up))
   few_refused few refusal.Limit (inr (inr (inl (inr (inr (inl h)))))) = absurd (let up = few.tasks in omega (arith, h, up))
   few_refused few refusal.Limit (inr (inr (inl (inr (inr (inr h)))))) = absurd (let up = few.objects in omega (arith, h, up))
   few_refused few refusal.Memory (inr (inr (inl h))) = absurd h
-  few_refused few refusal.Outside (inr (inr (inl h))) = absurd h
+
+-- ---- what is told of an accepted text
+
+pub compiling_refused : (t : ProgramTree) → (RefusesLinking t refusal.Limit → MayPassLimits t) → (why : Refusal) → RefusesLinking t why → RefusesCompiling t why
+compiling_refused t told refusal.Memory r = tt
+compiling_refused t told refusal.Limit r = told r

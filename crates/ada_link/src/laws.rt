@@ -1,8 +1,7 @@
 //! The laws of code that is put together from a program, each what a function without work ensures.
-ghost use Rattle.package_code.specs.Laws.{MainIsKnown, MainMayBeAdded, NamesAreSound, SectionsAreBounded, SectionsAreWellFormed, SectionsMeanTheSame, TablesAreSmall, VariablesArePlaced};
+ghost use Rattle.package_code.specs.Laws.{NamesAreSound, SectionsAreBounded, SectionsAreWellFormed, SectionsMeanTheSame, VariablesArePlaced};
 
 use crate::link_laws::{linked_keeps_count, linked_means_the_same};
-use checking::laws::words_have_room;
 use expr_soundness::laws::scopes_are_sound;
 use image_laws::code_leads_on;
 use kernel::laws::{quiet_stays, views_back, views_on};
@@ -23,47 +22,6 @@ pub fn variables_are_placed()
     ensures { VariablesArePlaced }
 {
     premises_hold();
-}
-
-/// An accepted program has no more labels, words of variables and components, subprograms, exceptions, tasks and protected objects than an image
-/// (docs/LANGUAGE.md, "Limits").
-pub fn tables_are_small()
-    ensures { TablesAreSmall }
-{
-    fronts_fit();
-    names_are_known();
-    premises_hold();
-    scopes_are_sound();
-    shapes_stay();
-    starts_are_sound();
-    values_have_words();
-    words_have_room();
-}
-
-/// Each procedure that main of an accepted program calls has a body, and so a number.
-pub fn main_is_known()
-    ensures { MainIsKnown }
-{
-    fronts_fit();
-    names_are_known();
-    premises_hold();
-    scopes_are_sound();
-    shapes_stay();
-    starts_are_sound();
-    values_have_words();
-}
-
-/// Main of an accepted program calls procedures of the package without parameters.
-pub fn main_may_be_added()
-    ensures { MainMayBeAdded }
-{
-    fronts_fit();
-    names_are_known();
-    premises_hold();
-    scopes_are_sound();
-    shapes_stay();
-    starts_are_sound();
-    values_have_words();
 }
 
 /// A well-formed image that was put together from an accepted program has its meaning, and keeps the count of steps.

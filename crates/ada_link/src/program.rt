@@ -1,21 +1,16 @@
 //! The sections of the image of a program.
-ghost use Rattle.std.specs.Prelude.{◌≡◌, false, length, true, IfErr, IfOk};
-ghost use Rattle.std.specs.List.{list_all};
-ghost use Rattle.base.specs.Names.{is_label, is_name};
+ghost use Rattle.std.specs.Prelude.{◌≡◌, length, true, IfErr, IfOk};
 ghost use Rattle.ada_tree.specs.ProgramTree.{program_tree};
 ghost use Rattle.meaning.specs.Programs.{base_priority, package_items, program_of};
 ghost use Rattle.expr_code.specs.Refusing.{IsRefused};
 ghost use Rattle.package_code.specs.Directory.{IsDirectory};
 ghost use Rattle.package_code.specs.Globals.{AreGlobals};
 ghost use Rattle.package_code.specs.Objects.{HaveObjects, objects_have_words};
-ghost use Rattle.package_code.specs.Program.{HasProgram, KeepsTables, has_texts, is_within_limits};
+ghost use Rattle.package_code.specs.Program.{HasProgram, KeepsTables, is_within_limits};
 ghost use Rattle.package_code.specs.Refusing.{RefusesSections, RefusesLinking, program_labels, program_rows};
 
-use crate::laws::{
-    main_is_known, main_may_be_added, names_are_sound, tables_are_small, variables_are_placed,
-};
+use crate::laws::{names_are_sound, variables_are_placed};
 use base::limits::{EXCEPTIONS, LABELS, OBJECTS, ROWS, SUBPROGRAMS, TASKS};
-use base::names::{is_label, is_name};
 use expr_code::Refusal;
 use expr_soundness::laws::scopes_are_sound;
 use image::{Kind, Object, Parts, Task};
@@ -27,12 +22,15 @@ use package_code::{
 use program_soundness::body_laws::{fronts_fit, names_are_known, premises_hold};
 use program_soundness::program_laws::starts_are_sound;
 use ravenscar::Accepted;
+use source_laws::cover_laws::{declarations_tell, names_are_covered};
+use source_laws::laws::texts_are_spelled;
+use source_laws::table_laws::{main_is_known, main_may_be_added, tables_are_small};
 use std::alloc::Global;
 use types::laws::{shapes_stay, values_have_words};
 
 // The row of main, whose subprogram has this number.
 fn main_task(accepted: &Accepted, number: usize) -> Result<Task, Refusal>
-    ensures refused { IfErr result (λ why. IsRefused number 0 false why) }
+    ensures refused { IfErr result (λ why. IsRefused number 0 why) }
     ensures task { let t = program_tree accepted.now in IfOk result (λ task. task ≡ record
         { name = t.main.name.name; priority = base_priority (program_of t).scope t.main.aspect; subprogram = number }) }
 {
@@ -58,6 +56,7 @@ fn declarations(alloc: Global, accepted: &Accepted) -> Result<DeclaredTables, Re
     ensures made { let t = program_tree accepted.now in IfOk result (λ told. objects_have_words (program_of t).scope (package_items t.package_) ≡ true) }
     ensures refused { IfErr result (λ why. RefusesSections (program_tree accepted.now) why) }
 {
+    declarations_tell();
     names_are_sound();
     variables_are_placed();
     let package_ = &accepted.program().package_;
@@ -91,6 +90,7 @@ fn put_together(alloc: Global, accepted: &Accepted) -> Result<Parts, Refusal>
 {
     main_is_known();
     main_may_be_added();
+    names_are_covered();
     premises_hold();
     tables_are_small();
     let program = accepted.program();
@@ -123,31 +123,6 @@ fn put_together(alloc: Global, accepted: &Accepted) -> Result<Parts, Refusal>
     })
 }
 
-fn are_names(texts: &[Text]) -> bool
-    ensures { result ≡ list_all is_name texts.now }
-{
-    texts.iter().all(|text| is_name(text.as_bytes()))
-}
-
-fn are_labels(texts: &[Text]) -> bool
-    ensures { result ≡ list_all is_label texts.now }
-{
-    texts.iter().all(|text| is_label(text.as_bytes()))
-}
-
-fn are_named(tasks: &[Task]) -> bool
-    ensures { result ≡ list_all (λ t. is_name t.name) tasks.now }
-{
-    tasks.iter().all(|task| is_name(task.name.as_bytes()))
-}
-
-// Whether texts are names and labels: those of a source text are.
-fn has_texts(parts: &Parts) -> bool
-    ensures { result ≡ has_texts parts.now }
-{
-    are_names(&parts.exceptions) && are_labels(&parts.labels) && are_named(&parts.tasks)
-}
-
 // Whether what the program has of its own is within the limits of images.
 fn is_within_limits(parts: &Parts) -> bool
     ensures { result ≡ is_within_limits parts.now }
@@ -173,12 +148,10 @@ fn within_tables(alloc: Global, accepted: &Accepted) -> Result<Parts, Refusal>
     scopes_are_sound();
     shapes_stay();
     starts_are_sound();
+    texts_are_spelled();
     values_have_words();
     let _program = accepted.program();
     let parts = put_together(alloc, accepted)?;
-    if !has_texts(&parts) {
-        return Err(Refusal::Outside);
-    }
     if !is_within_limits(&parts) {
         return Err(Refusal::Limit);
     }
@@ -190,9 +163,8 @@ fn within_tables(alloc: Global, accepted: &Accepted) -> Result<Parts, Refusal>
 /// the last task (RM 10.2). They make a well-formed image (`sections_are_well_formed`).
 ///
 /// # Errors
-/// `Outside` where the program has what has no code yet (docs/CODEGEN.md), or a text that is no name or label; `Limit` where the bound on its
-/// instructions, the choices of its handlers, or the words of a frame or of an object, pass those of images (specs/Refusing); `Memory` where memory was
-/// refused.
+/// `Limit` where the bound on its instructions, the choices of its handlers, or the words of a frame or of an object, pass those of images (specs/Refusing);
+/// `Memory` where memory was refused.
 pub(crate) fn sections(alloc: Global, accepted: &Accepted) -> Result<Parts, Refusal>
     ensures program { IfOk result (λ parts. HasProgram (program_tree accepted.now) parts) }
     ensures tables { IfOk result (λ parts. KeepsTables parts) }

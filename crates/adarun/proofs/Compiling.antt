@@ -1,5 +1,5 @@
 -- The layers of compiling, one behind another.
-use Rattle.std.proofs.Common.{◌≡◌, ◌<◌, ◌⊎◌, arith, ℕ, Bool, true, false, List, [], None, Result, Ok, Err, ap, inl, inr, refl, subst, sym, ◌∙◌}
+use Rattle.std.proofs.Common.{◌≡◌, ◌<◌, ◌⊎◌, arith, ℕ, List, [], None, Result, Ok, Err, ap, inl, inr, subst, sym}
 use Rattle.std.proofs.lemmas.List.Elements.{All-contains}
 use Rattle.std.specs.List.{Contains}
 use Rattle.std.specs.Prelude.{IfOk, IfErr}
@@ -12,6 +12,7 @@ use Rattle.parser.specs.Parsing.{Derives, IsFaulty, IsRefusal}
 use Rattle.image.specs.Sections.{Sections}
 use Rattle.image.specs.Rules.{IsWellFormed}
 use Rattle.ada_link.specs.ada_tree.specs.declared.program.Program.{Program}
+use Rattle.ada_link.specs.ada_tree.specs.Parsed.{IsParsed}
 use Rattle.ada_link.specs.ada_tree.specs.ProgramTree.{ProgramTree, program_tree}
 use Rattle.ada_link.specs.expr_rules.specs.Faults.{Faults, IsLeast}
 use Rattle.checking.specs.ProgramRules.{IsLegal, RefusesProgram, program_faults}
@@ -20,12 +21,8 @@ use Rattle.fault_numbers.specs.Numbers.{AreNumberedWithin, GrammarNumbers, IsNum
 use Rattle.ada_link.specs.meaning.specs.SameMeaning.{KeepsCount, SameMeaning}
 use Rattle.ada_link.specs.expr_code.specs.Coming.{most_steps}
 use Rattle.ada_link.specs.Compiled.{IsBounded}
-use Rattle.ada_link.specs.expr_code.specs.declared.refusal.Refusal.TheVariants as refusal
-use Rattle.ada_link.specs.package_code.specs.Refusing.{RefusesLinking}
-use Rattle.source_laws.specs.Covered.{NothingIsOutside}
-use Rattle.source_laws.specs.Limits.{LimitsAreTold, SmallIsUnlimited}
-use Rattle.source_laws.specs.Spelled.{OutsideIsTold}
-use Rattle.adarun.specs.Accepted.{Compiles, IsAccepted, CompilesAccepted, IsJudged, IsTextFault, IsTreeOf, RefusesAccepted, RefusesText, RefusesTree}
+use Rattle.source_laws.specs.Limits.{SmallIsUnlimited}
+use Rattle.adarun.specs.Accepted.{Compiles, CompilesAccepted, IsJudged, IsTextFault, IsTreeOf, RefusesAccepted, RefusesText, RefusesTree}
 
 -- the program that was read is the one that was checked
 pub compiles : {E : Type 0} (r : Result Sections E) (text : List ℕ) (tokens list : List Token) (read : Program)
@@ -52,12 +49,10 @@ compiles (Err e) text tokens list read spells same derives checked is legal rest
 abbrev Tells : List ℕ → ProgramTree → Type 0
 Tells text tree = (fault : Fault) → RefusesTree tree fault → RefusesAccepted text tree fault
 
-pub tells : LimitsAreTold → SmallIsUnlimited → (text : List ℕ) (tree : ProgramTree) → IsTreeOf tree text → IsLegal tree → IsRestricted tree
-    → Tells text tree
-tells told unlimited text tree is_tree legal restricted fault (inl memory) = inl memory
-tells told unlimited text tree is_tree legal restricted fault (inr large) =
-    let passed = told None tree is_tree.tokens is_tree.derives.derives legal restricted large.1 in
-    inr (large.0, (passed, λ it. unlimited None tree it.is_tree.tokens it.is_tree.derives.derives legal restricted it.small passed))
+pub tells : SmallIsUnlimited → (text : List ℕ) (tree : ProgramTree) → IsTreeOf tree text → IsLegal tree → IsRestricted tree → Tells text tree
+tells unlimited text tree is_tree legal restricted fault (inl memory) = inl memory
+tells unlimited text tree is_tree legal restricted fault (inr large) =
+    inr (large.0, (large.1, λ it. unlimited None tree it.is_tree.tokens it.is_tree.derives.derives legal restricted it.small large.1))
 
 pub given : (r : Result Sections Fault) (text : List ℕ) (tree made : ProgramTree) → Tells text tree → made ≡ tree → IfOk r (λ i. SameMeaning made i)
     → IfErr r (λ f. RefusesTree made f)
@@ -100,27 +95,24 @@ judged_legal text tree made fault same legal (inl memory) = inl memory
 judged_legal text tree made fault same legal (inr least) = inr (inr (inl (subst IsLegal same legal, subst (λ t. IsLeast (restriction_faults t) fault) same least)))
 
 -- what breaks no rule
-pub judged_accepted : LimitsAreTold → SmallIsUnlimited → (r : Result Sections Fault) (text : List ℕ) (tree made : ProgramTree)
+pub judged_accepted : SmallIsUnlimited → (r : Result Sections Fault) (text : List ℕ) (tree made : ProgramTree)
     → IsTreeOf tree text → made ≡ tree → IsLegal made → IsRestricted made → IfErr r (λ f. RefusesTree made f) → IsJudged text tree r
-judged_accepted told unlimited (Ok i) text tree made is_tree same legal restricted refused = (subst IsLegal same legal, subst IsRestricted same restricted)
-judged_accepted told unlimited (Err fault) text tree made is_tree same legal restricted refused =
+judged_accepted unlimited (Ok i) text tree made is_tree same legal restricted refused = (subst IsLegal same legal, subst IsRestricted same restricted)
+judged_accepted unlimited (Err fault) text tree made is_tree same legal restricted refused =
     let fine = subst IsLegal same legal in
     let held = subst IsRestricted same restricted in
-    inr (inr (inr (fine, (held, tells told unlimited text tree is_tree fine held fault (subst (λ t. RefusesTree t fault) same refused)))))
+    inr (inr (inr (fine, (held, tells unlimited text tree is_tree fine held fault (subst (λ t. RefusesTree t fault) same refused)))))
 
 -- ---- texts that are not compiled
 
--- no code is lacking of what its text has
-pub never_outside : OutsideIsTold → NothingIsOutside → (text : List ℕ) (tokens list : List Token) (read checked : Program)
-    → Spells text tokens → list ≡ tokens → Derives (program_tree read) list → checked ≡ read
-    → IsLegal (program_tree checked) → IsRestricted (program_tree checked)
-    → RefusesLinking (program_tree checked) refusal.Outside → ⊥
-never_outside outside nothing text tokens list read checked spells same derives is legal restricted refused =
-    let tree = program_tree checked in
-    let derived = subst (λ p. Derives (program_tree p) tokens) (sym is) (subst (Derives (program_tree read)) same derives) in
-    let told = outside text tokens tree (record { limit = None; spelled = spells; tree = derived.derives }) refused in
-    let never = sym (nothing None tree tokens derived.derives legal restricted) ∙ told in
-    cc
+-- the tree that was read is that of a text
+pub parsed : (text : List ℕ) (tokens list : List Token) (read : Program) → Spells text tokens → list ≡ tokens → Derives (program_tree read) list
+    → IsParsed (program_tree read)
+parsed text tokens list read spells same derives = record {
+  text = text;
+  tokens = tokens;
+  is = record { limit = None; spelled = spells; tree = (subst (Derives (program_tree read)) same derives).derives };
+}
 
 -- what has tokens, of which no tree derives all
 pub no_tree : (text : List ℕ) (tokens list : List Token) (fault : Fault) → Spells text tokens → list ≡ tokens → IsRefusal list fault → RefusesText text fault
@@ -166,19 +158,19 @@ unrestricted_text text tokens list read checked fault spells same derives is leg
     })))))
 
 -- it is accepted
-pub refused_text : {A : Type 0} → LimitsAreTold → SmallIsUnlimited → (r : Result A Fault) (text : List ℕ) (tokens list : List Token)
+pub refused_text : {A : Type 0} → SmallIsUnlimited → (r : Result A Fault) (text : List ℕ) (tokens list : List Token)
     (read checked : Program)
     → Spells text tokens → list ≡ tokens → Derives (program_tree read) list → checked ≡ read
     → IsLegal (program_tree checked) → IsRestricted (program_tree checked)
     → IfErr r (λ f. RefusesTree (program_tree checked) f)
     → IfErr r (λ f. RefusesText text f)
-refused_text told unlimited (Ok a) text tokens list read checked spells same derives is legal restricted refused = tt
-refused_text told unlimited (Err fault) text tokens list read checked spells same derives is legal restricted refused =
+refused_text unlimited (Ok a) text tokens list read checked spells same derives is legal restricted refused = tt
+refused_text unlimited (Err fault) text tokens list read checked spells same derives is legal restricted refused =
     let is_tree = read_tree text tokens list read checked spells same derives is in
     inr (inr (inr (inr (inr (record {
       tree = program_tree checked;
       accepted = record { is_tree = is_tree; legal = legal; restricted = restricted };
-      refused = tells told unlimited text (program_tree checked) is_tree legal restricted fault refused;
+      refused = tells unlimited text (program_tree checked) is_tree legal restricted fault refused;
     })))))
 
 -- ---- numbers of faults
@@ -187,7 +179,7 @@ module _ (spelling : SpellingNumbers) (grammar : GrammarNumbers) (legality : Leg
   among : (first last : ℕ) (faults : Faults) (fault : Fault) → AreNumberedWithin first last faults → IsLeast faults fault → IsNumbered first last fault
   among first last faults fault all least = All-contains (IsNumbered first last) faults fault all least.listed
 
-  of_text : (text : List ℕ) (fault : Fault) → RefusesText text fault → IsTextFault fault.number
+  pub of_text : (text : List ℕ) (fault : Fault) → RefusesText text fault → IsTextFault fault.number
   of_text text fault (inl memory) = inr (inr (inr (ap (λ f. f.number) memory)))
   of_text text fault (inr (inl broken)) = let n = spelling text fault broken.broken in inl (n.0, omega (arith, n.1))
   of_text text fault (inr (inr (inl none))) = let n = grammar none.tokens fault none.faulty in inl (omega (arith, n.0), n.1)

@@ -15,9 +15,7 @@ use Rattle.checking.specs.ProgramRules.{IsLegal, program_faults}
 use Rattle.ravenscar.specs.ProgramRules.{IsRestricted, restriction_faults}
 use Rattle.ada_link.specs.meaning.specs.SameMeaning.{KeepsCount, SameMeaning}
 use Rattle.ada_link.specs.expr_code.specs.Coming.{most_steps}
-use Rattle.ada_link.specs.expr_code.specs.declared.refusal.Refusal.TheVariants as refusal
 use Rattle.ada_link.specs.Compiled.{IsBounded}
-use Rattle.ada_link.specs.package_code.specs.Refusing as sections
 use Rattle.source_laws.specs.Limits.{MayPassLimits}
 use Rattle.source_laws.specs.Small.{IsSmall}
 
@@ -45,7 +43,7 @@ too_large tree = record { number = LIMIT_PASSED; place = tree.main.place }
 
 -- why an accepted program is not compiled: memory was refused, or, as its tree tells, its code may pass a limit of images
 abbrev pub RefusesTree : ProgramTree → Fault → Type 0
-RefusesTree tree fault = (fault ≡ memory_fault) ⊎ ((fault ≡ too_large tree) × sections.RefusesLinking tree refusal.Limit)
+RefusesTree tree fault = (fault ≡ memory_fault) ⊎ ((fault ≡ too_large tree) × MayPassLimits tree)
 
 -- Why an accepted text is not compiled: memory was refused; or, as its tree tells, its code may pass a limit of images, which that of no small text does.
 abbrev pub RefusesAccepted : List ℕ → ProgramTree → Fault → Type 0

@@ -3,15 +3,14 @@ ghost use Rattle.std.specs.Prelude.{IfErr, IfOk};
 ghost use Rattle.ada_link.specs.Compiled.{IsBounded};
 ghost use Rattle.ada_link.specs.ada_tree.specs.ProgramTree.{ProgramTree, program_tree};
 ghost use Rattle.ada_link.specs.expr_code.specs.Coming.{most_steps};
-ghost use Rattle.ada_link.specs.expr_code.specs.declared.refusal.Refusal.TheVariants.{Outside};
 ghost use Rattle.ada_link.specs.meaning.specs.SameMeaning.{KeepsCount, SameMeaning};
-ghost use Rattle.ada_link.specs.package_code.specs.Refusing.{RefusesLinking};
 ghost use Rattle.adarun.specs.Accepted.{Compiles, IsAccepted, CompilesAccepted, IsJudged, IsTextFault, IsTreeOf, RefusesText, RefusesTree};
 ghost use Rattle.checking.specs.ProgramRules.{IsLegal};
 ghost use Rattle.image.specs.Rules.{IsWellFormed};
 ghost use Rattle.ravenscar.specs.ProgramRules.{IsRestricted};
 
 use ada_link::{Refusal, compile_tree};
+use ada_tree::Parsed;
 use base::faults::LIMIT_PASSED;
 use checking::check;
 use fault_numbers::{grammar_numbers, legality_numbers, restriction_numbers, spelling_numbers};
@@ -19,13 +18,11 @@ use image::Image;
 use lexer::{Fault, tokens};
 use parser::parse;
 use ravenscar::{Accepted, restrict};
-use source_laws::laws::{limits_are_told, outside_is_told, small_is_unlimited};
-use source_laws::outside_laws::nothing_is_outside;
+use source_laws::laws::small_is_unlimited;
 use std::alloc::Global;
 
-// The image of an accepted program that has nothing of which no code is made, or the fault that it is refused with.
+// The image of an accepted program, or the fault that it is refused with.
 fn image_of(alloc: Global, accepted: &Accepted) -> Result<Image, Fault>
-    requires { RefusesLinking (program_tree accepted.now) Outside → ⊥ }
     ensures means { IfOk result (λ image. SameMeaning (program_tree accepted.now) image) }
     ensures counted { IfOk result (λ image. KeepsCount (program_tree accepted.now) image (most_steps image)) }
     ensures bounded { IfOk result (λ image. IsBounded (program_tree accepted.now) image) }
@@ -42,7 +39,6 @@ fn image_of(alloc: Global, accepted: &Accepted) -> Result<Image, Fault>
             number: LIMIT_PASSED,
             place: program.main.place,
         }),
-        Err(Refusal::Outside) => unreachable!(),
     }
 }
 
@@ -63,13 +59,10 @@ pub fn compile(alloc: Global, source: &[u8]) -> Result<Image, Fault>
     grammar_numbers();
     legality_numbers();
     restriction_numbers();
-    limits_are_told();
-    nothing_is_outside();
-    outside_is_told();
     small_is_unlimited();
     let list = tokens(alloc, source)?;
     let program = parse(alloc, &list)?;
-    let checked = check(alloc, program)?;
+    let checked = check(alloc, Parsed::new(program))?;
     let accepted = restrict(alloc, checked)?;
     image_of(alloc, &accepted)
 }

@@ -17,7 +17,6 @@ use Rattle.type_rules.specs.SubtypeNames.{end_rule, subtype_of}
 use Rattle.declaring.specs.BodyNames.{formals_scope}
 use Rattle.declaring.specs.LocalRules.{fixed_locals_faults, locals_faults, locals_scope}
 use Rattle.program_soundness.specs.stmt_rules.specs.declared.around.Around.{Around}
-use Rattle.program_soundness.specs.stmt_rules.specs.declared.around.BodyKind.{BodyKind}
 use Rattle.program_soundness.specs.stmt_rules.specs.declared.around.BodyKind.TheVariants as kind
 use Rattle.program_soundness.specs.stmt_rules.specs.SimpleRules.{result_wanted}
 use Rattle.program_soundness.specs.stmt_rules.specs.StatementRules.{handlers_faults, in_body, sequence_faults, stmts_faults}
@@ -40,9 +39,9 @@ use Rattle.program_soundness.proofs.Trees.{tree_package}
 use Rattle.program_soundness.proofs.Walked.{legal_at, scope_next}
 use Rattle.program_soundness.proofs.Whole.{IsPackage, kept, known_subtype}
 use Rattle.expr_code.specs.Emitting.{IsFit}
-use Rattle.stmt_code.specs.Emitting.{IsLegalRun}
 use Rattle.package_code.proofs.NewParameters.{body_unbroken, formals_text, parameters_new}
-use Rattle.package_code.specs.Laws.{MayBeAdded, NamesAreSound}
+use Rattle.package_code.specs.Laws.{NamesAreSound}
+use Rattle.expr_code.specs.Emitting.{IsFit}
 use Rattle.package_code.specs.Bodies.{of_task}
 
 pub names_sound : PremisesHold → NamesAreSound
@@ -77,23 +76,14 @@ value_unbroken s a body value h k = cc
 
 -- ---- what its rules say of a body
 
--- where these names are visible behind its parameters
-pub run_legal : (s : Scope) (k : BodyKind) (b : BodyTree) → body_faults s k b ≡ [] → IsLegalRun s b.declarations b.statements b.handlers
-run_legal s k b unbroken_ = record {
-  declared = front_empty (locals_faults s b.declarations) _ unbroken_;
-  statements = record { around = in_body k; unbroken = front_empty (stmts_faults later (in_body k) b.statements) (handlers_faults later (in_body k) b.handlers) rest };
-  handled = record {
-    around = in_body k;
-    before = [];
-    unbroken = back_empty (stmts_faults later (in_body k) b.statements) (handlers_faults later (in_body k) b.handlers) rest;
-  };
-}
-  where
-    later : Scope
-    later = locals_scope s b.declarations
-
-    rest : sequence_faults later (in_body k) b.statements b.handlers ≡ []
-    rest = back_empty (locals_faults s b.declarations) _ unbroken_
+-- What is known of a body where these names are visible in front of its parameters: these have names of their own, and what a function returns fits its result.
+pub record IsSoundBody (t : ProgramTree) (s : Scope) (d : SubprogramTree) (b : BodyTree) : Type 0 where
+  pub front : SoundScope s
+  pub sound : SoundScope (formals_scope s d.formals)
+  pub new_names : length (formals_scope s d.formals) ≡ length s + length d.formals
+  pub fit : (r : Identifier) (value : ExprTree) → d.result ≡ Some r → returned b.statements ≡ Some value
+      → IsFit (formals_scope s d.formals) (subtype_named (program_of t).scope r) value
+  pub result : (r : Identifier) → d.result ≡ Some r → is_some (subtype_of (program_of t).scope r) ≡ true
 
 -- where these names are visible in front of it, and these in front of its parameters
 module _ (whole before behind : Scope) (d : SubprogramTree) (b : BodyTree) (head : head_faults before d b ≡ [])
@@ -107,9 +97,6 @@ module _ (whole before behind : Scope) (d : SubprogramTree) (b : BodyTree) (head
 
   abbrev around : Around
   around = in_body (kind_of before d.result)
-
-  pub legal_run : IsLegalRun inner b.declarations b.statements b.handlers
-  legal_run = run_legal inner (kind_of before d.result) b unbroken_
 
   statements : stmts_faults later around b.statements ≡ []
   statements =
@@ -217,12 +204,11 @@ module _ (scopes : ScopesAreSound) (known : NamesAreKnown) (premises : PremisesH
       → faults_of inside (OfType (subtype_named program.scope r).type_number) value ≡ []
   value_legal r value some is = result_legal program.scope before behind d b head body_legal told r value some is
 
-  pub body_added : MayBeAdded t (front t (suc k)) d b
+  pub body_added : IsSoundBody t (front t (suc k)) d b
   body_added = record {
     front = fronts (suc k);
     sound = sound_inside;
     new_names = new_names;
-    legal = legal_run program.scope before behind d b head body_legal told;
     fit = fit program.scope before behind d b head body_legal told;
     result = known_result program.scope before behind d b head body_legal told;
   }
@@ -260,16 +246,11 @@ module _ (scopes : ScopesAreSound) (known : NamesAreKnown) (premises : PremisesH
   pub task_legal : body_faults (front t (suc k)) kind.Task b ≡ []
   task_legal = subst (λ s. body_faults s kind.Task b ≡ []) (sym same_scope) (both_empty _ _ parts.0 (both_empty _ _ parts.1 parts.2))
 
-  pub task_added : MayBeAdded t (front t (suc k)) (of_task (front t (suc k)) name b).head b
+  pub task_added : IsSoundBody t (front t (suc k)) (of_task (front t (suc k)) name b).head b
   task_added = record {
     front = (known t legal restricted).fronts (suc k);
     sound = (known t legal restricted).fronts (suc k);
     new_names = omega arith;
-    legal = subst (λ s. IsLegalRun s b.declarations b.statements b.handlers) (sym same_scope) (record {
-      declared = parts.0;
-      statements = record { around = in_task; unbroken = parts.1 };
-      handled = record { around = in_task; before = []; unbroken = parts.2 };
-    });
     fit = λ r value some is. (let none : None ≡ Some r = some in cc);
     result = λ r some. (let none : None ≡ Some r = some in cc);
   }

@@ -26,7 +26,7 @@ use Rattle.step_simulation.specs.part_code.proofs.Within.{Within, needing_refuse
 use Rattle.package_code.specs.Bodies.{Coded, coded_at, number_in, of_subprogram}
 use Rattle.package_code.specs.Counts.{bound_of, bounds_from}
 use Rattle.package_code.specs.Directory.{IsDirectory, HasEntriesSoFar, TellsNext, operations_told}
-use Rattle.package_code.specs.Refusing.{RefusesCode, body_needs, coded_labels, coded_rows, item_needs, items_labels, items_needs, items_rows, program_bound, program_labels, program_needs, seen_at, seen_by, seen_with, subprogram_labels, subprogram_needs, subprogram_rows}
+use Rattle.package_code.specs.Refusing.{RefusesCode, body_needs, coded_labels, coded_rows, item_needs, items_labels, items_needs, items_rows, program_bound, program_labels, program_needs, seen_at, seen_by, seen_with, subprogram_labels, subprogram_rows}
 use Rattle.package_code.specs.Walking.{AddsAsTold, AddsBody, BeginsWalk, IsAsTold, IsWalked, RefusesBody}
 use Rattle.package_code.specs.declared.directory.Directory.{Directory}
 use Rattle.package_code.specs.declared.walk.Walk.{Walk}
@@ -208,7 +208,6 @@ module _ (t : ProgramTree) where
   many_more : (a b : List (List ℕ)) (why : Refusal) → length a ≤ length b → HasManyLabels a why → HasManyLabels b why
   many_more a b refusal.Limit up h = omega (arith, up, h)
   many_more a b refusal.Memory up h = absurd h
-  many_more a b refusal.Outside up h = absurd h
 
   -- of a body, in front of which the others of its item have their code
   module _ (place : ℕ) (item : BodyItemTree) (k : ℕ) (c : Coded) (at : slice_get all place ≡ Some item) (is : slice_get (coded_at t place item) k ≡ Some c) where
@@ -218,7 +217,7 @@ module _ (t : ProgramTree) where
     module _ (v : Visible) (draft : Draft) (why : Refusal)
         (few : here draft.code ≤ total (bounds_from t 0 (take place all)) + total (map bound_of (take k (coded_at t place item))))
         (labels : draft.labels ≡ coded_labels (items_labels [] (take place all)) (take k (coded_at t place item)))
-        (exceptions : draft.exceptions.items ≡ (program_of t).exceptions) (seen : v ≡ seen_by t c) where
+        (seen : v ≡ seen_by t c) where
       bounded : here draft.code + bound_of c ≤ program_bound t
       bounded =
           up (here draft.code) (bound_of c) (total (bounds_from t 0 (take place all))) (total (map bound_of (take k (coded_at t place item))))
@@ -240,30 +239,27 @@ module _ (t : ProgramTree) where
           let within = labels_within [] all place item at in
           omega (arith, own, item_is, within)
 
-      by_reason : RefusesBody t (seen_by t c) draft c.head c.body why → RefusesCode t why
+      by_reason : RefusesBody (seen_by t c) draft c.head c.body why → RefusesCode t why
       by_reason (inl n) =
-          needs_refused (here draft.code + bound_of c) (here draft.code + bound_of c) (body_needs t c) why (omega arith) needs_there bounded
-          (subst (λ l. IsNeeding (here draft.code + bound_of c) (subprogram_needs t (seen_by t c) l c.head c.body) why) exceptions n)
+          needs_refused (here draft.code + bound_of c) (here draft.code + bound_of c) (body_needs t c) why (omega arith) needs_there bounded n
       by_reason (inr h) =
           inr (many_more (subprogram_labels draft.labels c.head c.body) (program_labels t) why
           (subst (λ l. length (subprogram_labels l c.head c.body) ≤ length (program_labels t)) (sym labels) labels_less) h)
 
       -- its code isn't made
-      pub coded_refused : RefusesBody t v draft c.head c.body why → RefusesCode t why
-      coded_refused r = by_reason (subst (λ u. RefusesBody t u draft c.head c.body why) seen r)
+      pub coded_refused : RefusesBody v draft c.head c.body why → RefusesCode t why
+      coded_refused r = by_reason (subst (λ u. RefusesBody u draft c.head c.body why) seen r)
 
   -- the first body of an item
   pub body_refused : (old : Walk) (item : BodyItemTree) (c : Coded) (v : Visible) (draft : Draft) (why : Refusal) → IsAsTold t old
-      → old.draft.exceptions.items ≡ (program_of t).exceptions
       → slice_get all old.place ≡ Some item → slice_get (coded_at t old.place item) 0 ≡ Some c
       → v ≡ seen_by t c → draft ≡ old.draft
-      → RefusesBody t v draft c.head c.body why → RefusesCode t why
-  body_refused old item c v draft why told exceptions at is seen same =
+      → RefusesBody v draft c.head c.body why → RefusesCode t why
+  body_refused old item c v draft why told at is seen same =
       let none = none_taken (coded_at t old.place item) in
       coded_refused old.place item 0 c at is v draft why
       (let few = told.few in
       let code = ap (λ (z : Draft). here z.code) same in
       let more = ap (λ l. total (map bound_of l)) none in
       omega (arith, few, code, more))
-      (ap (λ (z : Draft). z.labels) same ∙ told.labels ∙ ap (coded_labels (items_labels [] (take old.place all))) (sym none))
-      (ap (λ (z : Draft). z.exceptions.items) same ∙ exceptions) seen
+      (ap (λ (z : Draft). z.labels) same ∙ told.labels ∙ ap (coded_labels (items_labels [] (take old.place all))) (sym none)) seen

@@ -1,17 +1,14 @@
 -- What refuses a procedure or a function refuses its body; which labels, and how many rows of handlers, stand behind it.
-use Rattle.std.proofs.Common.{◌≡◌, ℕ, ◌+◌, ◌≤◌, List, [], ◌∷◌, length, true, false, inl, inr, Option, Some, None, Result, Ok, Err, refl, sym, ap, ◌∙◌, subst, arith}
-use Rattle.std.specs.Prelude.{OnOk, is_none}
+use Rattle.std.proofs.Common.{◌≡◌, ℕ, ◌+◌, ◌≤◌, List, [], ◌∷◌, length, true, inl, inr, Option, Some, None, Result, Ok, Err, sym, ap, ◌∙◌, subst, arith}
+use Rattle.std.specs.Prelude.{OnOk, is_some}
 use Rattle.ada_tree.specs.declared.expression.Identifier.{Identifier}
 use Rattle.ada_tree.specs.ExpressionTree.{ExprTree}
 use Rattle.ada_tree.specs.declared.statement.Stmt.{Stmt}
 use Rattle.ada_tree.specs.StatementTree.{MoreStmts, Return, StmtTree, StmtTrees, SubprogramTree, stmt_tree, stmt_trees}
-use Rattle.ada_tree.specs.ProgramTree.{BodyTree, ProgramTree}
-use Rattle.types.specs.declared.entity.Subtype.{Subtype}
-use Rattle.expr_soundness.specs.meaning.specs.Programs.{program_of, returned, subtype_named}
+use Rattle.ada_tree.specs.ProgramTree.{BodyTree}
+use Rattle.expr_soundness.specs.meaning.specs.Programs.{returned}
 use Rattle.expr_code.specs.Code.{here}
-use Rattle.expr_code.specs.Refusing.{IsRefused}
 use Rattle.expr_code.specs.declared.refusal.Refusal.{Refusal}
-use Rattle.expr_code.specs.declared.refusal.Refusal.TheVariants as refusal
 use Rattle.expr_code.specs.declared.visible.Visible.{Visible}
 use Rattle.step_simulation.specs.part_code.specs.Bounds.{function_bound, procedure_bound}
 use Rattle.step_simulation.specs.part_code.specs.Needs.{HasManyLabels, IsNeeding, Needs}
@@ -47,64 +44,40 @@ pub both_ok : {X Y : Type 0} (r : Result X Y) (P Q : Type 0) → OnOk r P → On
 both_ok (Ok x) P Q p q = (p, q)
 both_ok (Err y) P Q p q = tt
 
-module _ (t : ProgramTree) (v : Visible) (old : Draft) (d : SubprogramTree) (b : BodyTree) (why : Refusal) where
+module _ (v : Visible) (old : Draft) (d : SubprogramTree) (b : BodyTree) (why : Refusal) where
   abbrev needs_by : Option Identifier → Needs
-  needs_by o =
-      elim o [
-        | None ↦ procedure_needs v old.exceptions.items d.formals b
-        | Some r ↦ function_if_any v d.formals (subtype_named (program_of t).scope r) (returned b.statements)
-      ]
+  needs_by o = elim o [ None ↦ procedure_needs v d.formals b | Some r ↦ function_if_any v d.formals (returned b.statements) ]
 
   abbrev bound : ℕ
   bound = here old.code + procedure_bound v.scope d.formals b
 
-  pub procedure_refused : d.result ≡ None → RefusesProcedure v old d.formals b why → RefusesBody t v old d b why
+  pub procedure_refused : d.result ≡ None → RefusesProcedure v old d.formals b why → RefusesBody v old d b why
   procedure_refused none (inl n) = inl (subst (λ o. IsNeeding bound (needs_by o) why) (sym none) n)
   procedure_refused none (inr h) = inr (subst (λ o. HasManyLabels (labels_by old.labels b o) why) (sym none) h)
 
-  value_needing : (r : Identifier) (o : Option ExprTree) → d.result ≡ Some r → returned b.statements ≡ o
-      → IsNeeding bound (function_if_any v d.formals (subtype_named (program_of t).scope r) o) why → RefusesBody t v old d b why
+  value_needing : (r : Identifier) (o : Option ExprTree) → d.result ≡ Some r → returned b.statements ≡ o → IsNeeding bound (function_if_any v d.formals o) why
+      → RefusesBody v old d b why
   value_needing r o some is n =
-      inl (subst (λ x. IsNeeding bound (needs_by x) why) (sym some)
-      (subst (λ x. IsNeeding bound (function_if_any v d.formals (subtype_named (program_of t).scope r) x) why) (sym is) n))
+      inl (subst (λ x. IsNeeding bound (needs_by x) why) (sym some) (subst (λ x. IsNeeding bound (function_if_any v d.formals x) why) (sym is) n))
 
-  pub value_refused : (r : Identifier) (u : Subtype) (e : ExprTree) → d.result ≡ Some r → u ≡ subtype_named (program_of t).scope r
-      → returned b.statements ≡ Some e → RefusesFunction v old d.formals u e why → RefusesBody t v old d b why
-  value_refused r u e some same is n =
+  pub value_refused : (r : Identifier) (e : ExprTree) → d.result ≡ Some r → returned b.statements ≡ Some e → RefusesFunction v old d.formals e why
+      → RefusesBody v old d b why
+  value_refused r e some is n =
       let less = function_within v.scope d.formals b e is in
       value_needing r (Some e) some is
-      (needing_refused (here old.code + function_bound d.formals e) bound
-      (function_if_any v d.formals (subtype_named (program_of t).scope r) (Some e))
-      (function_if_any v d.formals (subtype_named (program_of t).scope r) (Some e))
-      (up (here old.code) (function_bound d.formals e) (procedure_bound v.scope d.formals b) less) (within_self _) why
-      (subst (λ z. IsNeeding (here old.code + function_bound d.formals e) (function_if_any v d.formals z (Some e)) why) same n))
+      (needing_refused (here old.code + function_bound d.formals e) bound (function_if_any v d.formals (Some e)) (function_if_any v d.formals (Some e))
+      (up (here old.code) (function_bound d.formals e) (procedure_bound v.scope d.formals b) less) (within_self _) why n)
     where
       up : (a p q : ℕ) → p ≤ q → a + p ≤ a + q
       up a p q h = omega (arith, h)
 
-  -- a function whose body returns no value
-  pub unreturned_refused : (r : Identifier) → d.result ≡ Some r → IsRefused 0 0 (is_none (returned b.statements)) why → RefusesBody t v old d b why
-  unreturned_refused r some n = by_value (returned b.statements) refl
-    where
-      by_reason : (w : Refusal) (o : Option ExprTree) → IsRefused 0 0 (is_none o) w
-          → IsNeeding bound (function_if_any v d.formals (subtype_named (program_of t).scope r) o) w
-      by_reason refusal.Memory o n = tt
-      by_reason refusal.Limit o (inl n) = absurd (omega (arith, n))
-      by_reason refusal.Limit o (inr (inl n)) = absurd (omega (arith, n))
-      by_reason refusal.Limit o (inr (inr n)) = absurd n
-      by_reason refusal.Outside (Some e) n = absurd (let never : false ≡ true = n in cc)
-      by_reason refusal.Outside None n = refl
-
-      by_value : (o : Option ExprTree) → returned b.statements ≡ o → RefusesBody t v old d b why
-      by_value o is = value_needing r o some is (by_reason why o (subst (λ x. IsRefused 0 0 (is_none x) why) is n))
-
 -- ---- bodies of several statements return no value
 
-two_none : (a b : StmtTree) (rest : StmtTrees) → is_none (returned (MoreStmts a (MoreStmts b rest))) ≡ true
-two_none (Return place value) b rest = refl
-two_none a b rest = refl
+two_none : (a b : StmtTree) (rest : StmtTrees) → is_some (returned (MoreStmts a (MoreStmts b rest))) ≡ true → ⊥
+two_none (Return place value) b rest h = cc
+two_none a b rest h = cc
 
-pub many_none : (items : List Stmt) → 2 ≤ length items → is_none (returned (stmt_trees items)) ≡ true
-many_none [] up = absurd (omega (arith, up))
-many_none (x ∷ []) up = absurd (omega (arith, up))
-many_none (x ∷ y ∷ rest) up = two_none (stmt_tree x) (stmt_tree y) (stmt_trees rest)
+pub many_none : (items : List Stmt) → 2 ≤ length items → is_some (returned (stmt_trees items)) ≡ true → ⊥
+many_none [] up h = omega (arith, up)
+many_none (x ∷ []) up h = omega (arith, up)
+many_none (x ∷ y ∷ rest) up h = two_none (stmt_tree x) (stmt_tree y) (stmt_trees rest) h

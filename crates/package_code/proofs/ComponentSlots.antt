@@ -1,5 +1,5 @@
 -- Protected objects one behind another: their rows, and where their components stand, as the text tells it.
-use Rattle.std.proofs.Common.{◌≡◌, ℕ, ℤ, zero, suc, ◌+◌, ◌<◌, List, [], ◌∷◌, ◌++◌, append-nil, append_assoc, drop, get_or, length, length-append, map, take, Bool, true, false, ◌&&◌, ◌||◌, Option, Some, None, refl, sym, ap, ◌∙◌, subst, arith}
+use Rattle.std.proofs.Common.{◌≡◌, ℕ, zero, suc, ◌+◌, ◌<◌, List, [], ◌∷◌, ◌++◌, append-nil, append_assoc, drop, get_or, length, length-append, map, take, Bool, true, false, ◌&&◌, Option, Some, None, refl, sym, ap, ◌∙◌, subst, arith}
 use Rattle.std.specs.Prelude.{bytes_eq, if◌then◌else◌, nat_eq, option_map, nat_le, slice_get}
 use Rattle.std.proofs.lemmas.List.{map-append}
 use Rattle.ada_tree.specs.declared.declaration.Item.{Item}
@@ -20,16 +20,17 @@ use Rattle.expr_code.specs.declared.refusal.Refusal.TheVariants as refusal
 use Rattle.expr_code.specs.declared.visible.Slot.{Slot}
 use Rattle.step_simulation.specs.part_code.proofs.Lists.{mapped_next}
 use Rattle.package_code.specs.Directory.{component_told}
-use Rattle.package_code.specs.Objects.{AddsObjects, RefusesComponent, RefusesComponents, RefusesObjects, component_slots, lack_objects, bare_object, bare_objects, object_words, slots_of, have_words, objects_have_words}
+use Rattle.package_code.specs.Objects.{AddsObjects, RefusesComponent, RefusesComponents, RefusesObjects, component_slots, bare_object, bare_objects, object_words, slots_of, have_words, objects_have_words}
 use Rattle.package_code.specs.Owners.{in_object}
 use Rattle.package_code.specs.Package.{first_words_of, place_among}
-use Rattle.package_code.specs.Refusing.{is_outside_variable, lack_components, slot_in}
+use Rattle.package_code.specs.Providing.{component_tells, tells_value, tells_words}
+use Rattle.package_code.specs.Refusing.{slot_in}
 use Rattle.package_code.specs.declared.components.ComponentSlot.{ComponentSlot}
 use Rattle.package_code.specs.declared.objects.ProtectedObjects.{ProtectedObjects}
 use Rattle.package_code.proofs.Declared.{among_both}
 use Rattle.package_code.proofs.GlobalsRefused.{split_at}
 use Rattle.package_code.proofs.Variables.{words_more}
-use Rattle.std.proofs.lemmas.Bool.{and_from, and_parts, le-leb}
+use Rattle.std.proofs.lemmas.Bool.{and_from, and_parts}
 
 -- ---- components of one object
 
@@ -142,14 +143,16 @@ have_both (x ∷ xs) ys h k =
     let both = and_parts (nat_le 1 (length (value_words x.value))) (have_words xs) h in
     and_from (nat_le 1 (length (value_words x.value))) (have_words (xs ++ ys)) both.0 (have_both xs ys both.1 k)
 
--- a component has words where there are more behind it than in front of it
-pub words_added : (s : Scope) (part : ProtectedComponentTree) (t : Subtype) (old new : List ℤ) → subtype_of s part.subtype ≡ Some t
-    → new ≡ old ++ value_words (initial_value s t part.value) → length old < length new → have_words (component s part ∷ []) ≡ true
-words_added s part t old new named added more =
-    let long = ap length added ∙ length-append old (value_words (initial_value s t part.value)) in
-    let same = ap (λ o. length (value_words (initial_value s (subtype_or_integer o) part.value))) named in
-    and_from (nat_le 1 (length (value_words (component s part).value))) true
-    (le-leb 1 (length (value_words (component s part).value)) (omega (arith, long, same, more))) refl
+-- a component has words where its text tells them
+pub words_told : (s : Scope) (part : ProtectedComponentTree) → component_tells s part ≡ true → have_words (component s part ∷ []) ≡ true
+words_told s part h = by_subtype (subtype_of s part.subtype) refl h
+  where
+    by_subtype : (o : Option Subtype) → subtype_of s part.subtype ≡ o → tells_words s o part.value ≡ true → have_words (component s part ∷ []) ≡ true
+    by_subtype (Some t) named told =
+        and_from (nat_le 1 (length (value_words (component s part).value))) true
+        (ap (λ o. nat_le 1 (length (value_words (initial_value s (subtype_or_integer o) part.value)))) named
+        ∙ (and_parts (tells_value s t part.value) (nat_le 1 (length (value_words (initial_value s t part.value)))) told).1) refl
+    by_subtype None named told = absurd cc
 
 pub component_made_next : (s : Scope) (all : List ProtectedComponent) (n : ℕ) (x : ProtectedComponent) → n < length all → x ≡ get_or all n x
     → have_words (map (component s) (map protected_component_tree (take n all))) ≡ true
@@ -160,34 +163,7 @@ component_made_next s all n x less is before this =
     (subst (λ l. have_words l ≡ true) (sym (map-append (component s) (map protected_component_tree (take n all)) (protected_component_tree x ∷ [])))
     (have_both (map (component s) (map protected_component_tree (take n all))) (component s (protected_component_tree x) ∷ []) before this))
 
--- ---- refusals: what one lacks, all lack
-
-assoc : (a b c : Bool) → (a || (b || c)) ≡ ((a || b) || c)
-assoc true b c = refl
-assoc false b c = refl
-
-or_first : (a b : Bool) → a ≡ true → (a || b) ≡ true
-or_first a b h = ap (λ x. x || b) h
-
-or_second : (a b : Bool) → b ≡ true → (a || b) ≡ true
-or_second true b h = refl
-or_second false b h = h
-
-parts_both : (s : Scope) (xs ys : List ProtectedComponentTree) → lack_components s (xs ++ ys) ≡ (lack_components s xs || lack_components s ys)
-parts_both s [] ys = refl
-parts_both s (c ∷ xs) ys =
-    ap (λ b. is_outside_variable s (subtype_of s c.subtype) c.value || b) (parts_both s xs ys)
-    ∙ assoc (is_outside_variable s (subtype_of s c.subtype) c.value) (lack_components s xs) (lack_components s ys)
-
-lacking_both : (s : Scope) (xs ys : List ItemTree) → lack_objects s (xs ++ ys) ≡ (lack_objects s xs || lack_objects s ys)
-lacking_both s [] ys = refl
-lacking_both s (OfProtected d ∷ xs) ys =
-    ap (λ b. lack_components s d.components || b) (lacking_both s xs ys) ∙ assoc (lack_components s d.components) (lack_objects s xs) (lack_objects s ys)
-lacking_both s (OfType d ∷ xs) ys = lacking_both s xs ys
-lacking_both s (OfObject d ∷ xs) ys = lacking_both s xs ys
-lacking_both s (OfException name ∷ xs) ys = lacking_both s xs ys
-lacking_both s (OfSubprogram d ∷ xs) ys = lacking_both s xs ys
-lacking_both s (OfTask d ∷ xs) ys = lacking_both s xs ys
+-- ---- refusals: what one has, all have
 
 words_both : (s : Scope) (xs ys : List ItemTree) → object_words s (xs ++ ys) ≡ object_words s xs + object_words s ys
 words_both s [] ys = omega arith
@@ -201,12 +177,10 @@ words_both s (OfTask d ∷ xs) ys = words_both s xs ys
 pub refused_first : (s : Scope) (xs ys : List ItemTree) (why : Refusal) → RefusesObjects s xs why → RefusesObjects s (xs ++ ys) why
 refused_first s xs ys refusal.Memory r = tt
 refused_first s xs ys refusal.Limit r = (let e = words_both s xs ys in omega (arith, e, r))
-refused_first s xs ys refusal.Outside r = lacking_both s xs ys ∙ or_first (lack_objects s xs) (lack_objects s ys) r
 
 pub refused_second : (s : Scope) (xs ys : List ItemTree) (why : Refusal) → RefusesObjects s ys why → RefusesObjects s (xs ++ ys) why
 refused_second s xs ys refusal.Memory r = tt
 refused_second s xs ys refusal.Limit r = (let e = words_both s xs ys in omega (arith, e, r))
-refused_second s xs ys refusal.Outside r = lacking_both s xs ys ∙ or_second (lack_objects s xs) (lack_objects s ys) r
 
 pub object_refused_among : (s : Scope) (all : List Item) (n : ℕ) (x : Item) (why : Refusal) → n < length all → x ≡ get_or all n x
     → RefusesObjects s (item_tree x ∷ []) why → RefusesObjects s (map item_tree all) why
@@ -231,7 +205,7 @@ body_object_refused s all n x why less is r =
 pub part_refused : (s : Scope) (all : List ProtectedComponent) (n : ℕ) (x : ProtectedComponent) (words : ℕ) (why : Refusal) → n < length all
     → x ≡ get_or all n x
     → words ≡ length (first_words_of (map (component s) (map protected_component_tree (take n all))))
-    → RefusesComponent s words (protected_component_tree x) why → RefusesComponents s (map protected_component_tree all) why
+    → RefusesComponent words why → RefusesComponents s (map protected_component_tree all) why
 part_refused s all n x words why less is many r =
     subst (λ l. RefusesComponents s l why) (split_at protected_component_tree all n x less is) (by_reason why r)
   where
@@ -244,7 +218,7 @@ part_refused s all n x words why less is many r =
     behind : List ProtectedComponentTree
     behind = map protected_component_tree (drop (n + 1) all)
 
-    by_reason : (r : Refusal) → RefusesComponent s words (protected_component_tree x) r → RefusesComponents s ((front ++ one) ++ behind) r
+    by_reason : (r : Refusal) → RefusesComponent words r → RefusesComponents s ((front ++ one) ++ behind) r
     by_reason refusal.Memory h = tt
     by_reason refusal.Limit h =
         (let a = ap (λ l. length (first_words_of l)) (map-append (component s) (front ++ one) behind
@@ -254,15 +228,10 @@ part_refused s all n x words why less is many r =
         let c = ap length (words_more (map (component s) front) (map (component s) one))
         ∙ length-append (first_words_of (map (component s) front)) (first_words_of (map (component s) one)) in
         omega (arith, a, b, c, many, h))
-    by_reason refusal.Outside h =
-        parts_both s (front ++ one) behind
-        ∙ or_first (lack_components s (front ++ one)) (lack_components s behind)
-        (parts_both s front one ∙ or_second (lack_components s front) (lack_components s one) h)
 
 pub parts_refused : (s : Scope) (d : ProtectedTree) (why : Refusal) → RefusesComponents s d.components why → RefusesObjects s (OfProtected d ∷ []) why
 parts_refused s d refusal.Memory r = tt
 parts_refused s d refusal.Limit r = omega (arith, r)
-parts_refused s d refusal.Outside r = or_first (lack_components s d.components) false r
 
 -- ---- what is told
 

@@ -1,8 +1,10 @@
 -- What declarations of a package tell, one behind another; and which declaration or body stands at a place of it.
-use Rattle.std.proofs.Common.{◌≡◌, ℕ, zero, suc, ◌+◌, ◌<◌, List, [], ◌∷◌, ◌++◌, append_assoc, append-nil, get_or, length, length-append, map, take, Option, Some, refl, sym, ap, ◌∙◌, subst, arith}
+use Rattle.std.proofs.Common.{◌≡◌, ℕ, zero, suc, ◌+◌, ◌<◌, List, [], ◌∷◌, ◌++◌, append_assoc, append-nil, get_or, length, length-append, map, take, true, Option, Some, refl, sym, ap, ◌∙◌, subst, arith}
 use Rattle.std.proofs.lemmas.Option.{slice_get-get_or, slice_get-map}
+use Rattle.std.proofs.lemmas.Bool.{and_from, and_parts}
 use Rattle.std.proofs.lemmas.List.{length-map}
-use Rattle.std.specs.Prelude.{option_map, slice_get}
+use Rattle.std.specs.List.{list_all}
+use Rattle.std.specs.Prelude.{Bool, option_map, slice_get}
 use Rattle.ada_tree.specs.declared.declaration.Item.{Item}
 use Rattle.ada_tree.specs.declared.program.BodyItem.{BodyItem}
 use Rattle.ada_tree.specs.declared.program.Package.{Package}
@@ -13,7 +15,8 @@ use Rattle.expr_soundness.proofs.Positions.{item_kept, same_some}
 use Rattle.program_soundness.specs.Fronts.{declared_in}
 use Rattle.expr_soundness.specs.meaning.specs.Programs.{items_among}
 use Rattle.step_simulation.specs.part_code.proofs.Lists.{mapped_next}
-use Rattle.package_code.specs.Globals.{AddsItems, AreGlobals}
+use Rattle.package_code.specs.Globals.{AddsItems, AreGlobals, are_placed, is_placed}
+use Rattle.package_code.specs.Providing.{item_tells, items_tell}
 use Rattle.package_code.specs.Walking.{StandFrom}
 use Rattle.package_code.specs.declared.globals.Globals.{Globals}
 
@@ -28,10 +31,38 @@ stands_at whole from place f xs n x h at less is = ap (slice_get whole) at ∙ h
 -- ---- what is told of declarations behind others
 
 pub adds_none : (s : Scope) (g : Globals) → AddsItems s g [] g
-adds_none s g = record { are = λ front are. subst (λ l. AreGlobals s l g) (sym (append-nil front)) are }
+adds_none s g = record { are = λ front are placed. subst (λ l. AreGlobals s l g) (sym (append-nil front)) are }
+
+pub placed_both : (s : Scope) (front xs ys : List ItemTree) → are_placed s front (xs ++ ys) ≡ true
+    → (are_placed s front xs ≡ true) × (are_placed s (front ++ xs) ys ≡ true)
+placed_both s front [] ys h = (refl, subst (λ l. are_placed s l ys ≡ true) (sym (append-nil front)) h)
+placed_both s front (x ∷ xs) ys h =
+    let one = and_parts (is_placed s front x) (are_placed s (front ++ x ∷ []) (xs ++ ys)) h in
+    let more = placed_both s (front ++ x ∷ []) xs ys one.1 in (
+      and_from (is_placed s front x) (are_placed s (front ++ x ∷ []) xs) one.0 more.0,
+      subst (λ l. are_placed s l ys ≡ true) (append_assoc front (x ∷ []) xs) more.1,
+    )
 
 pub adds_then : (s : Scope) (a b c : Globals) (xs ys : List ItemTree) → AddsItems s a xs b → AddsItems s b ys c → AddsItems s a (xs ++ ys) c
-adds_then s a b c xs ys h k = record { are = λ front are. subst (λ l. AreGlobals s l c) (append_assoc front xs ys) (k.are (front ++ xs) (h.are front are)) }
+adds_then s a b c xs ys h k = record {
+  are = λ front are placed.
+      let both = placed_both s front xs ys placed in
+      subst (λ l. AreGlobals s l c) (append_assoc front xs ys) (k.are (front ++ xs) (h.are front are both.0) both.1);
+}
+
+-- what is so of all of them is so of those at its beginning, of those behind, and of each
+pub all_both : {X : Type 0} (f : X → Bool) (xs ys : List X) → list_all f (xs ++ ys) ≡ true → (list_all f xs ≡ true) × (list_all f ys ≡ true)
+all_both f [] ys h = (refl, h)
+all_both f (x ∷ xs) ys h =
+    let one = and_parts (f x) (list_all f (xs ++ ys)) h in
+    let more = all_both f xs ys one.1 in
+    (and_from (f x) (list_all f xs) one.0 more.0, more.1)
+
+pub all_at : {A B : Type 0} (f : B → Bool) (g : A → B) (all : List A) (n : ℕ) (x : A) → n < length all → x ≡ get_or all n x → list_all f (map g all) ≡ true
+    → f (g x) ≡ true
+all_at f g [] n x less is h = absurd (omega (arith, less))
+all_at f g (y ∷ all) zero x less is h = ap (λ z. f (g z)) is ∙ (and_parts (f (g y)) (list_all f (map g all)) h).0
+all_at f g (y ∷ all) (suc n) x less is h = all_at f g all n x (omega (arith, less)) is (and_parts (f (g y)) (list_all f (map g all)) h).1
 
 -- one more of them
 pub item_next : (s : Scope) (a b c : Globals) (all : List Item) (n : ℕ) (x : Item) → n < length all → x ≡ get_or all n x
@@ -51,6 +82,20 @@ body_item_next s a b c all n x less is h k =
     subst (λ l. AddsItems s a l c)
     (sym (ap items_among (mapped_next body_item_tree all n x less is) ∙ among_both (map body_item_tree (take n all)) (body_item_tree x ∷ [])))
     (adds_then s a b c (items_among (map body_item_tree (take n all))) (items_among (body_item_tree x ∷ [])) h k)
+
+-- what all declarations in a body tell, each does
+pub told_in_body : (s : Scope) (all : List BodyItem) (n : ℕ) (x : BodyItem) → n < length all → x ≡ get_or all n x
+    → items_tell s (items_among (map body_item_tree all)) ≡ true
+    → items_tell s (items_among (body_item_tree x ∷ [])) ≡ true
+told_in_body s [] n x less is h = absurd (omega (arith, less))
+told_in_body s (y ∷ all) zero x less is h =
+    subst (λ z. items_tell s (items_among (body_item_tree z ∷ [])) ≡ true) (sym is)
+    (all_both (item_tells s) (items_among (body_item_tree y ∷ [])) (items_among (map body_item_tree all))
+    (subst (λ l. items_tell s l ≡ true) (among_both (body_item_tree y ∷ []) (map body_item_tree all)) h)).0
+told_in_body s (y ∷ all) (suc n) x less is h =
+    told_in_body s all n x (omega (arith, less)) is
+    (all_both (item_tells s) (items_among (body_item_tree y ∷ [])) (items_among (map body_item_tree all))
+    (subst (λ l. items_tell s l ≡ true) (among_both (body_item_tree y ∷ []) (map body_item_tree all)) h)).1
 
 -- ---- places
 

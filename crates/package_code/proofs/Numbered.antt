@@ -192,10 +192,9 @@ items_numbered s all n x old new next later less is h counted more goes =
 
 -- there are more than numbers
 pub items_refused : (all : List BodyItem) (n : ℕ) (x : BodyItem) (next : ℕ) (why : Refusal) → n < length all → x ≡ get_or all n x
-    → next ≡ bodies_among (map body_item_tree (take n all)) → IsRefused (next + bodies_among (body_item_tree x ∷ [])) 0 false why
+    → next ≡ bodies_among (map body_item_tree (take n all)) → IsRefused (next + bodies_among (body_item_tree x ∷ [])) 0 why
     → HasManyBodies (map body_item_tree all) why
 items_refused all n x next refusal.Memory less is counted r = tt
-items_refused all n x next refusal.Outside less is counted r = absurd (let never : false ≡ true = r in cc)
 items_refused all n x next refusal.Limit less is counted (inl r) =
     let front : List BodyItemTree = map body_item_tree (take n all) in
     let one : List BodyItemTree = body_item_tree x ∷ [] in

@@ -40,8 +40,7 @@ use Rattle.program_soundness.proofs.Trees.{tree_package}
 use Rattle.program_soundness.proofs.Whole.{IsPackage, legal_subtype}
 use Rattle.program_soundness.proofs.WiderScopes.{equal_bytes, stands, with_all}
 use Rattle.package_code.specs.Bodies.{Coded, coded_at, components_or_none, object_bodies, object_number, of_operation, operations_of, or_zero, own_name}
-use Rattle.package_code.specs.Laws.{BodiesMayBeAdded, MayBeAdded}
-use Rattle.package_code.proofs.Adding.{all_longer, body_added, fit, known_result, legal_run, run_legal, task_added}
+use Rattle.package_code.proofs.Adding.{IsSoundBody, all_longer, body_added, fit, known_result, task_added}
 use Rattle.package_code.proofs.Coded.{coded_by}
 
 -- ---- where the body of an operation stands
@@ -205,19 +204,18 @@ module _ (scopes : ScopesAreSound) (known : NamesAreKnown) (premises : PremisesH
           let u = legal_subtype r.place (named_entity seen r) rules_ (doubt r.name) in
           (u.0, u.1, bodies.types_seen program start all w k nm items end_name at j (is_some e.result) r u.0 u.1)
 
-      added : MayBeAdded t behind e b
+      added : IsSoundBody t behind e b
       added = record {
         front = inners j e b h;
         sound = subst SoundScope (sym text) (sound_all scopes behind parameters (inners j e b h) new);
         new_names = ap length text ∙ all_longer behind parameters new ∙ ap (λ n. length behind + n) (length-map e.formals (parameter program.scope));
-        legal = legal_run program.scope seen behind e b head operation_legal told;
         fit = fit program.scope seen behind e b head operation_legal told;
         result = known_result program.scope seen behind e b head operation_legal told;
       }
 
-      pub operation_added : MayBeAdded t (subprogram_scope (operation_sees (protected_items_scope begun (take j items)) obj.components e) e) e b
+      pub operation_added : IsSoundBody t (subprogram_scope (operation_sees (protected_items_scope begun (take j items)) obj.components e) e) e b
       operation_added =
-          subst (λ u. MayBeAdded t (subprogram_scope (components_scope u (is_some e.result) obj.components) e) e b) (sym (same_scope j)) added
+          subst (λ u. IsSoundBody t (subprogram_scope (components_scope u (is_some e.result) obj.components) e) e b) (sym (same_scope j)) added
 
     -- ---- the body of an entry
 
@@ -253,30 +251,29 @@ module _ (scopes : ScopesAreSound) (known : NamesAreKnown) (premises : PremisesH
           text_formals scopes program.scope within within sound_within (keeps_same within) doubt_within
           (bodies.types_seen program start all w k nm items end_name at j false) [] e.formals within (keeps_same within) entry_formals
 
-      entry_added : MayBeAdded t within (record { place = e.place; name = e.name; formals = e.formals; result = None }) b
+      entry_added : IsSoundBody t within (record { place = e.place; name = e.name; formals = e.formals; result = None }) b
       entry_added = record {
         front = sound_within;
         sound = subst SoundScope (sym text_within) (sound_all scopes within passed sound_within new_within);
         new_names = ap length text_within ∙ all_longer within passed new_within ∙ ap (λ n. length within + n) (length-map e.formals (parameter program.scope));
-        legal = run_legal (formals_scope within e.formals) kinds.Entry b (back_empty _ (body_faults (formals_scope within e.formals) kinds.Entry b) entry_rules);
         fit = λ r value some is. (let none : None ≡ Some r = some in cc);
         result = λ r some. (let none : None ≡ Some r = some in cc);
       }
 
-      pub entry_body_added : MayBeAdded t (components_scope (protected_items_scope begun (take j items)) false obj.components)
+      pub entry_body_added : IsSoundBody t (components_scope (protected_items_scope begun (take j items)) false obj.components)
           (record { place = e.place; name = e.name; formals = e.formals; result = None }) b
       entry_body_added =
-          subst (λ u. MayBeAdded t (components_scope u false obj.components) (record { place = e.place; name = e.name; formals = e.formals; result = None }) b)
+          subst (λ u. IsSoundBody t (components_scope u false obj.components) (record { place = e.place; name = e.name; formals = e.formals; result = None }) b)
           (sym (same_scope j)) entry_added
 
-    pub inside_added : (j : ℕ) (c : Coded) → slice_get (coded_at t k (ProtectedBody nm items end_name)) j ≡ Some c → MayBeAdded t c.front c.head c.body
+    pub inside_added : (j : ℕ) (c : Coded) → slice_get (coded_at t k (ProtectedBody nm items end_name)) j ≡ Some c → IsSoundBody t c.front c.head c.body
     inside_added j c is = let x = inside_coded j c is in by_item x.0 x.1 c x.2
       where
         by_item : (i : ProtectedItemTree) → slice_get items j ≡ Some i → (z : Coded)
             → z ≡ of_operation (object_number program.scope nm) (protected_items_scope begun (take j items)) obj.components i
-            → MayBeAdded t z.front z.head z.body
-        by_item (OperationBody e b) h z same = subst (λ y. MayBeAdded t y.front y.head y.body) (sym same) (operation_added j e b h)
-        by_item (EntryBody e barrier b) h z same = subst (λ y. MayBeAdded t y.front y.head y.body) (sym same) (entry_body_added j e barrier b h)
+            → IsSoundBody t z.front z.head z.body
+        by_item (OperationBody e b) h z same = subst (λ y. IsSoundBody t y.front y.head y.body) (sym same) (operation_added j e b h)
+        by_item (EntryBody e barrier b) h z same = subst (λ y. IsSoundBody t y.front y.head y.body) (sym same) (entry_body_added j e barrier b h)
 
   -- ---- bodies of one object
 
@@ -362,9 +359,12 @@ module _ (scopes : ScopesAreSound) (known : NamesAreKnown) (premises : PremisesH
           (same_some (ProtectedBody x.name x.items x.end_name) (ProtectedBody y.name y.items y.end_name) (sym x.at ∙ ap (slice_get all) same ∙ y.at)) in
           (same, by_operations (subst (λ l. slice_get l i ≡ Some x.item) items x.there) (order i j))
 
-pub bodies_added : ScopesAreSound → NamesAreKnown → PremisesHold → BodiesMayBeAdded
-bodies_added scopes known premises t legal restricted place x k c at is =
-    coded_by t place (λ y n e. slice_get (declared_in t.package_) place ≡ Some y → MayBeAdded t e.front e.head e.body)
+pub bodies_sound : ScopesAreSound → NamesAreKnown → PremisesHold → (t : ProgramTree) → IsLegal t → IsRestricted t → (place : ℕ) (item : BodyItemTree) (k : ℕ)
+    (c : Coded)
+    → slice_get (declared_in t.package_) place ≡ Some item → slice_get (coded_at t place item) k ≡ Some c
+    → IsSoundBody t c.front c.head c.body
+bodies_sound scopes known premises t legal restricted place x k c at is =
+    coded_by t place (λ y n e. slice_get (declared_in t.package_) place ≡ Some y → IsSoundBody t e.front e.head e.body)
     (λ d b there. body_added scopes known premises t legal restricted place d b there)
     (λ name b there. task_added scopes known premises t legal restricted place name b there)
     (λ name items end_name n e here there. inside_added scopes known premises t legal restricted place name items end_name there n e here) x k c is at

@@ -1,6 +1,8 @@
 -- The variables among declarations, one behind another, as they are told by their numbers.
 use Rattle.std.proofs.Common.{◌≡◌, ℕ, zero, suc, ◌+◌, ◌<◌, List, [], ◌∷◌, ◌++◌, length, Bool, true, false, ◌⊎◌, inl, inr, Option, Some, None, refl, sym, ap, ◌∙◌, subst, arith, append-nil, append_assoc, length-append}
-use Rattle.std.specs.Prelude.{bytes_eq, if◌then◌else◌, replicate, slice_get, slice_set}
+use Rattle.std.specs.Prelude.{bytes_eq, get_or, if◌then◌else◌, is_none, is_some, replicate, slice_get, slice_set, ◌&&◌, ◌||◌}
+use Rattle.std.proofs.lemmas.Bool.{and_parts}
+use Rattle.std.proofs.lemmas.Option.{slice_get-get_or, slice_get_within}
 use Rattle.std.proofs.lemmas.List.{length-replicate}
 use Rattle.base.specs.Names.{predefined}
 use Rattle.ada_tree.specs.declared.expression.Identifier.{Identifier}
@@ -17,7 +19,7 @@ use Rattle.expr_code.specs.Seeing.{told_of}
 use Rattle.expr_code.specs.declared.visible.Slot.{Slot}
 use Rattle.step_simulation.specs.part_code.proofs.Names.{name_is, same_name}
 use Rattle.package_code.specs.Package.{first_words_of, place_among}
-use Rattle.package_code.specs.Globals.{AddsItems, AddsVariable, AreGlobals}
+use Rattle.package_code.specs.Globals.{AddsItems, AddsVariable, AreGlobals, is_placed}
 use Rattle.package_code.specs.declared.globals.Globals.{Globals}
 
 -- ---- what is told of names by their numbers
@@ -139,7 +141,7 @@ exceptions_both (x ∷ xs) ys = exceptions_both xs ys
 -- a declaration that declares no variable and no exception
 pub adds_nothing : (s : Scope) (i : ItemTree) (g : Globals) → variables_among s (i ∷ []) ≡ [] → exceptions_among (i ∷ []) ≡ []
     → AddsItems s g (i ∷ []) g
-adds_nothing s i g no_variables no_exceptions = record { are = told }
+adds_nothing s i g no_variables no_exceptions = record { are = λ front are placed. told front are }
   where
     told : (front : List ItemTree) → AreGlobals s front g → AreGlobals s (front ++ i ∷ []) g
     told front are =
@@ -164,7 +166,7 @@ adds_constant s d g constant =
 pub adds_exception : (s : Scope) (name : Identifier) (old new : Globals) → new.slots ≡ old.slots → new.words ≡ old.words
     → new.exceptions.items ≡ old.exceptions.items ++ name.name ∷ []
     → AddsItems s old (OfException name ∷ []) new
-adds_exception s name old new slots words exceptions = record { are = told }
+adds_exception s name old new slots words exceptions = record { are = λ front are placed. told front are }
   where
     told : (front : List ItemTree) → AreGlobals s front old → AreGlobals s (front ++ OfException name ∷ []) new
     told front are =
@@ -181,13 +183,30 @@ adds_exception s name old new slots words exceptions = record { are = told }
               ∙ ap (λ l. predefined ++ l) (sym (exceptions_both front (OfException name ∷ [])));
         }
 
--- a variable
+-- a variable's name is visible, and none in front has it
+record IsFree (s : Scope) (front : List ItemTree) (name : List ℕ) : Type 0 where
+  pub number : ℕ
+  pub numbered : number_of s name ≡ Some number
+  pub free : place_among 0 (variables_among s front) name ≡ None
+
+free_by : (s : Scope) (front : List ItemTree) (name : List ℕ) (o : Option ℕ) (p : Option Slot) → number_of s name ≡ o
+    → place_among 0 (variables_among s front) name ≡ p → (is_some o && is_none p) ≡ true
+    → IsFree s front name
+free_by s front name (Some n) None numbered free h = record { number = n; numbered = numbered; free = free }
+free_by s front name (Some n) (Some x) numbered free h = absurd cc
+free_by s front name None p numbered free h = absurd cc
+
+variable_free : (s : Scope) (front : List ItemTree) (d : ObjectTree) → d.constant ≡ false → is_placed s front (OfObject d) ≡ true → IsFree s front d.name.name
+variable_free s front d variable placed =
+    free_by s front d.name.name (number_of s d.name.name) (place_among 0 (variables_among s front) d.name.name) refl refl
+    (ap (λ b. b || (is_some (number_of s d.name.name) && is_none (place_among 0 (variables_among s front) d.name.name))) (sym variable) ∙ placed)
+
 added_variable : (s : Scope) (front : List ItemTree) (d : ObjectTree) (old new : Globals) → d.constant ≡ false → AddsVariable s old d new
-    → AreGlobals s front old → AreGlobals s (front ++ OfObject d ∷ []) new
-added_variable s front d old new variable h are =
+    → IsFree s front d.name.name → AreGlobals s front old → AreGlobals s (front ++ OfObject d ∷ []) new
+added_variable s front d old new variable h free are =
     record {
       slots = told;
-      many = ap length h.slots ∙ long_set old.slots.items h.number (slot_at (length old.words.items)) ∙ are.many;
+      many = ap length slots_are ∙ long_set old.slots.items free.number (slot_at (length old.words.items)) ∙ are.many;
       words = h.words ∙ ap (λ l. l ++ value_words (initial_value s h.subtype d.value)) are.words
           ∙ ap (λ t. first_words_of all ++ value_words (initial_value s t d.value)) subtype_is
           ∙ ap (λ l. first_words_of all ++ l) (sym (append-nil (value_words o.value)))
@@ -206,6 +225,16 @@ added_variable s front d old new variable h are =
     subtype_is : h.subtype ≡ o.subtype
     subtype_is = ap subtype_or_integer (sym h.named)
 
+    slots_are : new.slots.items ≡ slice_set old.slots.items free.number (Some (record { region = regions.Plain; offset = length old.words.items }))
+    slots_are = h.placed free.number free.numbered
+
+    there : slice_get old.slots.items free.number ≡ Some (get_or old.slots.items free.number None)
+    there =
+        let x = found_at (λ m. bytes_eq d.name.name m.name) s free.number (sym (number_place s d.name.name) ∙ free.numbered) in
+        let within = slice_get_within s free.number x.0 x.1 in
+        let many = are.many in
+        slice_get-get_or old.slots.items free.number None (omega (arith, within, many))
+
     one_more : variables_among s (front ++ OfObject d ∷ []) ≡ all ++ o ∷ []
     one_more =
         variables_both s front (OfObject d ∷ [])
@@ -219,15 +248,14 @@ added_variable s front d old new variable h are =
 
     by_test : (name : List ℕ) (b : Bool) → bytes_eq d.name.name name ≡ b → told_of s new.slots.items name ≡ place_among 0 (all ++ o ∷ []) name
     by_test name true e =
-        ap (λ z. told_of s z name) h.slots
-        ∙ subst (λ m. told_of s (slice_set old.slots.items h.number (slot_at (length old.words.items))) m ≡ slot_at (length old.words.items))
-        (same_name d.name.name name e) (set_told s old.slots.items d.name.name h.number (slot_at (length old.words.items)) None h.numbered h.free)
+        ap (λ z. told_of s z name) slots_are
+        ∙ subst (λ m. told_of s (slice_set old.slots.items free.number (slot_at (length old.words.items))) m ≡ slot_at (length old.words.items))
+        (same_name d.name.name name e) (set_told s old.slots.items d.name.name free.number (slot_at (length old.words.items)) (get_or old.slots.items free.number None) free.numbered there)
         ∙ ap slot_at at
-        ∙ sym (place_last 0 all o name e (sym (are.slots name)
-        ∙ subst (λ m. told_of s old.slots.items m ≡ None) (same_name d.name.name name e) (was_none s old.slots.items d.name.name h.number h.numbered h.free)))
+        ∙ sym (place_last 0 all o name e (subst (λ m. place_among 0 all m ≡ None) (same_name d.name.name name e) free.free))
     by_test name false e =
-        ap (λ z. told_of s z name) h.slots
-        ∙ set_other s old.slots.items d.name.name name h.number (slot_at (length old.words.items)) h.numbered e
+        ap (λ z. told_of s z name) slots_are
+        ∙ set_other s old.slots.items d.name.name name free.number (slot_at (length old.words.items)) free.numbered e
         ∙ are.slots name ∙ sym (place_kept 0 all o name e)
 
     by_name : (name : List ℕ) (x : Slot) → told_of s new.slots.items name ≡ Some x → (b : Bool) → bytes_eq d.name.name name ≡ b
@@ -235,17 +263,17 @@ added_variable s front d old new variable h are =
     by_name name x seen true e =
         let same : slot_at (length old.words.items) ≡ Some x =
         sym
-        (ap (λ z. told_of s z name) h.slots
-        ∙ subst (λ m. told_of s (slice_set old.slots.items h.number (slot_at (length old.words.items))) m ≡ slot_at (length old.words.items))
-        (same_name d.name.name name e) (set_told s old.slots.items d.name.name h.number (slot_at (length old.words.items)) None h.numbered h.free))
+        (ap (λ z. told_of s z name) slots_are
+        ∙ subst (λ m. told_of s (slice_set old.slots.items free.number (slot_at (length old.words.items))) m ≡ slot_at (length old.words.items))
+        (same_name d.name.name name e) (set_told s old.slots.items d.name.name free.number (slot_at (length old.words.items)) (get_or old.slots.items free.number None) free.numbered there))
         ∙ seen in
         subst (λ y. y.offset < length new.words.items)
         (same_some (let w : Slot = record { region = regions.Plain; offset = length old.words.items } in w) x same) h.some
     by_name name x seen false e =
         let before =
         are.within name x
-        (sym (ap (λ z. told_of s z name) h.slots
-        ∙ set_other s old.slots.items d.name.name name h.number (slot_at (length old.words.items)) h.numbered e)
+        (sym (ap (λ z. told_of s z name) slots_are
+        ∙ set_other s old.slots.items d.name.name name free.number (slot_at (length old.words.items)) free.numbered e)
         ∙ seen) in
         let more = h.some in
         omega (arith, before, more)
@@ -258,7 +286,10 @@ added_variable s front d old new variable h are =
     told name = by_test name (bytes_eq d.name.name name) refl ∙ ap (λ l. place_among 0 l name) (sym one_more)
 
 pub adds_variable : (s : Scope) (d : ObjectTree) (old new : Globals) → d.constant ≡ false → AddsVariable s old d new → AddsItems s old (OfObject d ∷ []) new
-adds_variable s d old new variable h = record { are = λ front are. added_variable s front d old new variable h are }
+adds_variable s d old new variable h = record {
+  are = λ front are placed. added_variable s front d old new variable h
+      (variable_free s front d variable (and_parts (is_placed s front (OfObject d)) true placed).0) are;
+}
 
 -- none at all
 pub no_globals : (s : Scope) (g : Globals) → g.slots.items ≡ replicate (length s) None → g.words.items ≡ [] → g.exceptions.items ≡ predefined

@@ -28,7 +28,7 @@ use Rattle.stmt_code.specs.declared.draft.Draft.{Draft}
 use Rattle.stmt_code.proofs.RowsAdded.{rows_kept, rows_then}
 use Rattle.package_code.specs.Bodies.{Coded, bodies_among, bodies_before, bodies_of, coded_at, of_subprogram, of_task}
 use Rattle.package_code.specs.Directory.{AreTold, TellsNext, operations_told}
-use Rattle.package_code.specs.Laws.{MayBeAdded}
+use Rattle.package_code.specs.Providing.{MayBeAdded}
 use Rattle.package_code.specs.Walking.{AddsBody, AddsSubprogram, BeginsWalk, HasBody, HasRows, IsDraftKept, IsWalked, LieInFront, LiesInOne, begins_at, row_of}
 use Rattle.package_code.specs.declared.directory.Directory.{Directory}
 use Rattle.package_code.specs.declared.walk.Walk.{Walk}

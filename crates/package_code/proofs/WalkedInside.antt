@@ -33,7 +33,9 @@ use Rattle.package_code.specs.Bodies.{Coded, bodies_before, coded_at, object_bod
 use Rattle.package_code.specs.Counts.{bound_of, bounds_from}
 use Rattle.package_code.specs.Directory.{AreTold, IsDirectory, number_told, seen_inside}
 use Rattle.package_code.specs.Owners.{offered_names}
-use Rattle.package_code.specs.Laws.{BodiesAreNumbered, BodiesMayBeAdded, MayBeAdded}
+use Rattle.package_code.specs.Laws.{BodiesAreNumbered}
+use Rattle.package_code.specs.Providing.{BodiesAreCovered, MayBeAdded}
+use Rattle.step_simulation.specs.part_code.specs.Providing.{HasWhatCodeNeeds}
 use Rattle.package_code.specs.Refusing.{RefusesCode, coded_labels, coded_rows, items_labels, items_rows, seen_at, seen_by, seen_with, subprogram_labels, subprogram_rows}
 use Rattle.package_code.specs.Walking.{AddsBody, AddsOperation, IsAsTold, IsWalked, IsInObjectBody, RefusesBody, behind_operation, first_visible, operation_visible}
 use Rattle.package_code.specs.declared.directory.Directory.{Directory}
@@ -217,10 +219,17 @@ module _ (scopes : ScopesAreSound) (known : NamesAreKnown) (premises : PremisesH
           ∙ operation_seen scopes known premises t legal restricted directory is_directory o u components i up
 
       -- what the code asks
-      pub operation_may : BodiesMayBeAdded → MayBeAdded t (operation_front old.visible.scope components i) (own_head i) (own_body i)
-      operation_may may =
+      pub operation_may : BodiesAreCovered t → MayBeAdded t (operation_front old.visible.scope components i) (own_head i) (own_body i)
+      operation_may covered =
           subst (λ z. MayBeAdded t (operation_front z components i) (own_head i) (own_body i)) (sym scope_is)
-          (may t legal restricted old.place h.item k c h.at (coded_there i at))
+          (covered c (record { place = old.place; item = h.item; index = k; at = h.at; coded = coded_there i at })).added
+
+      pub operation_covered : BodiesAreCovered t
+          → HasWhatCodeNeeds old.draft.exceptions.items (operation_visible whole directory o components i old.visible)
+      operation_covered covered =
+          subst (λ e. HasWhatCodeNeeds e (operation_visible whole directory o components i old.visible)) (sym h.exceptions)
+          (subst (HasWhatCodeNeeds (program_of t).exceptions) (sym seen_operation)
+          (covered c (record { place = old.place; item = h.item; index = k; at = h.at; coded = coded_there i at })).names)
 
       pub operation_number_is : BodiesAreNumbered → number_told whole directory (Some o) (own_name i) ≡ Some (length old.subprograms.items)
       operation_number_is numbered =
@@ -229,10 +238,10 @@ module _ (scopes : ScopesAreSound) (known : NamesAreKnown) (premises : PremisesH
 
       -- why it isn't made
       pub operation_refused : (why : Refusal)
-          → RefusesBody t (operation_visible whole directory o components i old.visible) old.draft (own_head i) (own_body i) why → RefusesCode t why
+          → RefusesBody (operation_visible whole directory o components i old.visible) old.draft (own_head i) (own_body i) why → RefusesCode t why
       operation_refused why r =
           coded_refused t old.place h.item k c h.at (coded_there i at) (operation_visible whole directory o components i old.visible) old.draft
-          why h.few h.labels h.exceptions seen_operation r
+          why h.few h.labels seen_operation r
 
       abbrev mid : Walk
       mid = record old { visible = operation_visible whole directory o components i old.visible }

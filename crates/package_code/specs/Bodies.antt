@@ -1,6 +1,6 @@
 -- The bodies of a program that have code of their own, in the order of the text: those of its subprograms and tasks, and of the operations and entries of its
 -- protected objects; their numbers, and what is visible in front of the parameters of each (RM 6.3, 9.1, 9.4).
-use Rattle.std.specs.Prelude.{ℕ, suc, false, ◌&&◌, List, [], ◌∷◌, ◌++◌, Option, Some, None, bytes_eq, take, length, if◌then◌else◌, ◌+◌}
+use Rattle.std.specs.Prelude.{◌≡◌, ℕ, suc, false, ◌&&◌, List, [], ◌∷◌, ◌++◌, Option, Some, None, bytes_eq, take, length, if◌then◌else◌, ◌+◌, slice_get}
 use Rattle.ada_tree.specs.declared.expression.Identifier.{Identifier}
 use Rattle.ada_tree.specs.StatementTree.{SubprogramTree}
 use Rattle.ada_tree.specs.ProgramTree.{BodyItemTree, BodyTree, EntryBody, OfItem, OperationBody, ProgramTree, ProtectedBody, ProtectedItemTree, SubprogramBody, TaskBody}
@@ -151,3 +151,11 @@ coded_from t place (x ∷ rest) = coded_at t place x ++ coded_from t (suc place)
 -- of all of the package, each at its number
 abbrev pub bodies_of : ProgramTree → List Coded
 bodies_of t = coded_from t 0 (declared_in t.package_)
+
+-- a body of the text that has code of its own: of a subprogram or a task, or of an operation or entry of a protected object
+pub record IsBodyOf (t : ProgramTree) (c : Coded) : Type 0 where
+  pub place : ℕ
+  pub item : BodyItemTree
+  pub index : ℕ
+  pub at : slice_get (declared_in t.package_) place ≡ Some item
+  pub coded : slice_get (coded_at t place item) index ≡ Some c

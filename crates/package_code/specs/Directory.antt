@@ -145,7 +145,6 @@ entries_among s first (x ∷ rest) = entries_in s first x ++ entries_among s (fi
 abbrev pub HasManyBodies : List BodyItemTree → Refusal → Type 0
 HasManyBodies items refusal.Memory = ⊤
 HasManyBodies items refusal.Limit = 65535 < bodies_among items
-HasManyBodies items refusal.Outside = ⊥
 
 -- ---- what is told of the names of a program
 

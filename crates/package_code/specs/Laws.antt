@@ -1,52 +1,29 @@
 -- What is proved of code that is put together from a program, as statements; each is the contract of a public function.
 use Rattle.std.specs.Prelude.{◌≡◌, ◌+◌, ◌≤◌, ℕ, suc, [], length, true, false, None, Some, is_some, slice_get}
 use Rattle.base.specs.declared.limits.TheConstants.{EXCEPTIONS, LABELS, OBJECTS, SUBPROGRAMS, TASKS, WORDS}
-use Rattle.ada_tree.specs.declared.expression.Identifier.{Identifier}
-use Rattle.ada_tree.specs.ExpressionTree.{ExprTree}
-use Rattle.ada_tree.specs.StatementTree.{SubprogramTree}
-use Rattle.ada_tree.specs.ProgramTree.{BodyItemTree, BodyTree, ProgramTree}
-use Rattle.types.specs.Scopes.{Scope, number_of}
+use Rattle.ada_tree.specs.ProgramTree.{BodyItemTree, ProgramTree}
+use Rattle.types.specs.Scopes.{number_of}
 use Rattle.image.specs.Rules.{IsWellFormed}
 use Rattle.image.specs.Sections.{Sections}
-use Rattle.declaring.specs.BodyNames.{formals_scope}
 use Rattle.program_soundness.specs.checking.specs.ProgramRules.{IsLegal}
 use Rattle.ravenscar.specs.ProgramRules.{IsRestricted}
-use Rattle.type_rules.specs.SubtypeNames.{subtype_of}
-use Rattle.expr_soundness.specs.meaning.specs.Programs.{package_items, program_of, returned, subtype_named}
+use Rattle.expr_soundness.specs.meaning.specs.Programs.{package_items, program_of}
 use Rattle.expr_soundness.specs.meaning.specs.SameMeaning.{KeepsCount, SameMeaning}
 use Rattle.expr_soundness.specs.SoundScopes.{SoundScope}
 use Rattle.program_soundness.specs.Fronts.{declared_in, front}
 use Rattle.expr_code.specs.Coming.{most_steps, size_of}
-use Rattle.expr_code.specs.Emitting.{IsFit}
-use Rattle.stmt_code.specs.Emitting.{IsLegalRun}
 use Rattle.step_simulation.specs.part_code.specs.Needs.{are_unknown}
 use Rattle.stmt_code.specs.Subprograms.{CallsProcedures}
 use Rattle.package_code.specs.Bodies.{Coded, bodies_among, bodies_before, coded_at, number_in}
 use Rattle.package_code.specs.Counts.{instructions_bound}
-use Rattle.package_code.specs.Globals.{refuses_items}
+use Rattle.package_code.specs.Globals.{are_placed}
 use Rattle.package_code.specs.Program.{HasProgram, KeepsTables}
-use Rattle.package_code.specs.Refusing.{program_labels, program_needs, program_words, seen_at}
+use Rattle.package_code.specs.Refusing.{program_labels, program_words, seen_at}
 use Rattle.package_code.specs.Tasks.{AreKnownTasks}
 
 -- the names of an accepted program are sound
 abbrev pub NamesAreSound : Type 0
 NamesAreSound = (t : ProgramTree) → IsLegal t → SoundScope (program_of t).scope
-
--- what methods ask that add the code of a body, where the names in front of its parameters are visible
-pub record MayBeAdded (t : ProgramTree) (s : Scope) (d : SubprogramTree) (b : BodyTree) : Type 0 where
-  pub front : SoundScope s
-  pub sound : SoundScope (formals_scope s d.formals)
-  pub new_names : length (formals_scope s d.formals) ≡ length s + length d.formals
-  pub legal : IsLegalRun (formals_scope s d.formals) b.declarations b.statements b.handlers
-  pub fit : (r : Identifier) (value : ExprTree) → d.result ≡ Some r → returned b.statements ≡ Some value
-      → IsFit (formals_scope s d.formals) (subtype_named (program_of t).scope r) value
-  pub result : (r : Identifier) → d.result ≡ Some r → is_some (subtype_of (program_of t).scope r) ≡ true
-
--- that is so of each body of an accepted program, of a subprogram, a task, or a protected object's operation or entry
-abbrev pub BodiesMayBeAdded : Type 0
-BodiesMayBeAdded = (t : ProgramTree) → IsLegal t → IsRestricted t → (place : ℕ) (item : BodyItemTree) (k : ℕ) (c : Coded)
-    → slice_get (declared_in t.package_) place ≡ Some item → slice_get (coded_at t place item) k ≡ Some c
-    → MayBeAdded t c.front c.head c.body
 
 -- main calls procedures of the package without parameters
 abbrev pub MainMayBeAdded : Type 0
@@ -64,10 +41,9 @@ BodiesAreNumbered = (t : ProgramTree) → IsLegal t → IsRestricted t → (plac
 abbrev pub TasksHaveBodies : Type 0
 TasksHaveBodies = (t : ProgramTree) → IsLegal t → IsRestricted t → AreKnownTasks t (package_items t.package_)
 
--- no two variables of an accepted program have one name: what is not told of its declarations has no code yet
+-- no two variables of an accepted program have one name: each has a place of its own
 abbrev pub VariablesArePlaced : Type 0
-VariablesArePlaced = (t : ProgramTree) → IsLegal t → IsRestricted t → refuses_items (program_of t).scope [] (package_items t.package_) ≡ true
-    → (program_needs t).outside ≡ true
+VariablesArePlaced = (t : ProgramTree) → IsLegal t → IsRestricted t → are_placed (program_of t).scope [] (package_items t.package_) ≡ true
 
 -- a program has no more labels, subprograms and tasks, main's among them, exceptions and protected objects, and its variables and components no more words,
 -- than an image

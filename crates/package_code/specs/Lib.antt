@@ -4,6 +4,7 @@ pub mod LinkLaws
 pub mod Bodies
 pub mod Counts
 pub mod Refusing
+pub mod Providing
 pub mod Globals
 pub mod Directory
 pub mod Walking

@@ -1,5 +1,5 @@
 -- The rows of a program's protected objects in the image's table (RM 9.4, 9.5.2, D.3): in the order of their declarations, and so each at its number.
-use Rattle.std.specs.Prelude.{◌≡◌, ◌<◌, ◌+◌, ◌&&◌, ◌||◌, if◌then◌else◌, nat_le, ℕ, suc, Bool, true, false, List, [], ◌∷◌, ◌++◌, length, map, Option, Some, None, ⊤}
+use Rattle.std.specs.Prelude.{◌≡◌, ◌<◌, ◌+◌, ◌&&◌, if◌then◌else◌, nat_le, ℕ, suc, Bool, true, false, List, [], ◌∷◌, ◌++◌, length, map, Option, Some, None, ⊤}
 use Rattle.base.specs.declared.limits.TheConstants.{WORDS}
 use Rattle.ada_tree.specs.declared.expression.Identifier.{Identifier}
 use Rattle.ada_tree.specs.ExpressionTree.{ExprTree, bare_name}
@@ -28,7 +28,7 @@ use Rattle.expr_code.specs.declared.visible.Slot.{Slot}
 use Rattle.package_code.specs.BareObjects.{BareObject}
 use Rattle.package_code.specs.Bodies.{number_in}
 use Rattle.package_code.specs.Package.{first_words_of}
-use Rattle.package_code.specs.Refusing.{lack_components, slot_in}
+use Rattle.package_code.specs.Refusing.{slot_in}
 use Rattle.package_code.specs.declared.components.ComponentSlot.{ComponentSlot}
 use Rattle.package_code.specs.declared.services.Service.{Service}
 use Rattle.package_code.specs.declared.objects.ProtectedObjects.{ProtectedObjects}
@@ -126,26 +126,17 @@ pub record AddsObjects (s : Scope) (old : ProtectedObjects) (items : List ItemTr
 abbrev pub object_words : Scope → List ItemTree → ℕ
 object_words s items = total (map (λ cs. length (first_words_of cs)) (components_among s items))
 
--- a component's text doesn't tell its first words, or it has none; those of an accepted program do
-abbrev pub lack_objects : Scope → List ItemTree → Bool
-lack_objects s [] = false
-lack_objects s (OfProtected d ∷ rest) = lack_components s d.components || lack_objects s rest
-lack_objects s (d ∷ rest) = lack_objects s rest
-
--- why their rows aren't made: for want of memory, by that test, or because components have too many words
+-- why their rows aren't made: for want of memory, or because components have too many words
 abbrev pub RefusesObjects : Scope → List ItemTree → Refusal → Type 0
 RefusesObjects s items refusal.Memory = ⊤
 RefusesObjects s items refusal.Limit = WORDS < object_words s items
-RefusesObjects s items refusal.Outside = lack_objects s items ≡ true
 
 -- ... of components of one object
 abbrev pub RefusesComponents : Scope → List ProtectedComponentTree → Refusal → Type 0
 RefusesComponents s cs refusal.Memory = ⊤
 RefusesComponents s cs refusal.Limit = WORDS < length (first_words_of (map (component s) cs))
-RefusesComponents s cs refusal.Outside = lack_components s cs ≡ true
 
 -- ... of one component, behind so many words of others
-abbrev pub RefusesComponent : Scope → (words : ℕ) → ProtectedComponentTree → Refusal → Type 0
-RefusesComponent s words c refusal.Memory = ⊤
-RefusesComponent s words c refusal.Limit = WORDS < words
-RefusesComponent s words c refusal.Outside = lack_components s (c ∷ []) ≡ true
+abbrev pub RefusesComponent : (words : ℕ) → Refusal → Type 0
+RefusesComponent words refusal.Memory = ⊤
+RefusesComponent words refusal.Limit = WORDS < words

@@ -1,26 +1,20 @@
--- When an accepted program is refused, by its text alone: memory was refused, it has what no code is made of yet, or it passes a limit of images.
-use Rattle.std.specs.Prelude.{◌≡◌, ℕ, zero, suc, ◌+◌, ◌<◌, Bool, true, false, ◌||◌, ◌&&◌, not, nat_eq, List, [], ◌∷◌, length, map, Option, Some, None, is_none, option_map, ◌⊎◌}
-use Rattle.std.specs.List.{list_all}
-use Rattle.base.specs.Names.{is_label, is_name}
+-- When an accepted program is refused, by its text alone: memory was refused, or it may pass a limit of images.
+use Rattle.std.specs.Prelude.{ℕ, zero, suc, ◌+◌, ◌<◌, List, [], ◌∷◌, length, map, Option, Some, None, option_map, ◌⊎◌}
 use Rattle.base.specs.declared.limits.TheConstants.{EXCEPTIONS, OBJECTS, ROWS, SUBPROGRAMS, TASKS, WORDS}
 use Rattle.ada_tree.specs.declared.declaration.Formal.{Formal}
 use Rattle.ada_tree.specs.ExpressionTree.{ExprTree}
-use Rattle.ada_tree.specs.StatementTree.{ProtectedComponentTree, SubprogramTree}
-use Rattle.ada_tree.specs.ProgramTree.{BodyItemTree, BodyTree, EntryBody, ItemTree, OfItem, OfObject, OfProtected, OperationBody, ProgramTree, ProtectedBody, ProtectedItemTree, SubprogramBody, TaskBody}
-use Rattle.types.specs.declared.entity.Subtype.{Subtype}
+use Rattle.ada_tree.specs.StatementTree.{SubprogramTree}
+use Rattle.ada_tree.specs.ProgramTree.{BodyItemTree, BodyTree, EntryBody, OfItem, OperationBody, ProgramTree, ProtectedBody, ProtectedItemTree, SubprogramBody, TaskBody}
 use Rattle.types.specs.Layouts.{total}
 use Rattle.types.specs.Scopes.{Scope}
-use Rattle.types.specs.Shapes.{shape_of, value_words}
-use Rattle.type_rules.specs.ObjectRules.{fixed_scalar}
-use Rattle.type_rules.specs.SubtypeNames.{subtype_of}
-use Rattle.expr_soundness.specs.meaning.specs.Programs.{components_among, initial_value, package_items, program_of, returned, subtype_named}
+use Rattle.expr_soundness.specs.meaning.specs.Programs.{components_among, package_items, program_of, returned}
 use Rattle.program_soundness.specs.Fronts.{declared_in, front, start_in}
 use Rattle.expr_code.specs.declared.refusal.Refusal.{Refusal}
 use Rattle.expr_code.specs.declared.refusal.Refusal.TheVariants as refusal
 use Rattle.expr_code.specs.declared.visible.Slot.{Slot}
 use Rattle.expr_code.specs.declared.visible.Visible.{Visible}
 use Rattle.step_simulation.specs.part_code.specs.Bounds.{main_bound}
-use Rattle.step_simulation.specs.part_code.specs.Needs.{HasManyLabels, IsNeeding, Needs, beyond, beyond_if, both, lacks_word, nothing}
+use Rattle.step_simulation.specs.part_code.specs.Needs.{HasManyLabels, IsNeeding, Needs, both, nothing}
 use Rattle.step_simulation.specs.part_code.specs.Rows.{body_rows}
 use Rattle.stmt_code.specs.WholeRefusals.{body_labels, function_needs, procedure_needs}
 use Rattle.package_code.specs.Bodies.{Coded, bodies_among, coded_at, number_in, of_subprogram, of_task}
@@ -64,53 +58,27 @@ seen_at t place = seen_with t None (front t place)
 abbrev pub seen_by : ProgramTree → Coded → Visible
 seen_by t c = seen_with t c.owner c.front
 
--- ---- variables
-
--- Its text doesn't tell its first words: the given value breaks a rule of initial values, or what is named isn't the type of a value. No variable of an
--- accepted program is so.
-abbrev pub lacks_first_words : Scope → Subtype → Option ExprTree → Bool
-lacks_first_words s t None = lacks_word (shape_of s t)
-lacks_first_words s t (Some e) = is_none (fixed_scalar s (Some t) e)
-
-abbrev pub is_outside_variable : Scope → Option Subtype → Option ExprTree → Bool
-is_outside_variable s None value = true
-is_outside_variable s (Some t) value = lacks_first_words s t value || nat_eq (length (value_words (initial_value s t value))) 0
-
--- ... of a component of a protected object; an accepted program has none
-abbrev pub lack_components : Scope → List ProtectedComponentTree → Bool
-lack_components s [] = false
-lack_components s (c ∷ cs) = is_outside_variable s (subtype_of s c.subtype) c.value || lack_components s cs
-
-abbrev pub is_outside_item : Scope → ItemTree → Bool
-is_outside_item s (OfObject d) = not d.constant && is_outside_variable s (subtype_of s d.subtype) d.value
-is_outside_item s (OfProtected d) = lack_components s d.components
-is_outside_item s d = false
-
 -- ---- what code needs
 
 -- that of a function, which returns the value of one expression
-abbrev pub function_if_any : Visible → List Formal → Subtype → Option ExprTree → Needs
-function_if_any v fs t (Some e) = function_needs v fs t e
-function_if_any v fs t None = beyond
+abbrev pub function_if_any : Visible → List Formal → Option ExprTree → Needs
+function_if_any v fs (Some e) = function_needs v fs e
+function_if_any v fs None = nothing
 
--- the names in front of its parameters are visible, and the program has these exceptions
-abbrev pub subprogram_needs : ProgramTree → Visible → (exceptions : List (List ℕ)) → SubprogramTree → BodyTree → Needs
-subprogram_needs t v exceptions d b =
-    elim d.result [
-      | None ↦ procedure_needs v exceptions d.formals b
-      | Some r ↦ function_if_any v d.formals (subtype_named (program_of t).scope r) (returned b.statements)
-    ]
+-- the names in front of its parameters are visible
+abbrev pub subprogram_needs : Visible → SubprogramTree → BodyTree → Needs
+subprogram_needs v d b = elim d.result [ None ↦ procedure_needs v d.formals b | Some r ↦ function_if_any v d.formals (returned b.statements) ]
 
 -- that of an entry's body is that of a procedure's
 abbrev pub body_needs : ProgramTree → Coded → Needs
-body_needs t c = subprogram_needs t (seen_by t c) (program_of t).exceptions c.head c.body
+body_needs t c = subprogram_needs (seen_by t c) c.head c.body
 
 abbrev pub bodies_needs : ProgramTree → List Coded → Needs
 bodies_needs t [] = nothing
 bodies_needs t (c ∷ cs) = both (body_needs t c) (bodies_needs t cs)
 
 abbrev pub item_needs : ProgramTree → (place : ℕ) → BodyItemTree → Needs
-item_needs t place (OfItem d) = beyond_if (is_outside_item (program_of t).scope d)
+item_needs t place (OfItem d) = nothing
 item_needs t place (SubprogramBody d b) = body_needs t (of_subprogram (front t (suc place)) d b)
 item_needs t place (TaskBody name b) = body_needs t (of_task (front t (suc place)) name b)
 item_needs t place (ProtectedBody name items end_name) = bodies_needs t (coded_at t place (ProtectedBody name items end_name))
@@ -218,22 +186,12 @@ abbrev pub HasManyWords : ProgramTree → Refusal → Type 0
 HasManyWords t refusal.Limit = WORDS < program_words t
 HasManyWords t why = ⊥
 
--- what is a name or a label in a tree is spelled as one; trees of source texts are spelled so
-abbrev pub is_spelled : ProgramTree → Bool
-is_spelled t =
-    list_all is_name (program_of t).exceptions && (list_all is_label (program_labels t) && list_all (λ x. is_name x.name) (program_of t).tasks)
-
-abbrev pub IsMisspelt : ProgramTree → Refusal → Type 0
-IsMisspelt t refusal.Outside = is_spelled t ≡ false
-IsMisspelt t why = ⊥
-
--- Why no sections are put together: for want of memory, because of its code, because an image has fewer of something, or because of a text.
+-- Why no sections are put together: for want of memory, because of its code, or because an image has fewer of something.
 abbrev pub RefusesSections : ProgramTree → Refusal → Type 0
-RefusesSections t why = RefusesCode t why ⊎ (HasManyWords t why ⊎ (HasMany t why ⊎ (HasManyRows t why ⊎ IsMisspelt t why)))
+RefusesSections t why = RefusesCode t why ⊎ (HasManyWords t why ⊎ (HasMany t why ⊎ HasManyRows t why))
 
--- Why an accepted program is refused. Memory may always be refused. It is outside where it has what code isn't made of, or a text is misspelt. It passes a
--- limit where all its code may have more instructions than an image, where a frame and its operand stack need more words together than a frame has, where an
--- object takes no words, or more than an image has, or where it has more rows of handlers than an image. No legal program has too many labels, words of
--- variables and components, subprograms, exceptions or protected objects.
+-- Why an accepted program is refused. Memory may always be refused. It passes a limit where all its code may have more instructions than an image, where a
+-- frame and its operand stack need more words together than a frame has, where an object takes no words, or more than an image has, or where it has more rows
+-- of handlers than an image. No legal program has too many labels, words of variables and components, subprograms, exceptions or protected objects.
 abbrev pub RefusesLinking : ProgramTree → Refusal → Type 0
-RefusesLinking t why = IsNeeding (program_bound t) (program_needs t) why ⊎ (HasManyRows t why ⊎ IsMisspelt t why)
+RefusesLinking t why = IsNeeding (program_bound t) (program_needs t) why ⊎ HasManyRows t why

@@ -90,9 +90,9 @@ pub record AddsAsTold (old : Draft) (d : SubprogramTree) (b : BodyTree) (new : D
   pub rows : length new.rows.items ≡ subprogram_rows (length old.rows.items) d b
 
 -- why the code of a body isn't made, where the names in front of its parameters are visible
-abbrev pub RefusesBody : ProgramTree → Visible → (old : Draft) → SubprogramTree → BodyTree → Refusal → Type 0
-RefusesBody t v old d b why =
-    IsNeeding (here old.code + procedure_bound v.scope d.formals b) (subprogram_needs t v old.exceptions.items d b) why
+abbrev pub RefusesBody : Visible → (old : Draft) → SubprogramTree → BodyTree → Refusal → Type 0
+RefusesBody v old d b why =
+    IsNeeding (here old.code + procedure_bound v.scope d.formals b) (subprogram_needs v d b) why
     ⊎ HasManyLabels (subprogram_labels old.labels d b) why
 
 -- ---- the body of an operation of a protected object

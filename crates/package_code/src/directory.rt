@@ -43,7 +43,7 @@ fn entry<T: Copy>(scope: &Scope, entries: &Vec<Option<T>>, name: &Text) -> Optio
 // Nothing is told of so many names.
 fn no_numbers(alloc: Global, many: usize) -> Result<Vec<Option<u16>>, Refusal>
     ensures none { IfOk result (λ numbers. numbers.items ≡ replicate many None) }
-    ensures refused { IfErr result (λ why. IsRefused 0 0 false why) }
+    ensures refused { IfErr result (λ why. IsRefused 0 0 why) }
 {
     let mut numbers = Vec::new(alloc);
     for _ in 0..many {
@@ -82,7 +82,7 @@ fn number_item(
 ) -> Result<u16, Refusal>
     ensures numbers { OnOk result (numbers.new.items ≡ numbered_item scope.now numbers.old.items next (body_item_tree item.now)) }
     ensures next { IfOk result (λ number. number ≡ next + bodies_among (body_item_tree item.now ∷ [])) }
-    ensures refused { IfErr result (λ why. IsRefused (next + bodies_among (body_item_tree item.now ∷ [])) 0 false why) }
+    ensures refused { IfErr result (λ why. IsRefused (next + bodies_among (body_item_tree item.now ∷ [])) 0 why) }
 {
     match item {
         BodyItem::Subprogram(subprogram, _) => {
@@ -140,7 +140,7 @@ pub(crate) fn unseen(
     operations: OperationNumbers,
 ) -> Result<Visible, Refusal>
     ensures unseen { IfOk result (λ visible. IsUnseen scope operations visible) }
-    ensures refused { IfErr result (λ why. IsRefused 0 0 false why) }
+    ensures refused { IfErr result (λ why. IsRefused 0 0 why) }
 {
     let mut slots = Entries::new(alloc);
     let mut subprograms = Entries::new(alloc);
@@ -174,7 +174,7 @@ fn tell_next<T: Copy>(
     told: Option<T>,
 ) -> Result<(), Refusal>
     ensures told { OnOk result (entries.new ≡ entry_if (is_next (number_of scope.now name.now) (length entries.old)) told entries.old) }
-    ensures refused { IfErr result (λ why. IsRefused 0 0 false why) }
+    ensures refused { IfErr result (λ why. IsRefused 0 0 why) }
 {
     if is_next(scope.number_of(name), entries.len()) {
         entries.push(told)?;
@@ -232,7 +232,7 @@ impl Directory {
     ) -> Result<Entries<u16>, Refusal>
         ensures numbers { IfOk result (λ numbers. numbers ≡ map (told_operation (operation_told self.now.operations.items object))
             (map operation_value operations.now)) }
-        ensures refused { IfErr result (λ why. IsRefused 0 0 false why) }
+        ensures refused { IfErr result (λ why. IsRefused 0 0 why) }
     {
         let mut numbers = Entries::new(alloc);
         for operation in operations {
@@ -250,7 +250,7 @@ impl Directory {
         numbers: &mut OperationNumbers,
     ) -> Result<(), Refusal>
         ensures adds { OnOk result (numbers.new ≡ numbers.old ++ told_behind_objects (number_told whole.now self.now) (objects_at whole.now number)) }
-        ensures refused { IfErr result (λ why. IsRefused 0 0 false why) }
+        ensures refused { IfErr result (λ why. IsRefused 0 0 why) }
     {
         if let Some(object) = whole.protected(number) {
             let operations = object.operations.as_slice();
@@ -266,7 +266,7 @@ impl Directory {
         whole: &Scope,
     ) -> Result<OperationNumbers, Refusal>
         ensures numbers { IfOk result (λ numbers. numbers ≡ operations_told whole.now self.now) }
-        ensures refused { IfErr result (λ why. IsRefused 0 0 false why) }
+        ensures refused { IfErr result (λ why. IsRefused 0 0 why) }
     {
         let mut numbers = OperationNumbers::new(alloc);
         for number in 0..whole.len() {
@@ -314,7 +314,7 @@ impl Directory {
         name: &Text,
     ) -> Result<(), Refusal>
         ensures seen { OnOk result (visible.new ≡ seen_inside whole.now self.now object visible.old (name.now ∷ [])) }
-        ensures refused { IfErr result (λ why. IsRefused 0 0 false why) }
+        ensures refused { IfErr result (λ why. IsRefused 0 0 why) }
     {
         let slot = self.slot_inside(whole, object, name);
         let number = self.number_inside(whole, object, name);
@@ -332,7 +332,7 @@ impl Directory {
         operations: &[Operation],
     ) -> Result<(), Refusal>
         ensures seen { OnOk result (visible.new ≡ seen_inside whole.now self.now object visible.old (offered_names (map operation_value operations.now))) }
-        ensures refused { IfErr result (λ why. IsRefused 0 0 false why) }
+        ensures refused { IfErr result (λ why. IsRefused 0 0 why) }
     {
         for operation in operations {
             self.tell_inside(whole, object, visible, &operation.name)?;
@@ -349,7 +349,7 @@ impl Directory {
         components: &[RecordComponent],
     ) -> Result<(), Refusal>
         ensures seen { OnOk result (visible.new ≡ seen_inside whole.now self.now object visible.old (component_names components.now)) }
-        ensures refused { IfErr result (λ why. IsRefused 0 0 false why) }
+        ensures refused { IfErr result (λ why. IsRefused 0 0 why) }
     {
         for component in components {
             self.tell_inside(whole, object, visible, &component.name)?;
@@ -373,7 +373,7 @@ impl Directory {
     ) -> Result<(), Refusal>
         requires next { HasEntriesSoFar visible.old }
         ensures tells { OnOk result (TellsNext whole.now self.now visible.old name.now visible.new) }
-        ensures refused { IfErr result (λ why. IsRefused 0 0 false why) }
+        ensures refused { IfErr result (λ why. IsRefused 0 0 why) }
     {
         if visible.slots.len() != visible.scope.len() {
             visible.slots.push(entry(whole, &self.slots, name))?;

@@ -1,5 +1,5 @@
 //! What the declarations of a package tell of it: where its variables stand, the words of their initial values, and the names of exceptions.
-ghost use Rattle.std.specs.Prelude.{◌≡◌, ◌∷◌, ◌++◌, [], None, Some, false, map, replicate, IfErr, IfOk, OnOk};
+ghost use Rattle.std.specs.Prelude.{◌≡◌, ◌∷◌, ◌++◌, [], None, Some, map, replicate, true, IfErr, IfOk, OnOk};
 ghost use Rattle.ada_tree.specs.StatementTree.{object_tree, optional_tree};
 ghost use Rattle.ada_tree.specs.ProgramTree.{OfObject, body_item_tree, item_tree, package_tree};
 ghost use Rattle.base.specs.Exceptions.{name_of};
@@ -7,7 +7,9 @@ ghost use Rattle.base.specs.Names.{predefined};
 ghost use Rattle.expr_soundness.specs.meaning.specs.Programs.{items_among, package_items};
 ghost use Rattle.expr_soundness.specs.SoundScopes.{SoundScope};
 ghost use Rattle.expr_code.specs.Refusing.{IsRefused};
-ghost use Rattle.package_code.specs.Globals.{AddsItems, AddsVariable, AreGlobals, RefusesAdding, RefusesGlobals, RefusesVariable};
+ghost use Rattle.type_rules.specs.SubtypeNames.{subtype_of};
+ghost use Rattle.package_code.specs.Globals.{AddsItems, AddsVariable, AreGlobals, are_placed, PlacesVariable, RefusesAdding, RefusesGlobals};
+ghost use Rattle.package_code.specs.Providing.{item_tells, items_tell, tells_words};
 
 use crate::initial::push_initial;
 use ada_tree::{BodyItem, Identifier, Item, ObjectDeclaration, Package};
@@ -33,7 +35,7 @@ pub struct Globals {
 // So many names of which nothing is told.
 fn nothing(alloc: Global, many: usize) -> Result<Vec<Option<Slot>>, Refusal>
     ensures none { IfOk result (λ all. all.items ≡ replicate many None) }
-    ensures refused { IfErr result (λ why. IsRefused 0 0 false why) }
+    ensures refused { IfErr result (λ why. IsRefused 0 0 why) }
 {
     let mut all = Vec::new(alloc);
     for _ in 0..many {
@@ -45,7 +47,7 @@ fn nothing(alloc: Global, many: usize) -> Result<Vec<Option<Slot>>, Refusal>
 // The names of the predefined exceptions, in the order of their numbers from 1 (RM 11.1).
 fn predefined(alloc: Global) -> Result<Vec<Text>, Refusal>
     ensures names { IfOk result (λ names. names.items ≡ predefined) }
-    ensures refused { IfErr result (λ why. IsRefused 0 0 false why) }
+    ensures refused { IfErr result (λ why. IsRefused 0 0 why) }
 {
     let mut names = Vec::new(alloc);
     names.push(named(PredefinedException::ConstraintError))?;
@@ -69,7 +71,7 @@ impl Globals {
     // Those of a package without declarations.
     fn new(alloc: Global, scope: &Scope) -> Result<Globals, Refusal>
         ensures globals { IfOk result (λ globals. AreGlobals scope.now [] globals) }
-        ensures refused { IfErr result (λ why. IsRefused 0 0 false why) }
+        ensures refused { IfErr result (λ why. IsRefused 0 0 why) }
     {
         Ok(Globals {
             slots: nothing(alloc, scope.len())?,
@@ -78,38 +80,43 @@ impl Globals {
         })
     }
 
-    // Adds a variable, which has a word at least.
-    fn variable(&mut self, scope: &Scope, object: &ObjectDeclaration) -> Result<(), Refusal>
-        requires sound { SoundScope scope.now }
-        ensures adds { OnOk result (AddsVariable scope.now self.old (object_tree object.now) self.new) }
-        ensures refused { IfErr result (λ why. RefusesVariable scope.now self.old (object_tree object.now) why) }
+    // Notes where the variable with this name stands, behind the words of those in front.
+    fn place(&mut self, scope: &Scope, name: &Identifier) -> Result<(), Refusal>
+        ensures slots { OnOk result (PlacesVariable scope.now self.old name.now.name self.new) }
+        ensures words { OnOk result (self.new.words ≡ self.old.words) }
+        ensures exceptions { OnOk result (self.new.exceptions ≡ self.old.exceptions) }
+        ensures refused { IfErr result (λ why. RefusesAdding scope.now self.old [] why) }
     {
-        let Some(subtype) = subtype_of(scope, &object.subtype) else {
-            return Err(Refusal::Outside);
-        };
-        let Some(number) = scope.number_of(&object.name.name) else {
-            return Err(Refusal::Outside);
-        };
         let offset = u16::try_from(self.words.len()).map_err(|_| Refusal::Limit)?;
-        match self.slots.get_mut(number) {
-            Some(slot) if slot.is_none() => {
+        if let Some(number) = scope.number_of(&name.name) {
+            if let Some(slot) = self.slots.get_mut(number) {
                 *slot = Some(Slot {
                     region: Region::Plain,
                     offset,
                 });
             }
-            _ => return Err(Refusal::Outside),
-        }
-        push_initial(&mut self.words, scope, subtype, &object.value)?;
-        if self.words.len() <= usize::from(offset) {
-            return Err(Refusal::Outside);
         }
         Ok(())
+    }
+
+    // Adds a variable, which has a word at least.
+    fn variable(&mut self, scope: &Scope, object: &ObjectDeclaration) -> Result<(), Refusal>
+        requires sound { SoundScope scope.now }
+        requires told { tells_words scope.now (subtype_of scope.now object.now.subtype) (object_tree object.now).value ≡ true }
+        ensures adds { OnOk result (AddsVariable scope.now self.old (object_tree object.now) self.new) }
+        ensures refused { IfErr result (λ why. RefusesAdding scope.now self.old [] why) }
+    {
+        let Some(subtype) = subtype_of(scope, &object.subtype) else {
+            unreachable!();
+        };
+        self.place(scope, &object.name)?;
+        push_initial(&mut self.words, scope, subtype, &object.value)
     }
 
     // Adds an object: a variable, since constants have no words.
     fn object(&mut self, scope: &Scope, object: &ObjectDeclaration) -> Result<(), Refusal>
         requires sound { SoundScope scope.now }
+        requires told { item_tells scope.now (OfObject (object_tree object.now)) ≡ true }
         ensures adds { OnOk result (AddsItems scope.now self.old (OfObject (object_tree object.now) ∷ []) self.new) }
         ensures refused { IfErr result (λ why. RefusesAdding scope.now self.old (OfObject (object_tree object.now) ∷ []) why) }
     {
@@ -125,7 +132,7 @@ impl Globals {
         ensures exceptions { OnOk result (self.new.exceptions.items ≡ self.old.exceptions.items ++ name.now.name ∷ []) }
         ensures slots { OnOk result (self.new.slots ≡ self.old.slots) }
         ensures words { OnOk result (self.new.words ≡ self.old.words) }
-        ensures refused { IfErr result (λ why. IsRefused 0 0 false why) }
+        ensures refused { IfErr result (λ why. IsRefused 0 0 why) }
     {
         self.exceptions.push(name.name.clone()?)?;
         Ok(())
@@ -134,6 +141,7 @@ impl Globals {
     // Adds what a declaration declares.
     fn item(&mut self, scope: &Scope, item: &Item) -> Result<(), Refusal>
         requires sound { SoundScope scope.now }
+        requires told { item_tells scope.now (item_tree item.now) ≡ true }
         ensures adds { OnOk result (AddsItems scope.now self.old (item_tree item.now ∷ []) self.new) }
         ensures refused { IfErr result (λ why. RefusesAdding scope.now self.old (item_tree item.now ∷ []) why) }
     {
@@ -153,6 +161,7 @@ impl Globals {
     // Adds what declarations declare.
     fn items(&mut self, scope: &Scope, items: &[Item]) -> Result<(), Refusal>
         requires sound { SoundScope scope.now }
+        requires told { items_tell scope.now (map item_tree items.now) ≡ true }
         ensures adds { OnOk result (AddsItems scope.now self.old (map item_tree items.now) self.new) }
         ensures refused { IfErr result (λ why. RefusesAdding scope.now self.old (map item_tree items.now) why) }
     {
@@ -165,6 +174,7 @@ impl Globals {
     // Adds what a declaration in the body of a package declares; bodies declare nothing here.
     fn body_item(&mut self, scope: &Scope, item: &BodyItem) -> Result<(), Refusal>
         requires sound { SoundScope scope.now }
+        requires told { items_tell scope.now (items_among (body_item_tree item.now ∷ [])) ≡ true }
         ensures adds { OnOk result (AddsItems scope.now self.old (items_among (body_item_tree item.now ∷ [])) self.new) }
         ensures refused { IfErr result (λ why. RefusesAdding scope.now self.old (items_among (body_item_tree item.now ∷ [])) why) }
     {
@@ -179,6 +189,7 @@ impl Globals {
     // Adds what those in the body of a package declare.
     fn body_items(&mut self, scope: &Scope, items: &[BodyItem]) -> Result<(), Refusal>
         requires sound { SoundScope scope.now }
+        requires told { items_tell scope.now (items_among (map body_item_tree items.now)) ≡ true }
         ensures adds { OnOk result (AddsItems scope.now self.old (items_among (map body_item_tree items.now)) self.new) }
         ensures refused { IfErr result (λ why. RefusesAdding scope.now self.old (items_among (map body_item_tree items.now)) why) }
     {
@@ -191,6 +202,7 @@ impl Globals {
     // Adds what all declarations of a package declare.
     fn declarations(&mut self, scope: &Scope, package_: &Package) -> Result<(), Refusal>
         requires sound { SoundScope scope.now }
+        requires told { items_tell scope.now (package_items (Some (package_tree package_.now))) ≡ true }
         ensures adds { OnOk result (AddsItems scope.now self.old (package_items (Some (package_tree package_.now))) self.new) }
         ensures refused { IfErr result (λ why. RefusesAdding scope.now self.old (package_items (Some (package_tree package_.now))) why) }
     {
@@ -207,6 +219,8 @@ pub fn globals_of(
     package_: &Option<Package>,
 ) -> Result<Globals, Refusal>
     requires sound { SoundScope scope.now }
+    requires told { items_tell scope.now (package_items (optional_tree package_tree package_.now)) ≡ true }
+    requires placed { are_placed scope.now [] (package_items (optional_tree package_tree package_.now)) ≡ true }
     ensures globals { IfOk result (λ globals. AreGlobals scope.now (package_items (optional_tree package_tree package_.now)) globals) }
     ensures refused { IfErr result (λ why. RefusesGlobals scope.now [] (package_items (optional_tree package_tree package_.now)) why) }
 {

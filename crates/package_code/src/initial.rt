@@ -1,16 +1,15 @@
 //! The words with which variables of a package begin (RM 3.3.1).
-ghost use Rattle.std.specs.Prelude.{◌≡◌, ◌∷◌, ◌++◌, [], false, IfErr, OnOk};
+ghost use Rattle.std.specs.Prelude.{◌≡◌, ◌∷◌, ◌++◌, [], true, IfErr, OnOk};
 ghost use Rattle.ada_tree.specs.ExpressionTree.{expr_tree};
 ghost use Rattle.ada_tree.specs.StatementTree.{optional_tree};
 ghost use Rattle.image.specs.WordRanges.{Fits64};
-ghost use Rattle.types.specs.Shapes.{initial, shape_of, value_words};
+ghost use Rattle.types.specs.Shapes.{initial, value_words};
 ghost use Rattle.types.specs.Values.{value_of};
 ghost use Rattle.expr_soundness.specs.meaning.specs.Programs.{initial_value};
-ghost use Rattle.expr_soundness.specs.SoundScopes.{SoundScope};
+ghost use Rattle.expr_soundness.specs.SoundScopes.{IsKnown, SoundScope};
 ghost use Rattle.expr_code.specs.Naming.{scalar_word};
 ghost use Rattle.expr_code.specs.Refusing.{IsRefused};
-ghost use Rattle.step_simulation.specs.part_code.specs.Needs.{lacks_word};
-ghost use Rattle.package_code.specs.Refusing.{lacks_first_words};
+ghost use Rattle.package_code.specs.Providing.{tells_value};
 
 use ada_tree::Expr;
 use expr_code::{Refusal, scalar_word};
@@ -21,7 +20,7 @@ use types::{Scope, Subtype, TypeForm, Value};
 // Adds a word.
 fn push_word(words: &mut Vec<i64>, word: i64) -> Result<(), Refusal>
     ensures words { OnOk result (words.new.items ≡ words.old.items ++ word ∷ []) }
-    ensures refused { IfErr result (λ why. IsRefused 0 0 false why) }
+    ensures refused { IfErr result (λ why. IsRefused 0 0 why) }
 {
     words.push(word)?;
     Ok(())
@@ -30,8 +29,9 @@ fn push_word(words: &mut Vec<i64>, word: i64) -> Result<(), Refusal>
 // Adds the words of an object without initial value.
 fn push_default(words: &mut Vec<i64>, scope: &Scope, subtype: Subtype) -> Result<(), Refusal>
     requires sound { SoundScope scope.now }
+    requires known { IsKnown scope.now subtype }
     ensures words { OnOk result (words.new.items ≡ words.old.items ++ value_words (initial scope.now subtype)) }
-    ensures refused { IfErr result (λ why. IsRefused 0 0 (lacks_word (shape_of scope.now subtype)) why) }
+    ensures refused { IfErr result (λ why. IsRefused 0 0 why) }
 {
     match scope.form(subtype.type_number) {
         Some(TypeForm::Integer) => push_word(words, subtype.first),
@@ -50,7 +50,7 @@ fn push_default(words: &mut Vec<i64>, scope: &Scope, subtype: Subtype) -> Result
             }
             Ok(())
         }
-        None => Err(Refusal::Outside),
+        None => unreachable!(),
     }
 }
 
@@ -58,7 +58,7 @@ fn push_default(words: &mut Vec<i64>, scope: &Scope, subtype: Subtype) -> Result
 fn push_fixed(words: &mut Vec<i64>, value: Value) -> Result<(), Refusal>
     ensures words { OnOk result (words.new.items ≡ words.old.items ++ value_words (value_of value)) }
     ensures fits { Fits64 (scalar_word value) }
-    ensures refused { IfErr result (λ why. IsRefused 0 0 false why) }
+    ensures refused { IfErr result (λ why. IsRefused 0 0 why) }
 {
     let word = scalar_word(value);
     push_word(words, word)
@@ -72,14 +72,16 @@ pub(crate) fn push_initial(
     value: &Option<Expr>,
 ) -> Result<(), Refusal>
     requires sound { SoundScope scope.now }
+    requires known { IsKnown scope.now subtype }
+    requires told { tells_value scope.now subtype (optional_tree expr_tree value.now) ≡ true }
     ensures words { OnOk result (words.new.items ≡ words.old.items ++ value_words (initial_value scope.now subtype (optional_tree expr_tree value.now))) }
-    ensures refused { IfErr result (λ why. IsRefused 0 0 (lacks_first_words scope.now subtype (optional_tree expr_tree value.now)) why) }
+    ensures refused { IfErr result (λ why. IsRefused 0 0 why) }
 {
     static_is_value();
     match value {
         Some(value) => match fixed_scalar(scope, Some(subtype), value) {
             Some(first) => push_fixed(words, first),
-            None => Err(Refusal::Outside),
+            None => unreachable!(),
         },
         None => push_default(words, scope, subtype),
     }

@@ -23,7 +23,7 @@ fn see_components(
     components: &[RecordComponent],
 ) -> Result<(), Refusal>
     ensures seen { OnOk result (visible.new ≡ with_components whole.now directory.now object is_function components.now visible.old) }
-    ensures refused { IfErr result (λ why. IsRefused 0 0 false why) }
+    ensures refused { IfErr result (λ why. IsRefused 0 0 why) }
 {
     declare_components(&mut visible.scope, is_function, components)?;
     directory.tell_components(whole, object, visible, components)
@@ -39,7 +39,7 @@ fn see_own_name(
     subprogram: &Subprogram,
 ) -> Result<(), Refusal>
     ensures seen { OnOk result (visible.new ≡ with_own_name whole.now directory.now object (subprogram_tree subprogram.now) visible.old) }
-    ensures refused { IfErr result (λ why. IsRefused 0 0 false why) }
+    ensures refused { IfErr result (λ why. IsRefused 0 0 why) }
 {
     declare_subprogram(alloc, &mut visible.scope, subprogram)?;
     directory.tell_inside(whole, object, visible, &subprogram.name.name)
@@ -56,7 +56,7 @@ pub(crate) fn see_operation(
     item: &ProtectedBodyItem,
 ) -> Result<(), Refusal>
     ensures seen { OnOk result (visible.new ≡ operation_visible whole.now directory.now object components.now (protected_item_tree item.now) visible.old) }
-    ensures refused { IfErr result (λ why. IsRefused 0 0 false why) }
+    ensures refused { IfErr result (λ why. IsRefused 0 0 why) }
 {
     match item {
         ProtectedBodyItem::Subprogram(subprogram, _) => {
@@ -81,7 +81,7 @@ pub(crate) fn see_behind(
     item: &ProtectedBodyItem,
 ) -> Result<(), Refusal>
     ensures seen { OnOk result (visible.new ≡ behind_operation whole.now directory.now object (protected_item_tree item.now) (first_visible many visible.old)) }
-    ensures refused { IfErr result (λ why. IsRefused 0 0 false why) }
+    ensures refused { IfErr result (λ why. IsRefused 0 0 why) }
 {
     visible.scope.truncate(many);
     visible.slots.truncate(many);

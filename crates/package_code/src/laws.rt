@@ -1,17 +1,8 @@
 //! The laws of bodies that the walk over them rests on, each what a function without work ensures.
-ghost use Rattle.package_code.specs.Laws.{BodiesAreNumbered, BodiesMayBeAdded, TasksHaveBodies};
+ghost use Rattle.package_code.specs.Laws.{BodiesAreNumbered, TasksHaveBodies};
 
 use expr_soundness::laws::scopes_are_sound;
 use program_soundness::body_laws::{names_are_known, premises_hold};
-
-/// What the methods ask that add the code of bodies is so of each body of an accepted program.
-pub fn bodies_may_be_added()
-    ensures { BodiesMayBeAdded }
-{
-    names_are_known();
-    premises_hold();
-    scopes_are_sound();
-}
 
 /// Each body of an accepted program has the number of its name, since no two of them have one name outside of protected objects or within one.
 pub fn bodies_are_numbered()

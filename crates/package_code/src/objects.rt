@@ -6,6 +6,8 @@ ghost use Rattle.expr_soundness.specs.meaning.specs.Programs.{component, items_a
 ghost use Rattle.expr_soundness.specs.SoundScopes.{SoundScope};
 ghost use Rattle.package_code.specs.Objects.{AddsObjects, RefusesComponent, RefusesComponents, RefusesObjects, bare_object, bare_objects, ceiling_named, component_slots, have_words, objects_have_words, slots_of};
 ghost use Rattle.package_code.specs.Package.{first_words_of};
+ghost use Rattle.package_code.specs.Providing.{component_tells, items_tell};
+ghost use Rattle.std.specs.List.{list_all};
 
 use crate::components::ComponentSlot;
 use crate::initial::push_initial;
@@ -83,14 +85,15 @@ fn push_component(
     part: &ProtectedComponent,
 ) -> Result<(), Refusal>
     requires sound { SoundScope scope.now }
+    requires told { component_tells scope.now (protected_component_tree part.now) ≡ true }
     ensures words { OnOk result (words.new.items ≡ words.old.items ++ first_words_of (component scope.now (protected_component_tree part.now) ∷ [])) }
     ensures slots { OnOk result (slots.new.items ≡ slots.old.items ++ slots_of object (length words.old.items)
         (component scope.now (protected_component_tree part.now) ∷ [])) }
     ensures made { OnOk result (have_words (component scope.now (protected_component_tree part.now) ∷ []) ≡ true) }
-    ensures refused { IfErr result (λ why. RefusesComponent scope.now (length words.old.items) (protected_component_tree part.now) why) }
+    ensures refused { IfErr result (λ why. RefusesComponent (length words.old.items) why) }
 {
     let Some(subtype) = subtype_of(scope, &part.subtype) else {
-        return Err(Refusal::Outside);
+        unreachable!();
     };
     let offset = u16::try_from(words.len()).map_err(|_| Refusal::Limit)?;
     slots.push(ComponentSlot {
@@ -101,11 +104,7 @@ fn push_component(
             offset,
         },
     })?;
-    push_initial(words, scope, subtype, &part.value)?;
-    if words.len() <= usize::from(offset) {
-        return Err(Refusal::Outside);
-    }
-    Ok(())
+    push_initial(words, scope, subtype, &part.value)
 }
 
 // The words of the initial values of an object's components, one behind the other; adds their places.
@@ -117,6 +116,7 @@ fn component_words(
     components: &[ProtectedComponent],
 ) -> Result<Vec<i64>, Refusal>
     requires sound { SoundScope scope.now }
+    requires told { list_all (component_tells scope.now) (map protected_component_tree components.now) ≡ true }
     ensures words { IfOk result (λ words. words.items ≡ first_words_of (map (component scope.now) (map protected_component_tree components.now))) }
     ensures slots { OnOk result (slots.new.items ≡ slots.old.items ++ slots_of object 0
         (map (component scope.now) (map protected_component_tree components.now))) }
@@ -139,6 +139,7 @@ impl ProtectedObjects {
         object: &ProtectedDeclaration,
     ) -> Result<(), Refusal>
         requires sound { SoundScope scope.now }
+        requires told { items_tell scope.now (OfProtected (protected_tree object.now) ∷ []) ≡ true }
         ensures adds { OnOk result (AddsObjects scope.now self.old (OfProtected (protected_tree object.now) ∷ []) self.new) }
         ensures refused { IfErr result (λ why. RefusesObjects scope.now (OfProtected (protected_tree object.now) ∷ []) why) }
     {
@@ -158,6 +159,7 @@ impl ProtectedObjects {
     // Adds what a declaration declares, if that is an object.
     fn item(&mut self, alloc: Global, scope: &Scope, item: &Item) -> Result<(), Refusal>
         requires sound { SoundScope scope.now }
+        requires told { items_tell scope.now (item_tree item.now ∷ []) ≡ true }
         ensures adds { OnOk result (AddsObjects scope.now self.old (item_tree item.now ∷ []) self.new) }
         ensures refused { IfErr result (λ why. RefusesObjects scope.now (item_tree item.now ∷ []) why) }
     {
@@ -174,6 +176,7 @@ impl ProtectedObjects {
     // Adds the objects among declarations.
     fn items(&mut self, alloc: Global, scope: &Scope, items: &[Item]) -> Result<(), Refusal>
         requires sound { SoundScope scope.now }
+        requires told { items_tell scope.now (map item_tree items.now) ≡ true }
         ensures adds { OnOk result (AddsObjects scope.now self.old (map item_tree items.now) self.new) }
         ensures refused { IfErr result (λ why. RefusesObjects scope.now (map item_tree items.now) why) }
     {
@@ -186,6 +189,7 @@ impl ProtectedObjects {
     // Adds what a declaration in the body of a package declares, if that is an object; bodies declare none.
     fn body_item(&mut self, alloc: Global, scope: &Scope, item: &BodyItem) -> Result<(), Refusal>
         requires sound { SoundScope scope.now }
+        requires told { items_tell scope.now (items_among (body_item_tree item.now ∷ [])) ≡ true }
         ensures adds { OnOk result (AddsObjects scope.now self.old (items_among (body_item_tree item.now ∷ [])) self.new) }
         ensures refused { IfErr result (λ why. RefusesObjects scope.now (items_among (body_item_tree item.now ∷ [])) why) }
     {
@@ -205,6 +209,7 @@ impl ProtectedObjects {
         items: &[BodyItem],
     ) -> Result<(), Refusal>
         requires sound { SoundScope scope.now }
+        requires told { items_tell scope.now (items_among (map body_item_tree items.now)) ≡ true }
         ensures adds { OnOk result (AddsObjects scope.now self.old (items_among (map body_item_tree items.now)) self.new) }
         ensures refused { IfErr result (λ why. RefusesObjects scope.now (items_among (map body_item_tree items.now)) why) }
     {
@@ -217,6 +222,7 @@ impl ProtectedObjects {
     // Adds all objects of a package.
     fn package(&mut self, alloc: Global, scope: &Scope, package_: &Package) -> Result<(), Refusal>
         requires sound { SoundScope scope.now }
+        requires told { items_tell scope.now (package_items (Some (package_tree package_.now))) ≡ true }
         ensures adds { OnOk result (AddsObjects scope.now self.old (package_items (Some (package_tree package_.now))) self.new) }
         ensures refused { IfErr result (λ why. RefusesObjects scope.now (package_items (Some (package_tree package_.now))) why) }
     {
@@ -230,14 +236,14 @@ impl ProtectedObjects {
 /// stand one behind another.
 ///
 /// # Errors
-/// `Memory` where memory was refused, `Limit` where components have more words than a program, `Outside` where the text of a component doesn't tell its first
-/// words, or it has none; neither is so of a legal program.
+/// `Memory` where memory was refused, `Limit` where components have more words than a program, which is so of no legal one.
 pub fn protected_objects(
     alloc: Global,
     scope: &Scope,
     package_: &Option<Package>,
 ) -> Result<ProtectedObjects, Refusal>
     requires sound { SoundScope scope.now }
+    requires told { items_tell scope.now (package_items (optional_tree package_tree package_.now)) ≡ true }
     ensures declared { IfOk result (λ objects. objects.declared.items ≡ bare_objects scope.now (package_items (optional_tree package_tree package_.now))) }
     ensures components { IfOk result (λ objects. objects.components.items ≡ component_slots scope.now 0
         (package_items (optional_tree package_tree package_.now))) }

@@ -51,7 +51,7 @@ fn number_operations_of(
 ) -> Result<u16, Refusal>
     ensures operations { OnOk result (operations.new.items ≡ operations.old.items ++ entries_of object first (map protected_item_tree items.now)) }
     ensures next { IfOk result (λ number. number ≡ first + length items.now) }
-    ensures refused { IfErr result (λ why. IsRefused (first + length items.now) 0 false why) }
+    ensures refused { IfErr result (λ why. IsRefused (first + length items.now) 0 why) }
 {
     let mut next = first;
     for item in items {
@@ -74,7 +74,7 @@ fn number_operations_in(
 ) -> Result<u16, Refusal>
     ensures operations { OnOk result (operations.new.items ≡ operations.old.items ++ entries_in scope.now next (body_item_tree item.now)) }
     ensures next { IfOk result (λ number. number ≡ next + bodies_among (body_item_tree item.now ∷ [])) }
-    ensures refused { IfErr result (λ why. IsRefused (next + bodies_among (body_item_tree item.now ∷ [])) 0 false why) }
+    ensures refused { IfErr result (λ why. IsRefused (next + bodies_among (body_item_tree item.now ∷ [])) 0 why) }
 {
     match item {
         BodyItem::Item(_) => Ok(next),

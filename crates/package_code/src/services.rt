@@ -188,7 +188,7 @@ fn service_of(accepted: &Accepted, directory: &Directory, object: usize) -> Serv
 // A copy of these words.
 fn words_copy(alloc: Global, words: &[i64]) -> Result<Vec<i64>, Refusal>
     ensures copy { IfOk result (λ copy. copy.items ≡ words.now) }
-    ensures refused { IfErr result (λ why. IsRefused 0 0 false why) }
+    ensures refused { IfErr result (λ why. IsRefused 0 0 why) }
 {
     let mut copy = Vec::new(alloc);
     for word in words {
@@ -207,7 +207,7 @@ fn object_row(
 ) -> Result<Object, Refusal>
     requires directory { IsDirectory (program_tree accepted.now) directory.now }
     ensures row { IfOk result (λ row. row ≡ object_row (program_tree accepted.now) number object.now) }
-    ensures refused { IfErr result (λ why. IsRefused 0 0 false why) }
+    ensures refused { IfErr result (λ why. IsRefused 0 0 why) }
 {
     let service = service_of(accepted, directory, number);
     let words = words_copy(alloc, object.words())?;
@@ -227,7 +227,7 @@ pub fn object_rows(
 ) -> Result<Vec<Object>, Refusal>
     requires directory { IsDirectory (program_tree accepted.now) directory.now }
     ensures rows { IfOk result (λ rows. rows.items ≡ object_rows (program_tree accepted.now) 0 declared.now) }
-    ensures refused { IfErr result (λ why. IsRefused 0 0 false why) }
+    ensures refused { IfErr result (λ why. IsRefused 0 0 why) }
 {
     let mut rows = Vec::new(alloc);
     for object in declared {

@@ -33,7 +33,7 @@ pub fn task_row(
       priority = base_priority scope.now (optional_tree aspect_tree aspect.now);
       subprogram = subprogram;
     }) }
-    ensures refused { IfErr result (λ why. IsRefused 0 0 false why) }
+    ensures refused { IfErr result (λ why. IsRefused 0 0 why) }
 {
     Ok(Task {
         name: name.name.clone()?,
@@ -63,7 +63,7 @@ fn add_task(
     requires directory { IsDirectory (program_tree accepted.now) directory.now }
     requires known { IsKnownTask (program_tree accepted.now) (task_tree task.now) }
     ensures adds { OnOk result (AddsTasks (program_tree accepted.now) tasks.old.items (OfTask (task_tree task.now) ∷ []) tasks.new.items) }
-    ensures refused { IfErr result (λ why. IsRefused 0 0 false why) }
+    ensures refused { IfErr result (λ why. IsRefused 0 0 why) }
 {
     let number = body_number(accepted, directory, &task.name);
     tasks.push(task_row(accepted.scope(), &task.name, &task.aspect, number)?)?;
@@ -80,7 +80,7 @@ fn add_item(
     requires directory { IsDirectory (program_tree accepted.now) directory.now }
     requires known { AreKnownTasks (program_tree accepted.now) (item_tree item.now ∷ []) }
     ensures adds { OnOk result (AddsTasks (program_tree accepted.now) tasks.old.items (item_tree item.now ∷ []) tasks.new.items) }
-    ensures refused { IfErr result (λ why. IsRefused 0 0 false why) }
+    ensures refused { IfErr result (λ why. IsRefused 0 0 why) }
 {
     match item {
         Item::Task(task) => add_task(tasks, accepted, directory, task),
@@ -102,7 +102,7 @@ fn add_items(
     requires directory { IsDirectory (program_tree accepted.now) directory.now }
     requires known { AreKnownTasks (program_tree accepted.now) (map item_tree items.now) }
     ensures adds { OnOk result (AddsTasks (program_tree accepted.now) tasks.old.items (map item_tree items.now) tasks.new.items) }
-    ensures refused { IfErr result (λ why. IsRefused 0 0 false why) }
+    ensures refused { IfErr result (λ why. IsRefused 0 0 why) }
 {
     for item in items {
         add_item(tasks, accepted, directory, item)?;
@@ -120,7 +120,7 @@ fn add_body_item(
     requires directory { IsDirectory (program_tree accepted.now) directory.now }
     requires known { AreKnownTasks (program_tree accepted.now) (items_among (body_item_tree item.now ∷ [])) }
     ensures adds { OnOk result (AddsTasks (program_tree accepted.now) tasks.old.items (items_among (body_item_tree item.now ∷ [])) tasks.new.items) }
-    ensures refused { IfErr result (λ why. IsRefused 0 0 false why) }
+    ensures refused { IfErr result (λ why. IsRefused 0 0 why) }
 {
     match item {
         BodyItem::Item(item) => add_item(tasks, accepted, directory, item),
@@ -140,7 +140,7 @@ fn add_body_items(
     requires directory { IsDirectory (program_tree accepted.now) directory.now }
     requires known { AreKnownTasks (program_tree accepted.now) (items_among (map body_item_tree items.now)) }
     ensures adds { OnOk result (AddsTasks (program_tree accepted.now) tasks.old.items (items_among (map body_item_tree items.now)) tasks.new.items) }
-    ensures refused { IfErr result (λ why. IsRefused 0 0 false why) }
+    ensures refused { IfErr result (λ why. IsRefused 0 0 why) }
 {
     for item in items {
         add_body_item(tasks, accepted, directory, item)?;
@@ -158,7 +158,7 @@ fn add_package(
     requires directory { IsDirectory (program_tree accepted.now) directory.now }
     requires known { AreKnownTasks (program_tree accepted.now) (package_items (Some (package_tree package_.now))) }
     ensures adds { OnOk result (AddsTasks (program_tree accepted.now) tasks.old.items (package_items (Some (package_tree package_.now))) tasks.new.items) }
-    ensures refused { IfErr result (λ why. IsRefused 0 0 false why) }
+    ensures refused { IfErr result (λ why. IsRefused 0 0 why) }
 {
     add_items(tasks, accepted, directory, &package_.declaration.items)?;
     add_body_items(tasks, accepted, directory, &package_.body.items)?;
@@ -176,7 +176,7 @@ pub fn task_rows(
 ) -> Result<Vec<Task>, Refusal>
     requires directory { IsDirectory (program_tree accepted.now) directory.now }
     ensures have { IfOk result (λ tasks. HaveDeclared (program_tree accepted.now) (package_items (program_tree accepted.now).package_) tasks.items) }
-    ensures refused { IfErr result (λ why. IsRefused 0 0 false why) }
+    ensures refused { IfErr result (λ why. IsRefused 0 0 why) }
 {
     tasks_have_bodies();
     let mut tasks = Vec::new(alloc);

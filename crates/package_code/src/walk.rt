@@ -16,16 +16,17 @@ ghost use Rattle.expr_code.specs.Code.{here};
 ghost use Rattle.expr_code.specs.Refusing.{IsRefused};
 ghost use Rattle.expr_code.specs.Seeing.{told_of};
 ghost use Rattle.step_simulation.specs.part_code.specs.Emitting.{HasEntries};
+ghost use Rattle.step_simulation.specs.part_code.specs.Providing.{HasWhatCodeNeeds};
 ghost use Rattle.stmt_code.specs.Subprograms.{IsCalledFunction, KeepsRules};
 ghost use Rattle.package_code.specs.Bodies.{components_or_none, of_object, of_operation, of_subprogram, of_task, operation_kind, own_body, own_head, own_kind, own_name};
 ghost use Rattle.package_code.specs.Directory.{IsDirectory, number_told};
-ghost use Rattle.package_code.specs.Laws.{MayBeAdded};
+ghost use Rattle.package_code.specs.Providing.{BodiesAreCovered, MayBeAdded};
 ghost use Rattle.package_code.specs.Refusing.{RefusesCode};
 ghost use Rattle.package_code.specs.Walking.{AddsAsTold, AddsBody, AddsOperation, AddsSubprogram, AddsValueFunction, BeginsWalk, HasObjectBody, IsAsTold, IsCalledSubprogram, IsWalked, IsInObjectBody, RefusesBody, StandFrom, operation_visible, row_of};
 
 use crate::directory::{Directory, unseen};
 use crate::inside::{see_behind, see_operation};
-use crate::laws::{bodies_are_numbered, bodies_may_be_added};
+use crate::laws::bodies_are_numbered;
 use crate::operations::object_number;
 use ada_tree::{
     Body, BodyItem, Expr, Identifier, Item, Package, ProtectedBodyItem, Stmt, Subprogram,
@@ -58,25 +59,25 @@ pub struct Walk {
 }
 
 // The value that a statement returns.
-fn returned_value(statement: &Stmt) -> Result<&Expr, Refusal>
-    ensures value { IfOk result (λ value. returned (MoreStmts (stmt_tree statement.now) NoStmts) ≡ Some (expr_tree value.now)) }
-    ensures refused { IfErr result (λ why. IsRefused 0 0 (is_none (returned (MoreStmts (stmt_tree statement.now) NoStmts))) why) }
+fn returned_value(statement: &Stmt) -> &Expr
+    requires { is_some (returned (MoreStmts (stmt_tree statement.now) NoStmts)) ≡ true }
+    ensures { returned (MoreStmts (stmt_tree statement.now) NoStmts) ≡ Some (expr_tree result.now) }
 {
     match statement {
-        Stmt::Return(_, Some(value)) => Ok(value),
-        _ => Err(Refusal::Outside),
+        Stmt::Return(_, Some(value)) => value,
+        _ => unreachable!(),
     }
 }
 
 // The one that a function's body returns, which is a single return (RM 6.3).
-fn returned(statements: &[Stmt]) -> Result<&Expr, Refusal>
-    ensures value { IfOk result (λ value. returned (stmt_trees statements.now) ≡ Some (expr_tree value.now)) }
-    ensures refused { IfErr result (λ why. IsRefused 0 0 (is_none (returned (stmt_trees statements.now))) why) }
+fn returned(statements: &[Stmt]) -> &Expr
+    requires { is_some (returned (stmt_trees statements.now)) ≡ true }
+    ensures { returned (stmt_trees statements.now) ≡ Some (expr_tree result.now) }
 {
     match statements {
         [statement] => returned_value(statement),
-        [] => Err(Refusal::Outside),
-        [_, _, ..] => Err(Refusal::Outside),
+        [] => unreachable!(),
+        [_, _, ..] => unreachable!(),
     }
 }
 
@@ -94,7 +95,7 @@ fn result_subtype(scope: &Scope, name: &Identifier) -> Subtype
 /// The subprogram of the code that was added last, with these words.
 pub fn row(kind: Kind, words: SubprogramWords, draft: &Draft) -> Result<image::Subprogram, Refusal>
     ensures row { IfOk result (λ row. row ≡ row_of kind words (here draft.now.code)) }
-    ensures refused { IfErr result (λ why. IsRefused (here draft.now.code) 0 false why) }
+    ensures refused { IfErr result (λ why. IsRefused (here draft.now.code) 0 why) }
 {
     let end_ = u16::try_from(draft.code.instructions.len()).map_err(|_| Refusal::Limit)?;
     Ok(image::Subprogram {
@@ -133,7 +134,7 @@ fn components_copy(
     components: &[RecordComponent],
 ) -> Result<Vec<RecordComponent>, Refusal>
     ensures copy { IfOk result (λ copy. copy.items ≡ components.now) }
-    ensures refused { IfErr result (λ why. IsRefused 0 0 false why) }
+    ensures refused { IfErr result (λ why. IsRefused 0 0 why) }
 {
     let mut copy = Vec::new(alloc);
     for component in components {
@@ -152,7 +153,7 @@ fn components_of(
     number: usize,
 ) -> Result<Vec<RecordComponent>, Refusal>
     ensures components { IfOk result (λ copy. copy.items ≡ components_or_none (components_at scope.now number)) }
-    ensures refused { IfErr result (λ why. IsRefused 0 0 false why) }
+    ensures refused { IfErr result (λ why. IsRefused 0 0 why) }
 {
     match scope.protected(number) {
         Some(object) => components_copy(alloc, &object.components),
@@ -169,7 +170,7 @@ impl Walk {
         exceptions: Vec<Text>,
     ) -> Result<Walk, Refusal>
         ensures begins { IfOk result (λ walk. BeginsWalk scope operations exceptions.items walk) }
-        ensures refused { IfErr result (λ why. IsRefused 0 0 false why) }
+        ensures refused { IfErr result (λ why. IsRefused 0 0 why) }
     {
         Ok(Walk {
             alloc,
@@ -190,6 +191,7 @@ impl Walk {
     ) -> Result<SubprogramWords, Refusal>
         requires added { MayBeAdded (program_tree accepted.now) self.old.visible.scope (subprogram_tree subprogram.now) (body_tree body.now) }
         requires entries { HasEntries self.old.visible }
+        requires covered { HasWhatCodeNeeds self.old.draft.exceptions.items self.old.visible }
         requires subtype { (subprogram_tree subprogram.now).result ≡ Some subtype.now }
         ensures adds { IfOk result (λ words. AddsValueFunction (program_tree accepted.now) (subprogram_tree subprogram.now) (body_tree body.now)
             subtype.now self.old.visible self.old.draft words self.new.draft) }
@@ -200,10 +202,10 @@ impl Walk {
         ensures place { OnOk result (self.new.place ≡ self.old.place) }
         ensures subprograms { OnOk result (self.new.subprograms ≡ self.old.subprograms) }
         ensures told { OnOk result (AddsAsTold self.old.draft (subprogram_tree subprogram.now) (body_tree body.now) self.new.draft) }
-        ensures refused { IfErr result (λ why. RefusesBody (program_tree accepted.now) self.old.visible self.old.draft
+        ensures refused { IfErr result (λ why. RefusesBody self.old.visible self.old.draft
             (subprogram_tree subprogram.now) (body_tree body.now) why) }
     {
-        let value = returned(&body.statements)?;
+        let value = returned(&body.statements);
         let result = result_subtype(accepted.scope(), subtype);
         self.draft
             .function(&mut self.visible, &subprogram.formals, result, value)
@@ -218,6 +220,7 @@ impl Walk {
     ) -> Result<SubprogramWords, Refusal>
         requires added { MayBeAdded (program_tree accepted.now) self.old.visible.scope (subprogram_tree subprogram.now) (body_tree body.now) }
         requires entries { HasEntries self.old.visible }
+        requires covered { HasWhatCodeNeeds self.old.draft.exceptions.items self.old.visible }
         ensures adds { IfOk result (λ words. AddsSubprogram (program_tree accepted.now) (subprogram_tree subprogram.now) (body_tree body.now)
             self.old.visible self.old.draft words self.new.draft) }
         ensures called { IfOk result (λ words. IsCalledSubprogram (program_tree accepted.now) (subprogram_tree subprogram.now) self.old.visible.scope words) }
@@ -227,7 +230,7 @@ impl Walk {
         ensures place { OnOk result (self.new.place ≡ self.old.place) }
         ensures subprograms { OnOk result (self.new.subprograms ≡ self.old.subprograms) }
         ensures told { OnOk result (AddsAsTold self.old.draft (subprogram_tree subprogram.now) (body_tree body.now) self.new.draft) }
-        ensures refused { IfErr result (λ why. RefusesBody (program_tree accepted.now) self.old.visible self.old.draft
+        ensures refused { IfErr result (λ why. RefusesBody self.old.visible self.old.draft
             (subprogram_tree subprogram.now) (body_tree body.now) why) }
     {
         match &subprogram.result {
@@ -248,12 +251,13 @@ impl Walk {
     ) -> Result<(), Refusal>
         requires added { MayBeAdded (program_tree accepted.now) self.old.visible.scope (subprogram_tree subprogram.now) (body_tree body.now) }
         requires entries { HasEntries self.old.visible }
+        requires covered { HasWhatCodeNeeds self.old.draft.exceptions.items self.old.visible }
         requires numbered { told_of (program_of (program_tree accepted.now)).scope directory.now.numbers.items
             (subprogram_tree subprogram.now).name.name ≡ Some (length self.old.subprograms.items) }
         ensures adds { OnOk result (AddsBody (program_tree accepted.now) directory.now
             (of_subprogram self.old.visible.scope (subprogram_tree subprogram.now) (body_tree body.now)) self.old self.new) }
         ensures told { OnOk result (AddsAsTold self.old.draft (subprogram_tree subprogram.now) (body_tree body.now) self.new.draft) }
-        ensures refused { IfErr result (λ why. RefusesBody (program_tree accepted.now) self.old.visible self.old.draft
+        ensures refused { IfErr result (λ why. RefusesBody self.old.visible self.old.draft
             (subprogram_tree subprogram.now) (body_tree body.now) why) }
     {
         let words = self.code(accepted, subprogram, body)?;
@@ -273,13 +277,14 @@ impl Walk {
         requires added { MayBeAdded (program_tree accepted.now) self.old.visible.scope
             (of_task self.old.visible.scope name.now (body_tree body.now)).head (body_tree body.now) }
         requires entries { HasEntries self.old.visible }
+        requires covered { HasWhatCodeNeeds self.old.draft.exceptions.items self.old.visible }
         requires numbered { told_of (program_of (program_tree accepted.now)).scope directory.now.numbers.items name.now.name ≡ Some
             (length self.old.subprograms.items) }
         ensures adds { OnOk result (AddsBody (program_tree accepted.now) directory.now (of_task self.old.visible.scope name.now (body_tree body.now))
             self.old self.new) }
         ensures told { OnOk result (AddsAsTold self.old.draft (of_task self.old.visible.scope name.now (body_tree body.now)).head (body_tree body.now)
             self.new.draft) }
-        ensures refused { IfErr result (λ why. RefusesBody (program_tree accepted.now) self.old.visible self.old.draft
+        ensures refused { IfErr result (λ why. RefusesBody self.old.visible self.old.draft
             (of_task self.old.visible.scope name.now (body_tree body.now)).head (body_tree body.now) why) }
     {
         let words = self.draft.procedure(&mut self.visible, &[], body)?;
@@ -297,6 +302,7 @@ impl Walk {
         requires added { MayBeAdded (program_tree accepted.now) self.old.visible.scope (own_head (protected_item_tree item.now))
             (own_body (protected_item_tree item.now)) }
         requires entries { HasEntries self.old.visible }
+        requires covered { HasWhatCodeNeeds self.old.draft.exceptions.items self.old.visible }
         ensures adds { IfOk result (λ words. AddsSubprogram (program_tree accepted.now) (own_head (protected_item_tree item.now))
             (own_body (protected_item_tree item.now)) self.old.visible self.old.draft words self.new.draft) }
         ensures called { IfOk result (λ words. IsCalledSubprogram (program_tree accepted.now) (own_head (protected_item_tree item.now))
@@ -308,7 +314,7 @@ impl Walk {
         ensures subprograms { OnOk result (self.new.subprograms ≡ self.old.subprograms) }
         ensures told { OnOk result (AddsAsTold self.old.draft (own_head (protected_item_tree item.now)) (own_body (protected_item_tree item.now))
             self.new.draft) }
-        ensures refused { IfErr result (λ why. RefusesBody (program_tree accepted.now) self.old.visible self.old.draft
+        ensures refused { IfErr result (λ why. RefusesBody self.old.visible self.old.draft
             (own_head (protected_item_tree item.now)) (own_body (protected_item_tree item.now)) why) }
     {
         match item {
@@ -333,13 +339,14 @@ impl Walk {
         requires added { MayBeAdded (program_tree accepted.now) self.old.visible.scope (own_head (protected_item_tree item.now))
             (own_body (protected_item_tree item.now)) }
         requires entries { HasEntries self.old.visible }
+        requires covered { HasWhatCodeNeeds self.old.draft.exceptions.items self.old.visible }
         requires numbered { number_told (program_of (program_tree accepted.now)).scope directory.now (Some object)
             (own_name (protected_item_tree item.now)) ≡ Some (length self.old.subprograms.items) }
         ensures adds { OnOk result (AddsBody (program_tree accepted.now) directory.now
             (of_object object self.old.visible.scope (protected_item_tree item.now)) self.old self.new) }
         ensures told { OnOk result (AddsAsTold self.old.draft (own_head (protected_item_tree item.now)) (own_body (protected_item_tree item.now))
             self.new.draft) }
-        ensures refused { IfErr result (λ why. RefusesBody (program_tree accepted.now) self.old.visible self.old.draft
+        ensures refused { IfErr result (λ why. RefusesBody self.old.visible self.old.draft
             (own_head (protected_item_tree item.now)) (own_body (protected_item_tree item.now)) why) }
     {
         let words = self.inside_code(accepted, item)?;
@@ -360,11 +367,13 @@ impl Walk {
         requires added { let c = of_operation object self.old.visible.scope components.now (protected_item_tree item.now) in MayBeAdded
             (program_tree accepted.now) c.front c.head c.body }
         requires entries { HasEntries self.old.visible }
+        requires covered { HasWhatCodeNeeds self.old.draft.exceptions.items (operation_visible (program_of (program_tree accepted.now)).scope directory.now
+            object components.now (protected_item_tree item.now) self.old.visible) }
         requires numbered { number_told (program_of (program_tree accepted.now)).scope directory.now (Some object)
             (own_name (protected_item_tree item.now)) ≡ Some (length self.old.subprograms.items) }
         ensures adds { OnOk result (AddsOperation (program_tree accepted.now) directory.now object components.now (protected_item_tree item.now)
             self.old self.new) }
-        ensures refused { IfErr result (λ why. RefusesBody (program_tree accepted.now)
+        ensures refused { IfErr result (λ why. RefusesBody
             (operation_visible (program_of (program_tree accepted.now)).scope directory.now object components.now (protected_item_tree item.now)
             self.old.visible) self.old.draft (own_head (protected_item_tree item.now)) (own_body (protected_item_tree item.now)) why) }
     {
@@ -404,6 +413,7 @@ impl Walk {
     ) -> Result<(), Refusal>
         requires legal { IsLegal (program_tree accepted.now) }
         requires restricted { IsRestricted (program_tree accepted.now) }
+        requires covered { BodiesAreCovered (program_tree accepted.now) }
         requires directory { IsDirectory (program_tree accepted.now) directory.now }
         requires within { IsInObjectBody (program_tree accepted.now) directory.now object
             (object_body_scope (front (program_tree accepted.now) self.old.place) place) components.now (map protected_item_tree items.now) 0 self.old }
@@ -414,7 +424,6 @@ impl Walk {
         ensures refused { IfErr result (λ why. RefusesCode (program_tree accepted.now) why) }
     {
         bodies_are_numbered();
-        bodies_may_be_added();
         scopes_are_sound();
         names_are_known();
         premises_hold();
@@ -436,6 +445,7 @@ impl Walk {
         requires legal { IsLegal (program_tree accepted.now) }
         requires restricted { IsRestricted (program_tree accepted.now) }
         requires objects { (program_of (program_tree accepted.now)).objects ≤ OBJECTS }
+        requires covered { BodiesAreCovered (program_tree accepted.now) }
         requires walked { IsWalked (program_tree accepted.now) directory.now self.old }
         requires directory { IsDirectory (program_tree accepted.now) directory.now }
         requires told { IsAsTold (program_tree accepted.now) self.old }
@@ -480,6 +490,7 @@ impl Walk {
         requires legal { IsLegal (program_tree accepted.now) }
         requires restricted { IsRestricted (program_tree accepted.now) }
         requires objects { (program_of (program_tree accepted.now)).objects ≤ OBJECTS }
+        requires covered { BodiesAreCovered (program_tree accepted.now) }
         requires walked { IsWalked (program_tree accepted.now) directory.now self.old }
         requires directory { IsDirectory (program_tree accepted.now) directory.now }
         requires told { IsAsTold (program_tree accepted.now) self.old }
@@ -530,6 +541,7 @@ impl Walk {
     ) -> Result<(), Refusal>
         requires legal { IsLegal (program_tree accepted.now) }
         requires restricted { IsRestricted (program_tree accepted.now) }
+        requires covered { BodiesAreCovered (program_tree accepted.now) }
         requires walked { IsWalked (program_tree accepted.now) directory.now self.old }
         requires directory { IsDirectory (program_tree accepted.now) directory.now }
         requires told { IsAsTold (program_tree accepted.now) self.old }
@@ -541,7 +553,6 @@ impl Walk {
         ensures refused { IfErr result (λ why. RefusesCode (program_tree accepted.now) why) }
     {
         bodies_are_numbered();
-        bodies_may_be_added();
         declare_subprogram(self.alloc, &mut self.visible.scope, subprogram)?;
         directory.tell(accepted.scope(), &mut self.visible, &subprogram.name.name)?;
         self.body(accepted, directory, subprogram, body)?;
@@ -559,6 +570,7 @@ impl Walk {
     ) -> Result<(), Refusal>
         requires legal { IsLegal (program_tree accepted.now) }
         requires restricted { IsRestricted (program_tree accepted.now) }
+        requires covered { BodiesAreCovered (program_tree accepted.now) }
         requires walked { IsWalked (program_tree accepted.now) directory.now self.old }
         requires directory { IsDirectory (program_tree accepted.now) directory.now }
         requires told { IsAsTold (program_tree accepted.now) self.old }
@@ -569,7 +581,6 @@ impl Walk {
         ensures refused { IfErr result (λ why. RefusesCode (program_tree accepted.now) why) }
     {
         bodies_are_numbered();
-        bodies_may_be_added();
         self.task_body(accepted, directory, name, body)?;
         self.place += 1;
         Ok(())
@@ -607,6 +618,7 @@ impl Walk {
         requires legal { IsLegal (program_tree accepted.now) }
         requires restricted { IsRestricted (program_tree accepted.now) }
         requires objects { (program_of (program_tree accepted.now)).objects ≤ OBJECTS }
+        requires covered { BodiesAreCovered (program_tree accepted.now) }
         requires walked { IsWalked (program_tree accepted.now) directory.now self.old }
         requires directory { IsDirectory (program_tree accepted.now) directory.now }
         requires told { IsAsTold (program_tree accepted.now) self.old }
@@ -644,6 +656,7 @@ fn walk_package(
     requires restricted { IsRestricted (program_tree accepted.now) }
     requires objects { (program_of (program_tree accepted.now)).objects ≤ OBJECTS }
     requires is { accepted.now.package_ ≡ Some package_.now }
+    requires covered { BodiesAreCovered (program_tree accepted.now) }
     requires directory { IsDirectory (program_tree accepted.now) directory.now }
     requires exceptions { exceptions.items ≡ (program_of (program_tree accepted.now)).exceptions }
     ensures walked { IfOk result (λ walk. IsWalked (program_tree accepted.now) directory.now walk) }
@@ -691,6 +704,7 @@ pub fn walk_over(
     exceptions: Vec<Text>,
 ) -> Result<Walk, Refusal>
     requires objects { (program_of (program_tree accepted.now)).objects ≤ OBJECTS }
+    requires covered { BodiesAreCovered (program_tree accepted.now) }
     requires directory { IsDirectory (program_tree accepted.now) directory.now }
     requires exceptions { exceptions.items ≡ (program_of (program_tree accepted.now)).exceptions }
     ensures walked { IfOk result (λ walk. IsWalked (program_tree accepted.now) directory.now walk) }

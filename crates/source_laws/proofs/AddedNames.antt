@@ -8,7 +8,7 @@ use Rattle.expr_soundness.specs.type_rules.specs.SubtypeNames.{subtype_of}
 use Rattle.program_soundness.specs.declaring.specs.BodyNames.{formal_role, formal_scope, formals_scope}
 use Rattle.program_soundness.proofs.Listing.{same_some}
 use Rattle.program_soundness.proofs.WiderScopes.{stands}
-use Rattle.ada_link.specs.expr_code.specs.Seeing.{NamesProfile, profile_named, subprogram_profile}
+use Rattle.expr_code.specs.Seeing.{NamesProfile, profile_named, subprogram_profile}
 
 -- ---- formals are visible behind the names in front of them
 

@@ -17,11 +17,10 @@ use Rattle.program_soundness.proofs.BodyProfiles.{profile_formals}
 use Rattle.program_soundness.proofs.Called.{subprogram_there}
 use Rattle.program_soundness.proofs.Whole.{IsPackage, kept}
 use Rattle.program_soundness.proofs.WiderScopes.{stands, stands_number}
-use Rattle.ada_link.specs.expr_code.specs.Seeing.{external_profile}
-use Rattle.ada_link.specs.expr_code.proofs.Externals.{IsBehind, is_behind}
-use Rattle.ada_link.specs.package_code.specs.Bodies.{Coded, of_subprogram, own_head}
-use Rattle.ada_link.specs.package_code.proofs.OperationsAdded as added
-use Rattle.source_laws.specs.Visible.{IsBodyOf}
+use Rattle.expr_code.specs.Seeing.{external_profile}
+use Rattle.expr_code.proofs.Externals.{IsBehind, is_behind}
+use Rattle.package_code.specs.Bodies.{Coded, of_subprogram, own_head, IsBodyOf}
+use Rattle.package_code.proofs.OperationsAdded as added
 use Rattle.source_laws.proofs.InsideEntities.{fronts_by}
 use Rattle.source_laws.proofs.InsideNames.{protected_named, subprogram_named}
 use Rattle.source_laws.proofs.ObjectCallees.{unit_behind, unit_body, unit_code}

@@ -1,7 +1,7 @@
 -- The code of a small program has no more instructions than an image: 20 for each node of its tree, and two for each of at most 64 words of a body.
 use Rattle.std.proofs.Common.{◌≡◌, ℕ, zero, suc, ◌+◌, ◌*◌, ◌≤◌, List, [], ◌∷◌, ◌++◌, length, map, Option, None, Some, refl, subst, arith}
 use Rattle.std.specs.Prelude.{slice_get}
-use Rattle.ada_link.specs.base.specs.declared.limits.TheConstants.{INSTRUCTIONS, SUBPROGRAMS}
+use Rattle.base.specs.declared.limits.TheConstants.{INSTRUCTIONS, SUBPROGRAMS}
 use Rattle.ada_tree.specs.ProgramTree.{BodyItemTree, EntryBody, OfItem, OperationBody, ProgramTree, ProtectedBody, ProtectedItemTree, SubprogramBody, TaskBody}
 use Rattle.ada_tree.specs.Laws.{SizeWithinTokens}
 use Rattle.ada_tree.specs.Size.{aspect_size, body_item_size, body_size, package_size, protected_item_size, size, size_if_any, subprogram_size, total}
@@ -13,13 +13,12 @@ use Rattle.program_soundness.specs.legality.specs.ProtectedBodyRules.{components
 use Rattle.expr_soundness.specs.meaning.specs.Programs.{program_of}
 use Rattle.program_soundness.specs.Fronts.{declared_in, front}
 use Rattle.program_soundness.proofs.Listing.{same_some}
-use Rattle.ada_link.specs.part_code.specs.Bounds.{body_words, formals_words, main_bound}
-use Rattle.ada_link.specs.package_code.specs.Bodies.{Coded, bodies_among, coded_at, coded_from, components_or_none, object_bodies, object_number, of_operation, operations_of}
-use Rattle.ada_link.specs.package_code.specs.Counts.{bound_of, bounds_at, bounds_from}
-use Rattle.ada_link.specs.package_code.specs.Laws.{TablesAreSmall}
-use Rattle.ada_link.specs.package_code.proofs.Coded.{among_first, coded_many}
+use Rattle.part_code.specs.Bounds.{body_words, formals_words, main_bound}
+use Rattle.package_code.specs.Bodies.{Coded, bodies_among, coded_at, coded_from, components_or_none, object_bodies, object_number, of_operation, operations_of, IsBodyOf}
+use Rattle.package_code.specs.Counts.{bound_of, bounds_at, bounds_from}
+use Rattle.package_code.specs.Laws.{TablesAreSmall}
+use Rattle.package_code.proofs.Coded.{among_first, coded_many}
 use Rattle.source_laws.specs.Small.{HasSmallBodies, SmallCodeFits, TakeFewWords, body_loops, body_room, small_words}
-use Rattle.source_laws.specs.Visible.{IsBodyOf}
 use Rattle.source_laws.proofs.RowsCounted.{declared_size, rows_counted}
 
 -- the place so far behind another one

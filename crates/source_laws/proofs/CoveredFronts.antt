@@ -2,9 +2,9 @@
 use Rattle.std.proofs.Common.{◌≡◌, ℕ, zero, suc, ◌+◌, ◌<◌, ◌≤◌, Bool, true, false, ◌||◌, cond, List, [], ◌∷◌, ◌++◌, length, take, ◌⊎◌, inl, inr, Option, Some, None, refl, sym, ap, ◌∙◌, subst, arith}
 use Rattle.std.specs.Prelude.{bytes_eq, is_some, option_map, slice_get}
 use Rattle.std.proofs.lemmas.Bool.{lt-ltb}
-use Rattle.ada_link.specs.base.specs.Names.{predefined}
-use Rattle.ada_link.specs.base.specs.declared.limits.TheConstants.{EXCEPTIONS}
-use Rattle.ada_link.specs.image.specs.declared.instruction.Region.TheVariants as regions
+use Rattle.base.specs.Names.{predefined}
+use Rattle.base.specs.declared.limits.TheConstants.{EXCEPTIONS}
+use Rattle.image.specs.declared.instruction.Region.TheVariants as regions
 use Rattle.ada_tree.specs.declared.expression.Identifier.{Identifier}
 use Rattle.ada_tree.specs.StatementTree.{SubprogramTree}
 use Rattle.ada_tree.specs.ProgramTree.{BodyItemTree, BodyTree, OfException, OfItem, OfObject, OfProtected, OfSubprogram, OfTask, OfType, ProgramTree, ProtectedBody, SubprogramBody, TaskBody}
@@ -37,22 +37,22 @@ use Rattle.program_soundness.proofs.Trees.{tree_package}
 use Rattle.program_soundness.proofs.Walked.{Constants, Exceptions, Origin, Variables, body_item_kind, declares, kept_all, kind}
 use Rattle.program_soundness.proofs.WiderScopes.{equal_bytes, number_stands, stands, stands_number}
 use Rattle.program_soundness.proofs.Whole.{IsPackage, came, entity_variable, is_first, kept, origin_kind}
-use Rattle.ada_link.specs.expr_code.specs.Seeing.{external_of, external_profile, profile_named, slot_of, subprogram_of, told_of}
-use Rattle.ada_link.specs.expr_code.proofs.Externals.{IsBehind, is_behind}
-use Rattle.ada_link.specs.part_code.specs.EntryNames.{entry_behind}
-use Rattle.ada_link.specs.part_code.specs.Raising.{number_among, number_at}
-use Rattle.ada_link.specs.package_code.specs.Bodies.{number_in, of_subprogram}
-use Rattle.ada_link.specs.package_code.specs.Laws.{TablesAreSmall}
-use Rattle.ada_link.specs.package_code.specs.Package.{place_among}
-use Rattle.ada_link.specs.package_code.specs.Refusing.{seen_at, slot_in, told_behind}
-use Rattle.ada_link.specs.package_code.proofs.Numbered.{bodies_numbered}
-use Rattle.ada_link.specs.package_code.proofs.Seen.{all_behind, behind_long}
-use Rattle.ada_link.proofs.MainKnown.{place_behind, told_name}
-use Rattle.source_laws.specs.Covered.{HasWhatCodeNeeds}
-use Rattle.source_laws.specs.Depths.{FewFormals, is_scalar_form}
+use Rattle.expr_code.specs.Seeing.{external_of, external_profile, profile_named, slot_of, subprogram_of, told_of}
+use Rattle.expr_code.proofs.Externals.{IsBehind, is_behind}
+use Rattle.part_code.specs.EntryNames.{entry_behind}
+use Rattle.part_code.specs.Raising.{number_among, number_at}
+use Rattle.package_code.specs.Bodies.{number_in, of_subprogram}
+use Rattle.package_code.specs.Laws.{TablesAreSmall}
+use Rattle.package_code.specs.Package.{place_among}
+use Rattle.package_code.specs.Refusing.{seen_at, slot_in, told_behind}
+use Rattle.package_code.proofs.Numbered.{bodies_numbered}
+use Rattle.package_code.proofs.Seen.{all_behind}
+use Rattle.source_laws.proofs.MainKnown.{place_behind, told_name}
+use Rattle.part_code.specs.Providing.{HasWhatCodeNeeds}
+use Rattle.expr_code.specs.Providing.{FewFormals, is_scalar_form}
 use Rattle.source_laws.specs.Visible.{KeepsLimits}
 use Rattle.source_laws.proofs.AddedNames.{named_there}
-use Rattle.source_laws.proofs.CoverScopes.{part_named}
+use Rattle.stmt_code.proofs.CoveredScopes.{part_named}
 use Rattle.source_laws.proofs.LaterNames.{same_form}
 use Rattle.source_laws.proofs.ObjectsOffer.{extends_whole, gives_behind, offered_behind, result_known, result_scalar}
 
@@ -325,15 +325,8 @@ module _ (scopes : ScopesAreSound) (names : NamesAreKnown) (premises : PremisesH
   pub covered_at : (place : ℕ) → FewFormals (front t place) → KeepsLimits (front t place) → HasWhatCodeNeeds program.exceptions (seen_at t place)
   covered_at place few limits =
       record {
-        sound = sound place;
-        formals = few;
+        expressions = record { formals = few; stored = stored_at place; numbered = numbered_at place; results = results_at place; gives = gives_at place };
         full = λ n form h. limits.types (base_range_of n) (ap is_some h);
-        slots = behind_long (slot_in t None) (length start) (front t place);
-        subprograms = behind_long (number_in t None) (length start) (front t place);
-        stored = stored_at place;
-        numbered = numbered_at place;
-        results = results_at place;
         raised = raised_at place;
         offered = offered_at place;
-        gives = gives_at place;
       }

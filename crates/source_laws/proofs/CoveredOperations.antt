@@ -32,32 +32,32 @@ use Rattle.program_soundness.proofs.ObjectTrees.{components_all, components_name
 use Rattle.program_soundness.proofs.Walked.{kept_all, kind, own_profile}
 use Rattle.program_soundness.proofs.Whole.{IsPackage, is_first}
 use Rattle.program_soundness.proofs.WiderScopes.{found_in, number_stands, stands, stands_number}
-use Rattle.ada_link.specs.expr_code.specs.Seeing.{external_of, external_profile, profile_named, slot_of, subprogram_of, subprogram_profile, told_of}
-use Rattle.ada_link.specs.expr_code.specs.declared.visible.Slot.{Slot}
-use Rattle.ada_link.specs.expr_code.proofs.Externals.{IsBehind, is_behind}
-use Rattle.ada_link.specs.part_code.specs.EntryNames.{entry_behind}
-use Rattle.ada_link.specs.package_code.specs.Bodies.{Coded, number_in, object_number, operation_front}
-use Rattle.ada_link.specs.package_code.specs.Laws.{TablesAreSmall}
-use Rattle.ada_link.specs.package_code.specs.Owners.{in_object, told_inside, told_slot}
-use Rattle.ada_link.specs.package_code.specs.Package.{place_among}
-use Rattle.ada_link.specs.package_code.specs.Refusing.{seen_by, seen_with, slot_in, told_behind}
-use Rattle.ada_link.specs.package_code.proofs.Coded.{coded_by}
-use Rattle.ada_link.specs.package_code.proofs.InFront.{LawsOfNames}
-use Rattle.ada_link.specs.package_code.proofs.ObjectNames.{no_number, no_slot}
-use Rattle.ada_link.specs.package_code.proofs.OperationBodies.{has_number, of_number}
-use Rattle.ada_link.specs.package_code.proofs.OperationsAdded as added
-use Rattle.ada_link.specs.package_code.proofs.Seen.{all_behind, behind_long, start_fits}
-use Rattle.ada_link.specs.package_code.proofs.ToldInside.{added as names_added, with_added}
-use Rattle.ada_link.proofs.MainKnown.{place_behind, told_name}
-use Rattle.source_laws.specs.Covered.{HasWhatCodeNeeds}
-use Rattle.source_laws.specs.Depths.{FewFormals, is_scalar_form}
-use Rattle.source_laws.specs.Visible.{IsBodyOf, KeepsLimits}
+use Rattle.expr_code.specs.Seeing.{external_of, external_profile, profile_named, slot_of, subprogram_of, subprogram_profile, told_of}
+use Rattle.expr_code.specs.declared.visible.Slot.{Slot}
+use Rattle.expr_code.proofs.Externals.{IsBehind, is_behind}
+use Rattle.part_code.specs.EntryNames.{entry_behind}
+use Rattle.package_code.specs.Bodies.{Coded, number_in, object_number, operation_front, IsBodyOf}
+use Rattle.package_code.specs.Laws.{TablesAreSmall}
+use Rattle.package_code.specs.Owners.{in_object, told_inside, told_slot}
+use Rattle.package_code.specs.Package.{place_among}
+use Rattle.package_code.specs.Refusing.{seen_by, seen_with, slot_in, told_behind}
+use Rattle.package_code.proofs.Coded.{coded_by}
+use Rattle.package_code.proofs.InFront.{LawsOfNames}
+use Rattle.package_code.proofs.ObjectNames.{no_number, no_slot}
+use Rattle.package_code.proofs.OperationBodies.{has_number, of_number}
+use Rattle.package_code.proofs.OperationsAdded as added
+use Rattle.package_code.proofs.Seen.{all_behind, start_fits}
+use Rattle.package_code.proofs.ToldInside.{added as names_added, with_added}
+use Rattle.source_laws.proofs.MainKnown.{place_behind, told_name}
+use Rattle.part_code.specs.Providing.{HasWhatCodeNeeds}
+use Rattle.expr_code.specs.Providing.{FewFormals, is_scalar_form}
+use Rattle.source_laws.specs.Visible.{KeepsLimits}
 use Rattle.source_laws.proofs.AddedNames.{with_behind}
-use Rattle.source_laws.proofs.CoverScopes.{part_named}
+use Rattle.stmt_code.proofs.CoveredScopes.{part_named}
 use Rattle.source_laws.proofs.CoveredFronts.{covered_at, kept_here, named_subprogram, placed_stored, raised_at, results_at, scalar_here, subprogram_numbered, unstarted, variable_placed}
 use Rattle.source_laws.proofs.InsideEntities.{front_sound, profile_legal, seen_sound}
 use Rattle.source_laws.proofs.InsideNames as inside
-use Rattle.source_laws.proofs.NeedsScopes.{profile_by}
+use Rattle.stmt_code.proofs.ObjectMore.{profile_by}
 use Rattle.source_laws.proofs.ObjectsOffer.{gives_behind, offered_behind, result_known, result_scalar}
 
 -- ---- names behind others
@@ -375,18 +375,12 @@ module _ (scopes : ScopesAreSound) (known : NamesAreKnown) (premises : PremisesH
         subst (λ owner. HasWhatCodeNeeds program.exceptions (seen_with t owner c.front))
         (sym (added.owner_is scopes known premises t legal restricted place k c x))
         (record {
-          sound = front_sound scopes known premises t legal restricted place k c x;
-          formals = few;
+          expressions =
+              record { formals = few; stored = stored_there; numbered = numbered_there; results = results_there; gives = gives_there };
           full = λ n form h. limits.types (base_range_of n) (ap is_some h);
-          slots = behind_long slots_told (length start) c.front;
-          subprograms = behind_long numbers_told (length start) c.front;
-          stored = stored_there;
-          numbered = numbered_there;
-          results = results_there;
           raised = λ name h. raised_at scopes known premises tables t legal restricted place name
               (inside.exception_named scopes known premises t legal restricted place k c x name h);
           offered = offered_there;
-          gives = gives_there;
         })
 
 -- ---- in front of each body with code

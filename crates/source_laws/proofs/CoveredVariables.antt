@@ -1,8 +1,7 @@
 -- Code has first words for each variable of an accepted text, and for each component of its protected objects: a given value is known, and takes words.
-use Rattle.std.proofs.Common.{◌≡◌, ℕ, zero, suc, ◌*◌, ◌≤◌, Bool, true, false, not, cond, List, [], ◌∷◌, ◌++◌, length, map, ◌||◌, Option, Some, None, refl, sym, ap, ◌∙◌, subst, arith}
-use Rattle.std.specs.Prelude.{bytes_eq, is_none, nat_eq, slice_get}
-use Rattle.std.proofs.lemmas.Bool.{and_parts, or_from}
-use Rattle.std.proofs.lemmas.Bool.Decides.{nat_tests}
+use Rattle.std.proofs.Common.{◌≡◌, ℕ, zero, suc, Bool, true, false, cond, List, [], ◌∷◌, ◌++◌, length, map, ◌||◌, Option, Some, None, refl, sym, ap, ◌∙◌, subst, arith}
+use Rattle.std.specs.Prelude.{bytes_eq, is_some, nat_le, slice_get}
+use Rattle.std.proofs.lemmas.Bool.{and_from, le-leb}
 use Rattle.ada_tree.specs.declared.expression.Identifier.{Identifier}
 use Rattle.ada_tree.specs.ExpressionTree.{ExprTree}
 use Rattle.ada_tree.specs.StatementTree.{ObjectTree, OperationTree, ProtectedComponentTree, ProtectedTree}
@@ -11,10 +10,10 @@ use Rattle.types.specs.declared.entity.Subtype.{Subtype}
 use Rattle.types.specs.Laws.{ValuesHaveWords}
 use Rattle.types.specs.Places.{Object}
 use Rattle.types.specs.Scopes.{Scope, base_range_of, is_visible}
-use Rattle.types.specs.Shapes.{Grouped, MoreShapes, NoShapes, Repeated, Shape, Shapeless, Shapes, shape_of, value_words, words, words_of_parts}
+use Rattle.types.specs.Shapes.{shape_of, value_words}
 use Rattle.expr_soundness.specs.expr_rules.specs.Laws.{type_shape}
 use Rattle.expr_soundness.specs.expr_rules.specs.Faults.{rule}
-use Rattle.ada_link.specs.base.specs.declared.faults.TheConstants.{DECLARED_TWICE, NOT_STATIC}
+use Rattle.base.specs.declared.faults.TheConstants.{DECLARED_TWICE, NOT_STATIC}
 use Rattle.expr_soundness.specs.expr_rules.proofs.TypedLaw.{back_empty, front_empty, unbroken}
 use Rattle.expr_soundness.specs.type_rules.specs.ObjectRules.{fixed_faults, fixed_initial_faults, fixed_scalar}
 use Rattle.expr_soundness.specs.type_rules.specs.SubtypeNames.{declared_twice, subtype_faults, subtype_of}
@@ -36,29 +35,12 @@ use Rattle.program_soundness.proofs.ObjectTrees.{parts_legal}
 use Rattle.program_soundness.proofs.Trees.{tree_package}
 use Rattle.program_soundness.proofs.Walked.{item_new, legal_at}
 use Rattle.program_soundness.proofs.Whole.{IsPackage, kept, known_subtype}
-use Rattle.ada_link.specs.part_code.specs.Needs.{lack_word, lacks_word}
-use Rattle.ada_link.specs.package_code.specs.Refusing.{is_outside_variable, lack_components, lacks_first_words}
-use Rattle.source_laws.specs.Depths.{are_full, is_full}
-use Rattle.source_laws.proofs.FullShapes.{full_some}
+use Rattle.package_code.specs.Providing.{component_tells, tells_value, tells_words}
+use Rattle.std.specs.List.{list_all}
+use Rattle.part_code.specs.Providing.{is_full}
+use Rattle.part_code.proofs.FullWords.{full_some}
 use Rattle.source_laws.proofs.LaterValues.{fixed_same, fixed_some}
 use Rattle.source_laws.proofs.VisibleWords.{behind_front}
-
--- ---- shapes whose parts take words lack none
-
-mutual
-  full_lacks : (x : Shape) → is_full x ≡ true → lacks_word x ≡ false
-  full_lacks (Repeated many x) h = full_lacks x (and_parts (not (nat_eq (many * words x) 0)) (is_full x) h).1
-  full_lacks (Grouped parts) h = parts_lack parts (and_parts (not (nat_eq (words_of_parts parts) 0)) (are_full parts) h).1
-  full_lacks Shapeless h = cc
-  full_lacks x h = refl
-
-  parts_lack : (parts : Shapes) → are_full parts ≡ true → lack_word parts ≡ false
-  parts_lack NoShapes h = refl
-  parts_lack (MoreShapes name x rest) h =
-      let p = and_parts (is_full x) (are_full rest) h in or_from (lacks_word x) (lack_word rest) (full_lacks x p.0) (parts_lack rest p.1)
-
-not_zero : (n : ℕ) → 1 ≤ n → nat_eq n 0 ≡ false
-not_zero n h = grind (arith, nat_tests)
 
 -- ---- the objects of a list of declarations and bodies
 
@@ -168,33 +150,33 @@ module _ (premises : PremisesHold) (names : NamesAreKnown) (scopes : ScopesAreSo
     known_whole = scopes.subtype whole subtype u (premises t legal).sound named_whole
 
     -- a given value is known
-    value_known : (e : ExprTree) → value ≡ Some e → is_none (fixed_scalar whole (Some u) e) ≡ false
+    value_known : (e : ExprTree) → value ≡ Some e → is_some (fixed_scalar whole (Some u) e) ≡ true
     value_known e is =
         let unbroken : fixed_faults here (Some u) e ≡ [] = ap (λ o. fixed_faults here o e) (sym told.1) ∙ given e is in
         let some = fixed_some declarations here ((names t legal restricted).fronts place) name subtype u e new named told.1 unbroken in
-        ap is_none (fixed_same here whole (whole_extends place) ((names t legal restricted).fronts place) u e unbroken ∙ some.1)
+        ap is_some (fixed_same here whole (whole_extends place) ((names t legal restricted).fronts place) u e unbroken ∙ some.1)
 
-    first_words : lacks_first_words whole u value ≡ false
-    first_words = by_value value refl
+    value_told : tells_value whole u value ≡ true
+    value_told = by_value value refl
       where
-        by_value : (o : Option ExprTree) → value ≡ o → lacks_first_words whole u o ≡ false
-        by_value None is = full_lacks (shape_of whole u) (full u known_whole)
+        by_value : (o : Option ExprTree) → value ≡ o → tells_value whole u o ≡ true
+        by_value None is = refl
         by_value (Some e) is = value_known e is
 
     -- it takes words
-    takes_words : nat_eq (length (value_words (initial_value whole u value))) 0 ≡ false
+    takes_words : nat_le 1 (length (value_words (initial_value whole u value))) ≡ true
     takes_words =
         let same = named_is whole subtype u named_whole in
         let own : IsOf whole u.type_number (initial_value whole u value) =
         subst (λ v. IsOf whole v.type_number (initial_value whole v value)) same suited in
         let sizes = (sized (type_shape whole u.type_number) (initial_value whole u value) own).sized in
         let some = full_some (type_shape whole u.type_number) (full (base_range_of u.type_number) known_whole) in
-        not_zero (length (value_words (initial_value whole u value))) (omega (arith, sizes, some))
+        le-leb 1 (length (value_words (initial_value whole u value))) (omega (arith, sizes, some))
 
-    object_inside : is_outside_variable whole (subtype_of whole subtype) value ≡ false
-    object_inside =
-        ap (λ o. is_outside_variable whole o value) named_whole
-        ∙ or_from (lacks_first_words whole u value) (nat_eq (length (value_words (initial_value whole u value))) 0) first_words takes_words
+    object_told : tells_words whole (subtype_of whole subtype) value ≡ true
+    object_told =
+        ap (λ o. tells_words whole o value) named_whole
+        ∙ and_from (tells_value whole u value) (nat_le 1 (length (value_words (initial_value whole u value)))) value_told takes_words
 
   -- ---- variables
 
@@ -207,9 +189,9 @@ module _ (premises : PremisesHold) (names : NamesAreKnown) (scopes : ScopesAreSo
         back_empty (subtype_faults (front t place) d.subtype) (fixed_initial_faults (front t place) d)
         (front_empty (subtype_faults (front t place) d.subtype ++ fixed_initial_faults (front t place) d) (declared_twice (front t place) d.name) judged_here)
 
-    pub variable_inside : is_outside_variable whole (subtype_of whole d.subtype) d.value ≡ false
-    variable_inside =
-        object_inside place d.name d.subtype d.value (item_new (front t place) (OfObject d) judged_here)
+    pub variable_told : tells_words whole (subtype_of whole d.subtype) d.value ≡ true
+    variable_told =
+        object_told place d.name d.subtype d.value (item_new (front t place) (OfObject d) judged_here)
         (front_empty (subtype_faults (front t place) d.subtype) (fixed_initial_faults (front t place) d)
         (front_empty (subtype_faults (front t place) d.subtype ++ fixed_initial_faults (front t place) d) (declared_twice (front t place) d.name) judged_here))
         (λ e is. sym (ap (λ o. elim o [
@@ -233,28 +215,28 @@ module _ (premises : PremisesHold) (names : NamesAreKnown) (scopes : ScopesAreSo
         let x = among_components whole all place d at in
         subst (AreSoundObjects whole) (ap (λ f. f x.0) w.components ∙ ap objects_or_none x.1) (objects.components t legal x.0)
 
-    part_inside : (seen : List ProtectedComponentTree) (c : ProtectedComponentTree) → part_faults before d.name d.operations seen c ≡ []
+    part_told : (seen : List ProtectedComponentTree) (c : ProtectedComponentTree) → part_faults before d.name d.operations seen c ≡ []
         → IsOf whole (subtype_named whole c.subtype).type_number (initial_value whole (subtype_named whole c.subtype) c.value)
-        → is_outside_variable whole (subtype_of whole c.subtype) c.value ≡ false
-    part_inside seen c h suited =
+        → component_tells whole c ≡ true
+    part_told seen c h suited =
         let like = is_component_like before d.name d.operations seen c.name.name in
         let two = front_empty (rule DECLARED_TWICE c.name.place like ++ subtype_faults before c.subtype) (component_initial_faults before c) h in
         let initial = back_empty (rule DECLARED_TWICE c.name.place like ++ subtype_faults before c.subtype) (component_initial_faults before c) h in
-        object_inside place c.name c.subtype c.value
+        object_told place c.name c.subtype c.value
         (new_part before d.name d.operations seen c.name.name
         (unbroken DECLARED_TWICE c.name.place like (front_empty (rule DECLARED_TWICE c.name.place like) (subtype_faults before c.subtype) two)))
         (back_empty (rule DECLARED_TWICE c.name.place like) (subtype_faults before c.subtype) two)
         (λ e is. sym (ap (λ o. elim o [ Some v ↦ fixed_faults before (subtype_of before c.subtype) v | None ↦ [] ]) is) ∙ initial)
         suited
 
-    parts_inside : (seen cs : List ProtectedComponentTree) → parts_faults before d.name d.operations seen cs ≡ []
-        → AreSoundObjects whole (map (component whole) cs) → lack_components whole cs ≡ false
-    parts_inside seen [] h suited = refl
-    parts_inside seen (c ∷ cs) h suited =
+    parts_told : (seen cs : List ProtectedComponentTree) → parts_faults before d.name d.operations seen cs ≡ []
+        → AreSoundObjects whole (map (component whole) cs) → list_all (component_tells whole) cs ≡ true
+    parts_told seen [] h suited = refl
+    parts_told seen (c ∷ cs) h suited =
         let own = part_faults before d.name d.operations seen c in
         let rest = parts_faults before d.name d.operations (seen ++ c ∷ []) cs in
-        or_from (is_outside_variable whole (subtype_of whole c.subtype) c.value) (lack_components whole cs)
-        (part_inside seen c (front_empty own rest h) suited.0) (parts_inside (seen ++ c ∷ []) cs (back_empty own rest h) suited.1)
+        and_from (component_tells whole c) (list_all (component_tells whole) cs) (part_told seen c (front_empty own rest h) suited.0)
+        (parts_told (seen ++ c ∷ []) cs (back_empty own rest h) suited.1)
 
-    pub components_inside : lack_components whole d.components ≡ false
-    components_inside = parts_inside [] d.components parts_unbroken parts_suited
+    pub components_told : list_all (component_tells whole) d.components ≡ true
+    components_told = parts_told [] d.components parts_unbroken parts_suited

@@ -2,8 +2,8 @@
 use Rattle.std.proofs.Common.{◌≡◌, ℕ, zero, suc, ◌+◌, ◌≤◌, Bool, true, false, cond, not, ◌||◌, List, [], ◌∷◌, ◌++◌, length, length-append, Option, Some, None, refl, sym, ap, ◌∙◌, subst, arith}
 use Rattle.std.specs.Prelude.{codes, is_some, nat_le, slice_get}
 use Rattle.std.proofs.lemmas.Bool.{leb-false, or_parts}
-use Rattle.ada_link.specs.base.specs.declared.faults.TheConstants.{DECLARED_TWICE, LIMIT_PASSED, WRONG_FUNCTION}
-use Rattle.ada_link.specs.base.specs.declared.limits.TheConstants.{FORMALS, TASK_PRIORITY}
+use Rattle.base.specs.declared.faults.TheConstants.{DECLARED_TWICE, LIMIT_PASSED, WRONG_FUNCTION}
+use Rattle.base.specs.declared.limits.TheConstants.{FORMALS, TASK_PRIORITY}
 use Rattle.ada_tree.specs.declared.declaration.Formal.{Formal}
 use Rattle.ada_tree.specs.declared.expression.Identifier.{Identifier}
 use Rattle.ada_tree.specs.StatementTree as operation
@@ -37,7 +37,7 @@ use Rattle.program_soundness.specs.Fronts.{scope_at, start_in}
 use Rattle.program_soundness.proofs.BodyProfiles.{first_formal, profile_formals, profile_none}
 use Rattle.program_soundness.proofs.Listing.{same_some}
 use Rattle.program_soundness.proofs.Walked.{Constants, Entries, IsOne, Kind, Others, ProtectedOnes, Subprograms, Types, Variables, declared_one, own_profile}
-use Rattle.source_laws.specs.Depths.{AreScalar, FewFormals, HasFewFormals, is_scalar_form}
+use Rattle.expr_code.specs.Providing.{AreScalar, FewFormals, HasFewFormals, is_scalar_form}
 use Rattle.source_laws.proofs.UnitClauses.{clauses_keep}
 
 -- ---- what is asked of a name

@@ -2,7 +2,7 @@
 use Rattle.std.proofs.Common.{◌≡◌, ℕ, suc, ◌≤◌, false, ◌||◌, List, [], ◌∷◌, ◌++◌, Option, Some, None, refl, subst, arith}
 use Rattle.std.specs.Prelude.{slice_get}
 use Rattle.std.proofs.lemmas.Bool.{or_from}
-use Rattle.ada_link.specs.base.specs.declared.limits.TheConstants.{WORDS}
+use Rattle.base.specs.declared.limits.TheConstants.{WORDS}
 use Rattle.ada_tree.specs.declared.declaration.Formal.{Formal}
 use Rattle.ada_tree.specs.declared.declaration.Mode.{Mode}
 use Rattle.ada_tree.specs.declared.declaration.Mode.TheVariants as mode
@@ -24,20 +24,20 @@ use Rattle.size_rules.specs.Limits.{Things}
 use Rattle.checking.specs.ProgramLayouts.{WordsHaveRoom}
 use Rattle.checking.specs.ProgramRules.{IsLegal}
 use Rattle.program_soundness.specs.ravenscar.specs.ProgramRules.{IsRestricted}
-use Rattle.expr_soundness.specs.meaning.specs.Programs.{program_of, returned, subtype_named}
+use Rattle.expr_soundness.specs.meaning.specs.Programs.{program_of, returned}
 use Rattle.expr_soundness.specs.SoundScopes.{AreKnown, IsKnown, IsSoundProfile, SoundScope}
 use Rattle.expr_soundness.proofs.Goods.{object_known}
 use Rattle.program_soundness.specs.Fronts.{declared_in, front}
 use Rattle.program_soundness.proofs.WiderScopes.{number_stands}
-use Rattle.ada_link.specs.expr_code.specs.declared.visible.Visible.{Visible}
-use Rattle.ada_link.specs.stmt_code.specs.Refusing.{behind_locals, handlers_needs, in_body, run_needs, sequence_needs, stmts_needs}
-use Rattle.ada_link.specs.part_code.specs.Needs.{formals_frame, locals_needs, out_needs, outs_needs}
-use Rattle.ada_link.specs.stmt_code.specs.WholeRefusals.{formals_placed, formals_visible, procedure_needs}
-use Rattle.ada_link.specs.part_code.specs.declared.formals.PlacedFormal.{PlacedFormal}
-use Rattle.ada_link.specs.package_code.specs.Refusing.{bodies_needs, body_needs, function_if_any, item_needs, items_needs, seen_by}
-use Rattle.ada_link.specs.package_code.specs.Bodies.{Coded, coded_at, of_subprogram, of_task}
-use Rattle.ada_link.specs.package_code.proofs.InFront.{LawsOfNames}
-use Rattle.source_laws.specs.Visible.{BodiesKeepLimits, FrontsKeepLimits, IsBodyOf, KeepsLimits, NothingIsUnfit}
+use Rattle.expr_code.specs.declared.visible.Visible.{Visible}
+use Rattle.stmt_code.specs.Refusing.{behind_locals, handlers_needs, in_body, run_needs, sequence_needs, stmts_needs}
+use Rattle.part_code.specs.Needs.{formals_frame, locals_needs, out_needs, outs_needs}
+use Rattle.stmt_code.specs.WholeRefusals.{formals_placed, formals_visible, procedure_needs}
+use Rattle.part_code.specs.declared.formals.PlacedFormal.{PlacedFormal}
+use Rattle.package_code.specs.Refusing.{bodies_needs, body_needs, function_if_any, item_needs, items_needs, seen_by}
+use Rattle.package_code.specs.Bodies.{Coded, coded_at, of_subprogram, of_task, IsBodyOf}
+use Rattle.package_code.proofs.InFront.{LawsOfNames}
+use Rattle.source_laws.specs.Visible.{BodiesKeepLimits, FrontsKeepLimits, KeepsLimits, NothingIsUnfit}
 use Rattle.source_laws.proofs.CodeCounted.{behind, behind_is}
 use Rattle.source_laws.proofs.FitCallees.{AreWithin, CallsFew, body_calls, body_few, front_calls, sound_at}
 use Rattle.source_laws.proofs.FitFronts.{body_adds}
@@ -63,16 +63,16 @@ module _ (adding : WordsAddUp) (stay : ShapesStay) (s : Scope) (v : Visible) (fs
   abbrev within : Visible
   within = formals_visible v fs
 
-  run_fit : (taken : ℕ) (exceptions : List (List ℕ)) (b : BodyTree) → restrictions.body_faults b ≡ [] → FewThings (locals_things s b.declarations)
+  run_fit : (taken : ℕ) (b : BodyTree) → restrictions.body_faults b ≡ [] → FewThings (locals_things s b.declarations)
       → FewThings (stmts_things s b.statements) → FewThings (handlers_things s b.handlers)
-      → IsFit (run_needs within taken exceptions b.declarations b.statements b.handlers)
-  run_fit taken exceptions b r one two three =
+      → IsFit (run_needs within taken b.declarations b.statements b.handlers)
+  run_fit taken b r one two three =
       let outer = restrictions.locals_faults b.declarations in
       let inner = restrictions.stmts_faults b.statements in
       let last = restrictions.handlers_faults b.handlers in
       let first = front_empty (outer ++ inner) last r in
       let declared = front_empty outer inner first in
-      let a = in_body within taken exceptions in
+      let a = in_body within taken in
       let next = behind_locals a b.declarations in
       let next_inside = block_inside adding stay s a b.declarations inside declared one in
       both_fit (locals_needs within taken b.declarations) (sequence_needs next b.statements b.handlers)
@@ -81,17 +81,17 @@ module _ (adding : WordsAddUp) (stay : ShapesStay) (s : Scope) (v : Visible) (fs
       (stmts_fit adding stay s b.statements next next_inside (back_empty outer inner first) two)
       (handlers_fit adding stay s b.handlers next next_inside (back_empty (outer ++ inner) last r) three))
 
-  procedure_fit : (exceptions : List (List ℕ)) (b : BodyTree) → restrictions.body_faults b ≡ [] → FewThings (locals_things s b.declarations)
+  procedure_fit : (b : BodyTree) → restrictions.body_faults b ≡ [] → FewThings (locals_things s b.declarations)
       → FewThings (stmts_things s b.statements) → FewThings (handlers_things s b.handlers)
-      → IsFit (procedure_needs v exceptions fs b)
-  procedure_fit exceptions b r one two three =
-      let run = run_needs within (formals_frame v.scope fs) exceptions b.declarations b.statements b.handlers in
+      → IsFit (procedure_needs v fs b)
+  procedure_fit b r one two three =
+      let run = run_needs within (formals_frame v.scope fs) b.declarations b.statements b.handlers in
       or_from (outs_needs within (formals_placed v.scope fs)).unfit (run.unfit || false) (outs_fit within (formals_placed v.scope fs))
-      (or_from run.unfit false (run_fit (formals_frame v.scope fs) exceptions b r one two three) refl)
+      (or_from run.unfit false (run_fit (formals_frame v.scope fs) b r one two three) refl)
 
-  function_fit : (u : Subtype) (o : Option ExprTree) → IsFit (function_if_any v fs u o)
-  function_fit u (Some e) = seen_fit within inside.served
-  function_fit u None = refl
+  function_fit : (o : Option ExprTree) → IsFit (function_if_any v fs o)
+  function_fit (Some e) = seen_fit within inside.served
+  function_fit None = refl
 
 -- ---- what is visible serves
 
@@ -172,15 +172,15 @@ module _ (adding : WordsAddUp) (laws : LawsOfNames) (room : WordsHaveRoom) (t : 
     code_fit = by_result c.head.result
       where
         by_result : (r : Option Identifier) → IsFit (elim r [
-          | None ↦ procedure_needs (seen_by t c) (program_of t).exceptions c.head.formals c.body
-          | Some x ↦ function_if_any (seen_by t c) c.head.formals (subtype_named whole x) (returned c.body.statements)
+          | None ↦ procedure_needs (seen_by t c) c.head.formals c.body
+          | Some x ↦ function_if_any (seen_by t c) c.head.formals (returned c.body.statements)
         ])
         by_result None =
-            procedure_fit adding laws.stay s (seen_by t c) c.head.formals behind_formals (program_of t).exceptions c.body own.restricted
+            procedure_fit adding laws.stay s (seen_by t c) c.head.formals behind_formals c.body own.restricted
             (few_back adding one two front_two) (few_back adding (one ++ two) three front_three)
             (few_back adding (one ++ two ++ three) four (body_few adding laws room t legal restricted c b))
         by_result (Some x) =
-            function_fit adding laws.stay s (seen_by t c) c.head.formals behind_formals (subtype_named whole x) (returned c.body.statements)
+            function_fit adding laws.stay s (seen_by t c) c.head.formals behind_formals (returned c.body.statements)
 
 -- ---- that of a text
 

@@ -1,7 +1,7 @@
 -- What is called in front of each body with code takes formals of few words: those of its own body, which have room in a frame.
 use Rattle.std.proofs.Common.{◌≡◌, ℕ, zero, suc, ◌++◌, ◌≤◌, List, [], ◌∷◌, map, Option, Some, None, refl, sym, ◌∙◌, subst, arith}
 use Rattle.std.specs.Prelude.{slice_get}
-use Rattle.ada_link.specs.base.specs.declared.limits.TheConstants.{FRAME_WORDS, WORDS}
+use Rattle.base.specs.declared.limits.TheConstants.{FRAME_WORDS, WORDS}
 use Rattle.ada_tree.specs.declared.declaration.Formal.{Formal}
 use Rattle.ada_tree.specs.ProgramTree.{BodyItemTree, EntryBody, ItemTree, OfItem, OperationBody, PackageTree, ProgramTree, ProtectedBody, ProtectedItemTree, SubprogramBody, TaskBody}
 use Rattle.types.specs.declared.entity.FormalParameter.{FormalParameter}
@@ -29,15 +29,14 @@ use Rattle.program_soundness.proofs.BodyProfiles.{first_formal, subtype_kept}
 use Rattle.program_soundness.proofs.Listing.{same_some}
 use Rattle.program_soundness.proofs.Whole.{IsPackage, kept}
 use Rattle.program_soundness.proofs.WiderScopes.{stands}
-use Rattle.ada_link.specs.expr_code.specs.Seeing.{external_profile}
-use Rattle.ada_link.specs.package_code.specs.Bodies.{Coded, own_body, own_head}
-use Rattle.ada_link.specs.package_code.proofs.Coded.{coded_by}
-use Rattle.ada_link.specs.package_code.proofs.InFront.{LawsOfNames}
-use Rattle.ada_link.specs.package_code.proofs.OperationsAdded as added
-use Rattle.source_laws.specs.Covered.{NameSubtypes}
-use Rattle.source_laws.specs.Visible.{IsBodyOf}
+use Rattle.expr_code.specs.Seeing.{external_profile}
+use Rattle.package_code.specs.Bodies.{Coded, own_body, own_head, IsBodyOf}
+use Rattle.package_code.proofs.Coded.{coded_by}
+use Rattle.package_code.proofs.InFront.{LawsOfNames}
+use Rattle.package_code.proofs.OperationsAdded as added
+use Rattle.stmt_code.specs.Subprograms.{NameSubtypes}
 use Rattle.source_laws.proofs.CalledBodies.{HaveCode, front_have, have_code}
-use Rattle.source_laws.proofs.CoverScopes.{present}
+use Rattle.program_soundness.specs.step_soundness.proofs.Sights.{is_there}
 use Rattle.source_laws.proofs.FitFronts.{body_adds}
 use Rattle.source_laws.proofs.FitScopes.{FewThings, few_front, first_few, rest_few}
 use Rattle.source_laws.proofs.VisibleWords.{same_words}
@@ -131,7 +130,7 @@ module _ (adding : WordsAddUp) (laws : LawsOfNames) (room : WordsHaveRoom) (t : 
     formals_from [] ps named h is = subst AreWithin (same_some [] ps is) tt
     formals_from (f ∷ fs) ps named h is =
         let x = first_formal whole f fs ps is in
-        let one = present (subtype_of c.front f.subtype) named.0 in
+        let one = is_there (subtype_of c.front f.subtype) named.0 in
         let u = one.0 in
         let here = (body_adds laws.scopes laws.names laws.premises laws.stay t legal restricted c b).back f.subtype u one.1 in
         let there = subtype_kept s whole (kept (program_of t) start all w b.place) f.subtype u here in

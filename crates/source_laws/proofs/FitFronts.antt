@@ -24,12 +24,11 @@ use Rattle.program_soundness.specs.Fronts.{declared_in, front, start_in}
 use Rattle.program_soundness.proofs.Same.{known_same}
 use Rattle.program_soundness.proofs.Walked.{declares, one_of, own_profile, scope_next, stands_next}
 use Rattle.program_soundness.proofs.WiderScopes.{stands}
-use Rattle.ada_link.specs.package_code.specs.Bodies.{Coded}
-use Rattle.ada_link.specs.package_code.proofs.Coded.{coded_by}
-use Rattle.ada_link.specs.package_code.proofs.InFront.{known_inside}
-use Rattle.ada_link.specs.package_code.proofs.OperationsAdded as added
-use Rattle.ada_link.specs.package_code.proofs.Seen.{one_behind}
-use Rattle.source_laws.specs.Visible.{IsBodyOf}
+use Rattle.package_code.specs.Bodies.{Coded, IsBodyOf}
+use Rattle.package_code.proofs.Coded.{coded_by}
+use Rattle.package_code.proofs.InFront.{known_inside}
+use Rattle.package_code.proofs.OperationsAdded as added
+use Rattle.package_code.proofs.Seen.{one_behind}
 use Rattle.source_laws.proofs.InsideEntities.{words_same}
 use Rattle.source_laws.proofs.InsideNames.{subtype_named, types_there}
 

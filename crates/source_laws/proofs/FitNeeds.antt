@@ -3,9 +3,8 @@ use Rattle.std.proofs.Common.{◌≡◌, ℕ, ◌+◌, Bool, true, false, not, �
 use Rattle.std.proofs.lemmas.Bool.{or_from}
 use Rattle.ada_tree.specs.declared.declaration.Mode.{Mode}
 use Rattle.ada_tree.specs.declared.declaration.Mode.TheVariants as mode
-use Rattle.ada_tree.specs.declared.expression.Identifier.{Identifier}
 use Rattle.ada_tree.specs.ExpressionTree.{Conditional, ElsifValueTrees, MoreElsifValues, NoElsifValues, Parenthesized, ArgumentTree, ArgumentTrees, ExprTree, MoreArguments, Named, NameTree, NoArguments, Text, Value}
-use Rattle.ada_tree.specs.StatementTree.{AlternativeTrees, Assignment, Block, Call, Case, ChoicesTree, DeclarationTree, DelayUntil, ElsifTrees, Exit, For, Forever, HandlerTrees, If, IterationTree, LocalObject, LocalProtected, LocalTask, Loop, MoreAlternatives, MoreElsifs, MoreHandlers, MoreStmts, NoAlternatives, NoElsifs, NoHandlers, NoStmts, OtherValues, Raise, Return, StmtTree, StmtTrees, Values, While}
+use Rattle.ada_tree.specs.StatementTree.{AlternativeTrees, Assignment, Block, Call, Case, ChoicesTree, DeclarationTree, DelayUntil, ElsifTrees, Exit, For, Forever, HandlerTrees, If, IterationTree, LocalObject, LocalProtected, LocalTask, Loop, MoreAlternatives, MoreElsifs, MoreHandlers, MoreStmts, NoAlternatives, NoElsifs, NoHandlers, NoStmts, OtherValues, StmtTree, StmtTrees, Values, While}
 use Rattle.types.specs.declared.entity.FormalParameter.{FormalParameter}
 use Rattle.types.specs.declared.entity.Subtype.{Subtype}
 use Rattle.types.specs.Entities.{Profile, Subprogram}
@@ -20,18 +19,18 @@ use Rattle.expr_soundness.specs.expr_rules.proofs.TypedLaw.{back_empty, front_em
 use Rattle.size_rules.specs.Laws.{WordsAddUp}
 use Rattle.size_rules.specs.BodySizes.{alternatives_things, elsifs_things, handlers_things, local_things, locals_things, stmt_things, stmts_things}
 use Rattle.program_soundness.proofs.WiderScopes.{stands_number}
-use Rattle.ada_link.specs.expr_code.specs.Refusing.{is_fit}
-use Rattle.ada_link.specs.expr_code.specs.Seeing.{external_profile, profile_named}
-use Rattle.ada_link.specs.expr_code.specs.declared.visible.Visible.{Visible}
-use Rattle.ada_link.specs.part_code.specs.Bounds.{local_words}
-use Rattle.ada_link.specs.part_code.specs.Lines.{LabelledValue, line_of}
-use Rattle.ada_link.specs.part_code.specs.Moving.{moves}
-use Rattle.ada_link.specs.part_code.specs.Passing.{ExternalName, actuals_behind, operation_behind}
-use Rattle.ada_link.specs.stmt_code.specs.Refusing.{Standpoint, alternatives_needs, behind_locals, elsifs_needs, handlers_needs, head_needs, in_loop, inside_handler, needs_if_any, raise_needs, return_needs, stmt_needs, stmts_needs}
-use Rattle.ada_link.specs.part_code.specs.EntryNames.{entry_behind, is_own_entry}
-use Rattle.ada_link.specs.part_code.specs.Needs.{Needs, actual_needs, actuals_needs, assignment_needs, bare_needs, behind_needs, both, call_needs, called_needs, choices_needs, copies_needs, destinations_of, has_unfit, in_out_needs, initial_needs, line_needs, local_needs, local_visible, locals_needs, locals_visible, moded_needs, move_needs, moves_needs, needs_by, object_needs, passed_needs, target_needs, through_needs}
-use Rattle.ada_link.specs.part_code.specs.Suiting.{passed_width}
-use Rattle.ada_link.specs.part_code.specs.declared.call.Destination.{Destination}
+use Rattle.expr_code.specs.Refusing.{is_fit}
+use Rattle.expr_code.specs.Seeing.{external_profile, profile_named}
+use Rattle.expr_code.specs.declared.visible.Visible.{Visible}
+use Rattle.part_code.specs.Bounds.{local_words}
+use Rattle.part_code.specs.Lines.{LabelledValue, line_of}
+use Rattle.part_code.specs.Moving.{moves}
+use Rattle.part_code.specs.Passing.{ExternalName, actuals_behind, operation_behind}
+use Rattle.stmt_code.specs.Refusing.{Standpoint, alternatives_needs, behind_locals, elsifs_needs, handlers_needs, head_needs, in_loop, inside_handler, needs_if_any, stmt_needs, stmts_needs}
+use Rattle.part_code.specs.EntryNames.{is_own_entry}
+use Rattle.part_code.specs.Needs.{Needs, actual_needs, actuals_needs, assignment_needs, bare_needs, behind_needs, both, call_needs, called_needs, choices_needs, copies_needs, destinations_of, has_unfit, in_out_needs, initial_needs, line_needs, local_needs, local_visible, locals_needs, locals_visible, moded_needs, move_needs, moves_needs, needs_by, object_needs, passed_needs, target_needs, through_needs}
+use Rattle.part_code.specs.Suiting.{passed_width}
+use Rattle.part_code.specs.declared.call.Destination.{Destination}
 use Rattle.source_laws.proofs.AddedNames.{named_there}
 use Rattle.source_laws.proofs.FitScopes.{AreFew, FewThings, IsFew, IsInside, Serves, all_fit, few_back, few_fit, few_front, local_few, local_inside, locals_inside, loop_inside}
 
@@ -139,14 +138,11 @@ module _ (v : Visible) (serves : Serves v.scope) where
   through_fit : (name : NameTree) (o : Option ExternalName) → IsFit (through_needs v name o)
   through_fit name None = bare_fit name (is_own_entry (entity_named v.scope name.first.name))
   through_fit name (Some x) =
-      by_profile (entry_behind v.scope name.first.name x.operation.name) (external_profile v.scope name.first.name x.operation.name) refl
+      by_profile (external_profile v.scope name.first.name x.operation.name) refl
     where
-      by_profile : (number : Option ℕ) (o : Option Profile) → external_profile v.scope name.first.name x.operation.name ≡ o
-          → IsFit (behind_needs v name.first.name x number o)
-      by_profile (Some n) (Some p) told = passed_fit p.formals (Some x.arguments) (serves.behind name.first.name x.operation.name p told)
-      by_profile None (Some p) told = passed_fit p.formals (Some x.arguments) (serves.behind name.first.name x.operation.name p told)
-      by_profile (Some n) None told = refl
-      by_profile None None told = refl
+      by_profile : (o : Option Profile) → external_profile v.scope name.first.name x.operation.name ≡ o → IsFit (behind_needs v x o)
+      by_profile (Some p) told = passed_fit p.formals (Some x.arguments) (serves.behind name.first.name x.operation.name p told)
+      by_profile None told = refl
 
   call_fit : (name : NameTree) → IsFit (call_needs v name)
   call_fit name = by_profile (profile_named v.scope name.first.name) refl
@@ -158,17 +154,9 @@ module _ (v : Visible) (serves : Serves v.scope) where
           passed_fit p.formals (actuals_behind name.selectors)
           (serves.called name.first.name p (stands_number v.scope name.first.name n.number (Subprogram p) n.numbered n.stands))
 
-  choices_fit : (c : ChoicesTree) → IsFit (choices_needs v.scope c)
-  choices_fit (Values all) = refl
-  choices_fit (OtherValues place) = refl
-
-return_fit : (returns : Bool) (o : Option ExprTree) → IsFit (return_needs returns o)
-return_fit returns None = refl
-return_fit returns (Some e) = refl
-
-raise_fit : (a : Standpoint) (o : Option Identifier) → IsFit (raise_needs a o)
-raise_fit a None = refl
-raise_fit a (Some name) = refl
+choices_fit : (c : ChoicesTree) → IsFit (choices_needs c)
+choices_fit (Values all) = refl
+choices_fit (OtherValues place) = refl
 
 -- ---- what is visible behind declarations
 
@@ -216,8 +204,6 @@ module _ (adding : WordsAddUp) (stay : ShapesStay) (s : Scope) where
     stmt_fit (Assignment target value) a inside r h = assignment_fit a.visible inside.served target value
     stmt_fit (Call name) a inside r h = call_fit a.visible inside.served name
     stmt_fit (Exit place condition) a inside r h = if_any_fit a.visible inside.served condition
-    stmt_fit (Return place value) a inside r h = return_fit a.returns value
-    stmt_fit (Raise place name) a inside r h = raise_fit a name
     stmt_fit (DelayUntil place e) a inside r h = seen_fit a.visible inside.served
     stmt_fit (If place condition body elsifs others) a inside r h =
         let inner = restrictions.stmts_faults body in
@@ -286,7 +272,7 @@ module _ (adding : WordsAddUp) (stay : ShapesStay) (s : Scope) where
     alternatives_fit (MoreAlternatives place choices body rest) a inside r h =
         let one = restrictions.stmts_faults body in
         let more = restrictions.alternatives_faults rest in
-        both_fit (choices_needs a.visible.scope choices) (both (stmts_needs a body) (alternatives_needs a rest)) (choices_fit a.visible inside.served choices)
+        both_fit (choices_needs choices) (both (stmts_needs a body) (alternatives_needs a rest)) (choices_fit choices)
         (both_fit (stmts_needs a body) (alternatives_needs a rest)
         (stmts_fit body a inside (front_empty one more r) (few_front adding (stmts_things s body) (alternatives_things s rest) h))
         (alternatives_fit rest a inside (back_empty one more r) (few_back adding (stmts_things s body) (alternatives_things s rest) h)))

@@ -2,7 +2,7 @@
 use Rattle.std.proofs.Common.{◌≡◌, ℕ, suc, ◌+◌, ◌≤◌, ◌⊎◌, inl, inr, Bool, true, false, cond, not, List, [], ◌∷◌, ◌++◌, length, Option, Some, None, refl, sym, ap, ◌∙◌, subst, arith}
 use Rattle.std.specs.Prelude.{bytes_eq, is_some}
 use Rattle.std.proofs.lemmas.Bool.{or_from}
-use Rattle.ada_link.specs.base.specs.declared.limits.TheConstants.{FRAME_WORDS, TASK_PRIORITY, WORDS}
+use Rattle.base.specs.declared.limits.TheConstants.{FRAME_WORDS, TASK_PRIORITY, WORDS}
 use Rattle.ada_tree.specs.declared.declaration.Formal.{Formal}
 use Rattle.ada_tree.specs.declared.expression.Identifier.{Identifier}
 use Rattle.ada_tree.specs.StatementTree.{DeclarationTree, LocalObject, LocalProtected, LocalTask, ObjectTree, RangeTree}
@@ -13,7 +13,7 @@ use Rattle.types.specs.Entities.{Doubtful, Entity, Integers, Object, Profile, Pr
 use Rattle.types.specs.Laws.{ShapesStay}
 use Rattle.types.specs.Layouts.{capped, words_of}
 use Rattle.types.specs.Places.{or_else}
-use Rattle.types.specs.Scopes.{Scope, base_range_of, entity_at, form_at, form_of, is_visible, with_name}
+use Rattle.types.specs.Scopes.{Scope, base_range_of, entity_at, form_at, form_of, is_visible, protected_at, protected_of, with_name}
 use Rattle.types.specs.Shapes.{shape_of, words}
 use Rattle.expr_soundness.specs.expr_rules.specs.Typing.{is_integers, own_of}
 use Rattle.expr_soundness.specs.expr_rules.proofs.TypedLaw.{back_empty, front_empty}
@@ -31,16 +31,24 @@ use Rattle.expr_soundness.specs.SoundScopes.{IsKnown}
 use Rattle.expr_soundness.proofs.Parts.{shape_by_form}
 use Rattle.expr_soundness.proofs.Positions.{entity_added}
 use Rattle.program_soundness.proofs.Listing.{same_some}
-use Rattle.program_soundness.proofs.WiderScopes.{form_with, stands, stands_number, stands_with}
-use Rattle.ada_link.specs.expr_code.specs.Refusing.{is_fit}
-use Rattle.ada_link.specs.expr_code.specs.Seeing.{external_profile}
-use Rattle.ada_link.specs.expr_code.proofs.Externals.{IsBehind, is_behind}
-use Rattle.ada_link.specs.part_code.specs.Needs.{are_unfit, is_unfit}
-use Rattle.ada_link.specs.package_code.proofs.InFront.{known_inside}
-use Rattle.source_laws.specs.Depths.{is_full}
+use Rattle.program_soundness.proofs.WiderScopes.{form_with, number_stands, stands, stands_number, stands_with}
+use Rattle.expr_code.specs.Refusing.{is_fit}
+use Rattle.expr_code.specs.Seeing.{external_profile, profile_behind}
+use Rattle.expr_code.proofs.Externals.{IsBehind, is_behind}
+use Rattle.part_code.specs.Needs.{are_unfit, is_unfit}
+use Rattle.package_code.proofs.InFront.{known_inside}
+use Rattle.part_code.specs.Providing.{is_full}
 use Rattle.source_laws.proofs.AddedNames.{with_behind}
 use Rattle.source_laws.proofs.FullShapes.{full_fit}
-use Rattle.source_laws.proofs.NamedBehind.{external_by}
+use Rattle.expr_code.proofs.NamedBehind.{operation_told}
+
+-- wherever the object's name stands for the same, so does what is named behind it
+external_by : (s : Scope) (object operation : List ℕ) (p : Profile) (x : IsBehind s object operation p) (u : Scope)
+    → stands u object ≡ Some (Protected x.protected) → external_profile u object operation ≡ Some p
+external_by s object operation p x u h =
+    let n = number_stands u object (Protected x.protected) h in
+    ap (λ o. profile_behind o operation) (ap (λ m. elim m [ None ↦ None | Some k ↦ protected_at u k ]) n.1 ∙ ap protected_of n.2)
+    ∙ operation_told x.protected operation x.place x.entry x.placed x.found ∙ ap Some x.profiled
 
 -- its values take no more words than an image
 pub record IsFew (s : Scope) (u : Subtype) : Type 0 where

@@ -3,34 +3,27 @@ use Rattle.std.proofs.Common.{◌≡◌, ℕ, zero, suc, ◌*◌, ◌≤◌, ◌
 use Rattle.std.specs.Prelude.{is_some, nat_eq, nat_le, slice_get}
 use Rattle.std.proofs.lemmas.Bool.{and_from, and_parts, le-leb}
 use Rattle.std.proofs.lemmas.Bool.Decides.{nat_tests}
-use Rattle.ada_link.specs.base.specs.declared.limits.TheConstants.{WORDS}
-use Rattle.ada_link.specs.image.specs.Rules.{is_block}
+use Rattle.base.specs.declared.limits.TheConstants.{WORDS}
+use Rattle.image.specs.Rules.{is_block}
 use Rattle.types.specs.declared.entity.RecordComponent.{RecordComponent}
 use Rattle.types.specs.declared.entity.Subtype.{Subtype}
 use Rattle.types.specs.Entities.{Arrays, Booleans, Integers, OfType, Records, Spans, Times, TypeForm}
 use Rattle.types.specs.Scopes.{Scope, base_range_of, entity_at, form_at}
-use Rattle.types.specs.Shapes.{Grouped, Logical, MoreShapes, NoShapes, Ranged, Repeated, Shape, Shapeless, Shapes, Timed, component_shapes, form_shape, narrowed, shape_of, shape_or_none, shapes, words, words_of_parts}
+use Rattle.types.specs.Shapes.{Grouped, MoreShapes, NoShapes, Repeated, Shape, Shapeless, Shapes, component_shapes, form_shape, narrowed, shape_of, shape_or_none, shapes, words, words_of_parts}
 use Rattle.expr_soundness.specs.expr_rules.proofs.TypeShapes.{type_entity}
 use Rattle.expr_soundness.specs.SoundScopes.{AreEarlier, IsKnown, SoundScope}
 use Rattle.expr_soundness.proofs.Goods.{sound_form}
 use Rattle.expr_soundness.proofs.Parts.{before, shape_by_form}
-use Rattle.ada_link.specs.expr_code.specs.Refusing.{are_fit, is_fit}
-use Rattle.ada_link.specs.expr_code.proofs.Going.{grouped_shape, repeated_shape}
-use Rattle.source_laws.specs.Depths.{are_full, is_full}
+use Rattle.expr_code.specs.Refusing.{are_fit, is_fit}
+use Rattle.expr_code.proofs.Going.{grouped_shape, repeated_shape}
+use Rattle.part_code.specs.Providing.{are_full, is_full}
+use Rattle.part_code.proofs.FullWords.{full_some, narrowed_full}
 use Rattle.source_laws.proofs.BoundedNames.{AreBounded, bounded_at, has_a_part}
 
 -- ---- full shapes take words
 
 no_zero : (n : ℕ) → 1 ≤ n → not (nat_eq n 0) ≡ true
 no_zero n h = grind (arith, nat_tests)
-
-some_words : (n : ℕ) → not (nat_eq n 0) ≡ true → 1 ≤ n
-some_words n h = grind (arith, nat_tests)
-
-pub full_some : (x : Shape) → is_full x ≡ true → 1 ≤ words x
-full_some (Repeated many x) h = some_words (many * words x) (and_parts (not (nat_eq (many * words x) 0)) (is_full x) h).0
-full_some (Grouped parts) h = some_words (words_of_parts parts) (and_parts (not (nat_eq (words_of_parts parts) 0)) (are_full parts) h).0
-full_some x h = some_words (words x) h
 
 some_times : (many w : ℕ) → 1 ≤ many * w → w ≤ many * w
 some_times zero w h = absurd (omega (arith, h))
@@ -68,14 +61,6 @@ mutual
       and_from (is_fit x) (are_fit rest) (full_fit x p.0 (omega (arith, up))) (parts_fit rest p.1 (omega (arith, up)))
 
 -- ---- the shapes of types
-
-pub narrowed_full : (t u : Subtype) (x : Shape) → is_full (narrowed t x) ≡ is_full (narrowed u x)
-narrowed_full t u (Ranged first) = refl
-narrowed_full t u Logical = refl
-narrowed_full t u Timed = refl
-narrowed_full t u (Repeated many x) = refl
-narrowed_full t u (Grouped parts) = refl
-narrowed_full t u Shapeless = refl
 
 module _ (s : Scope) (sound : SoundScope s) (bounded : AreBounded s) where
   -- of a form that has no parts

@@ -16,9 +16,9 @@ use Rattle.program_soundness.proofs.Listing.{same_some}
 use Rattle.program_soundness.proofs.ObjectBodies as bodies
 use Rattle.program_soundness.proofs.Same.{SameTypes}
 use Rattle.program_soundness.proofs.Walked.{own_profile}
-use Rattle.ada_link.specs.package_code.specs.Bodies.{Coded}
-use Rattle.ada_link.specs.package_code.proofs.OperationsAdded as added
-use Rattle.source_laws.specs.Depths.{FewFormals, HasFewFormals}
+use Rattle.package_code.specs.Bodies.{Coded}
+use Rattle.package_code.proofs.OperationsAdded as added
+use Rattle.expr_code.specs.Providing.{FewFormals, HasFewFormals}
 use Rattle.source_laws.specs.Visible.{BodiesCallFew, CalleesHaveFew}
 use Rattle.source_laws.proofs.FewCallees.{Calls, FewIn, FewOperations, entity_same, few_at, few_called, fronts_call, profile_same, start_calls, subprogram_few}
 use Rattle.source_laws.proofs.InsideEntities.{AllOf, all_there, fronts_by, profile_legal, seen_sound}

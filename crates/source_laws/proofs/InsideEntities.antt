@@ -34,10 +34,9 @@ use Rattle.program_soundness.proofs.Same.{SameTypes}
 use Rattle.program_soundness.proofs.Walked.{own_profile}
 use Rattle.program_soundness.proofs.WiderScopes.{found_in, stands, stands_with_all}
 use Rattle.types.specs.Places.{or_else}
-use Rattle.ada_link.specs.package_code.specs.Bodies.{Coded, operation_front}
-use Rattle.ada_link.specs.package_code.proofs.Coded.{coded_by}
-use Rattle.ada_link.specs.package_code.proofs.OperationsAdded as added
-use Rattle.source_laws.specs.Visible.{IsBodyOf}
+use Rattle.package_code.specs.Bodies.{Coded, operation_front, IsBodyOf}
+use Rattle.package_code.proofs.Coded.{coded_by}
+use Rattle.package_code.proofs.OperationsAdded as added
 use Rattle.source_laws.proofs.InsideNames.{at_, front_is, here, is_function, object, seen_at}
 
 -- ---- what is so of each name of a scope

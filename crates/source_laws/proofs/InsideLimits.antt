@@ -2,7 +2,7 @@
 -- values those that they have in front of the whole body.
 use Rattle.std.proofs.Common.{◌≡◌, ℕ, zero, suc, ◌+◌, ◌≤◌, Bool, true, false, List, [], ◌∷◌, ◌++◌, Some, sym, ap, ◌∙◌, subst, arith}
 use Rattle.std.specs.Prelude.{slice_get}
-use Rattle.ada_link.specs.base.specs.declared.limits.TheConstants.{WORDS}
+use Rattle.base.specs.declared.limits.TheConstants.{WORDS}
 use Rattle.ada_tree.specs.ProgramTree.{ProgramTree}
 use Rattle.types.specs.declared.entity.RecordComponent.{RecordComponent}
 use Rattle.types.specs.declared.entity.Subtype.{Subtype}
@@ -27,11 +27,11 @@ use Rattle.program_soundness.proofs.ObjectBodies as bodies
 use Rattle.program_soundness.proofs.Same.{SameTypes, known_same, types_turned}
 use Rattle.program_soundness.proofs.Whole.{IsPackage, kept}
 use Rattle.program_soundness.proofs.WiderScopes.{number_stands}
-use Rattle.ada_link.specs.expr_code.specs.Refusing.{is_fit}
-use Rattle.ada_link.specs.package_code.specs.Bodies.{Coded}
-use Rattle.ada_link.specs.package_code.proofs.OperationsAdded as added
-use Rattle.source_laws.specs.Depths.{is_full}
-use Rattle.source_laws.specs.Visible.{BodiesKeepLimits, FrontsKeepLimits, IsBodyOf, KeepsLimits}
+use Rattle.expr_code.specs.Refusing.{is_fit}
+use Rattle.package_code.specs.Bodies.{Coded, IsBodyOf}
+use Rattle.package_code.proofs.OperationsAdded as added
+use Rattle.part_code.specs.Providing.{is_full}
+use Rattle.source_laws.specs.Visible.{BodiesKeepLimits, FrontsKeepLimits, KeepsLimits}
 use Rattle.source_laws.proofs.InsideEntities.{all_there, front_sound, fronts_by, shape_same, words_same}
 use Rattle.source_laws.proofs.InsideNames.{object, types_there}
 use Rattle.source_laws.proofs.VisibleWords.{same_words}

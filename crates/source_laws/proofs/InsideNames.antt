@@ -35,9 +35,9 @@ use Rattle.program_soundness.proofs.Same.{SameTypes, types_then, types_with_all}
 use Rattle.program_soundness.proofs.Walked.{Origin, ProtectedOnes, declares, kept_all, kind, origin, own_profile}
 use Rattle.program_soundness.proofs.Whole.{IsPackage, kept, profile_known}
 use Rattle.program_soundness.proofs.WiderScopes.{found_in, number_stands, one_named, same_bytes, stands, stands_with}
-use Rattle.ada_link.specs.package_code.specs.Bodies.{Coded, operation_front, own_head, own_name}
-use Rattle.ada_link.specs.package_code.proofs.ObjectNames.{components_are, declaration}
-use Rattle.ada_link.specs.package_code.proofs.OperationsAdded as added
+use Rattle.package_code.specs.Bodies.{Coded, operation_front, own_head, own_name}
+use Rattle.package_code.proofs.ObjectNames.{components_are, declaration}
+use Rattle.package_code.proofs.OperationsAdded as added
 
 -- ---- entities
 

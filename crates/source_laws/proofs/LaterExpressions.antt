@@ -1,7 +1,7 @@
 -- A legal expression is legal where more names are visible behind those in front of it: it has the same type there, and its names stand for the same.
 use Rattle.std.proofs.Common.{◌≡◌, ◌++◌, ℕ, suc, true, false, not, List, [], Option, Some, None, refl, sym, ap, ◌∙◌, subst}
 use Rattle.std.specs.Prelude.{⊤, is_some}
-use Rattle.ada_link.specs.base.specs.declared.faults.TheConstants.{NAME_NOT_VISIBLE, NOT_A_VARIABLE}
+use Rattle.base.specs.declared.faults.TheConstants.{NAME_NOT_VISIBLE, NOT_A_VARIABLE}
 use Rattle.ada_tree.specs.declared.expression.BinaryOperator.{BinaryOperator}
 use Rattle.ada_tree.specs.declared.expression.Identifier.{Identifier}
 use Rattle.ada_tree.specs.declared.expression.UnaryOperator.{UnaryOperator}

@@ -1,7 +1,7 @@
 -- What a legal name stands for, part by part, is the same where more names are visible behind those in front of it.
 use Rattle.std.proofs.Common.{◌≡◌, ℕ, Bool, true, false, cond, List, Option, Some, None, refl, sym, ap, ◌∙◌}
 use Rattle.std.specs.Prelude.{⊤, bytes_eq, codes, is_some, length, pos, position}
-use Rattle.ada_link.specs.base.specs.declared.faults.TheConstants.{NO_MEANING}
+use Rattle.base.specs.declared.faults.TheConstants.{NO_MEANING}
 use Rattle.ada_tree.specs.ExpressionTree.{Arguments, Attribute, Component, SelectorTree}
 use Rattle.types.specs.declared.entity.Role.{Role}
 use Rattle.types.specs.declared.entity.Role.TheVariants as role

@@ -1,7 +1,7 @@
 -- Operators over declared types have the same types and meanings where more names are visible behind those in front of them.
 use Rattle.std.proofs.Common.{◌≡◌, ℕ, suc, Bool, true, false, not, ◌&&◌, ◌||◌, cond, [], refl, ap, ◌∙◌}
 use Rattle.std.specs.Prelude.{is_some, nat_eq}
-use Rattle.ada_link.specs.base.specs.declared.faults.TheConstants.{NO_MEANING}
+use Rattle.base.specs.declared.faults.TheConstants.{NO_MEANING}
 use Rattle.ada_tree.specs.declared.expression.BinaryOperator.{BinaryOperator}
 use Rattle.ada_tree.specs.declared.expression.BinaryOperator.TheVariants as binary
 use Rattle.ada_tree.specs.declared.expression.UnaryOperator.{UnaryOperator}

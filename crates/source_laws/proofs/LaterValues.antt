@@ -1,7 +1,7 @@
 -- An initial value that must be static, and breaks no rule, is known, and the same where more names are visible behind those in front of its declaration.
 use Rattle.std.proofs.Common.{◌≡◌, ◌++◌, ℕ, pos, Bool, true, false, cond, [], ◌∷◌, length, inl, inr, Option, Some, None, refl, sym, ap, ◌∙◌, subst}
 use Rattle.std.specs.Prelude.{not}
-use Rattle.ada_link.specs.base.specs.declared.faults.TheConstants.{DECLARED_TWICE, NAME_NOT_VISIBLE}
+use Rattle.base.specs.declared.faults.TheConstants.{DECLARED_TWICE, NAME_NOT_VISIBLE}
 use Rattle.ada_tree.specs.declared.expression.Identifier.{Identifier}
 use Rattle.ada_tree.specs.ExpressionTree as tree
 use Rattle.ada_tree.specs.ExpressionTree.{Arguments, Binary, Conditional, ExprTree, MoreArguments, MoreSelectors, Named, NoArguments, NoSelectors, Parenthesized, SelectorTrees, Unary}

@@ -33,7 +33,7 @@ mod CoveredFronts
 mod CoveredOperations
 mod WholeBodies
 mod SmallFronts
-mod NothingOutside
+mod CoveredTexts
 mod PartsCounted
 mod MeantStatements
 mod MeantTexts
@@ -46,7 +46,6 @@ mod StandardStatics
 mod MainAspect
 pub mod Peaks
 pub mod PeakBounds
-pub mod PeakSlots
 pub mod NeedsScopes
 pub mod NeedsBounds
 pub mod NeedsShapes
@@ -60,12 +59,12 @@ pub mod NeedsBodies
 pub mod NeedsNames
 pub mod NeedsMoves
 pub mod NamedCalls
-pub mod NamedBehind
-pub mod ThroughObjects
-pub mod CoverScopes
-pub mod CoverNames
-pub mod CoverCalls
-pub mod CoverChoices
-pub mod CoverValues
-pub mod CoverStatements
-pub mod CoverBodies
+mod LabelsFit
+mod WordsFit
+mod CountsFit
+mod PartsFit
+mod OperationsFit
+mod TasksFit
+mod Tables
+mod MainCalls
+mod MainKnown

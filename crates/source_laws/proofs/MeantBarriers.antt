@@ -61,11 +61,11 @@ use Rattle.program_soundness.proofs.ObjectFits as fits
 use Rattle.program_soundness.proofs.ObjectTrees.{component_named, components_named}
 use Rattle.program_soundness.proofs.Whole.{IsPackage, kept}
 use Rattle.program_soundness.proofs.WiderScopes.{equal_bytes, found_in, same_bytes, number_stands, one_named, stands, stands_with}
-use Rattle.ada_link.specs.package_code.proofs.EntryRows.{IsEntryBody, entry_body}
-use Rattle.ada_link.specs.package_code.proofs.InFront.{LawsOfNames, known, names, whole}
-use Rattle.ada_link.specs.package_code.proofs.OperationBodies.{object}
-use Rattle.ada_link.specs.package_code.proofs.OperationsAdded as added
-use Rattle.ada_link.specs.package_code.proofs.Seen.{either_some}
+use Rattle.package_code.proofs.EntryRows.{IsEntryBody, entry_body}
+use Rattle.package_code.proofs.InFront.{LawsOfNames, known, names, whole}
+use Rattle.package_code.proofs.OperationBodies.{object}
+use Rattle.package_code.proofs.OperationsAdded as added
+use Rattle.package_code.proofs.Seen.{either_some}
 
 -- ---- what a bare name is worth
 

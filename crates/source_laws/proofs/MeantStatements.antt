@@ -2,7 +2,7 @@
 -- one value wherever it is evaluated.
 use Rattle.std.proofs.Common.{◌≡◌, ◌++◌, ◌⊎◌, inl, inr, ℕ, List, [], ◌∷◌, Bool, true, false, Option, Some, None, refl, sym, ap, ◌∙◌, subst}
 use Rattle.std.specs.Prelude.{cond, not, ◌||◌, ◌&&◌}
-use Rattle.ada_link.specs.base.specs.declared.faults.TheConstants.{DECLARED_TWICE, NO_MEANING, WRONG_CHOICES}
+use Rattle.base.specs.declared.faults.TheConstants.{DECLARED_TWICE, NO_MEANING, WRONG_CHOICES}
 use Rattle.ada_tree.specs.declared.expression.Identifier.{Identifier}
 use Rattle.ada_tree.specs.ExpressionTree.{ExprTree}
 use Rattle.ada_tree.specs.StatementTree.{AlternativeTrees, Block, Case, ChoicesTree, DeclarationTree, ElsifTrees, For, Forever, HandlerTrees, If, LocalObject, LocalProtected, LocalTask, Loop, MoreAlternatives, MoreElsifs, MoreHandlers, MoreStmts, NoAlternatives, NoElsifs, NoHandlers, NoStmts, OtherValues, RangeTree, StmtTree, StmtTrees, Values, While}
@@ -54,7 +54,7 @@ use Rattle.program_soundness.proofs.OneList.{both_empty}
 use Rattle.program_soundness.proofs.Statics.{IsStatic, must_be_static, static_number}
 use Rattle.program_soundness.proofs.Whole.{legal_subtype}
 use Rattle.program_soundness.proofs.WiderScopes.{number_stands}
-use Rattle.ada_link.specs.expr_code.proofs.Widths.{known}
+use Rattle.expr_code.proofs.Widths.{known}
 use Rattle.source_laws.specs.Meant.{AreToldAlternatives, AreToldChoices, AreToldElsifs, AreToldHandlers, AreToldLocals, AreToldValues, IsSubtypeName, IsToldChoice, IsToldStmt, IsToldStmts}
 use Rattle.source_laws.proofs.NeedsScopes.{bounds_known, bounds_legal, integral}
 

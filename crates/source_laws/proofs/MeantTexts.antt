@@ -3,8 +3,8 @@ use Rattle.std.proofs.Common.{◌≡◌, ◌<◌, ◌+◌, ◌⊎◌, inl, inr, 
 use Rattle.std.specs.Prelude.{bytes_eq, is_some, nat_le, slice_get}
 use Rattle.std.specs.List.{list_all, list_any}
 use Rattle.std.proofs.lemmas.Bool.{and_parts}
-use Rattle.ada_link.specs.base.specs.declared.faults.TheConstants.{DECLARED_TWICE, NOT_STATIC, WRONG_ASPECT}
-use Rattle.ada_link.specs.base.specs.declared.limits.TheConstants.{TASK_PRIORITY}
+use Rattle.base.specs.declared.faults.TheConstants.{DECLARED_TWICE, NOT_STATIC, WRONG_ASPECT}
+use Rattle.base.specs.declared.limits.TheConstants.{TASK_PRIORITY}
 use Rattle.ada_tree.specs.declared.declaration.Formal.{Formal}
 use Rattle.ada_tree.specs.declared.expression.Identifier.{Identifier}
 use Rattle.ada_tree.specs.ExpressionTree.{ExprTree}
@@ -58,13 +58,12 @@ use Rattle.program_soundness.proofs.Trees.{tree_package}
 use Rattle.program_soundness.proofs.Walked.{item_new, legal_at}
 use Rattle.program_soundness.proofs.Whole.{IsPackage, item_stands, kept, known_subtype, no_doubt}
 use Rattle.program_soundness.proofs.WiderScopes.{bytes_same, equal_bytes, same_bytes, stands, unseen_none}
-use Rattle.ada_link.specs.package_code.specs.Bodies.{Coded}
-use Rattle.ada_link.specs.package_code.proofs.InFront.{LawsOfNames}
-use Rattle.ada_link.specs.package_code.proofs.ObjectNumbers.{ceiling_is}
-use Rattle.source_laws.specs.Covered.{NameSubtypes}
+use Rattle.package_code.specs.Bodies.{Coded, IsBodyOf}
+use Rattle.package_code.proofs.InFront.{LawsOfNames}
+use Rattle.package_code.proofs.ObjectNumbers.{ceiling_is}
+use Rattle.stmt_code.specs.Subprograms.{NameSubtypes}
 use Rattle.source_laws.specs.Meant.{HasOneBody, IsGivenIfAny, IsTold, IsToldBody, IsToldCeiling, IsToldObject, IsToldPriority, MeaningIsTold}
-use Rattle.source_laws.specs.Visible.{IsBodyOf}
-use Rattle.source_laws.proofs.CoverScopes.{present}
+use Rattle.program_soundness.specs.step_soundness.proofs.Sights.{is_there}
 use Rattle.source_laws.proofs.FitFronts.{body_adds}
 use Rattle.source_laws.proofs.LaterValues.{static_kept}
 use Rattle.source_laws.proofs.MeantStatements.{ReadsIn, handlers_told, locals_told, stmts_told}
@@ -434,7 +433,7 @@ module _ (statics : StaticIsValue) (laws : LawsOfNames) (declarations : Declarat
     formals_told : (fs : List Formal) → NameSubtypes c.front fs → NameSubtypes whole fs
     formals_told [] h = tt
     formals_told (f ∷ fs) h =
-        let u = present (subtype_of c.front f.subtype) h.0 in (ap is_some (front_named f.subtype u.0 u.1), formals_told fs h.1)
+        let u = is_there (subtype_of c.front f.subtype) h.0 in (ap is_some (front_named f.subtype u.0 u.1), formals_told fs h.1)
 
     reads : ReadsIn whole (formals_scope c.front c.head.formals)
     reads =
@@ -460,7 +459,7 @@ module _ (statics : StaticIsValue) (laws : LawsOfNames) (declarations : Declarat
         let declared = locals_told statics declarations whole ds s reads (front_empty one (f ++ g) its.legal) (front_empty own inner both) in
         record {
           formals = formals_told c.head.formals its.named;
-          result = λ r some. present (subtype_of whole r) (its.added.result r some);
+          result = λ r some. is_there (subtype_of whole r) (its.added.result r some);
           returns = its.returns;
           locals = declared.own;
           statements =

@@ -1,7 +1,7 @@
 -- What the steps of a run take is there: by what holds of each world that a run of an accepted program comes to.
 use Rattle.std.proofs.Common.{◌≡◌, ◌<◌, ◌+◌, ℕ, suc, List, [], ◌∷◌, ◌++◌, drop, length, length-append, map, Bool, true, false, cond, not, Option, Some, None, refl, sym, ap, ◌∙◌, subst, arith}
 use Rattle.std.specs.Prelude.{nat_lt}
-use Rattle.ada_link.specs.base.specs.declared.schedule.ScheduleLine.{ScheduleLine}
+use Rattle.base.specs.declared.schedule.ScheduleLine.{ScheduleLine}
 use Rattle.ada_tree.specs.declared.declaration.Mode.{Mode}
 use Rattle.ada_tree.specs.declared.declaration.Mode.TheVariants as mode
 use Rattle.ada_tree.specs.ExpressionTree.{ArgumentTree, MoreArguments, NameTree, NoArguments, Text}
@@ -29,7 +29,7 @@ use Rattle.expr_soundness.specs.meaning.specs.Programs.{Parameter, Program, prog
 use Rattle.expr_soundness.specs.meaning.specs.Source.{SourceWorld, source}
 use Rattle.expr_soundness.specs.meaning.specs.Targets.{named_target, objects_of, target, target_value, value_in}
 use Rattle.expr_soundness.specs.meaning.specs.Works.{Activation, Completed, Completion, Copies, Does, DoesMain, Element, EndsAction, EndsCall, EndsHandler, EndsServed, Field, Goes, Handles, Home, InActivation, InObject, InPackage, Item, Part, Pending, Queued, Raising, Repeats, RepeatsFor, RepeatsWhile, Store, Target, Work}
-use Rattle.ada_link.specs.base.specs.declared.faults.TheConstants.{MISPLACED_STATEMENT}
+use Rattle.base.specs.declared.faults.TheConstants.{MISPLACED_STATEMENT}
 use Rattle.expr_soundness.proofs.Expressions.{not_false}
 use Rattle.expr_soundness.proofs.Parts.{subtype_values}
 use Rattle.expr_soundness.specs.meaning.specs.SourceSteps.{items_of}
@@ -42,7 +42,7 @@ use Rattle.program_soundness.specs.step_soundness.specs.Judged.{AreResults, IsCo
 use Rattle.program_soundness.specs.step_soundness.specs.Laws.{Premises}
 use Rattle.program_soundness.specs.step_soundness.specs.Objects.{AreOf, AreSoundObjects, AreTargets, IsTarget, PartOf, first_store, subtype_in}
 use Rattle.program_soundness.proofs.Agreed.{object_by, sound_object}
-use Rattle.ada_link.specs.package_code.proofs.InFront.{LawsOfNames}
+use Rattle.package_code.proofs.InFront.{LawsOfNames}
 use Rattle.source_laws.specs.MeantRuns.{ActualsFit, AreCopied, AreThere, HasAll, HasWhatTheNextTakes, IsAwaitedAt, IsCopied, IsInLoop, IsThere, IsWaitingCall, RunsHaveAll, WorkHasAll}
 use Rattle.source_laws.proofs.MeantBarriers.{barrier_truth}
 

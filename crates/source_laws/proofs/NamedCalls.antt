@@ -11,12 +11,12 @@ use Rattle.types.specs.declared.standing.Standing.TheVariants as standing
 use Rattle.types.specs.Entities.{Profile}
 use Rattle.types.specs.Scopes.{Scope, number_of, profile_of}
 use Rattle.types.specs.Standings.{callee_profile, select, stands_first, stands_for}
-use Rattle.expr_soundness.specs.expr_rules.specs.ExpressionRules.{argument_faults, arguments_faults, name_faults, selector_faults, selectors_faults}
+use Rattle.expr_soundness.specs.expr_rules.specs.ExpressionRules.{argument_faults, arguments_faults, selector_faults, selectors_faults}
 use Rattle.expr_soundness.specs.expr_rules.specs.NameRules.{formal_slot_or, part_rule, profile_formals, slot_at}
 use Rattle.expr_soundness.specs.expr_rules.proofs.TypedLaw.{back_empty, front_empty}
-use Rattle.ada_link.specs.expr_code.specs.Seeing.{NamesProfile, profile_named}
+use Rattle.expr_code.specs.Seeing.{NamesProfile, profile_named}
 use Rattle.source_laws.proofs.NeedsScopes.{names_profile}
-use Rattle.source_laws.proofs.PeakSlots.{slot_by}
+use Rattle.expr_code.proofs.PeakSlots.{slot_by}
 
 module _ (s : Scope) where
   -- from this formal on
@@ -60,15 +60,3 @@ module _ (s : Scope) where
 
     pub begins_there : stands_first s (number_of s first.name) ≡ called
     begins_there = ap (stands_first s) names.numbered ∙ ap (stands_for names.number) names.stands
-
-    pub slots_are : SlotsFrom called 0 p.formals
-    slots_are = profile_slots (callee.Direct names.number) p profile_is
-
-    -- in the parentheses behind the name
-    pub arguments_legal : (all : ArgumentTrees) (rest : SelectorTrees) → name_faults s first (MoreSelectors (Arguments all) rest) ≡ []
-        → arguments_faults s called 0 all ≡ []
-    arguments_legal all rest h =
-        let x = MoreSelectors (Arguments all) rest in
-        called_arguments first.place (callee.Direct names.number) all rest
-        (subst (λ u. selectors_faults s first.place u x ≡ []) begins_there
-        (back_empty _ (selectors_faults s first.place (stands_first s (number_of s first.name)) x) h))

@@ -4,7 +4,7 @@ use Rattle.std.specs.Prelude.{codes}
 use Rattle.std.specs.List.{list_all}
 use Rattle.std.proofs.lemmas.Bool.{and_from, and_parts}
 use Rattle.std.proofs.lemmas.List.Folds.{list_all-append}
-use Rattle.ada_link.specs.base.specs.declared.limits.TheConstants.{TASK_PRIORITY}
+use Rattle.base.specs.declared.limits.TheConstants.{TASK_PRIORITY}
 use Rattle.ada_tree.specs.StatementTree.{ObjectTree}
 use Rattle.ada_tree.specs.ProgramTree.{BodyItemTree, OfException, OfItem, OfObject, OfProtected, OfSubprogram, OfTask, OfType, PackageTree, ProtectedBody, SubprogramBody, TaskBody, TypeTree}
 use Rattle.types.specs.declared.entity.PredefinedOperation.{PredefinedOperation}

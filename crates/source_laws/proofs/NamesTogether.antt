@@ -3,7 +3,7 @@ use Rattle.types.specs.Laws.{ShapesStay, ValuesHaveWords}
 use Rattle.expr_soundness.specs.Laws.{ScopesAreSound}
 use Rattle.program_soundness.specs.BodyLaws.{FrontsFit, NamesAreKnown, PremisesHold}
 use Rattle.program_soundness.specs.ProgramLaws.{StartsAreSound}
-use Rattle.ada_link.specs.package_code.proofs.InFront.{LawsOfNames}
+use Rattle.package_code.proofs.InFront.{LawsOfNames}
 
 pub names_together : FrontsFit → NamesAreKnown → PremisesHold → ScopesAreSound → ShapesStay → StartsAreSound → ValuesHaveWords → LawsOfNames
 names_together fronts names premises scopes stay starts sized =

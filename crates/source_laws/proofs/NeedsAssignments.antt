@@ -1,5 +1,5 @@
 -- What assignments need on the operand stack: addresses, and values of few words.
-use Rattle.std.proofs.Common.{◌≡◌, ◌≤◌, ◌++◌, ◌+◌, ◌*◌, ℕ, zero, suc, max, [], true, false, Bool, Some, None, refl, subst, arith}
+use Rattle.std.proofs.Common.{◌≡◌, ◌≤◌, ◌++◌, ◌+◌, ◌*◌, ℕ, zero, suc, max, [], true, false, Bool, Some, None, refl, sym, subst, arith}
 use Rattle.std.proofs.Math.Nat.{le-max_left, le-max_right, max-le}
 use Rattle.std.proofs.lemmas.Bool.{or_from}
 use Rattle.ada_tree.specs.declared.expression.Identifier.{Identifier}
@@ -7,33 +7,36 @@ use Rattle.ada_tree.specs.Depth.{elsif_values_depth, expr_depth, name_depth, sel
 use Rattle.ada_tree.specs.ExpressionGrammar.{Expression, expression, made, spells_elsif_values, spells_name}
 use Rattle.ada_tree.specs.ExpressionTree.{Conditional, ElsifValueTrees, ExprTree, MoreElsifValues, Named, NameTree, NoElsifValues, Parenthesized, SelectorTrees}
 use Rattle.ada_tree.specs.Language.{Limit, Tokens}
-use Rattle.types.specs.declared.standing.Standing.{Standing}
+use Rattle.types.specs.declared.entity.Role.{Role}
+use Rattle.types.specs.declared.entity.Subtype.{Subtype}
 use Rattle.types.specs.declared.standing.Standing.TheVariants as standing
+use Rattle.types.specs.Layouts.{words_of}
 use Rattle.types.specs.Scopes.{Scope}
 use Rattle.types.specs.Standings.{standing_of}
 use Rattle.expr_soundness.specs.expr_rules.specs.declared.own.Wanted.{Wanted}
-use Rattle.expr_soundness.specs.expr_rules.specs.declared.own.Wanted.TheVariants.{Anything}
+use Rattle.expr_soundness.specs.expr_rules.specs.declared.own.Wanted.TheVariants.{Anything, OfType}
 use Rattle.expr_soundness.specs.expr_rules.specs.ExpressionRules.{elsif_faults, faults_of, name_faults, target_faults}
 use Rattle.expr_soundness.specs.expr_rules.specs.NameRules.{variable_rule}
 use Rattle.expr_soundness.specs.expr_rules.specs.Typing.{boolean_wanted, own_of_standing, typed_wanted}
 use Rattle.expr_soundness.specs.expr_rules.proofs.TypedLaw.{back_empty, front_empty}
 use Rattle.program_soundness.specs.stmt_rules.specs.SimpleRules.{assigned_wanted, assignment_faults}
-use Rattle.ada_link.specs.expr_code.specs.Emitting.{IsLegalExpression}
-use Rattle.ada_link.specs.expr_code.specs.Refusing.{peak}
-use Rattle.ada_link.specs.expr_code.specs.Widths.{AreWide, width_of}
-use Rattle.ada_link.specs.expr_code.specs.declared.visible.Visible.{Visible}
-use Rattle.ada_link.specs.part_code.specs.Moving.{moves}
-use Rattle.ada_link.specs.part_code.specs.Needs.{Needs, address_needs, assigned_needs, assignment_needs, beyond, both, has_unfit, move_needs, moves_needs, needs_above, needs_by, words_at}
+use Rattle.expr_code.specs.Emitting.{IsLegalExpression}
+use Rattle.expr_code.specs.Providing.{HasWhatExpressionsNeed}
+use Rattle.expr_code.specs.Refusing.{peak}
+use Rattle.expr_code.specs.Widths.{AreWide, width_of}
+use Rattle.expr_code.specs.declared.visible.Visible.{Visible}
+use Rattle.part_code.specs.Moving.{moves}
+use Rattle.part_code.specs.Needs.{Needs, address_needs, assigned_needs, assignment_needs, both, has_unfit, move_needs, moves_needs, needs_above, needs_by, nothing, words_at}
 use Rattle.source_laws.specs.Depths.{IsSmallScope}
-use Rattle.source_laws.proofs.PeakSlots.{IsPath, begins, name_path, value_path}
+use Rattle.expr_code.proofs.PeakSlots.{IsPath, begins, name_path, value_path}
 use Rattle.source_laws.proofs.Peaks.{conditional_parts, inside_legal, legal_of, listed, spelled_parts}
-use Rattle.source_laws.proofs.NeedsBounds.{Fits, IsLow, both_low, low_more, outside_right, value_bound}
+use Rattle.source_laws.proofs.NeedsBounds.{Fits, IsLow, both_low, low_more, value_bound}
 use Rattle.source_laws.proofs.NeedsCalls.{address_low}
-use Rattle.source_laws.proofs.NeedsMoves.{few_stored}
+use Rattle.source_laws.proofs.NeedsMoves.{few_stored, target_part}
 use Rattle.source_laws.proofs.NeedsShapes.{nothing_unfit}
 use Rattle.source_laws.proofs.NeedsValues.{single_low, typed_low}
 
-module _ (v : Visible) (small : IsSmallScope v.scope) where
+module _ (v : Visible) (small : IsSmallScope v.scope) (cover : HasWhatExpressionsNeed v) where
   abbrev s : Scope
   s = v.scope
 
@@ -46,12 +49,12 @@ module _ (v : Visible) (small : IsSmallScope v.scope) where
   deeper : (n : Needs) (d e : ℕ) → MoveFits n d → d ≤ e → MoveFits n e
   deeper n d e h below = low_more n (7 + 12 * d) 0 (7 + 12 * e) 0 h (omega (arith, below)) (omega arith)
 
-  beyond_moves : (d : ℕ) → MoveFits beyond d
-  beyond_moves d = record { stack_low = omega arith; frame_low = omega arith; fit = refl }
+  nothing_moves : (d : ℕ) → MoveFits nothing d
+  nothing_moves d = record { stack_low = omega arith; frame_low = omega arith; fit = refl }
 
   named_fits : (first : Identifier) (selectors : SelectorTrees) (l : Limit) (ts : Tokens) → made (Named first selectors) l ts
       → IsLegalExpression s (Named first selectors)
-      → MoveFits (address_needs 1 v first selectors) (selectors_depth selectors)
+      → MoveFits (address_needs 1 v selectors) (selectors_depth selectors)
   named_fits first selectors l ts d h =
       let low = address_low v small 1 first.place (begins s small.sound small.formals first selectors) first selectors l d.1 d.4
       (value_path s small.sound small.formals first selectors h) in
@@ -107,7 +110,7 @@ module _ (v : Visible) (small : IsSmallScope v.scope) where
         (move_fits value (Some n) spelled.values spelled.value_made.1 parts.value_legal)
         (moves_fit parts.wanted (width_of s value) elsifs (Some n) spelled.branches spelled.branches_made parts.others parts.others_wide)
         (move_fits last (Some n) spelled.lasts spelled.last_made.1 parts.last_legal)
-    move_fits e l ts d h = beyond_moves (expr_depth e)
+    move_fits e l ts d h = nothing_moves (expr_depth e)
 
     moves_fit : (w : Wanted) (n : ℕ) (elsifs : ElsifValueTrees) (l : Limit) (ts : Tokens) → spells_elsif_values elsifs l ts → elsif_faults s w elsifs ≡ []
         → AreWide s n (listed elsifs) → MoveFits (moves_needs v elsifs) (elsif_values_depth elsifs)
@@ -132,16 +135,14 @@ module _ (v : Visible) (small : IsSmallScope v.scope) where
       name_path s small.sound small.formals first selectors (front_empty parts ends h)
       (λ is. let k = subst (λ w. variable_rule s first.place Anything w ≡ []) is (back_empty parts ends h) in absurd cc)
 
-  assigned_low : (w : Standing) (e : ExprTree) (l : Limit) (ts : Tokens) → expression l e ts → faults_of s (typed_wanted (own_of_standing w)) e ≡ []
-      → words_at s w ≤ 64 → (assigned_needs v w e).outside ≡ false
-      → (assigned_needs v w e).stack ≤ 71 + 12 * expr_depth e
-  assigned_low (standing.Part r t) e l ts d h few out =
-      let low = value_bound (words_at s (standing.Part r t)) (peak s e) (expr_depth e) (typed_low s small t e l ts d h) few in omega (arith, low)
-  assigned_low w e l ts d h few out = absurd cc
+  assigned_low : (r : Role) (t : Subtype) (e : ExprTree) (l : Limit) (ts : Tokens) → expression l e ts → faults_of s (OfType t.type_number) e ≡ []
+      → words_of s t ≤ 64
+      → (assigned_needs v (standing.Part r t) e).stack ≤ 71 + 12 * expr_depth e
+  assigned_low r t e l ts d h few =
+      let low = value_bound (words_of s t) (peak s e) (expr_depth e) (typed_low s small t e l ts d h) few in omega (arith, low)
 
   module _ (target : NameTree) (e : ExprTree) (l : Limit) (ts us : Tokens) (named : spells_name l target ts)
-      (spelled : expression l e us)
-      (h : assignment_faults s target e ≡ []) (out : (assignment_needs v target e).outside ≡ false) where
+      (spelled : expression l e us) (h : assignment_faults s target e ≡ []) where
     abbrev whole : ℕ
     whole = 80 + 12 * max (name_depth target) (expr_depth e)
 
@@ -151,7 +152,7 @@ module _ (v : Visible) (small : IsSmallScope v.scope) where
     in_value : faults_of s (assigned_wanted s target) e ≡ []
     in_value = back_empty (target_faults s target.first target.selectors) (faults_of s (assigned_wanted s target) e) h
 
-    address : (address_needs 0 v target.first target.selectors).stack ≤ whole
+    address : (address_needs 0 v target.selectors).stack ≤ whole
     address =
         let low = address_low v small 0 target.first.place
         (begins s small.sound small.formals target.first target.selectors) target.first target.selectors l named.1 named.4
@@ -159,19 +160,25 @@ module _ (v : Visible) (small : IsSmallScope v.scope) where
         let deep = le-max_left (name_depth target) (expr_depth e) in
         omega (arith, low, deep)
 
-    by_moves : (b : Bool) → moves v target e ≡ b → (needs_by v target e b).outside ≡ false → (taken words : ℕ)
-        → Fits (needs_by v target e b) taken words (max (name_depth target) (expr_depth e))
-    by_moves false is k taken words =
-        let w = standing_of s target.first target.selectors in
-        let few = few_stored v (record { names = small }) target e h is k in
-        let value = assigned_low w e l us spelled in_value few (outside_right (address_needs 0 v target.first target.selectors) (assigned_needs v w e) k) in
+    value : words_at s (standing_of s target.first target.selectors) ≤ 64
+        → (assigned_needs v (standing_of s target.first target.selectors) e).stack ≤ 71 + 12 * expr_depth e
+    value few =
+        let part = target_part v small.sound cover target e h in
+        subst (λ w. (assigned_needs v w e).stack ≤ 71 + 12 * expr_depth e) (sym part.is)
+        (assigned_low part.role part.subtype e l us spelled (subst (λ w. faults_of s (typed_wanted (own_of_standing w)) e ≡ []) part.is in_value)
+        (subst (λ w. words_at s w ≤ 64) part.is few))
+
+    by_moves : (b : Bool) → moves v target e ≡ b → (taken words : ℕ) → Fits (needs_by v target e b) taken words (max (name_depth target) (expr_depth e))
+    by_moves false is taken words =
+        let few = few_stored v small.sound cover target e h is in
+        let low = value few in
         let deep = le-max_right (name_depth target) (expr_depth e) in
         record {
-          stack_low = max-le address (omega (arith, value, deep));
+          stack_low = max-le address (omega (arith, low, deep));
           frame_low = omega arith;
           fit = or_from (has_unfit v) (has_unfit v) (nothing_unfit v small) (nothing_unfit v small);
         }
-    by_moves true is k taken words =
+    by_moves true is taken words =
         let it = move_fits e l us spelled.1 (legal_of s small.sound _ e in_value) in
         let stack = it.stack_low in
         let frame = it.frame_low in
@@ -183,4 +190,4 @@ module _ (v : Visible) (small : IsSmallScope v.scope) where
         }
 
     pub assignment_fits : (taken words : ℕ) → Fits (assignment_needs v target e) taken words (max (name_depth target) (expr_depth e))
-    assignment_fits taken words = by_moves (moves v target e) refl out taken words
+    assignment_fits taken words = by_moves (moves v target e) refl taken words

@@ -1,19 +1,9 @@
 -- Words on the operand stack and in the frame that are within a bound: of parts of code, and of the whole.
 use Rattle.std.proofs.Common.{◌≡◌, ◌≤◌, ◌+◌, ◌*◌, ℕ, suc, max, false, refl, arith}
 use Rattle.std.proofs.Math.Nat.{max-le}
-use Rattle.std.proofs.lemmas.Bool.{or_from, or_parts}
-use Rattle.ada_link.specs.part_code.specs.Needs.{Needs, beyond, both, nothing}
+use Rattle.std.proofs.lemmas.Bool.{or_from}
+use Rattle.part_code.specs.Needs.{Needs, both, nothing}
 use Rattle.source_laws.proofs.PeakBounds.{through}
-
--- ---- tests
-
-pub outside_left : (a b : Needs) → (both a b).outside ≡ false → a.outside ≡ false
-outside_left a b h = (or_parts a.outside b.outside h).0
-
-pub outside_right : (a b : Needs) → (both a b).outside ≡ false → b.outside ≡ false
-outside_right a b h = (or_parts a.outside b.outside h).1
-
--- ---- words
 
 -- so many words on the operand stack and in the frame at most, and no value without words
 pub record IsLow (n : Needs) (stack frame : ℕ) : Type 0 where
@@ -41,9 +31,6 @@ both_fit a b t w d p q = both_low a b (80 + 12 * d) (t + w + 2 * d) p q
 
 pub nothing_fits : (t w d : ℕ) → Fits nothing t w d
 nothing_fits t w d = record { stack_low = omega arith; frame_low = omega arith; fit = refl }
-
-pub beyond_fits : (t w d : ℕ) → Fits beyond t w d
-beyond_fits t w d = record { stack_low = omega arith; frame_low = omega arith; fit = refl }
 
 -- one that takes no words of the frame
 pub stack_fits : (n : Needs) (t w d : ℕ) → n.stack ≤ 80 + 12 * d → n.frame ≡ 0 → n.unfit ≡ false → Fits n t w d

@@ -1,9 +1,9 @@
 -- What calls of procedures need on the operand stack: what is passed, and what is copied back.
 use Rattle.std.proofs.Common.{◌≡◌, ◌≤◌, ◌++◌, ◌+◌, ◌*◌, ℕ, zero, suc, [], ◌∷◌, List, length, Bool, true, false, not, Option, Some, None, refl, sym, ap, ◌∙◌, subst, arith}
-use Rattle.std.specs.Prelude.{⊤, is_none, nat_eq}
+use Rattle.std.specs.Prelude.{⊤, nat_eq}
 use Rattle.std.proofs.Math.Nat.{max-le}
-use Rattle.std.proofs.lemmas.Bool.{or_from, or_parts}
-use Rattle.ada_link.specs.base.specs.declared.faults.TheConstants.{NOT_A_VARIABLE, NO_MEANING}
+use Rattle.std.proofs.lemmas.Bool.{or_from}
+use Rattle.base.specs.declared.faults.TheConstants.{NOT_A_VARIABLE, NO_MEANING}
 use Rattle.ada_tree.specs.declared.declaration.Mode.{Mode}
 use Rattle.ada_tree.specs.declared.declaration.Mode.TheVariants as mode
 use Rattle.ada_tree.specs.declared.expression.Identifier.{Identifier}
@@ -19,7 +19,7 @@ use Rattle.types.specs.declared.standing.Callee.TheVariants as callee
 use Rattle.types.specs.declared.standing.Callee.{Callee}
 use Rattle.types.specs.declared.standing.Standing.{Standing}
 use Rattle.types.specs.declared.standing.Standing.TheVariants as standing
-use Rattle.types.specs.Entities.{Entity, Integers, Profile, Put, Spans, Times, TypeForm}
+use Rattle.types.specs.Entities.{Integers, Profile, Put, Spans, Times, TypeForm}
 use Rattle.types.specs.Layouts.{words_of}
 use Rattle.types.specs.Scopes.{Scope, base_range_of, form_at, integer_type, number_of}
 use Rattle.types.specs.Shapes.{shape_of}
@@ -37,23 +37,25 @@ use Rattle.expr_soundness.specs.type_rules.specs.SubtypeNames.{entity_at_or_none
 use Rattle.expr_soundness.specs.SoundScopes.{AreKnown}
 use Rattle.expr_soundness.proofs.Expressions.{not_false}
 use Rattle.program_soundness.specs.step_soundness.specs.Fitting.{entity_named}
-use Rattle.ada_link.specs.expr_code.specs.Emitting.{IsLegalExpression}
-use Rattle.ada_link.specs.expr_code.specs.Refusing.{is_fit}
-use Rattle.ada_link.specs.expr_code.specs.Seeing.{external_of, external_profile, profile_named, slot_of, subprogram_of}
-use Rattle.ada_link.specs.expr_code.specs.declared.visible.Slot as visible
-use Rattle.ada_link.specs.expr_code.specs.declared.visible.Visible.{Visible}
-use Rattle.ada_link.specs.expr_code.proofs.Widths.{integral_one, words_by_type}
-use Rattle.ada_link.specs.part_code.specs.Lines.{LabelledValue, is_put, line_behind, line_in, line_of}
-use Rattle.ada_link.specs.part_code.specs.Passing.{ExternalName, actuals_behind, copied_width, operation_behind}
-use Rattle.ada_link.specs.part_code.specs.EntryNames.{entry_behind, is_own_entry}
-use Rattle.ada_link.specs.part_code.specs.Needs.{Needs, actual_needs, actuals_needs, address_needs, bare_needs, behind_needs, beyond_if, both, call_needs, called_needs, check_words, copies_needs, copy_needs, destination_at, destinations_for, destinations_named, destinations_of, has_unfit, in_needs, in_out_needs, line_needs, passed_needs, stacked, target_needs, through_needs, words_at}
-use Rattle.ada_link.specs.part_code.specs.Suiting.{passed_width, returned_width}
-use Rattle.ada_link.specs.part_code.specs.declared.call.Destination.{Destination}
+use Rattle.expr_code.specs.Emitting.{IsLegalExpression}
+use Rattle.expr_code.specs.Refusing.{is_fit}
+use Rattle.expr_code.specs.Seeing.{external_profile, profile_named, slot_of}
+use Rattle.expr_code.specs.declared.visible.Slot as visible
+use Rattle.expr_code.specs.declared.visible.Visible.{Visible}
+use Rattle.expr_code.proofs.Widths.{integral_one, words_by_type}
+use Rattle.part_code.specs.Lines.{LabelledValue, is_put, line_behind, line_in, line_of}
+use Rattle.part_code.specs.Passing.{ExternalName, actuals_behind, copied_width, operation_behind}
+use Rattle.part_code.specs.EntryNames.{is_own_entry}
+use Rattle.part_code.specs.Needs.{Needs, actual_needs, actuals_needs, address_needs, bare_needs, behind_needs, both, call_needs, called_needs, check_words, copies_needs, copy_needs, destination_at, destinations_for, destinations_named, destinations_of, has_unfit, in_needs, in_out_needs, line_needs, passed_needs, stacked, target_needs, through_needs, words_at}
+use Rattle.part_code.specs.Suiting.{passed_width, returned_width}
+use Rattle.part_code.specs.declared.call.Destination.{Destination}
+use Rattle.stmt_code.proofs.CallForms.{put_there}
+use Rattle.stmt_code.proofs.Putting.{put_is}
 use Rattle.source_laws.specs.Depths.{IsSmallScope, formals_take}
 use Rattle.source_laws.proofs.PeakBounds.{through}
-use Rattle.source_laws.proofs.PeakSlots.{IsPath, begins, slot_by, slot_width, value_path}
+use Rattle.expr_code.proofs.PeakSlots.{IsPath, begins, slot_by, slot_width, value_path}
 use Rattle.source_laws.proofs.Peaks.{selectors_low}
-use Rattle.source_laws.proofs.NamedBehind.{behind_legal, behind_profile, named_behind}
+use Rattle.expr_code.proofs.NamedBehind.{behind_legal, behind_profile, named_behind}
 use Rattle.source_laws.proofs.NamedCalls.{SlotsFrom, begins_there, called_arguments, first_slot, later_slots, names, profile_is, profile_slots}
 use Rattle.source_laws.proofs.NeedsBounds.{Fits, copied_bound, passed_bound}
 use Rattle.source_laws.proofs.NeedsScopes.{few_words, known_behind, known_formals}
@@ -151,7 +153,7 @@ module _ (v : Visible) (small : IsSmallScope v.scope) where
   s = v.scope
 
   pub address_low : (depth place : ℕ) (w : Standing) (first : Identifier) (path : SelectorTrees) (l : Limit) (ts : Tokens) → spells_selectors path l ts
-      → IsPath s small.sound small.formals place w path → (address_needs depth v first path).stack ≤ depth + 2 + 12 * selectors_depth path
+      → IsPath s small.sound small.formals place w path → (address_needs depth v path).stack ≤ depth + 2 + 12 * selectors_depth path
   address_low depth place w first path l ts d h =
       let low = selectors_low s small.sound small.formals place w path l ts 1 (omega arith) d h in omega (arith, low)
 
@@ -164,7 +166,7 @@ module _ (v : Visible) (small : IsSmallScope v.scope) where
 
   named_address : (height n : ℕ) (first : Identifier) (path : SelectorTrees) (l : Limit) (ts : Tokens) → expression l (Named first path) ts
       → argument_faults s (Takes n) (Value (Named first path)) ≡ [] → height ≤ 71
-      → (address_needs height v first path).stack ≤ 78 + 12 * selectors_depth path
+      → (address_needs height v path).stack ≤ 78 + 12 * selectors_depth path
   named_address height n first path l ts d h room =
       let low = address_low height first.place (begins s small.sound small.formals first path) first path l d.1.1 d.1.4
       (value_path s small.sound small.formals first path (named_legal n (Named first path) h)) in
@@ -297,7 +299,7 @@ module _ (v : Visible) (small : IsSmallScope v.scope) where
         → (through_needs v (record { first = first; selectors = MoreSelectors (Component operation) rest })
         (Some (record { operation = operation; arguments = a }))).stack ≤ 80 + 12 * selectors_depth (MoreSelectors (Component operation) rest)
     external_low a is =
-        by_profile (entry_behind s first.name operation.name) (external_profile s first.name operation.name) refl
+        by_profile (external_profile s first.name operation.name) refl
       where
         x : ExternalName
         x = record { operation = operation; arguments = a }
@@ -306,22 +308,16 @@ module _ (v : Visible) (small : IsSmallScope v.scope) where
             → (passed_needs v p.formals (Some a)).stack ≤ 78 + 12 * selectors_depth rest
         passed p told = subst (λ o. (passed_needs v p.formals o).stack ≤ 78 + 12 * selectors_depth rest) is (external_passed p told)
 
-        by_profile : (number : Option ℕ) (o : Option Profile) → external_profile s first.name operation.name ≡ o
-            → (behind_needs v first.name x number o).stack ≤ 80 + 12 * selectors_depth (MoreSelectors (Component operation) rest)
-        by_profile (Some n) (Some p) told = let low = passed p told in omega (arith, low)
-        by_profile None (Some p) told = let low = passed p told in max-le (omega arith) (omega (arith, low))
-        by_profile (Some n) None told = omega arith
-        by_profile None None told = omega arith
+        by_profile : (o : Option Profile) → external_profile s first.name operation.name ≡ o
+            → (behind_needs v x o).stack ≤ 80 + 12 * selectors_depth (MoreSelectors (Component operation) rest)
+        by_profile (Some p) told = let low = passed p told in omega (arith, low)
+        by_profile None told = omega arith
 
   -- ---- lines
 
   module _ (first : Identifier) (is : is_put (entity_named s first.name) ≡ true) where
-    put_there : (o : Option Entity) → is_put o ≡ true → o ≡ Some Put
-    put_there (Some Put) h = refl
-    put_there o h = absurd cc
-
     put_stands : stands_first s (number_of s first.name) ≡ standing.Put
-    put_stands = by_number (number_of s first.name) (put_there (entity_named s first.name) is)
+    put_stands = by_number (number_of s first.name) (put_is (entity_named s first.name) is)
       where
         by_number : (o : Option ℕ) → entity_at_or_none s o ≡ Some Put → stands_first s o ≡ standing.Put
         by_number (Some n) h = ap (stands_for n) h
@@ -415,71 +411,63 @@ module _ (v : Visible) (small : IsSmallScope v.scope) where
 
   bare_plain : (name : NameTree) (own_entry : Bool) → IsPlain (bare_needs v name own_entry)
   bare_plain name true = record { frame = omega arith; fit = refl }
-  bare_plain name false =
-      let put = beyond_if (not (is_put (entity_named s name.first.name))) in
-      both_plain put (line_needs v (line_of name)) (record { frame = omega arith; fit = refl }) (line_plain (line_of name))
+  bare_plain name false = line_plain (line_of name)
 
   through_plain : (name : NameTree) (o : Option ExternalName) → IsPlain (through_needs v name o)
   through_plain name None = bare_plain name (is_own_entry (entity_named s name.first.name))
-  through_plain name (Some x) =
-      by_profile (entry_behind s name.first.name x.operation.name) (external_profile s name.first.name x.operation.name) refl
+  through_plain name (Some x) = by_profile (external_profile s name.first.name x.operation.name) refl
     where
       passed : (p : Profile) → external_profile s name.first.name x.operation.name ≡ Some p → IsPlain (passed_needs v p.formals (Some x.arguments))
       passed p told =
           passed_plain p.formals (Some x.arguments)
           (formals_fit p.formals (known_behind s name.first.name x.operation.name p small.sound told) (small.behind name.first.name x.operation.name p told))
 
-      by_profile : (number : Option ℕ) (o : Option Profile) → external_profile s name.first.name x.operation.name ≡ o
-          → IsPlain (behind_needs v name.first.name x number o)
-      by_profile (Some n) (Some p) told = passed p told
-      by_profile None (Some p) told =
-          let numbered = beyond_if (is_none (external_of v name.first.name x.operation.name)) in
-          both_plain numbered (passed_needs v p.formals (Some x.arguments)) (record { frame = omega arith; fit = refl }) (passed p told)
-      by_profile (Some n) None told = record { frame = omega arith; fit = refl }
-      by_profile None None told = record { frame = omega arith; fit = refl }
+      by_profile : (o : Option Profile) → external_profile s name.first.name x.operation.name ≡ o → IsPlain (behind_needs v x o)
+      by_profile (Some p) told = passed p told
+      by_profile None told = record { frame = omega arith; fit = refl }
 
   called_plain : (name : NameTree) (o : Option Profile) → profile_named s name.first.name ≡ o → IsPlain (called_needs v name o)
   called_plain name (Some p) is =
-      let number = beyond_if (is_none (subprogram_of v name.first.name)) in
-      both_plain number (passed_needs v p.formals (actuals_behind name.selectors)) (record { frame = omega arith; fit = refl })
-      (passed_plain p.formals (actuals_behind name.selectors)
-      (formals_fit p.formals (known_formals s name.first.name p small.sound is) (small.words name.first.name p is)))
+      passed_plain p.formals (actuals_behind name.selectors)
+      (formals_fit p.formals (known_formals s name.first.name p small.sound is) (small.words name.first.name p is))
   called_plain name None is = through_plain name (operation_behind name.selectors)
 
-  module _ (first : Identifier) where
-    bare_low : (path : SelectorTrees) (l : Limit) (ts : Tokens) → spells_selectors path l ts → name_faults s first path ≡ []
-        → (own_entry : Bool) → (bare_needs v (record { first = first; selectors = path }) own_entry).outside ≡ false
-        → (bare_needs v (record { first = first; selectors = path }) own_entry).stack ≤ 80 + 12 * selectors_depth path
-    bare_low path l ts d h true k = omega arith
-    bare_low path l ts d h false k =
-        let put = is_put (entity_named s first.name) in
-        let low = line_low first (not_false put ((or_parts (not put) _ k).0)) path l ts d h in
-        max-le (omega arith) (omega (arith, low))
+  module _ (name : NameTree) (l : Limit) (ts : Tokens) (spelled : spells_name l name ts) (h : call_faults s name.first name.selectors ≡ []) where
+    abbrev path : SelectorTrees
+    path = name.selectors
 
-    through_low : (selectors : SelectorTrees) (l : Limit) (ts : Tokens) → spells_selectors selectors l ts → name_faults s first selectors ≡ []
-        → (through_needs v (record { first = first; selectors = selectors }) (operation_behind selectors)).outside ≡ false
-        → (through_needs v (record { first = first; selectors = selectors }) (operation_behind selectors)).stack ≤ 80 + 12 * selectors_depth selectors
-    through_low (MoreSelectors (Component operation) NoSelectors) l ts d h k = external_low first operation NoSelectors l ts d h NoArguments refl
-    through_low (MoreSelectors (Component operation) (MoreSelectors (Arguments a) NoSelectors)) l ts d h k =
-        external_low first operation (MoreSelectors (Arguments a) NoSelectors) l ts d h a refl
-    through_low selectors l ts d h k = bare_low selectors l ts d h (is_own_entry (entity_named s first.name)) k
+    parts : name_faults s name.first path ≡ []
+    parts = front_empty (name_faults s name.first path) (call_rule name.first.place (standing_of s name.first path)) h
 
-  pub call_low : (name : NameTree) (l : Limit) (ts : Tokens) → spells_name l name ts → call_faults s name.first name.selectors ≡ []
-      → (call_needs v name).outside ≡ false
-      → (call_needs v name).stack ≤ 80 + 12 * name_depth name
-  call_low name l ts d h out = by_profile (profile_named s name.first.name) refl out
-    where
-      parts : name_faults s name.first name.selectors ≡ []
-      parts = front_empty (name_faults s name.first name.selectors) (call_rule name.first.place (standing_of s name.first name.selectors)) h
+    -- what is no subprogram's, no operation's and no entry's is a line
+    bare_low : profile_named s name.first.name ≡ None → operation_behind path ≡ None → (own_entry : Bool)
+        → is_own_entry (entity_named s name.first.name) ≡ own_entry → (bare_needs v name own_entry).stack ≤ 80 + 12 * name_depth name
+    bare_low none alone true is = omega arith
+    bare_low none alone false is =
+        let low = line_low name.first (put_there s small.sound name h none alone is) path l spelled.1 spelled.4 parts in omega (arith, low)
 
-      by_profile : (o : Option Profile) → profile_named s name.first.name ≡ o → (called_needs v name o).outside ≡ false
-          → (called_needs v name o).stack ≤ 80 + 12 * name_depth name
-      by_profile (Some p) is k = let low = invoked_low name.first p is name.selectors l d.1 d.4 parts in max-le (omega arith) (omega (arith, low))
-      by_profile None is k = through_low name.first name.selectors l d.1 d.4 parts k
+    through_low : (operation : Identifier) (rest : SelectorTrees) (a : ArgumentTrees) → path ≡ MoreSelectors (Component operation) rest
+        → actuals_behind rest ≡ Some a
+        → (through_needs v name (Some (record { operation = operation; arguments = a }))).stack ≤ 80 + 12 * name_depth name
+    through_low operation rest a is given =
+        let low = external_low name.first operation rest l spelled.1 (subst (λ x. spells_selectors x l spelled.1) is spelled.4)
+        (subst (λ x. name_faults s name.first x ≡ []) is parts) a given in
+        let deep : selectors_depth path ≡ selectors_depth (MoreSelectors (Component operation) rest) = ap selectors_depth is in
+        omega (arith, low, deep)
 
-  pub call_fits : (name : NameTree) (l : Limit) (ts : Tokens) → spells_name l name ts → call_faults s name.first name.selectors ≡ []
-      → (call_needs v name).outside ≡ false → (taken words : ℕ) → Fits (call_needs v name) taken words (name_depth name)
-  call_fits name l ts d h out taken words =
-      let plain = called_plain name (profile_named s name.first.name) refl in
-      let frame = plain.frame in
-      record { stack_low = call_low name l ts d h out; frame_low = omega (arith, frame); fit = plain.fit }
+    by_path : profile_named s name.first.name ≡ None → (all : SelectorTrees) → path ≡ all
+        → (through_needs v name (operation_behind all)).stack ≤ 80 + 12 * name_depth name
+    by_path none (MoreSelectors (Component operation) NoSelectors) is = through_low operation NoSelectors NoArguments is refl
+    by_path none (MoreSelectors (Component operation) (MoreSelectors (Arguments a) NoSelectors)) is =
+        through_low operation (MoreSelectors (Arguments a) NoSelectors) a is refl
+    by_path none all is = bare_low none (ap operation_behind is) (is_own_entry (entity_named s name.first.name)) refl
+
+    by_profile : (o : Option Profile) → profile_named s name.first.name ≡ o → (called_needs v name o).stack ≤ 80 + 12 * name_depth name
+    by_profile (Some p) is = let low = invoked_low name.first p is path l spelled.1 spelled.4 parts in omega (arith, low)
+    by_profile None is = by_path is path refl
+
+    pub call_fits : (taken words : ℕ) → Fits (call_needs v name) taken words (name_depth name)
+    call_fits taken words =
+        let plain = called_plain name (profile_named s name.first.name) refl in
+        let frame = plain.frame in
+        record { stack_low = by_profile (profile_named s name.first.name) refl; frame_low = omega (arith, frame); fit = plain.fit }

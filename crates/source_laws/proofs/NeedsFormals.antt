@@ -1,89 +1,35 @@
 -- What formals need: their words in the frame, first values on the operand stack, and what is given back; and what is visible behind them.
-use Rattle.std.proofs.Common.{◌≡◌, ◌≤◌, ◌++◌, ◌+◌, ◌*◌, ℕ, suc, [], ◌∷◌, List, length, map, Bool, true, false, Option, Some, None, refl, sym, ap, ◌∙◌, subst, arith}
-use Rattle.std.specs.Prelude.{⊤, cond, nat_eq}
-use Rattle.std.proofs.lemmas.List.{append-nil, append_assoc}
+use Rattle.std.proofs.Common.{◌≡◌, ◌≤◌, ◌+◌, ◌*◌, ℕ, suc, [], ◌∷◌, List, length, false, Option, Some, None, refl, sym, ap, ◌∙◌, subst, arith}
+use Rattle.std.proofs.lemmas.List.{append-nil}
 use Rattle.std.proofs.Math.Nat.{max-le}
-use Rattle.std.proofs.lemmas.Bool.{or_parts}
 use Rattle.ada_tree.specs.declared.declaration.Formal.{Formal}
 use Rattle.ada_tree.specs.declared.declaration.Mode.{Mode}
 use Rattle.ada_tree.specs.declared.declaration.Mode.TheVariants as mode
 use Rattle.ada_tree.specs.Size.{total}
 use Rattle.types.specs.declared.entity.Subtype.{Subtype}
-use Rattle.types.specs.Entities.{Object}
 use Rattle.types.specs.Layouts.{words_of}
-use Rattle.types.specs.Scopes.{Named, Scope, is_visible, with_name}
-use Rattle.expr_soundness.specs.type_rules.specs.ObjectRules.{object_entity}
+use Rattle.types.specs.Scopes.{Scope}
 use Rattle.expr_soundness.specs.type_rules.specs.SubtypeNames.{subtype_of}
 use Rattle.program_soundness.specs.declaring.specs.BodyNames.{formal_role, formal_scope, formals_scope}
-use Rattle.expr_soundness.specs.SoundScopes.{IsKnown, IsSoundObject}
-use Rattle.expr_soundness.proofs.Growing.{object_named}
 use Rattle.expr_soundness.proofs.Widening.{subtype_known}
-use Rattle.ada_link.specs.expr_code.specs.declared.visible.Visible.{Visible}
-use Rattle.ada_link.specs.part_code.specs.Bounds.{formals_words, words_if_any, words_named}
-use Rattle.ada_link.specs.part_code.specs.Formals.{slot_for}
-use Rattle.ada_link.specs.part_code.specs.Needs.{all_given, are_wordless, formals_frame, is_wordless, outs_needs}
-use Rattle.ada_link.specs.stmt_code.specs.WholeRefusals.{from_behind, out_behind, placed_formals, placed_if}
-use Rattle.ada_link.specs.part_code.specs.declared.formals.PlacedFormal.{PlacedFormal}
+use Rattle.expr_code.specs.declared.visible.Visible.{Visible}
+use Rattle.part_code.specs.Bounds.{formals_words, words_if_any, words_named}
+use Rattle.part_code.specs.Needs.{all_given, formals_frame, outs_needs}
+use Rattle.stmt_code.specs.WholeRefusals.{from_behind, out_behind, placed_formals, placed_if}
+use Rattle.part_code.specs.declared.formals.PlacedFormal.{PlacedFormal}
+use Rattle.stmt_code.proofs.FormalNames.{AreNamed, IsBehind, all_behind, formal_known, named_there, one_behind, visible_there}
 use Rattle.source_laws.specs.Depths.{IsSmallScope}
-use Rattle.source_laws.proofs.NeedsScopes.{few_words, small_named, subtype_kept, words_kept}
+use Rattle.source_laws.proofs.NeedsScopes.{few_words, small_named, words_kept}
 
 -- ---- what is visible behind formals
 
--- each names a subtype
-abbrev pub AreNamed : Scope → List Formal → Type 0
-AreNamed s [] = ⊤
-AreNamed s (f ∷ fs) = ((t : Subtype) × (subtype_of s f.subtype ≡ Some t)) × AreNamed s fs
-
-named_if : (s : Scope) (o : Option Subtype) → nat_eq (words_if_any s o) 0 ≡ false → (t : Subtype) × (o ≡ Some t)
-named_if s (Some t) h = (t, refl)
-named_if s None h = absurd cc
-
-pub have_words : (s : Scope) (fs : List Formal) → are_wordless s fs ≡ false → AreNamed s fs
-have_words s [] h = tt
-have_words s (f ∷ fs) h = (
-  named_if s (subtype_of s f.subtype) ((or_parts (is_wordless s f) (are_wordless s fs) h).0),
-  have_words s fs ((or_parts (is_wordless s f) (are_wordless s fs) h).1),
-)
-
-pub formal_known : (m : Mode) (u : Scope) (t : Subtype) → IsKnown u t → IsSoundObject u (formal_role m) t
-formal_known mode.In u t typed = typed
-formal_known mode.Out u t typed = typed
-formal_known mode.InOut u t typed = typed
-
--- it has names more at its end
-pub record IsBehind (s u : Scope) : Type 0 where
-  pub more : Scope
-  pub is : u ≡ s ++ more
-
-grown_by : (s u : Scope) (x : Named) (more : Scope) (b : Bool) → u ≡ s ++ more → (all : Scope) × (cond b u (u ++ x ∷ []) ≡ s ++ all)
-grown_by s u x more true is = (more, is)
-grown_by s u x more false is = (more ++ x ∷ [], ap (λ w. w ++ x ∷ []) is ∙ append_assoc s more (x ∷ []))
-
 module _ (s u : Scope) (f : Formal) (t : Subtype) (h : IsBehind s u) (named : subtype_of s f.subtype ≡ Some t) where
-  pub named_there : subtype_of u f.subtype ≡ Some t
-  named_there = ap (λ w. subtype_of w f.subtype) h.is ∙ subtype_kept s h.more f.subtype t named
-
-  pub visible_there : formal_scope u f ≡ with_name u f.name.name (Object (formal_role f.mode) t)
-  visible_there = ap (λ o. with_name u f.name.name (object_entity (formal_role f.mode) o)) named_there
-
-  pub one_behind : IsBehind s (formal_scope u f)
-  one_behind =
-      let grown = grown_by s u (object_named f.name.name (formal_role f.mode) t) h.more (is_visible u f.name.name) h.is in
-      record { more = grown.0; is = visible_there ∙ grown.1 }
-
   one_small : IsSmallScope s → IsSmallScope u → words_of s t ≤ 64 → IsSmallScope (formal_scope u f)
   one_small first small few =
-      let typed = subtype_known u f.subtype t small.sound named_there in
+      let typed = subtype_known u f.subtype t small.sound (named_there s u f t h named) in
       let same : words_of u t ≡ words_of s t = ap (λ w. words_of w t) h.is ∙ words_kept s h.more t (subtype_known s f.subtype t first.sound named) in
-      subst IsSmallScope (sym visible_there)
+      subst IsSmallScope (sym (visible_there s u f t h named))
       (small_named u f.name.name (formal_role f.mode) t small (formal_known f.mode u t typed) (few_words (words_of u t) (omega (arith, few, same))))
-
-formals_behind : (s u : Scope) (fs : List Formal) → IsBehind s u → AreNamed s fs → IsBehind s (formals_scope u fs)
-formals_behind s u [] h named = h
-formals_behind s u (f ∷ fs) h named = formals_behind s (formal_scope u f) fs (one_behind s u f named.0.0 h named.0.1) named.1
-
-pub all_behind : (s : Scope) (fs : List Formal) → AreNamed s fs → IsBehind s (formals_scope s fs)
-all_behind s fs named = formals_behind s s fs (record { more = []; is = sym (append-nil s) }) named
 
 -- ---- their words
 

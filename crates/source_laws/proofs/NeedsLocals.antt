@@ -2,7 +2,7 @@
 use Rattle.std.proofs.Common.{◌≡◌, ◌≤◌, ◌+◌, ◌*◌, ◌++◌, ℕ, max, [], ◌∷◌, List, true, false, not, Option, Some, None, refl, ap, subst, arith}
 use Rattle.std.proofs.Math.Nat.{le-max_left, le-max_right}
 use Rattle.std.proofs.lemmas.Bool.{or_from}
-use Rattle.ada_link.specs.base.specs.declared.faults.TheConstants.{NOT_STATIC}
+use Rattle.base.specs.declared.faults.TheConstants.{NOT_STATIC}
 use Rattle.ada_tree.specs.Depth.{declaration_depth, deepest, depth_if_any, expr_depth, object_depth}
 use Rattle.ada_tree.specs.ExpressionTree.{ExprTree}
 use Rattle.ada_tree.specs.Language.{Limit, Tokens, each, optional}
@@ -20,13 +20,16 @@ use Rattle.expr_soundness.specs.expr_rules.proofs.TypedLaw.{back_empty, front_em
 use Rattle.expr_soundness.specs.type_rules.specs.ObjectRules.{local_initial_faults, local_object_faults}
 use Rattle.expr_soundness.specs.type_rules.specs.SubtypeNames.{declared_twice, subtype_faults, subtype_of, wanted_by}
 use Rattle.program_soundness.specs.declaring.specs.LocalRules.{local_faults, local_scope, locals_faults}
+use Rattle.program_soundness.specs.step_soundness.specs.body_restrictions.specs.BodyRules as restrictions
 use Rattle.expr_soundness.proofs.Widening.{subtype_known}
-use Rattle.ada_link.specs.expr_code.specs.Refusing.{is_fit, peak}
-use Rattle.ada_link.specs.expr_code.specs.declared.visible.Visible.{Visible}
-use Rattle.ada_link.specs.part_code.specs.Bounds.{local_words, locals_words, words_if_any}
-use Rattle.ada_link.specs.part_code.specs.Needs.{framed, has_unfit, initial_needs, local_needs, local_visible, locals_needs, locals_visible, object_needs}
+use Rattle.expr_code.specs.Refusing.{is_fit, peak}
+use Rattle.expr_code.specs.declared.visible.Visible.{Visible}
+use Rattle.part_code.specs.Bounds.{local_words, locals_words, words_if_any}
+use Rattle.part_code.specs.Needs.{framed, has_unfit, initial_needs, local_needs, local_visible, locals_needs, locals_visible, object_needs}
+use Rattle.stmt_code.proofs.CoveredScopes.{whole_local}
+use Rattle.stmt_code.proofs.Declared.{local_subtype}
 use Rattle.source_laws.specs.Depths.{IsSmallScope, IsSmallVisible}
-use Rattle.source_laws.proofs.NeedsBounds.{Fits, both_fit, fits_more, nothing_fits, outside_left, outside_right, stack_fits, value_bound}
+use Rattle.source_laws.proofs.NeedsBounds.{Fits, both_fit, fits_more, nothing_fits, stack_fits, value_bound}
 use Rattle.source_laws.proofs.NeedsScopes.{few_words, small_local}
 use Rattle.source_laws.proofs.NeedsShapes.{fits_here, nothing_unfit}
 use Rattle.source_laws.proofs.NeedsValues.{typed_low}
@@ -34,7 +37,10 @@ use Rattle.source_laws.proofs.NeedsValues.{typed_low}
 abbrev pub initial_faults_by : Scope → Option ExprTree → Wanted → Faults → Faults
 initial_faults_by s o w others = elim o [ Some e ↦ faults_of s w e | None ↦ others ]
 
-module _ (v : Visible) (small : IsSmallScope v.scope) where
+module _ (exceptions : List (List ℕ)) (v : Visible) (here : IsSmallVisible exceptions v) where
+  abbrev small : IsSmallScope v.scope
+  small = here.names
+
   abbrev s : Scope
   s = v.scope
 
@@ -56,41 +62,44 @@ module _ (v : Visible) (small : IsSmallScope v.scope) where
   -- it fits, and what is visible behind it is small
   pub record LocalFits (taken : ℕ) (d : DeclarationTree) : Type 0 where
     pub own : Fits (local_needs v taken d) taken (local_words s d) (declaration_depth d)
-    pub behind : IsSmallScope (local_scope s d)
+    pub behind : IsSmallVisible exceptions (local_visible v taken d)
 
   local_object_fits : (taken : ℕ) (d : ObjectTree) (l : Limit) (ts : Tokens) → object l d ts → local_object_faults s d ≡ [] → (o : Option Subtype)
-      → subtype_of s d.subtype ≡ o → words_if_any s o ≤ 64 → (object_needs v taken o d.value).outside ≡ false
-      → Fits (object_needs v taken o d.value) taken (words_if_any s o) (object_depth d) × IsSmallScope (local_scope s (LocalObject d))
-  local_object_fits taken d l ts spelled h None is few out = absurd cc
-  local_object_fits taken d l ts spelled h (Some t) is few out =
+      → subtype_of s d.subtype ≡ o → words_if_any s o ≤ 64
+      → Fits (object_needs v taken o d.value) taken (words_if_any s o) (object_depth d) × IsSmallVisible exceptions (local_visible v taken (LocalObject d))
+  local_object_fits taken d l ts spelled h None is few = absurd (local_subtype s small.sound d h is)
+  local_object_fits taken d l ts spelled h (Some t) is few =
       let named = subtype_faults s d.subtype in
       let first = local_initial_faults s d in
       let value = back_empty named first (front_empty (named ++ first) (declared_twice s d.name) h) in
-      let wanted = subst (λ x. initial_faults_by s d.value (wanted_by x) (rule NOT_STATIC d.name.place d.constant) ≡ []) is value in (
+      let wanted = subst (λ x. initial_faults_by s d.value (wanted_by x) (rule NOT_STATIC d.name.place d.constant) ≡ []) is value in
+      let behind = whole_local exceptions v small.sound here.entries here.known taken d t is (back_empty (named ++ first) (declared_twice s d.name) h) in (
         both_fit (framed (taken + words_of s t)) (initial_needs v t d.value) taken (words_of s t) (object_depth d)
             (record { stack_low = omega arith; frame_low = omega arith; fit = refl })
             (stack_fits (initial_needs v t d.value) taken (words_of s t) (object_depth d)
             (initial_low t d.value l spelled.4.4.4.4.0 spelled.4.4.4.4.3 (rule NOT_STATIC d.name.place d.constant) wanted few) (initial_frame t d.value)
             (initial_fit t d.value (fits_here s small t (subtype_known s d.subtype t small.sound is) (few_words (words_of s t) few)))),
-        small_local s d t small is few,
+        record { names = small_local s d t small is few; entries = behind.entries; known = behind.has },
       )
 
-  local_fits : (taken : ℕ) (d : DeclarationTree) (l : Limit) (ts : Tokens) → declaration l d ts → local_faults s d ≡ [] → local_words s d ≤ 64
-      → (local_needs v taken d).outside ≡ false → LocalFits taken d
-  local_fits taken (LocalObject d) l ts spelled h few out =
-      let it = local_object_fits taken d l ts spelled h (subtype_of s d.subtype) refl few out in record { own = it.0; behind = it.1 }
-  local_fits taken (LocalTask d) l ts spelled h few out = absurd cc
-  local_fits taken (LocalProtected d) l ts spelled h few out = absurd cc
+  -- no task and no protected object is declared there
+  local_fits : (taken : ℕ) (d : DeclarationTree) (l : Limit) (ts : Tokens) → declaration l d ts → local_faults s d ≡ [] → restrictions.local_faults d ≡ []
+      → local_words s d ≤ 64 → LocalFits taken d
+  local_fits taken (LocalObject d) l ts spelled h allowed few =
+      let it = local_object_fits taken d l ts spelled h (subtype_of s d.subtype) refl few in record { own = it.0; behind = it.1 }
+  local_fits taken (LocalTask d) l ts spelled h allowed few = cc
+  local_fits taken (LocalProtected d) l ts spelled h allowed few = cc
 
 -- ... all of them, from the first one on
-pub record LocalsFit (v : Visible) (taken : ℕ) (ds : List DeclarationTree) : Type 0 where
+pub record LocalsFit (exceptions : List (List ℕ)) (v : Visible) (taken : ℕ) (ds : List DeclarationTree) : Type 0 where
   pub own : Fits (locals_needs v taken ds) taken (locals_words v.scope ds) (deepest declaration_depth ds)
-  pub behind : IsSmallVisible (locals_visible v taken ds)
+  pub behind : IsSmallVisible exceptions (locals_visible v taken ds)
 
-pub locals_fit : (ds : List DeclarationTree) (v : Visible) → IsSmallVisible v → (taken : ℕ) (l : Limit) (ts : Tokens) → each (declaration l) ds ts
-    → locals_faults v.scope ds ≡ [] → locals_words v.scope ds ≤ 64 → (locals_needs v taken ds).outside ≡ false → LocalsFit v taken ds
-locals_fit [] v small taken l ts spelled h few out = record { own = nothing_fits taken 0 0; behind = small }
-locals_fit (d ∷ ds) v small taken l ts spelled h few out =
+pub locals_fit : {exceptions : List (List ℕ)} (ds : List DeclarationTree) (v : Visible) → IsSmallVisible exceptions v → (taken : ℕ) (l : Limit) (ts : Tokens)
+    → each (declaration l) ds ts → locals_faults v.scope ds ≡ [] → restrictions.locals_faults ds ≡ [] → locals_words v.scope ds ≤ 64
+    → LocalsFit exceptions v taken ds
+locals_fit [] v small taken l ts spelled h allowed few = record { own = nothing_fits taken 0 0; behind = small }
+locals_fit {exceptions} (d ∷ ds) v small taken l ts spelled h allowed few =
     let here = local_faults v.scope d in
     let later = local_visible v taken d in
     let rest = locals_faults (local_scope v.scope d) ds in
@@ -98,9 +107,10 @@ locals_fit (d ∷ ds) v small taken l ts spelled h few out =
     let others = locals_words (local_scope v.scope d) ds in
     let ours = local_needs v taken d in
     let theirs = locals_needs later (taken + own) ds in
-    let one = local_fits v small.names taken d l spelled.0 spelled.3 (front_empty here rest h) (omega (arith, few)) (outside_left ours theirs out) in
-    let more = locals_fit ds later (record { names = one.behind }) (taken + own) l spelled.1 spelled.4
-    (back_empty here rest h) (omega (arith, few)) (outside_right ours theirs out) in
+    let one = local_fits exceptions v small taken d l spelled.0 spelled.3 (front_empty here rest h)
+    (front_empty (restrictions.local_faults d) (restrictions.locals_faults ds) allowed) (omega (arith, few)) in
+    let more = locals_fit ds later one.behind (taken + own) l spelled.1 spelled.4 (back_empty here rest h)
+    (back_empty (restrictions.local_faults d) (restrictions.locals_faults ds) allowed) (omega (arith, few)) in
     let deep = max (declaration_depth d) (deepest declaration_depth ds) in
     record {
       own = both_fit ours theirs taken (own + others) deep

@@ -1,20 +1,17 @@
 -- What is visible in a small source is small also where an object, a loop parameter or formals are visible besides.
 use Rattle.std.proofs.Common.{◌≡◌, ◌≤◌, ◌++◌, inl, inr, ◌+◌, ℕ, [], ◌∷◌, List, Bool, true, false, Option, Some, None, refl, sym, ap, ◌∙◌, subst, arith}
 use Rattle.std.specs.Prelude.{cond}
-use Rattle.ada_link.specs.base.specs.declared.limits.TheConstants.{WORDS}
+use Rattle.base.specs.declared.limits.TheConstants.{WORDS}
 use Rattle.ada_tree.specs.declared.expression.Identifier.{Identifier}
 use Rattle.ada_tree.specs.StatementTree.{ObjectTree, RangeTree}
 use Rattle.types.specs.declared.entity.FormalParameter.{FormalParameter}
 use Rattle.types.specs.declared.entity.Role.{Role}
 use Rattle.types.specs.declared.entity.Role.TheVariants as role
 use Rattle.types.specs.declared.entity.Subtype.{Subtype}
-use Rattle.types.specs.declared.standing.Callee.{Callee}
-use Rattle.types.specs.declared.standing.Callee.TheVariants as callee
 use Rattle.types.specs.Entities.{Entity, Object, Profile, Protected, Subprogram}
 use Rattle.types.specs.Layouts.{words_of}
-use Rattle.types.specs.Scopes.{Scope, base_range_of, entity_at, entity_of, form_at, integer_type, is_visible, number_of, profile_of, protected_at, protected_of, with_name}
+use Rattle.types.specs.Scopes.{Scope, base_range_of, entity_at, form_at, integer_type, is_visible, number_of, with_name}
 use Rattle.types.specs.Shapes.{words}
-use Rattle.types.specs.Standings.{callee_profile, profile_among}
 use Rattle.types.specs.Statics.{start_of}
 use Rattle.expr_soundness.specs.expr_rules.specs.declared.own.Own.{Own}
 use Rattle.expr_soundness.specs.expr_rules.specs.declared.own.Own.TheVariants.{Typed, Universal, Unknown}
@@ -24,28 +21,19 @@ use Rattle.expr_soundness.specs.expr_rules.specs.NameRules.{mismatch}
 use Rattle.expr_soundness.specs.expr_rules.specs.Typing.{is_integers, is_integral, own_of}
 use Rattle.expr_soundness.specs.expr_rules.proofs.TypedLaw.{back_empty, front_empty}
 use Rattle.expr_soundness.specs.type_rules.specs.ObjectRules.{local_object_scope, object_entity, role_of}
-use Rattle.expr_soundness.specs.type_rules.specs.SubtypeNames.{declared_twice, entity_at_or_none, subtype_in, subtype_of}
+use Rattle.expr_soundness.specs.type_rules.specs.SubtypeNames.{declared_twice, subtype_of}
 use Rattle.program_soundness.specs.declaring.specs.BodyNames.{bounds_type, if_integers, last_rule, loop_faults, loop_scope, loop_type, parameter_entity}
 use Rattle.expr_soundness.specs.SoundScopes.{AreKnown, IsKnown, IsSoundEntity, IsSoundObject, IsSoundProfile, SoundScope}
 use Rattle.expr_soundness.proofs.Goods.{not_empty, object_known, sound_operation, sound_result}
-use Rattle.expr_soundness.proofs.Growing.{form_before, grown, object_named, sound_with_object, test_kept}
-use Rattle.expr_soundness.proofs.Positions.{entity_added, entity_kept, item_added, number_added, number_kept}
+use Rattle.expr_soundness.proofs.Growing.{form_before, grown, object_named, sound_with_object}
+use Rattle.expr_soundness.proofs.Positions.{entity_added}
 use Rattle.expr_soundness.proofs.Widening.{subtype_known}
-use Rattle.ada_link.specs.expr_code.specs.Seeing.{NamesProfile, external_profile, profile_behind, profile_named, subprogram_profile}
-use Rattle.ada_link.specs.expr_code.proofs.Externals.{is_behind}
-use Rattle.ada_link.specs.expr_code.proofs.Widths.{fits, integral_one, known, words_by_type}
-use Rattle.source_laws.specs.Depths.{AreScalar, IsSmallScope, ObjectsHaveRoom, formals_take, is_full, is_scalar_form}
-
-no_profile : (p : Profile) → None ≡ Some p → ⊥
-no_profile p h = cc
-
--- ---- profiles by their names
-
-abbrev pub profile_by : Scope → Option ℕ → Option Profile
-profile_by s o = elim o [ None ↦ None | Some n ↦ subprogram_profile (entity_at s n) ]
-
-abbrev behind_by : Scope → (operation : List ℕ) → Option ℕ → Option Profile
-behind_by s operation o = profile_behind (elim o [ None ↦ None | Some n ↦ protected_at s n ]) operation
+use Rattle.expr_code.specs.Seeing.{NamesProfile, external_profile, profile_named, subprogram_profile}
+use Rattle.expr_code.proofs.Externals.{is_behind}
+use Rattle.expr_code.proofs.Widths.{fits, integral_one, known, words_by_type}
+use Rattle.stmt_code.proofs.ObjectMore.{behind_before, callee_before, constant_or_variable, named_before, profile_by, scalar_kept}
+use Rattle.source_laws.specs.Depths.{IsSmallScope, ObjectsHaveRoom, formals_take}
+use Rattle.part_code.specs.Providing.{is_full}
 
 profile_is : (o : Option Entity) (p : Profile) → subprogram_profile o ≡ Some p → o ≡ Some (Subprogram p)
 profile_is (Some (Subprogram q)) p h = let f : Option Profile → Profile = λ x. elim x [ Some y ↦ y | None ↦ q ] in ap (λ x. Some (Subprogram (f x))) h
@@ -56,7 +44,7 @@ names_profile s name p h = by_number (number_of s name) refl h
   where
     by_number : (o : Option ℕ) → number_of s name ≡ o → profile_by s o ≡ Some p → NamesProfile s name p
     by_number (Some n) is k = record { number = n; numbered = is; stands = profile_is (entity_at s n) p k }
-    by_number None is k = absurd (no_profile p k)
+    by_number None is k = absurd cc
 
 pub known_formals : (s : Scope) (name : List ℕ) (p : Profile) → SoundScope s → profile_named s name ≡ Some p → AreKnown s p.formals
 known_formals s name p sound h =
@@ -84,72 +72,11 @@ module _ (s more : Scope) where
   formals_kept [] h = refl
   formals_kept (f ∷ fs) h = λ j. words_kept f.subtype h.0 j + formals_kept fs h.1 j
 
-  pub scalar_kept : (fs : List FormalParameter) → AreScalar s fs → AreScalar (s ++ more) fs
-  scalar_kept [] h = tt
-  scalar_kept (f ∷ fs) h = (test_kept s (s ++ more) (grown s more) is_scalar_form refl f.subtype.type_number h.0, scalar_kept fs h.1)
-
-  -- a subtype that is named there is the same
-  pub subtype_kept : (name : Identifier) (t : Subtype) → subtype_of s name ≡ Some t → subtype_of (s ++ more) name ≡ Some t
-  subtype_kept name t h = by_number (number_of s name.name) refl h
-    where
-      by_entity : (n : ℕ) (o : Option Entity) → number_of s name.name ≡ Some n → entity_at s n ≡ o → subtype_in o ≡ Some t
-          → subtype_of (s ++ more) name ≡ Some t
-      by_entity n (Some e) is at k =
-          ap (λ m. subtype_in (entity_at_or_none (s ++ more) m)) (number_kept s more name.name n is) ∙ ap subtype_in (entity_kept s more n e at) ∙ k
-      by_entity n None is at k = absurd cc
-
-      by_number : (o : Option ℕ) → number_of s name.name ≡ o → subtype_in (entity_at_or_none s o) ≡ Some t → subtype_of (s ++ more) name ≡ Some t
-      by_number (Some n) is k = by_entity n (entity_at s n) is refl k
-      by_number None is k = absurd cc
-
 -- ---- with an object more
 
 module _ (s : Scope) (name : List ℕ) (r : Role) (t : Subtype) where
   abbrev more : Scope
   more = object_named name r t ∷ []
-
-  -- what has a profile had it before
-  profile_before : (g : Option Entity → Option Profile) → g None ≡ None → g (Some (Object r t)) ≡ None → (n : ℕ) (p : Profile)
-      → g (entity_at (s ++ more) n) ≡ Some p → g (entity_at s n) ≡ Some p
-  profile_before g none object n p h = by_entity (entity_at (s ++ more) n) refl h
-    where
-      by_entity : (o : Option Entity) → entity_at (s ++ more) n ≡ o → g o ≡ Some p → g (entity_at s n) ≡ Some p
-      by_entity (Some e) is k =
-          elim (entity_added s (object_named name r t) n e is) [
-            | inl i ↦ ap g i ∙ k
-            | inr i ↦ absurd (no_profile p (sym object ∙ ap (λ y. g (Some y)) i.1 ∙ k))
-          ]
-      by_entity None is k = absurd (no_profile p (sym none ∙ k))
-
-  pub callee_before : (f : Callee) (p : Profile) → callee_profile (s ++ more) f ≡ Some p → callee_profile s f ≡ Some p
-  callee_before (callee.Direct n) p h = profile_before profile_of refl refl n p h
-  callee_before (callee.Operation o k) p h = profile_before (λ e. profile_among (protected_of e) k) refl refl o p h
-
-  pub named_before : (other : List ℕ) (p : Profile) → profile_named (s ++ more) other ≡ Some p → profile_named s other ≡ Some p
-  named_before other p h = by_number (number_of (s ++ more) other) refl h
-    where
-      by_number : (o : Option ℕ) → number_of (s ++ more) other ≡ o → profile_by (s ++ more) o ≡ Some p → profile_named s other ≡ Some p
-      by_number (Some n) is k =
-          elim (number_added s (object_named name r t) other n is) [
-            | inl i ↦ ap (profile_by s) i ∙ profile_before subprogram_profile refl refl n p k
-            | inr i ↦ absurd (no_profile p (sym (ap (λ m. subprogram_profile (entity_at (s ++ more) m)) i.0 ∙ ap (λ x. subprogram_profile (entity_of x))
-                (item_added s (object_named name r t))) ∙ k))
-          ]
-      by_number None is k = absurd (no_profile p k)
-
-  pub behind_before : (object operation : List ℕ) (p : Profile) → external_profile (s ++ more) object operation ≡ Some p
-      → external_profile s object operation ≡ Some p
-  behind_before object operation p h = by_number (number_of (s ++ more) object) refl h
-    where
-      by_number : (o : Option ℕ) → number_of (s ++ more) object ≡ o → behind_by (s ++ more) operation o ≡ Some p
-          → external_profile s object operation ≡ Some p
-      by_number (Some n) is k =
-          elim (number_added s (object_named name r t) object n is) [
-            | inl i ↦ ap (behind_by s operation) i ∙ profile_before (λ e. profile_behind (protected_of e) operation) refl refl n p k
-            | inr i ↦ absurd (no_profile p (sym (ap (λ m. behind_by (s ++ more) operation (Some m)) i.0
-                ∙ ap (λ x. profile_behind (protected_of (entity_of x)) operation) (item_added s (object_named name r t))) ∙ k))
-          ]
-      by_number None is k = absurd (no_profile p k)
 
   abbrev object_type : Entity → Subtype
   object_type (Object q u) = u
@@ -168,21 +95,19 @@ module _ (s : Scope) (name : List ℕ) (r : Role) (t : Subtype) where
       record {
         sound = sound_with_object s name r t small.sound object;
         formals =
-            λ f p is. let x =
-            small.formals f p (callee_before f p is) in record {
+            λ f p is. let x = small.formals f p (callee_before s name r t f p is) in record {
               few = x.few;
-              scalar = λ result given. scalar_kept s more p.formals
-                  (x.scalar result given);
+              scalar = λ result given. scalar_kept s more p.formals (x.scalar result given);
             };
         words = λ other p is.
-            let here = named_before other p is in
+            let here = named_before s name r t other p is in
             subst (λ n. n ≤ 64) (sym (formals_kept s more p.formals (known_formals s other p small.sound here))) (small.words other p here);
         full = λ n form is.
             let before = form_before s name r t n form is in
             ap is_full ((grown s more).shapes n form before) ∙ small.full n form before;
         objects = room_behind small object few;
         behind = λ object operation p is.
-            let here = behind_before object operation p is in
+            let here = behind_before s name r t object operation p is in
             subst (λ n. n ≤ 64) (sym (formals_kept s more p.formals (known_behind s object operation p small.sound here)))
             (small.behind object operation p here);
       }
@@ -198,10 +123,6 @@ module _ (s : Scope) (name : List ℕ) (r : Role) (t : Subtype) where
 
 pub few_words : (n : ℕ) → n ≤ 64 → n ≤ WORDS
 few_words n h = omega (arith, h)
-
-pub constant_or_variable : (s : Scope) (b : Bool) (t : Subtype) → IsKnown s t → IsSoundObject s (role_of b) t
-constant_or_variable s true t h = h
-constant_or_variable s false t h = h
 
 pub small_local : (s : Scope) (d : ObjectTree) (t : Subtype) → IsSmallScope s → subtype_of s d.subtype ≡ Some t → words_of s t ≤ 64
     → IsSmallScope (local_object_scope s d)
@@ -252,5 +173,3 @@ small_loop s parameter r small h =
     subst (λ o. IsSmallScope (with_name s parameter.name (parameter_entity o))) (sym found.1)
     (small_named s parameter.name role.LoopParameter (base_range_of found.0) small found.2
     (let one = integral_one s (Typed found.0) found.2 in few_words (words_of s (base_range_of found.0)) (omega (arith, one))))
-
--- ---- where words stand

@@ -2,7 +2,7 @@
 use Rattle.std.proofs.Common.{◌≡◌, ◌≤◌, ℕ, suc, [], ◌∷◌, List, true, false, not, Some, refl, ap, ◌∙◌}
 use Rattle.std.specs.Prelude.{⊤, slice_get}
 use Rattle.std.proofs.lemmas.Bool.{or_from}
-use Rattle.ada_link.specs.base.specs.declared.limits.TheConstants.{WORDS}
+use Rattle.base.specs.declared.limits.TheConstants.{WORDS}
 use Rattle.types.specs.declared.entity.FormalParameter.{FormalParameter}
 use Rattle.types.specs.declared.entity.Subtype.{Subtype}
 use Rattle.types.specs.Entities.{Entity, Object}
@@ -11,11 +11,12 @@ use Rattle.types.specs.Scopes.{Scope, base_range_of, entity_at, form_at}
 use Rattle.types.specs.Shapes.{shape_of, shape_or_none, shapes}
 use Rattle.expr_soundness.specs.SoundScopes.{IsKnown}
 use Rattle.expr_soundness.proofs.Goods.{not_empty, object_known}
-use Rattle.ada_link.specs.expr_code.specs.Refusing.{is_fit}
-use Rattle.ada_link.specs.expr_code.specs.declared.visible.Visible.{Visible}
-use Rattle.ada_link.specs.part_code.specs.Needs.{are_unfit, has_unfit, is_unfit}
+use Rattle.expr_code.specs.Refusing.{is_fit}
+use Rattle.expr_code.specs.declared.visible.Visible.{Visible}
+use Rattle.part_code.specs.Needs.{are_unfit, has_unfit, is_unfit}
 use Rattle.source_laws.specs.Depths.{IsSmallScope}
-use Rattle.source_laws.proofs.FullShapes.{full_fit, narrowed_full}
+use Rattle.part_code.proofs.FullWords.{narrowed_full}
+use Rattle.source_laws.proofs.FullShapes.{full_fit}
 
 -- ---- what is visible
 

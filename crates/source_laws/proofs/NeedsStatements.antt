@@ -1,24 +1,24 @@
 -- What statements need: words of the operand stack by their levels, and words of the frame by what they declare and their levels.
-use Rattle.std.proofs.Common.{◌≡◌, ◌≤◌, ◌++◌, ◌+◌, ◌*◌, ℕ, zero, suc, max, [], ◌∷◌, List, false, ◌&&◌, Option, Some, None, refl, sym, ap, subst, arith}
+use Rattle.std.proofs.Common.{◌≡◌, ◌≤◌, ◌++◌, ◌+◌, ◌*◌, ℕ, zero, suc, max, [], ◌∷◌, List, ◌&&◌, Option, Some, None, refl, sym, ap, subst, arith}
 use Rattle.std.specs.Prelude.{⊤}
 use Rattle.std.proofs.Math.Nat.{le-max_left, le-max_right}
-use Rattle.ada_link.specs.lexer.specs.declared.delimiter.Delimiter.TheVariants as marks
-use Rattle.ada_link.specs.lexer.specs.declared.word.Word.TheVariants as words
+use Rattle.lexer.specs.declared.delimiter.Delimiter.TheVariants as marks
+use Rattle.lexer.specs.declared.word.Word.TheVariants as words
 use Rattle.ada_tree.specs.declared.expression.Identifier.{Identifier}
 use Rattle.ada_tree.specs.Depth.{alternatives_depth, declaration_depth, deepest, depth_if_any, elsifs_depth, expr_depth, handlers_depth, stmt_depth, stmts_depth}
 use Rattle.ada_tree.specs.ExpressionGrammar.{Simple, expression}
 use Rattle.ada_tree.specs.ExpressionTree.{ExprTree}
 use Rattle.ada_tree.specs.Language.{Limit, Tokens, ◌⨾◌, each, inside, mark, optional, word, word_at}
-use Rattle.ada_tree.specs.StatementGrammar.{block_declarations, declaration, iteration, range}
+use Rattle.ada_tree.specs.StatementGrammar.{block_declarations, declaration, iteration}
 use Rattle.ada_tree.specs.StatementGrammar as grammar
-use Rattle.ada_tree.specs.StatementTree.{AlternativeTrees, Assignment, Block, Call, Case, ChoicesTree, DeclarationTree, DelayUntil, ElsifTrees, Exit, For, Forever, HandlerTrees, If, IterationTree, Loop, MoreAlternatives, MoreElsifs, MoreHandlers, MoreStmts, NoAlternatives, NoElsifs, NoHandlers, NoStmts, Null, OtherValues, Raise, Return, StmtTree, StmtTrees, Values, While}
+use Rattle.ada_tree.specs.StatementTree.{AlternativeTrees, Assignment, Block, Call, Case, ChoicesTree, DeclarationTree, DelayUntil, ElsifTrees, Exit, For, Forever, HandlerTrees, If, IterationTree, Loop, MoreAlternatives, MoreElsifs, MoreHandlers, MoreStmts, NoAlternatives, NoElsifs, NoHandlers, NoStmts, Null, OtherValues, Raise, RangeTree, StmtTree, StmtTrees, Values, While}
 use Rattle.types.specs.declared.entity.Value.{Value as Scalar}
-use Rattle.types.specs.Scopes.{Scope}
 use Rattle.expr_soundness.specs.expr_rules.specs.declared.own.Wanted.{Wanted}
 use Rattle.expr_soundness.specs.expr_rules.specs.Typing.{own_of}
 use Rattle.expr_soundness.specs.expr_rules.proofs.TypedLaw.{back_empty, front_empty}
 use Rattle.program_soundness.specs.declaring.specs.BodyNames.{loop_faults, loop_scope}
 use Rattle.program_soundness.specs.declaring.specs.LocalRules.{locals_faults, locals_scope}
+use Rattle.program_soundness.specs.step_soundness.specs.body_restrictions.specs.BodyRules as restrictions
 use Rattle.program_soundness.specs.stmt_rules.specs.declared.around.Around as rules
 use Rattle.program_soundness.specs.stmt_rules.specs.CaseRules.{choices_faults, choices_wanted, chosen_by, others_rule, selecting_faults}
 use Rattle.program_soundness.specs.stmt_rules.specs.CaseRules as alternatives
@@ -26,15 +26,16 @@ use Rattle.program_soundness.specs.stmt_rules.specs.HandlerRules.{exception_choi
 use Rattle.program_soundness.specs.stmt_rules.specs.HandlerRules as handlers
 use Rattle.program_soundness.specs.stmt_rules.specs.SimpleRules.{condition_faults, exit_rule, optional_condition_faults}
 use Rattle.program_soundness.specs.stmt_rules.specs.StatementRules.{alternatives_faults, elsifs_faults, in_handler, in_loop, more_handlers_faults, stmt_faults, stmts_faults}
-use Rattle.ada_link.specs.expr_code.specs.Refusing.{peak}
-use Rattle.ada_link.specs.expr_code.specs.declared.visible.Visible.{Visible}
-use Rattle.ada_link.specs.part_code.specs.Bounds.{alternatives_words, elsifs_words, handlers_words, locals_words, stmt_words, stmts_words}
-use Rattle.ada_link.specs.stmt_code.specs.Refusing.{Standpoint, alternatives_needs, behind_locals, elsifs_needs, handler_needs, handlers_needs, head_needs, inside_counted, inside_handler, inside_loop, needs_if_any, raise_needs, return_needs, stmt_needs, stmts_needs}
-use Rattle.ada_link.specs.part_code.specs.Needs.{beyond_if, both, choices_needs, framed, locals_needs, needs_above, value_needs}
-use Rattle.ada_link.specs.stmt_code.proofs.Refused.{locals_seen}
+use Rattle.expr_code.specs.Refusing.{peak}
+use Rattle.expr_code.specs.declared.visible.Visible.{Visible}
+use Rattle.part_code.specs.Bounds.{alternatives_words, elsifs_words, handlers_words, locals_words, stmt_words, stmts_words}
+use Rattle.stmt_code.specs.Refusing.{Standpoint, alternatives_needs, behind_locals, counted_visible, elsifs_needs, handler_needs, handlers_needs, head_needs, inside_counted, inside_handler, needs_if_any, stmt_needs, stmts_needs}
+use Rattle.part_code.specs.Needs.{both, choices_needs, framed, locals_needs, needs_above, value_needs}
+use Rattle.stmt_code.proofs.CoveredScopes.{whole_loop}
+use Rattle.stmt_code.proofs.Refused.{locals_seen}
 use Rattle.source_laws.specs.Depths.{IsSmallScope, IsSmallVisible}
 use Rattle.source_laws.proofs.NeedsAssignments.{assignment_fits}
-use Rattle.source_laws.proofs.NeedsBounds.{Fits, beyond_fits, both_fit, fits_more, nothing_fits, outside_left, outside_right}
+use Rattle.source_laws.proofs.NeedsBounds.{Fits, both_fit, fits_more, nothing_fits}
 use Rattle.source_laws.proofs.NeedsCalls.{call_fits}
 use Rattle.source_laws.proofs.NeedsLocals.{locals_fit}
 use Rattle.source_laws.proofs.NeedsScopes.{bounds_legal, small_loop}
@@ -121,9 +122,9 @@ value_fits : (v : Visible) → IsSmallScope v.scope → (depth : ℕ) (e : ExprT
 value_fits v small depth e taken words deep h few below =
     record { stack_low = omega (arith, h, few, below); frame_low = omega arith; fit = nothing_unfit v small }
 
-choices_fit : (s : Scope) (choices : ChoicesTree) (taken words deep : ℕ) → Fits (choices_needs s choices) taken words deep
-choices_fit s (Values cs) taken words deep = record { stack_low = omega arith; frame_low = omega arith; fit = refl }
-choices_fit s (OtherValues place) taken words deep = record { stack_low = omega arith; frame_low = omega arith; fit = refl }
+choices_fit : (choices : ChoicesTree) (taken words deep : ℕ) → Fits (choices_needs choices) taken words deep
+choices_fit (Values cs) taken words deep = record { stack_low = omega arith; frame_low = omega arith; fit = refl }
+choices_fit (OtherValues place) taken words deep = record { stack_low = omega arith; frame_low = omega arith; fit = refl }
 
 exit_fits : (a : Standpoint) (o : Option ExprTree) (l : Limit) (ts : Tokens) → optional (λ e. word words.When ⨾ expression l e) o ts
     → IsSmallScope a.visible.scope
@@ -132,37 +133,30 @@ exit_fits a None l ts d small h taken words = nothing_fits taken words 0
 exit_fits a (Some e) l ts d small h taken words =
     value_fits a.visible small 0 e taken words (expr_depth e) (condition_low a.visible.scope small e l d.1 d.4 h) (omega arith) (omega arith)
 
-test_fits : (outside : _) (taken words deep : ℕ) → Fits (beyond_if outside) taken words deep
-test_fits outside taken words deep = record { stack_low = omega arith; frame_low = omega arith; fit = refl }
-
-return_fits : (returns : _) (o : Option ExprTree) (taken words deep : ℕ) → Fits (return_needs returns o) taken words deep
-return_fits returns None taken words deep = record { stack_low = omega arith; frame_low = omega arith; fit = refl }
-return_fits returns (Some e) taken words deep = record { stack_low = omega arith; frame_low = omega arith; fit = refl }
-
-raise_fits : (a : Standpoint) (o : Option Identifier) (taken words deep : ℕ) → Fits (raise_needs a o) taken words deep
-raise_fits a (Some name) taken words deep = record { stack_low = omega arith; frame_low = omega arith; fit = refl }
-raise_fits a None taken words deep = record { stack_low = omega arith; frame_low = omega arith; fit = refl }
+-- what is visible in a loop over a range
+counted_small : {exceptions : List (List ℕ)} (a : Standpoint) (parameter : Identifier) (r : RangeTree) → IsSmallVisible exceptions a.visible
+    → loop_faults a.visible.scope parameter r ≡ [] → IsSmallVisible exceptions (counted_visible a parameter r)
+counted_small {exceptions} a parameter r small legal =
+    let behind = whole_loop exceptions a.visible small.names.sound small.entries small.known a.taken parameter r legal in
+    record { names = small_loop a.visible.scope parameter r small.names legal; entries = behind.entries; known = behind.has }
 
 -- ---- statements
 
 mutual
-  pub stmt_fits : (x : StmtTree) (a : Standpoint) (b : rules.Around) (l : Limit) (ts : Tokens) → grammar.stmt x l ts → stmt_faults a.visible.scope b x ≡ []
-      → IsSmallVisible a.visible → stmt_words a.visible.scope x ≤ 64 → (stmt_needs a x).outside ≡ false
+  pub stmt_fits : {exceptions : List (List ℕ)} (x : StmtTree) (a : Standpoint) (b : rules.Around) (l : Limit) (ts : Tokens) → grammar.stmt x l ts
+      → stmt_faults a.visible.scope b x ≡ [] → IsSmallVisible exceptions a.visible → stmt_words a.visible.scope x ≤ 64 → restrictions.stmt_faults x ≡ []
       → Fits (stmt_needs a x) a.taken (stmt_words a.visible.scope x) (stmt_depth x)
-  stmt_fits (Null place) a b l ts d h small few out = nothing_fits a.taken 0 0
-  stmt_fits (Assignment target value) a b l ts d h small few out =
-      assignment_fits a.visible small.names target value l d.0 d.4.4.0 d.3 d.4.4.3 h out a.taken 0
-  stmt_fits (Call name) a b l ts d h small few out = call_fits a.visible small.names name l d.0 d.3 h out a.taken 0
-  stmt_fits (Exit place condition) a b l ts d h small few out =
-      both_fit (beyond_if _) (needs_if_any a.visible condition) a.taken 0 (depth_if_any expr_depth condition)
-      (test_fits _ a.taken 0 (depth_if_any expr_depth condition))
-      (exit_fits a condition l d.4.0 d.4.3 small.names (back_empty (exit_rule b place) (optional_condition_faults a.visible.scope condition) h) a.taken 0)
-  stmt_fits (Return place value) a b l ts d h small few out = return_fits a.returns value a.taken 0 (depth_if_any expr_depth value)
-  stmt_fits (Raise place name) a b l ts d h small few out = raise_fits a name a.taken 0 0
-  stmt_fits (DelayUntil place e) a b l ts d h small few out =
+  stmt_fits (Null place) a b l ts d h small few allowed = nothing_fits a.taken 0 0
+  stmt_fits (Assignment target value) a b l ts d h small few allowed =
+      assignment_fits a.visible small.names small.known.expressions target value l d.0 d.4.4.0 d.3 d.4.4.3 h a.taken 0
+  stmt_fits (Call name) a b l ts d h small few allowed = call_fits a.visible small.names name l d.0 d.3 h a.taken 0
+  stmt_fits (Exit place condition) a b l ts d h small few allowed =
+      exit_fits a condition l d.4.0 d.4.3 small.names (back_empty (exit_rule b place) (optional_condition_faults a.visible.scope condition) h) a.taken 0
+  stmt_fits (Raise place name) a b l ts d h small few allowed = record { stack_low = omega arith; frame_low = omega arith; fit = refl }
+  stmt_fits (DelayUntil place e) a b l ts d h small few allowed =
       value_fits a.visible small.names 0 e a.taken 0 (expr_depth e)
       (until_low a.visible.scope small.names place e l d.4.4.0 d.4.4.3 (record { around = b; unbroken = h })) (omega arith) (omega arith)
-  stmt_fits (If place condition body elsifs others) a b l ts d h small few out =
+  stmt_fits (If place condition body elsifs others) a b l ts d h small few allowed =
       let s = a.visible.scope in
       let x = opened l (IfParts place condition body elsifs others) ts d in
       let i = x.1 in
@@ -172,12 +166,11 @@ mutual
       let o = stmts_faults s b others in
       let three = front_empty ((c ++ f) ++ g) o h in
       let two = front_empty (c ++ f) g three in
+      let fine = front_empty (restrictions.stmts_faults body ++ restrictions.elsifs_faults elsifs) (restrictions.stmts_faults others) allowed in
       let value = value_needs a.visible condition in
       let first = stmts_needs a body in
       let middle = elsifs_needs a elsifs in
       let end = stmts_needs a others in
-      let behind = outside_right value (both first (both middle end)) out in
-      let later = outside_right first (both middle end) behind in
       let m = stmts_words s body in
       let n = elsifs_words s elsifs in
       let k = stmts_words s others in
@@ -185,17 +178,18 @@ mutual
       let p = value_fits a.visible small.names 0 condition a.taken (m + n + k) deep
       (condition_low s small.names condition x.0 i.4.0 i.4.3 (front_empty c f two)) (omega arith) (omega arith) in
       let q = stmts_fit body a b x.0 (stmts_spelled x.0 body i.4.4.4.0 i.4.4.4.3) (back_empty c f two) small (omega (arith, few))
-      (outside_left first (both middle end) behind) in
-      let r = elsifs_fit elsifs a b x.0 i.4.4.4.4.0 i.4.4.4.4.3 (back_empty (c ++ f) g three) small (omega (arith, few)) (outside_left middle end later) in
+      (front_empty (restrictions.stmts_faults body) (restrictions.elsifs_faults elsifs) fine) in
+      let r = elsifs_fit elsifs a b x.0 i.4.4.4.4.0 i.4.4.4.4.3 (back_empty (c ++ f) g three) small (omega (arith, few))
+      (back_empty (restrictions.stmts_faults body) (restrictions.elsifs_faults elsifs) fine) in
       let u = stmts_fit others a b x.0 (else_spelled x.0 others i.4.4.4.4.4.0 i.4.4.4.4.4.3) (back_empty ((c ++ f) ++ g) o h) small (omega (arith, few))
-      (outside_right middle end later) in
+      (back_empty (restrictions.stmts_faults body ++ restrictions.elsifs_faults elsifs) (restrictions.stmts_faults others) allowed) in
       both_fit value (both first (both middle end)) a.taken (m + n + k) deep p
       (both_fit first (both middle end) a.taken (m + n + k) deep
       (fits_more first a.taken a.taken m (m + n + k) (stmts_depth body) deep q (omega arith) (omega arith))
       (both_fit middle end a.taken (m + n + k) deep
       (fits_more middle a.taken a.taken n (m + n + k) (elsifs_depth elsifs) deep r (omega arith) (omega arith))
       (fits_more end a.taken a.taken k (m + n + k) (stmts_depth others) deep u (omega arith) (omega arith))))
-  stmt_fits (Case place value all) a b l ts d h small few out =
+  stmt_fits (Case place value all) a b l ts d h small few allowed =
       let s = a.visible.scope in
       let x = opened l (CaseParts place value all) ts d in
       let i = x.1 in
@@ -209,34 +203,32 @@ mutual
       let p = value_fits a.visible small.names 0 value a.taken w deep (selecting_low s small.names value x.0 i.4.0 i.4.3 (front_empty c f two)) (omega arith)
       (omega arith) in
       let q = alternatives_fit all a b (choices_wanted s (own_of s value)) [] x.0 (some_spelled x.0 all i.4.4.4.0 i.4.4.4.3) (back_empty c f two) small few
-      (outside_right first rest out) in
+      allowed in
       both_fit first rest a.taken w deep p (fits_more rest a.taken a.taken w w (alternatives_depth all) deep q (omega arith) (omega arith))
-  stmt_fits (Loop place Forever body) a b l ts d h small few out =
+  stmt_fits (Loop place Forever body) a b l ts d h small few allowed =
       let x = opened l (LoopParts place Forever body) ts d in
       let i = x.1 in
-      let inner = stmts_needs (inside_loop a) body in
+      let inner = stmts_needs a body in
       let w = stmts_words a.visible.scope body in
       let deep = suc (max 0 (stmts_depth body)) in
-      let q = stmts_fit body (inside_loop a) (in_loop b) x.0 (stmts_spelled x.0 body i.4.0 i.4.3) h small few
-      (outside_right (head_needs a Forever) inner out) in
+      let q = stmts_fit body a (in_loop b) x.0 (stmts_spelled x.0 body i.4.0 i.4.3) h small few allowed in
       both_fit (head_needs a Forever) inner a.taken w deep (nothing_fits a.taken w deep)
       (fits_more inner a.taken a.taken w w (stmts_depth body) deep q (omega arith) (omega arith))
-  stmt_fits (Loop place (While condition) body) a b l ts d h small few out =
+  stmt_fits (Loop place (While condition) body) a b l ts d h small few allowed =
       let s = a.visible.scope in
       let x = opened l (LoopParts place (While condition) body) ts d in
       let i = x.1 in
       let c = condition_faults s condition in
       let f = stmts_faults s (in_loop b) body in
       let first = value_needs a.visible condition in
-      let inner = stmts_needs (inside_loop a) body in
+      let inner = stmts_needs a body in
       let w = stmts_words s body in
       let deep = suc (max (expr_depth condition) (stmts_depth body)) in
       let p = value_fits a.visible small.names 0 condition a.taken w deep (condition_low s small.names condition x.0 i.3.4.0 i.3.4.3 (front_empty c f h))
       (omega arith) (omega arith) in
-      let q = stmts_fit body (inside_loop a) (in_loop b) x.0 (stmts_spelled x.0 body i.4.0 i.4.3) (back_empty c f h) small few
-      (outside_right first inner out) in
+      let q = stmts_fit body a (in_loop b) x.0 (stmts_spelled x.0 body i.4.0 i.4.3) (back_empty c f h) small few allowed in
       both_fit first inner a.taken w deep p (fits_more inner a.taken a.taken w w (stmts_depth body) deep q (omega arith) (omega arith))
-  stmt_fits (Loop place (For parameter reversed r) body) a b l ts d h small few out =
+  stmt_fits (Loop place (For parameter reversed r) body) a b l ts d h small few allowed =
       let s = a.visible.scope in
       let x = opened l (LoopParts place (For parameter reversed r) body) ts d in
       let i = x.1 in
@@ -256,15 +248,14 @@ mutual
       let q = value_fits a.visible small.names 1 r.last a.taken w deep
       (integer_low s small.names Simple r.last x.0 ranged.4.1 ranged.4.4 (omega arith) bounds.last) (omega arith) (omega arith) in
       let u = stmts_fit body (inside_counted a parameter r) (in_loop b) x.0 (stmts_spelled x.0 body i.4.0 i.4.3) (back_empty c f h)
-      (record { names = small_loop s parameter r small.names legal }) few
-      (outside_right head inner out) in
+      (counted_small a parameter r small legal) few allowed in
       let frame = u.frame_low in
       let stack = u.stack_low in
       both_fit head inner a.taken w deep
       (both_fit (framed (a.taken + 2)) (both first last) a.taken w deep (record { stack_low = omega arith; frame_low = omega arith; fit = refl })
       (both_fit first last a.taken w deep p q))
       (record { stack_low = omega (arith, stack); frame_low = omega (arith, frame); fit = u.fit })
-  stmt_fits (Block place ds body all) a b l ts d h small few out =
+  stmt_fits (Block place ds body all) a b l ts d h small few allowed =
       let s = a.visible.scope in
       let x = opened l (BlockParts place ds body all) ts d in
       let i = x.1 in
@@ -273,6 +264,7 @@ mutual
       let f = stmts_faults (locals_scope s ds) b body in
       let g = more_handlers_faults (locals_scope s ds) b [] all in
       let two = front_empty (c ++ f) g h in
+      let fine = front_empty (restrictions.locals_faults ds ++ restrictions.stmts_faults body) (restrictions.handlers_faults all) allowed in
       let behind = behind_locals a ds in
       let own = locals_needs a.visible a.taken ds in
       let inner = stmts_needs behind body in
@@ -280,18 +272,18 @@ mutual
       let n = locals_words s ds in
       let m = stmts_words (locals_scope s ds) body in
       let k = handlers_words (locals_scope s ds) all in
-      let later = outside_right own (both inner caught) out in
       let each_declared = declared_each x.0 place ds i.0 i.3 in
-      let p = locals_fit ds a.visible small a.taken x.0 each_declared.0 each_declared.1 (front_empty c f two) (omega (arith, few))
-      (outside_left own (both inner caught) out) in
+      let p = locals_fit ds a.visible small a.taken x.0 each_declared.0 each_declared.1 (front_empty c f two)
+      (front_empty (restrictions.locals_faults ds) (restrictions.stmts_faults body) fine) (omega (arith, few)) in
       let m_same : stmts_words behind.visible.scope body ≡ m = ap (λ u. stmts_words u body) seen in
       let k_same : handlers_words behind.visible.scope all ≡ k = ap (λ u. handlers_words u all) seen in
       let q = stmts_fit body behind b x.0 (stmts_spelled x.0 body i.4.0 i.4.3)
       (subst (λ u. stmts_faults u b body ≡ []) (sym seen) (back_empty c f two)) p.behind (omega (arith, few, m_same))
-      (outside_left inner caught later) in
+      (back_empty (restrictions.locals_faults ds) (restrictions.stmts_faults body) fine) in
       let r = handlers_fit all behind b [] x.0 (handlers_spelled x.0 all i.4.4.0 i.4.4.3)
       (subst (λ u. more_handlers_faults u b [] all ≡ []) (sym seen) (back_empty (c ++ f) g h)) p.behind
-      (omega (arith, few, k_same)) (outside_right inner caught later) in
+      (omega (arith, few, k_same))
+      (back_empty (restrictions.locals_faults ds ++ restrictions.stmts_faults body) (restrictions.handlers_faults all) allowed) in
       let deep = suc (max (deepest declaration_depth ds) (max (stmts_depth body) (handlers_depth all))) in
       let stack = r.stack_low in
       let frame = r.frame_low in
@@ -301,13 +293,13 @@ mutual
       (fits_more inner (a.taken + n) a.taken (stmts_words behind.visible.scope body) (n + m + k) (stmts_depth body) deep q (omega (arith, m_same))
       (omega arith))
       (record { stack_low = omega (arith, stack); frame_low = omega (arith, frame, k_same); fit = r.fit }))
-  stmt_fits other a b l ts d h small few out = beyond_fits a.taken 0 (stmt_depth other)
+  stmt_fits other a b l ts d h small few allowed = nothing_fits a.taken 0 (stmt_depth other)
 
-  pub stmts_fit : (body : StmtTrees) (a : Standpoint) (b : rules.Around) (l : Limit) → AreSpelled l body → stmts_faults a.visible.scope b body ≡ []
-      → IsSmallVisible a.visible → stmts_words a.visible.scope body ≤ 64 → (stmts_needs a body).outside ≡ false
+  pub stmts_fit : {exceptions : List (List ℕ)} (body : StmtTrees) (a : Standpoint) (b : rules.Around) (l : Limit) → AreSpelled l body
+      → stmts_faults a.visible.scope b body ≡ [] → IsSmallVisible exceptions a.visible → stmts_words a.visible.scope body ≤ 64 → restrictions.stmts_faults body ≡ []
       → Fits (stmts_needs a body) a.taken (stmts_words a.visible.scope body) (stmts_depth body)
-  stmts_fit NoStmts a b l d h small few out = nothing_fits a.taken 0 0
-  stmts_fit (MoreStmts x rest) a b l d h small few out =
+  stmts_fit NoStmts a b l d h small few allowed = nothing_fits a.taken 0 0
+  stmts_fit (MoreStmts x rest) a b l d h small few allowed =
       let s = a.visible.scope in
       let f = stmt_faults s b x in
       let g = stmts_faults s b rest in
@@ -316,18 +308,20 @@ mutual
       let m = stmt_words s x in
       let n = stmts_words s rest in
       let deep = max (stmt_depth x) (stmts_depth rest) in
-      let p = stmt_fits x a b l d.0.0 d.0.1 (front_empty f g h) small (omega (arith, few)) (outside_left first others out) in
-      let q = stmts_fit rest a b l d.1 (back_empty f g h) small (omega (arith, few)) (outside_right first others out) in
+      let p = stmt_fits x a b l d.0.0 d.0.1 (front_empty f g h) small (omega (arith, few))
+      (front_empty (restrictions.stmt_faults x) (restrictions.stmts_faults rest) allowed) in
+      let q = stmts_fit rest a b l d.1 (back_empty f g h) small (omega (arith, few))
+      (back_empty (restrictions.stmt_faults x) (restrictions.stmts_faults rest) allowed) in
       both_fit first others a.taken (m + n) deep
       (fits_more first a.taken a.taken m (m + n) (stmt_depth x) deep p (omega arith) (le-max_left (stmt_depth x) (stmts_depth rest)))
       (fits_more others a.taken a.taken n (m + n) (stmts_depth rest) deep q (omega arith) (le-max_right (stmt_depth x) (stmts_depth rest)))
 
-  elsifs_fit : (all : ElsifTrees) (a : Standpoint) (b : rules.Around) (l : Limit) (ts : Tokens) → grammar.elsifs all l ts
+  elsifs_fit : {exceptions : List (List ℕ)} (all : ElsifTrees) (a : Standpoint) (b : rules.Around) (l : Limit) (ts : Tokens) → grammar.elsifs all l ts
       → elsifs_faults a.visible.scope b all ≡ []
-      → IsSmallVisible a.visible → elsifs_words a.visible.scope all ≤ 64 → (elsifs_needs a all).outside ≡ false
+      → IsSmallVisible exceptions a.visible → elsifs_words a.visible.scope all ≤ 64 → restrictions.elsifs_faults all ≡ []
       → Fits (elsifs_needs a all) a.taken (elsifs_words a.visible.scope all) (elsifs_depth all)
-  elsifs_fit NoElsifs a b l ts d h small few out = nothing_fits a.taken 0 0
-  elsifs_fit (MoreElsifs condition body rest) a b l ts d h small few out =
+  elsifs_fit NoElsifs a b l ts d h small few allowed = nothing_fits a.taken 0 0
+  elsifs_fit (MoreElsifs condition body rest) a b l ts d h small few allowed =
       let s = a.visible.scope in
       let c = condition_faults s condition in
       let f = stmts_faults s b body in
@@ -336,66 +330,66 @@ mutual
       let value = value_needs a.visible condition in
       let first = stmts_needs a body in
       let others = elsifs_needs a rest in
-      let behind = outside_right value (both first others) out in
       let m = stmts_words s body in
       let n = elsifs_words s rest in
       let deep = max (expr_depth condition) (max (stmts_depth body) (elsifs_depth rest)) in
       let p = value_fits a.visible small.names 0 condition a.taken (m + n) deep
       (condition_low s small.names condition l d.3.4.0 d.3.4.3 (front_empty c f two)) (omega arith) (omega arith) in
       let q = stmts_fit body a b l (stmts_spelled l body d.3.4.4.1 d.3.4.4.4) (back_empty c f two) small (omega (arith, few))
-      (outside_left first others behind) in
-      let r = elsifs_fit rest a b l d.1 d.4 (back_empty (c ++ f) g h) small (omega (arith, few)) (outside_right first others behind) in
+      (front_empty (restrictions.stmts_faults body) (restrictions.elsifs_faults rest) allowed) in
+      let r = elsifs_fit rest a b l d.1 d.4 (back_empty (c ++ f) g h) small (omega (arith, few))
+      (back_empty (restrictions.stmts_faults body) (restrictions.elsifs_faults rest) allowed) in
       both_fit value (both first others) a.taken (m + n) deep p
       (both_fit first others a.taken (m + n) deep
       (fits_more first a.taken a.taken m (m + n) (stmts_depth body) deep q (omega arith) (omega arith))
       (fits_more others a.taken a.taken n (m + n) (elsifs_depth rest) deep r (omega arith) (omega arith)))
 
-  alternatives_fit : (all : AlternativeTrees) (a : Standpoint) (b : rules.Around) (w : Wanted) (before : List Scalar) (l : Limit) → AlternativesSpelled l all
-      → alternatives_faults a.visible.scope b w before all ≡ [] → IsSmallVisible a.visible → alternatives_words a.visible.scope all ≤ 64
-      → (alternatives_needs a all).outside ≡ false → Fits (alternatives_needs a all) a.taken (alternatives_words a.visible.scope all) (alternatives_depth all)
-  alternatives_fit NoAlternatives a b w before l d h small few out = nothing_fits a.taken 0 0
-  alternatives_fit (MoreAlternatives place choices body rest) a b w before l d h small few out =
+  alternatives_fit : {exceptions : List (List ℕ)} (all : AlternativeTrees) (a : Standpoint) (b : rules.Around) (w : Wanted) (before : List Scalar) (l : Limit)
+      → AlternativesSpelled l all → alternatives_faults a.visible.scope b w before all ≡ [] → IsSmallVisible exceptions a.visible → alternatives_words a.visible.scope all ≤ 64
+      → restrictions.alternatives_faults all ≡ [] → Fits (alternatives_needs a all) a.taken (alternatives_words a.visible.scope all) (alternatives_depth all)
+  alternatives_fit NoAlternatives a b w before l d h small few allowed = nothing_fits a.taken 0 0
+  alternatives_fit (MoreAlternatives place choices body rest) a b w before l d h small few allowed =
       let s = a.visible.scope in
       let c = choices_faults s w before (alternatives.no_more rest) choices in
       let f = stmts_faults s b body in
       let g = alternatives_faults s b w (chosen_by s w before choices) rest in
       let two = front_empty (c ++ f) g h in
-      let tests = choices_needs s choices in
+      let tests = choices_needs choices in
       let first = stmts_needs a body in
       let others = alternatives_needs a rest in
-      let behind = outside_right tests (both first others) out in
       let m = stmts_words s body in
       let n = alternatives_words s rest in
       let deep = alternatives_depth (MoreAlternatives place choices body rest) in
-      let q = stmts_fit body a b l d.0 (back_empty c f two) small (omega (arith, few)) (outside_left first others behind) in
+      let q = stmts_fit body a b l d.0 (back_empty c f two) small (omega (arith, few))
+      (front_empty (restrictions.stmts_faults body) (restrictions.alternatives_faults rest) allowed) in
       let r = alternatives_fit rest a b w (chosen_by s w before choices) l d.1 (back_empty (c ++ f) g h) small (omega (arith, few))
-      (outside_right first others behind) in
-      both_fit tests (both first others) a.taken (m + n) deep (choices_fit s choices a.taken (m + n) deep)
+      (back_empty (restrictions.stmts_faults body) (restrictions.alternatives_faults rest) allowed) in
+      both_fit tests (both first others) a.taken (m + n) deep (choices_fit choices a.taken (m + n) deep)
       (both_fit first others a.taken (m + n) deep
       (fits_more first a.taken a.taken m (m + n) (stmts_depth body) deep q (omega arith) (omega arith))
       (fits_more others a.taken a.taken n (m + n) (alternatives_depth rest) deep r (omega arith) (omega arith)))
 
   -- each handler keeps its exception in a word
-  pub handlers_fit : (all : HandlerTrees) (a : Standpoint) (b : rules.Around) (before : List (List ℕ)) (l : Limit) → HandlersSpelled l all
-      → more_handlers_faults a.visible.scope b before all ≡ [] → IsSmallVisible a.visible → handlers_words a.visible.scope all ≤ 64
-      → (handlers_needs a all).outside ≡ false → Fits (handlers_needs a all) (a.taken + 1) (handlers_words a.visible.scope all) (handlers_depth all)
-  handlers_fit NoHandlers a b before l d h small few out = nothing_fits (a.taken + 1) 0 0
-  handlers_fit (MoreHandlers choices body rest) a b before l d h small few out =
+  pub handlers_fit : {exceptions : List (List ℕ)} (all : HandlerTrees) (a : Standpoint) (b : rules.Around) (before : List (List ℕ)) (l : Limit)
+      → HandlersSpelled l all → more_handlers_faults a.visible.scope b before all ≡ [] → IsSmallVisible exceptions a.visible → handlers_words a.visible.scope all ≤ 64
+      → restrictions.handlers_faults all ≡ [] → Fits (handlers_needs a all) (a.taken + 1) (handlers_words a.visible.scope all) (handlers_depth all)
+  handlers_fit NoHandlers a b before l d h small few allowed = nothing_fits (a.taken + 1) 0 0
+  handlers_fit (MoreHandlers choices body rest) a b before l d h small few allowed =
       let s = a.visible.scope in
       let c = exception_choices_faults s before (is_single choices && handlers.no_more rest) choices in
       let f = stmts_faults s (in_handler b) body in
       let g = more_handlers_faults s b (named_after before choices) rest in
       let two = front_empty (c ++ f) g h in
-      let head = handler_needs a choices in
+      let head = handler_needs a in
       let first = stmts_needs (inside_handler a) body in
       let others = handlers_needs a rest in
-      let behind = outside_right head (both first others) out in
       let m = stmts_words s body in
       let n = handlers_words s rest in
       let deep = max (stmts_depth body) (handlers_depth rest) in
-      let q = stmts_fit body (inside_handler a) (in_handler b) l d.0 (back_empty c f two) small (omega (arith, few)) (outside_left first others behind) in
+      let q = stmts_fit body (inside_handler a) (in_handler b) l d.0 (back_empty c f two) small (omega (arith, few))
+      (front_empty (restrictions.stmts_faults body) (restrictions.handlers_faults rest) allowed) in
       let r = handlers_fit rest a b (named_after before choices) l d.1 (back_empty (c ++ f) g h) small (omega (arith, few))
-      (outside_right first others behind) in
+      (back_empty (restrictions.stmts_faults body) (restrictions.handlers_faults rest) allowed) in
       both_fit head (both first others) (a.taken + 1) (m + n) deep (record { stack_low = omega arith; frame_low = omega arith; fit = refl })
       (both_fit first others (a.taken + 1) (m + n) deep
       (fits_more first (a.taken + 1) (a.taken + 1) m (m + n) (stmts_depth body) deep q (omega arith) (omega arith))

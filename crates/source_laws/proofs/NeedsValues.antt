@@ -1,7 +1,7 @@
 -- How many words of the operand stack the expressions of statements take, by what is expected of them.
 use Rattle.std.proofs.Common.{◌≡◌, ◌≤◌, ◌⊎◌, inl, inr, ◌+◌, ◌*◌, ℕ, max, [], true, false, Bool, ◌||◌, refl, sym, ap, ◌∙◌, arith}
 use Rattle.std.specs.Prelude.{not}
-use Rattle.ada_link.specs.base.specs.declared.faults.TheConstants.{NO_MEANING}
+use Rattle.base.specs.declared.faults.TheConstants.{NO_MEANING}
 use Rattle.ada_tree.specs.Depth.{expr_depth}
 use Rattle.ada_tree.specs.ExpressionGrammar.{Expression, Production, derives, expression, made_by}
 use Rattle.ada_tree.specs.ExpressionTree.{ExprTree}
@@ -21,11 +21,11 @@ use Rattle.expr_soundness.specs.expr_rules.proofs.TypedLaw.{back_empty, front_em
 use Rattle.program_soundness.specs.stmt_rules.specs.CaseRules.{discrete_rule, is_discrete, selecting_faults}
 use Rattle.program_soundness.specs.stmt_rules.specs.SimpleRules.{condition_faults, time_rule, time_wanted}
 use Rattle.expr_soundness.proofs.Expressions.{not_false}
-use Rattle.ada_link.specs.expr_code.specs.Emitting.{IsLegalExpression}
-use Rattle.ada_link.specs.expr_code.specs.Refusing.{peak}
-use Rattle.ada_link.specs.expr_code.specs.Widths.{own_words, width_of}
-use Rattle.ada_link.specs.expr_code.proofs.Widths.{Fits, boolean_one, condition_width, fits, integral_one, known, numeric_one, words_by_type}
-use Rattle.ada_link.specs.stmt_code.specs.Emitting.{IsLegalStatement}
+use Rattle.expr_code.specs.Emitting.{IsLegalExpression}
+use Rattle.expr_code.specs.Refusing.{peak}
+use Rattle.expr_code.specs.Widths.{own_words, width_of}
+use Rattle.expr_code.proofs.Widths.{Fits, boolean_one, condition_width, fits, integral_one, known, numeric_one, words_by_type}
+use Rattle.stmt_code.specs.Emitting.{IsLegalStatement}
 use Rattle.source_laws.specs.Depths.{IsSmallScope}
 use Rattle.source_laws.proofs.PeakBounds.{through}
 use Rattle.source_laws.proofs.Peaks.{legal_of, peak_low, waiting, waits}

@@ -3,8 +3,8 @@ use Rattle.std.proofs.Common.{◌≡◌, ◌≤◌, ℕ, zero, suc, ℤ, pos, Bo
 use Rattle.std.specs.Prelude.{◌*ℤ◌, ◌+ℤ◌, ◌-ℤ◌, ◌^◌, bytes_eq, codes, int_div, int_le, int_rem, nat_lt, neg_ℤ, negsuc, slice_get, unsigned_abs}
 use Rattle.std.specs.List.{list_all}
 use Rattle.std.proofs.lemmas.Bool.{and_from, and_parts, lt-ltb}
-use Rattle.ada_link.specs.base.specs.Arithmetic.{by, constraint_error, in_range, int_mod, is_in_base_range}
-use Rattle.ada_link.specs.base.specs.declared.limits.TheConstants.{COMPONENTS}
+use Rattle.base.specs.Arithmetic.{by, constraint_error, in_range, int_mod, is_in_base_range}
+use Rattle.base.specs.declared.limits.TheConstants.{COMPONENTS}
 use Rattle.ada_tree.specs.declared.expression.BinaryOperator.{BinaryOperator}
 use Rattle.ada_tree.specs.declared.expression.BinaryOperator.TheVariants as binary
 use Rattle.ada_tree.specs.declared.expression.UnaryOperator.{UnaryOperator}

@@ -26,11 +26,10 @@ use Rattle.program_soundness.proofs.Offering as offering
 use Rattle.program_soundness.proofs.OneList.{is_object_body, matched_at}
 use Rattle.program_soundness.proofs.Whole.{IsPackage, kept}
 use Rattle.program_soundness.proofs.WiderScopes.{same_bytes, stands}
-use Rattle.ada_link.specs.expr_code.proofs.Externals.{IsBehind}
-use Rattle.ada_link.specs.package_code.specs.Bodies.{Coded, own_head, own_name}
-use Rattle.ada_link.specs.package_code.proofs.OperationBodies as coding
-use Rattle.ada_link.specs.package_code.proofs.OperationsAdded as added
-use Rattle.source_laws.specs.Visible.{IsBodyOf}
+use Rattle.expr_code.proofs.Externals.{IsBehind}
+use Rattle.package_code.specs.Bodies.{Coded, own_head, own_name, IsBodyOf}
+use Rattle.package_code.proofs.OperationBodies as coding
+use Rattle.package_code.proofs.OperationsAdded as added
 use Rattle.source_laws.proofs.InsideNames.{named_unit}
 
 -- what passes as the body of an object

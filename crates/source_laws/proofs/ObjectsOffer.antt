@@ -3,7 +3,7 @@
 use Rattle.std.proofs.Common.{◌≡◌, ℕ, zero, suc, ◌++◌, [], ◌∷◌, List, map, Bool, true, false, ◌&&◌, ◌||◌, cond, Option, Some, None, refl, sym, ap, ◌∙◌, subst, arith}
 use Rattle.std.specs.Prelude.{bytes_eq, is_some, nat_lt, slice_get}
 use Rattle.std.proofs.lemmas.Bool.{lt-ltb, or_parts, or_right}
-use Rattle.ada_link.specs.base.specs.declared.faults.TheConstants.{WRONG_FUNCTION}
+use Rattle.base.specs.declared.faults.TheConstants.{WRONG_FUNCTION}
 use Rattle.ada_tree.specs.declared.expression.Identifier.{Identifier}
 use Rattle.ada_tree.specs.StatementTree.{OperationTree, SubprogramTree}
 use Rattle.ada_tree.specs.StatementTree as operation
@@ -33,18 +33,18 @@ use Rattle.program_soundness.proofs.ObjectBodies as bodies
 use Rattle.program_soundness.proofs.ObjectTrees.{IsDeclared, operation_declared, operations_legal}
 use Rattle.program_soundness.proofs.Whole.{IsPackage, legal_subtype}
 use Rattle.program_soundness.proofs.WiderScopes.{number_stands, same_bytes, stands}
-use Rattle.ada_link.specs.expr_code.specs.Entries.{entry_at}
-use Rattle.ada_link.specs.expr_code.specs.Seeing.{number_behind, object_named, operation_entry}
-use Rattle.ada_link.specs.expr_code.proofs.Externals.{IsBehind}
-use Rattle.ada_link.specs.part_code.specs.EntryNames.{entry_among, entry_behind, is_entry_at, is_entry_operation}
-use Rattle.ada_link.specs.package_code.specs.Bodies.{number_in}
-use Rattle.ada_link.specs.package_code.specs.Laws.{TablesAreSmall}
-use Rattle.ada_link.specs.package_code.specs.Owners.{protected_objects, told_operation}
-use Rattle.ada_link.specs.package_code.specs.Refusing.{operation_numbers}
-use Rattle.ada_link.specs.package_code.proofs.ObjectNumbers.{at_number}
-use Rattle.ada_link.specs.package_code.proofs.OperationBodies.{has_number, object_few}
-use Rattle.ada_link.specs.package_code.proofs.OperationsAdded as added
-use Rattle.source_laws.specs.Depths.{is_scalar_form}
+use Rattle.expr_code.specs.Entries.{entry_at}
+use Rattle.expr_code.specs.Seeing.{number_behind, object_named, operation_entry}
+use Rattle.expr_code.proofs.Externals.{IsBehind}
+use Rattle.part_code.specs.EntryNames.{entry_among, entry_behind, is_entry_at, is_entry_operation}
+use Rattle.package_code.specs.Bodies.{number_in}
+use Rattle.package_code.specs.Laws.{TablesAreSmall}
+use Rattle.package_code.specs.Owners.{protected_objects, told_operation}
+use Rattle.package_code.specs.Refusing.{operation_numbers}
+use Rattle.package_code.proofs.ObjectNumbers.{at_number}
+use Rattle.package_code.proofs.OperationBodies.{has_number, object_few}
+use Rattle.package_code.proofs.OperationsAdded as added
+use Rattle.expr_code.specs.Providing.{is_scalar_form}
 use Rattle.source_laws.proofs.FewCallees.{scalar_form}
 use Rattle.source_laws.proofs.LaterNames.{same_form}
 use Rattle.source_laws.proofs.ObjectCallees.{HasUnitBody, unit_behind}

@@ -2,7 +2,7 @@
 -- word.
 use Rattle.std.proofs.Common.{◌≡◌, ◌++◌, ◌+◌, ◌*◌, ◌≤◌, ℕ, zero, suc, ◌⊎◌, inl, inr, List, [], ◌∷◌, append_assoc, length, length-append, map, take, Option, Some, None, refl, sym, ap, ◌∙◌, subst, arith}
 use Rattle.std.specs.Prelude.{slice_get}
-use Rattle.ada_link.specs.lexer.specs.declared.token.Token.{Token}
+use Rattle.lexer.specs.declared.token.Token.{Token}
 use Rattle.ada_tree.specs.declared.expression.Identifier.{Identifier}
 use Rattle.ada_tree.specs.Language.{Limit, Tokens, each, optional}
 use Rattle.ada_tree.specs.ProgramGrammar.{body_item, package_body, package_part, program, protected_item}
@@ -18,10 +18,10 @@ use Rattle.program_soundness.specs.legality.specs.ProtectedBodyRules.{components
 use Rattle.expr_soundness.specs.meaning.specs.Programs.{program_of}
 use Rattle.program_soundness.specs.Fronts.{declared_in, front}
 use Rattle.program_soundness.proofs.Listing.{same_some}
-use Rattle.ada_link.specs.package_code.specs.Bodies.{Coded, coded_at, components_or_none, object_bodies, object_number, of_operation, of_subprogram, of_task}
-use Rattle.ada_link.specs.package_code.specs.Counts.{bound_of}
-use Rattle.ada_link.specs.package_code.proofs.Coded.{coded_by}
-use Rattle.ada_link.specs.package_code.proofs.OperationsAdded.{operation_coded}
+use Rattle.package_code.specs.Bodies.{Coded, coded_at, components_or_none, object_bodies, object_number, of_operation, of_subprogram, of_task}
+use Rattle.package_code.specs.Counts.{bound_of}
+use Rattle.package_code.proofs.Coded.{coded_by}
+use Rattle.package_code.proofs.OperationsAdded.{operation_coded}
 use Rattle.source_laws.specs.Counted.{CodeWithinTokens, HasBodyTokens, PartsWithinTokens, words_in}
 
 pub parts_within_tokens : PartsWithinTokens

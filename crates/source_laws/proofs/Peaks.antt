@@ -5,7 +5,7 @@ use Rattle.ada_tree.specs.declared.expression.BinaryOperator.{BinaryOperator}
 use Rattle.ada_tree.specs.declared.expression.BinaryOperator.TheVariants as binary
 use Rattle.ada_tree.specs.declared.expression.UnaryOperator.{UnaryOperator}
 use Rattle.ada_tree.specs.declared.expression.UnaryOperator.TheVariants as unary
-use Rattle.ada_link.specs.lexer.specs.declared.word.Word.TheVariants as words
+use Rattle.lexer.specs.declared.word.Word.TheVariants as words
 use Rattle.ada_tree.specs.Depth.{arguments_depth, argument_depth, elsif_values_depth, expr_depth, selectors_depth}
 use Rattle.ada_tree.specs.ExpressionGrammar.{Chain, Expression, Factor, Primary, Production, Relation, Simple, Term, expression, left_operand, made, made_by, production, right_operand, spells_argument, spells_arguments, spells_elsif_values, spells_further_arguments, spells_selectors, stands_for, unary_production}
 use Rattle.ada_tree.specs.ExpressionTree.{Arguments, ArgumentTree, ArgumentTrees, Attribute, Component, ElsifValueTrees, ExprTree, MoreArguments, MoreElsifValues, MoreSelectors, NoArguments, NoElsifValues, NoSelectors, SelectorTrees, Text, Value}
@@ -22,16 +22,17 @@ use Rattle.expr_soundness.specs.expr_rules.specs.ExpressionRules.{argument_fault
 use Rattle.expr_soundness.specs.expr_rules.specs.Typing.{boolean_wanted, own_of}
 use Rattle.expr_soundness.specs.expr_rules.proofs.TypedLaw.{back_empty, front_empty}
 use Rattle.expr_soundness.specs.SoundScopes.{SoundScope}
-use Rattle.ada_link.specs.expr_code.specs.Branches.{Branch, in_front}
-use Rattle.ada_link.specs.expr_code.specs.Emitting.{IsLegalExpression}
-use Rattle.ada_link.specs.expr_code.specs.OperatorCode.{binary_operation}
-use Rattle.ada_link.specs.expr_code.specs.Refusing.{argument_peak, arguments_peak, elsifs_peak, peak, selectors_peak, words_below}
-use Rattle.ada_link.specs.expr_code.specs.Widths.{AreWide, width_of}
-use Rattle.ada_link.specs.expr_code.proofs.Legal.{legal_left, legal_operand, legal_right}
-use Rattle.ada_link.specs.expr_code.proofs.Widths.{binary_width, conditional_wide, unary_width}
-use Rattle.source_laws.specs.Depths.{FewFormals, PeaksAreLow}
+use Rattle.expr_code.specs.Branches.{Branch, in_front}
+use Rattle.expr_code.specs.Emitting.{IsLegalExpression}
+use Rattle.expr_code.specs.OperatorCode.{binary_operation}
+use Rattle.expr_code.specs.Refusing.{argument_peak, arguments_peak, elsifs_peak, peak, selectors_peak, words_below}
+use Rattle.expr_code.specs.Widths.{AreWide, width_of}
+use Rattle.expr_code.proofs.Legal.{legal_left, legal_operand, legal_right}
+use Rattle.expr_code.proofs.Widths.{binary_width, conditional_wide, unary_width}
+use Rattle.source_laws.specs.Depths.{PeaksAreLow}
+use Rattle.expr_code.specs.Providing.{FewFormals}
 use Rattle.source_laws.proofs.PeakBounds.{arguments_bound, binary_bound, checked_bound, conditional_bound, elsif_bound, more_arguments, name_bound, number_bound, parenthesized_bound, part_bound, through, unary_bound}
-use Rattle.source_laws.proofs.PeakSlots.{AreNarrow, IsNarrow, IsPath, begins, below_low, path_arguments, path_behind, path_narrow, slot_width, value_path}
+use Rattle.expr_code.proofs.PeakSlots.{AreNarrow, IsNarrow, IsPath, begins, below_low, path_arguments, path_behind, path_narrow, slot_width, value_path}
 
 -- ---- operators that may wait
 

@@ -5,8 +5,8 @@ use Rattle.ada_tree.specs.StatementTree.{AlternativeTrees, Block, Case, ElsifTre
 use Rattle.ada_tree.specs.ProgramTree.{BodyItemTree, BodyTree, EntryBody, ItemTree, OfItem, OperationBody, PackageTree, ProgramTree, ProtectedBody, ProtectedItemTree, SubprogramBody, TaskBody}
 use Rattle.ada_tree.specs.Size.{alternatives_size, body_item_size, body_size, elsifs_size, handlers_size, item_size, package_size, protected_item_size, size, size_if_any, stmt_size, stmts_size, subprogram_size, total}
 use Rattle.program_soundness.specs.Fronts.{declared_in}
-use Rattle.ada_link.specs.part_code.specs.Rows.{alternatives_rows, body_rows, elsifs_rows, handlers_rows, stmt_rows, stmts_rows}
-use Rattle.ada_link.specs.package_code.specs.Refusing.{item_rows, items_rows, operation_rows, operations_rows, program_rows, subprogram_rows}
+use Rattle.part_code.specs.Rows.{alternatives_rows, body_rows, elsifs_rows, handlers_rows, stmt_rows, stmts_rows}
+use Rattle.package_code.specs.Refusing.{item_rows, items_rows, operation_rows, operations_rows, program_rows, subprogram_rows}
 
 unmoved : (before n : ℕ) → before ≤ before + n
 unmoved before n = omega arith

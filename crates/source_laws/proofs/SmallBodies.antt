@@ -1,9 +1,9 @@
 -- Each body of a small accepted text is small, so its code has room; and no limit refuses the text.
-use Rattle.std.proofs.Common.{◌≡◌, ℕ, zero, suc, ◌+◌, ◌≤◌, max, false, List, [], ◌∷◌, ◌++◌, map, inl, inr, Option, Some, None, refl, sym, ap, ◌∙◌, subst, arith}
+use Rattle.std.proofs.Common.{◌≡◌, ℕ, zero, suc, ◌+◌, ◌≤◌, max, List, [], ◌∷◌, ◌++◌, length, map, inl, inr, Option, Some, None, refl, sym, ap, ◌∙◌, subst, arith}
 use Rattle.std.specs.Prelude.{slice_get}
-use Rattle.std.proofs.lemmas.Bool.{or_from, or_parts}
-use Rattle.ada_link.specs.base.specs.declared.limits.TheConstants.{FRAME_WORDS}
-use Rattle.ada_link.specs.lexer.specs.declared.token.Token.{Token}
+use Rattle.std.proofs.lemmas.Bool.{or_from}
+use Rattle.base.specs.declared.limits.TheConstants.{FRAME_WORDS}
+use Rattle.lexer.specs.declared.token.Token.{Token}
 use Rattle.ada_tree.specs.declared.expression.Identifier.{Identifier}
 use Rattle.ada_tree.specs.Depth.{body_depth, body_item_depth, deepest, depth, depth_if_any, expr_depth, package_depth, protected_item_depth, stmts_depth, subprogram_depth}
 use Rattle.ada_tree.specs.ExpressionGrammar.{expression}
@@ -19,22 +19,25 @@ use Rattle.program_soundness.specs.stmt_rules.specs.declared.around.BodyKind.The
 use Rattle.checking.specs.ProgramRules.{IsLegal}
 use Rattle.program_soundness.specs.ravenscar.specs.ProgramRules.{IsRestricted}
 use Rattle.expr_soundness.specs.meaning.specs.Programs.{program_of, returned, subtype_named}
-use Rattle.program_soundness.specs.Fronts.{declared_in, front}
+use Rattle.program_soundness.specs.Fronts.{declared_in, front, start_in}
 use Rattle.program_soundness.proofs.Listing.{same_some}
-use Rattle.ada_link.specs.expr_code.specs.declared.refusal.Refusal.TheVariants as refusal
-use Rattle.ada_link.specs.part_code.specs.Bounds.{body_words, formals_words}
-use Rattle.ada_link.specs.part_code.specs.Needs.{Needs, both, nothing}
-use Rattle.ada_link.specs.stmt_code.specs.WholeRefusals.{procedure_needs}
-use Rattle.ada_link.specs.package_code.specs.Refusing.{RefusesLinking, bodies_needs, body_needs, function_if_any, item_needs, items_needs, program_needs, seen_by}
-use Rattle.ada_link.specs.package_code.specs.Bodies.{Coded, coded_at, of_subprogram, of_task, own_body}
-use Rattle.ada_link.specs.package_code.proofs.Coded.{coded_by}
-use Rattle.ada_link.specs.package_code.proofs.InFront.{LawsOfNames}
-use Rattle.ada_link.specs.package_code.proofs.OperationsAdded as added
-use Rattle.source_laws.specs.Covered.{NothingIsOutside}
-use Rattle.source_laws.specs.Depths.{FunctionsHaveRoom, IsSmallFunction, IsSmallProcedure, IsSmallScope, ProceduresHaveRoom, StaysWithinLimits}
+use Rattle.expr_code.specs.declared.refusal.Refusal.TheVariants as refusal
+use Rattle.part_code.specs.Bounds.{body_words, formals_words}
+use Rattle.part_code.specs.Needs.{Needs, both, nothing}
+use Rattle.stmt_code.specs.WholeRefusals.{procedure_needs}
+use Rattle.package_code.specs.Refusing.{RefusesLinking, bodies_needs, body_needs, function_if_any, item_needs, items_needs, program_needs, seen_by, slot_in}
+use Rattle.package_code.specs.Bodies.{Coded, coded_at, number_in, of_subprogram, of_task, own_body, IsBodyOf}
+use Rattle.package_code.specs.Owners.{told_inside, told_slot}
+use Rattle.package_code.proofs.Coded.{coded_by}
+use Rattle.package_code.proofs.InFront.{LawsOfNames}
+use Rattle.package_code.proofs.OperationsAdded as added
+use Rattle.package_code.proofs.Seen.{behind_long}
+use Rattle.package_code.specs.Providing.{BodyIsCovered}
+use Rattle.source_laws.specs.Covered.{NamesAreCovered}
+use Rattle.source_laws.specs.Depths.{FunctionsHaveRoom, IsSmallFunction, IsSmallProcedure, IsSmallVisible, ProceduresHaveRoom, StaysWithinLimits}
 use Rattle.source_laws.specs.Limits.{HasLargeFrames, LimitsAreTold, MayPassLimits, SmallHasRoom, SmallIsUnlimited}
 use Rattle.source_laws.specs.Small.{HasSmallBodies, SmallCodeFits, body_loops}
-use Rattle.source_laws.specs.Visible.{FrontsAreSmall, IsBodyOf, NothingIsUnfit}
+use Rattle.source_laws.specs.Visible.{FrontsAreSmall, NothingIsUnfit}
 use Rattle.source_laws.proofs.CodeCounted.{behind, behind_is, few_of}
 use Rattle.source_laws.proofs.WholeBodies.{IsLegalBody, legal_body}
 
@@ -128,9 +131,6 @@ value_there limit body ts e h is = cc
 
 -- ---- bodies that have room
 
-abbrev IsMade : Needs → Type 0
-IsMade n = n.outside ≡ false
-
 room_of_both : (a b : Needs) → StaysWithinLimits a → StaysWithinLimits b → StaysWithinLimits (both a b)
 room_of_both a b h k =
     record { stack = most a.stack b.stack h.stack k.stack; frame = most a.frame b.frame h.frame k.frame; fit = or_from a.unfit b.unfit h.fit k.fit }
@@ -142,29 +142,24 @@ no_needs : StaysWithinLimits nothing
 no_needs = record { stack = omega arith; frame = omega arith; fit = refl }
 
 module _ (t : ProgramTree) where
-  bodies_room : (cs : List Coded) → ((k : ℕ) (c : Coded) → slice_get cs k ≡ Some c → IsMade (body_needs t c) → StaysWithinLimits (body_needs t c))
-      → IsMade (bodies_needs t cs) → StaysWithinLimits (bodies_needs t cs)
-  bodies_room [] room made = no_needs
-  bodies_room (c ∷ cs) room made =
-      let parts = or_parts (body_needs t c).outside (bodies_needs t cs).outside made in
-      room_of_both (body_needs t c) (bodies_needs t cs) (room 0 c refl parts.0) (bodies_room cs (λ k x at own. room (suc k) x at own) parts.1)
+  bodies_room : (cs : List Coded) → ((k : ℕ) (c : Coded) → slice_get cs k ≡ Some c → StaysWithinLimits (body_needs t c)) → StaysWithinLimits (bodies_needs t cs)
+  bodies_room [] room = no_needs
+  bodies_room (c ∷ cs) room =
+      room_of_both (body_needs t c) (bodies_needs t cs) (room 0 c refl) (bodies_room cs (λ k x at. room (suc k) x at))
 
-  item_room : (place : ℕ) (x : BodyItemTree)
-      → ((k : ℕ) (c : Coded) → slice_get (coded_at t place x) k ≡ Some c → IsMade (body_needs t c) → StaysWithinLimits (body_needs t c))
-      → IsMade (item_needs t place x) → StaysWithinLimits (item_needs t place x)
-  item_room place (OfItem d) room made = record { stack = omega arith; frame = omega arith; fit = refl }
-  item_room place (SubprogramBody d b) room made = room 0 (of_subprogram (front t (suc place)) d b) refl made
-  item_room place (TaskBody name b) room made = room 0 (of_task (front t (suc place)) name b) refl made
-  item_room place (ProtectedBody name items end_name) room made = bodies_room (coded_at t place (ProtectedBody name items end_name)) room made
+  item_room : (place : ℕ) (x : BodyItemTree) → ((k : ℕ) (c : Coded) → slice_get (coded_at t place x) k ≡ Some c → StaysWithinLimits (body_needs t c))
+      → StaysWithinLimits (item_needs t place x)
+  item_room place (OfItem d) room = record { stack = omega arith; frame = omega arith; fit = refl }
+  item_room place (SubprogramBody d b) room = room 0 (of_subprogram (front t (suc place)) d b) refl
+  item_room place (TaskBody name b) room = room 0 (of_task (front t (suc place)) name b) refl
+  item_room place (ProtectedBody name items end_name) room = bodies_room (coded_at t place (ProtectedBody name items end_name)) room
 
   items_room : (place : ℕ) (xs : List BodyItemTree)
-      → ((k : ℕ) (x : BodyItemTree) → slice_get xs k ≡ Some x → IsMade (item_needs t (behind place k) x) → StaysWithinLimits (item_needs t (behind place k) x))
-      → IsMade (items_needs t place xs) → StaysWithinLimits (items_needs t place xs)
-  items_room place [] room made = no_needs
-  items_room place (x ∷ rest) room made =
-      let parts = or_parts (item_needs t place x).outside (items_needs t (suc place) rest).outside made in
-      room_of_both (item_needs t place x) (items_needs t (suc place) rest) (room 0 x refl parts.0)
-      (items_room (suc place) rest (λ k y at own. room (suc k) y at own) parts.1)
+      → ((k : ℕ) (x : BodyItemTree) → slice_get xs k ≡ Some x → StaysWithinLimits (item_needs t (behind place k) x))
+      → StaysWithinLimits (items_needs t place xs)
+  items_room place [] room = no_needs
+  items_room place (x ∷ rest) room =
+      room_of_both (item_needs t place x) (items_needs t (suc place) rest) (room 0 x refl) (items_room (suc place) rest (λ k y at. room (suc k) y at))
 
 -- ---- each body of a small text
 
@@ -174,7 +169,7 @@ few_together a c e h = omega (arith, h)
 few_formals_alone : (a c e : ℕ) → a + c + e ≤ 64 → a ≤ 64
 few_formals_alone a c e h = omega (arith, h)
 
-module _ (laws : LawsOfNames) (fronts : FrontsAreSmall) (procedures : ProceduresHaveRoom) (functions : FunctionsHaveRoom) (limit : Limit) (t : ProgramTree)
+module _ (laws : LawsOfNames) (fronts : FrontsAreSmall) (covered : NamesAreCovered) (procedures : ProceduresHaveRoom) (functions : FunctionsHaveRoom) (limit : Limit) (t : ProgramTree)
     (tokens : List Token) (spelled : program limit t tokens) (legal : IsLegal t) (restricted : IsRestricted t) (small : HasSmallBodies t)
     (c : Coded) (b : IsBodyOf t c) where
   abbrev inside : Scope
@@ -183,8 +178,19 @@ module _ (laws : LawsOfNames) (fronts : FrontsAreSmall) (procedures : Procedures
   own : IsLegalBody t c
   own = legal_body laws t legal restricted c b
 
-  names : IsSmallScope c.front
-  names = fronts limit t tokens spelled legal restricted small c b
+  provided : BodyIsCovered t c
+  provided = covered limit t tokens spelled legal restricted c b
+
+  names : IsSmallVisible (program_of t).exceptions (seen_by t c)
+  names =
+      record {
+        names = fronts limit t tokens spelled legal restricted small c b;
+        entries = record {
+          slots = behind_long (told_slot (slot_in t) (number_in t) c.owner) (length (start_in t.package_)) c.front;
+          subprograms = behind_long (told_inside (number_in t) c.owner) (length (start_in t.package_)) c.front;
+        };
+        known = provided.names;
+      }
 
   has_body : HasBody b.item c.body
   has_body =
@@ -203,11 +209,13 @@ module _ (laws : LawsOfNames) (fronts : FrontsAreSmall) (procedures : Procedures
   small_procedure =
       record {
         few = own.few;
+        head = provided.added.head;
         limit = limit;
         tokens = told.tokens;
         spelled = told.spelled;
         kind = own.kind;
         legal = own.legal;
+        restricted = own.restricted;
         shallow = shallow;
         words = few_together (formals_words c.front inside c.head.formals) (body_words inside c.body) (body_loops c.body) (few_of t small c b);
       }
@@ -218,6 +226,8 @@ module _ (laws : LawsOfNames) (fronts : FrontsAreSmall) (procedures : Procedures
       let value = value_there limit c.body.statements _ e told.spelled.4.4.3 is in
       record {
         few = own.few;
+        head = provided.added.head;
+        scalar = provided.added.scalar r some;
         limit = limit;
         tokens = value.tokens;
         spelled = value.spelled;
@@ -229,43 +239,37 @@ module _ (laws : LawsOfNames) (fronts : FrontsAreSmall) (procedures : Procedures
       under : (a c e f : ℕ) → a ≤ c → max e (max c f) ≤ 16 → a ≤ 16
       under a c e f h k = omega (arith, h, k)
 
-  code_room : IsMade (body_needs t c) → StaysWithinLimits (body_needs t c)
-  code_room made = by_result c.head.result refl made
+  code_room : StaysWithinLimits (body_needs t c)
+  code_room = by_result c.head.result refl
     where
       by_value : (r : Identifier) → c.head.result ≡ Some r → (o : Option ExprTree) → returned c.body.statements ≡ o
-          → IsMade (function_if_any (seen_by t c) c.head.formals (subtype_named (program_of t).scope r) o)
-          → StaysWithinLimits (function_if_any (seen_by t c) c.head.formals (subtype_named (program_of t).scope r) o)
-      by_value r some (Some e) is made_here =
-          functions (seen_by t c) c.head.formals (subtype_named (program_of t).scope r) e names (small_function r e some is) made_here
-      by_value r some None is made_here = cc
+          → StaysWithinLimits (function_if_any (seen_by t c) c.head.formals o)
+      by_value r some (Some e) is =
+          functions (program_of t).exceptions (seen_by t c) c.head.formals (subtype_named (program_of t).scope r) e names (small_function r e some is)
+      by_value r some None is = no_needs
 
       by_result : (r : Option Identifier) → c.head.result ≡ r
-          → IsMade (elim r [
-            | None ↦ procedure_needs (seen_by t c) (program_of t).exceptions c.head.formals c.body
-            | Some x ↦ function_if_any (seen_by t c) c.head.formals (subtype_named (program_of t).scope x) (returned c.body.statements)
-          ])
           → StaysWithinLimits (elim r [
-            | None ↦ procedure_needs (seen_by t c) (program_of t).exceptions c.head.formals c.body
-            | Some x ↦ function_if_any (seen_by t c) c.head.formals (subtype_named (program_of t).scope x) (returned c.body.statements)
+            | None ↦ procedure_needs (seen_by t c) c.head.formals c.body
+            | Some x ↦ function_if_any (seen_by t c) c.head.formals (returned c.body.statements)
           ])
-      by_result None none made_here =
-          procedures (seen_by t c) (program_of t).exceptions c.head.formals c.body (record { names = names }) small_procedure made_here
-      by_result (Some x) some made_here = by_value x some (returned c.body.statements) refl made_here
+      by_result None none = procedures (program_of t).exceptions (seen_by t c) c.head.formals c.body names small_procedure
+      by_result (Some x) some = by_value x some (returned c.body.statements) refl
 
 -- ---- the whole text
 
-pub small_has_room : LawsOfNames → FrontsAreSmall → NothingIsOutside → ProceduresHaveRoom → FunctionsHaveRoom → SmallHasRoom
-small_has_room laws fronts none procedures functions limit t tokens spelled legal restricted small =
+pub small_has_room : LawsOfNames → FrontsAreSmall → NamesAreCovered → ProceduresHaveRoom → FunctionsHaveRoom → SmallHasRoom
+small_has_room laws fronts covered procedures functions limit t tokens spelled legal restricted small =
     items_room t 0 (declared_in t.package_)
-    (λ k x at. subst (λ n. IsMade (item_needs t n x) → StaysWithinLimits (item_needs t n x)) (let same = behind_is 0 k in omega (arith, same))
-    (item_room t k x (λ n c is. one_room k x at n c is))) (none limit t tokens spelled legal restricted)
+    (λ k x at. subst (λ n. StaysWithinLimits (item_needs t n x)) (let same = behind_is 0 k in omega (arith, same))
+    (item_room t k x (λ n c is. one_room k x at n c is)))
   where
     one_room : (k : ℕ) (x : BodyItemTree) → slice_get (declared_in t.package_) k ≡ Some x → (n : ℕ) (c : Coded)
         → slice_get (coded_at t k x) n ≡ Some c
-        → IsMade (body_needs t c) → StaysWithinLimits (body_needs t c)
-    one_room k x at n c is made =
-        code_room laws fronts procedures functions limit t tokens spelled legal restricted small c
-        (record { place = k; item = x; index = n; at = at; coded = is }) made
+        → StaysWithinLimits (body_needs t c)
+    one_room k x at n c is =
+        code_room laws fronts covered procedures functions limit t tokens spelled legal restricted small c
+        (record { place = k; item = x; index = n; at = at; coded = is })
 
 pub limits_told : SmallHasRoom → NothingIsUnfit → LimitsAreTold
 limits_told has_room unfit limit t tokens spelled legal restricted refused = by_reason refused
@@ -277,8 +281,7 @@ limits_told has_room unfit limit t tokens spelled legal restricted refused = by_
     by_reason (inl (inl many)) = inl (inl many)
     by_reason (inl (inr (inl deep))) = inr (deep, λ small. roomy (has_room limit t tokens spelled legal restricted small) deep)
     by_reason (inl (inr (inr bad))) = let none = unfit limit t tokens spelled legal restricted in absurd (let never = sym none ∙ bad in cc)
-    by_reason (inr (inl many)) = inl (inr many)
-    by_reason (inr (inr bad)) = absurd bad
+    by_reason (inr many) = inl (inr many)
 
 pub small_is_unlimited : SmallCodeFits → SmallIsUnlimited
 small_is_unlimited fits limit t tokens spelled legal restricted small (inl (inl many)) =

@@ -24,18 +24,18 @@ use Rattle.program_soundness.proofs.Listing.{same_some}
 use Rattle.program_soundness.proofs.Moved.{KeepsTypes}
 use Rattle.program_soundness.proofs.Whole.{IsPackage, kept}
 use Rattle.program_soundness.proofs.WiderScopes.{stands, stands_number}
-use Rattle.ada_link.specs.part_code.specs.Bounds.{body_words, formals_words, words_if_any}
-use Rattle.ada_link.specs.package_code.specs.Bodies.{Coded}
-use Rattle.ada_link.specs.package_code.proofs.InFront.{LawsOfNames}
-use Rattle.ada_link.specs.package_code.proofs.OperationsAdded as added
-use Rattle.source_laws.specs.Covered.{NameSubtypes}
+use Rattle.part_code.specs.Bounds.{body_words, formals_words, words_if_any}
+use Rattle.package_code.specs.Bodies.{Coded, IsBodyOf}
+use Rattle.package_code.proofs.InFront.{LawsOfNames}
+use Rattle.package_code.proofs.OperationsAdded as added
+use Rattle.stmt_code.specs.Subprograms.{NameSubtypes}
 use Rattle.source_laws.specs.Depths.{FewWords, FewWordsBehind, formals_take}
 use Rattle.source_laws.specs.Small.{HasSmallBodies, body_loops, small_words}
-use Rattle.source_laws.specs.Visible.{BodiesCallFew, BodiesKeepLimits, FrontsAreSmall, IsBodyOf}
+use Rattle.source_laws.specs.Visible.{BodiesCallFew, BodiesKeepLimits, FrontsAreSmall}
 use Rattle.source_laws.proofs.AddedNames.{formals_behind, named_there}
 use Rattle.source_laws.proofs.CalledBodies.{HasCode, HaveCode, have_code}
 use Rattle.source_laws.proofs.CodeCounted.{few_of}
-use Rattle.source_laws.proofs.CoverScopes.{present}
+use Rattle.program_soundness.specs.step_soundness.proofs.Sights.{is_there}
 use Rattle.source_laws.proofs.InsideEntities.{fronts_by}
 use Rattle.source_laws.proofs.InsideLimits.{words_there}
 use Rattle.source_laws.proofs.InsideNames.{subtype_named}
@@ -51,7 +51,7 @@ module _ (scopes : ScopesAreSound) (s whole : Scope) (sound : SoundScope s) (kee
   formals_same all [] ps named h = ap (formals_take whole) (sym (same_some [] ps h))
   formals_same all (f ∷ fs) ps named h =
       let x = first_formal whole f fs ps h in
-      let u = present (subtype_of s f.subtype) named.0 in
+      let u = is_there (subtype_of s f.subtype) named.0 in
       let known = scopes.subtype s f.subtype u.0 sound u.1 in
       let typed : x.subtype ≡ u.0 = same_some x.subtype u.0 (sym x.named ∙ keeps f.subtype u.0 u.1) in
       let more = formals_behind s all in

@@ -3,9 +3,9 @@ use Rattle.std.proofs.Common.{◌≡◌, ℕ, ℤ, Bool, true, ◌&&◌, List, [
 use Rattle.std.specs.List.{list_all}
 use Rattle.std.proofs.lemmas.Bool.{and_from}
 use Rattle.std.proofs.lemmas.List.Folds.{list_all-append}
-use Rattle.ada_link.specs.base.specs.Arithmetic.{is_in_base_range}
-use Rattle.ada_link.specs.lexer.specs.declared.token.Token.{Token}
-use Rattle.ada_link.specs.lexer.specs.declared.token.TokenKind.TheVariants as kinds
+use Rattle.base.specs.Arithmetic.{is_in_base_range}
+use Rattle.lexer.specs.declared.token.Token.{Token}
+use Rattle.lexer.specs.declared.token.TokenKind.TheVariants as kinds
 use Rattle.ada_tree.specs.ExpressionGrammar.{made, spells_selectors}
 use Rattle.ada_tree.specs.ExpressionTree.{Arguments, Binary, Conditional, ExprTree, MoreArguments, MoreSelectors, Named, NoArguments, NoSelectors, Number, Parenthesized, SelectorTrees, Unary, Value}
 use Rattle.ada_tree.specs.Language.{Limit, Tokens, each, optional, token_at, where_true}
@@ -14,7 +14,7 @@ use Rattle.ada_tree.specs.ProgramTree.{Array, BodyItemTree, DefinitionTree, Inde
 use Rattle.ada_tree.specs.StatementGrammar.{initial, object, private_part, protected_component, range}
 use Rattle.ada_tree.specs.StatementTree.{ObjectTree, ProtectedComponentTree, RangeTree}
 use Rattle.program_soundness.specs.Fronts.{declared_in}
-use Rattle.source_laws.specs.Spelled.{IsText}
+use Rattle.ada_tree.specs.Parsed.{IsText}
 use Rattle.source_laws.proofs.SpelledStatements.{Tells, both_told, known, later, opened, sooner}
 use Rattle.source_laws.proofs.SpelledTokens.{AreSpelled, IsKindSpelled, spelled_tokens}
 

@@ -1,9 +1,9 @@
 -- Where each token of a whole text is spelled, what stands as a name or a label in its tree is one.
-use Rattle.std.proofs.Common.{◌≡◌, ℕ, true, List, [], ◌∷◌, ◌++◌, map, Option, Some, None, inl, inr, refl, sym, ◌∙◌, subst}
+use Rattle.std.proofs.Common.{◌≡◌, ℕ, true, List, [], ◌∷◌, ◌++◌, map, Option, Some, None, refl, sym, ◌∙◌, subst}
 use Rattle.std.specs.List.{list_all}
 use Rattle.std.proofs.lemmas.Bool.{and_from}
 use Rattle.std.proofs.lemmas.List.Folds.{list_all-append}
-use Rattle.ada_link.specs.base.specs.Names.{is_name, predefined}
+use Rattle.base.specs.Names.{is_name, predefined}
 use Rattle.ada_tree.specs.declared.expression.Identifier.{Identifier}
 use Rattle.ada_tree.specs.StatementTree.{SubprogramTree, TaskTree}
 use Rattle.ada_tree.specs.ProgramTree.{BodyItemTree, BodyTree, EntryBody, ItemTree, OfException, OfItem, OfTask, OperationBody, PackageTree, ProgramTree, ProtectedBody, ProtectedItemTree, SubprogramBody, TaskBody}
@@ -12,11 +12,11 @@ use Rattle.ada_tree.specs.ProgramGrammar.{body, body_item, item, package_part, p
 use Rattle.types.specs.Scopes.{Scope}
 use Rattle.expr_soundness.specs.meaning.specs.Programs.{Duty, Task, body_among, exceptions_among, items_among, main_task, package_bodies, package_items, program_of, task_with, tasks_among}
 use Rattle.program_soundness.specs.Fronts.{declared_in}
-use Rattle.ada_link.specs.stmt_code.specs.WholeRefusals.{body_labels}
-use Rattle.ada_link.specs.package_code.specs.Refusing.{is_spelled, item_labels, items_labels, operation_labels, operations_labels, program_labels, subprogram_labels}
-use Rattle.ada_link.specs.package_code.proofs.TasksAdded.{tasks_both}
-use Rattle.ada_link.specs.package_code.proofs.Variables.{exceptions_both}
-use Rattle.source_laws.specs.Spelled.{OutsideIsTold, TextsAreSpelled}
+use Rattle.stmt_code.specs.WholeRefusals.{body_labels}
+use Rattle.package_code.specs.Refusing.{item_labels, items_labels, operation_labels, operations_labels, program_labels, subprogram_labels}
+use Rattle.package_code.proofs.TasksAdded.{tasks_both}
+use Rattle.package_code.proofs.Variables.{exceptions_both}
+use Rattle.source_laws.specs.Spelled.{TextsAreSpelled, is_spelled}
 use Rattle.source_laws.proofs.SpelledTokens.{spelled_tokens}
 use Rattle.source_laws.proofs.SpelledStatements.{AreLabels, Keeps, Tells, body_told, both_told, joined, known, later, named, same, sooner}
 
@@ -174,8 +174,3 @@ program_told limit t =
 
 pub texts_spelled : TextsAreSpelled
 texts_spelled text tokens t is = (program_told is.limit t).told tokens is.tree (spelled_tokens is.spelled.row)
-
-pub outside_told : OutsideIsTold
-outside_told text tokens t is (inl needed) = needed
-outside_told text tokens t is (inr (inl many)) = absurd many
-outside_told text tokens t is (inr (inr misspelt)) = absurd (let spelled = texts_spelled text tokens t is in let bad = sym spelled ∙ misspelt in cc)

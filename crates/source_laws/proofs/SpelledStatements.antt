@@ -3,10 +3,10 @@ use Rattle.std.proofs.Common.{◌≡◌, ℕ, zero, suc, Bool, true, false, ◌&
 use Rattle.std.specs.List.{list_all}
 use Rattle.std.proofs.lemmas.Bool.{and_from}
 use Rattle.std.proofs.lemmas.List.Folds.{list_all-append}
-use Rattle.ada_link.specs.base.specs.Names as names
-use Rattle.ada_link.specs.lexer.specs.declared.token.Token.{Token}
-use Rattle.ada_link.specs.lexer.specs.declared.token.TokenKind.{TokenKind}
-use Rattle.ada_link.specs.lexer.specs.declared.token.TokenKind.TheVariants as kinds
+use Rattle.base.specs.Names as names
+use Rattle.lexer.specs.declared.token.Token.{Token}
+use Rattle.lexer.specs.declared.token.TokenKind.{TokenKind}
+use Rattle.lexer.specs.declared.token.TokenKind.TheVariants as kinds
 use Rattle.ada_tree.specs.declared.expression.Identifier.{Identifier}
 use Rattle.ada_tree.specs.ExpressionTree.{ArgumentTrees, Arguments, MoreArguments, MoreSelectors, NameTree, NoArguments, NoSelectors, SelectorTrees, Text, Value}
 use Rattle.ada_tree.specs.StatementTree.{AlternativeTrees, Block, Call, Case, ElsifTrees, HandlerTrees, If, Loop, MoreAlternatives, MoreElsifs, MoreHandlers, MoreStmts, NoAlternatives, NoElsifs, NoHandlers, NoStmts, StmtTree, StmtTrees}
@@ -15,9 +15,9 @@ use Rattle.ada_tree.specs.Language.{Limit, Tokens, identifier, inside, token_at,
 use Rattle.ada_tree.specs.ExpressionGrammar.{spells_arguments, spells_name, spells_selectors}
 use Rattle.ada_tree.specs.StatementGrammar.{alternatives, else_stmts, elsifs, further_handlers, further_stmts, handlers, some_alternatives, stmt, stmts}
 use Rattle.ada_tree.specs.ProgramGrammar.{body}
-use Rattle.ada_link.specs.part_code.specs.Labels.{alternatives_labels, elsifs_labels, handlers_labels, is_label, stmt_labels, stmts_labels, with_label, with_line}
-use Rattle.ada_link.specs.part_code.specs.Lines.{line_behind, line_in, line_of}
-use Rattle.ada_link.specs.stmt_code.specs.WholeRefusals.{body_labels}
+use Rattle.part_code.specs.Labels.{alternatives_labels, elsifs_labels, handlers_labels, is_label, stmt_labels, stmts_labels, with_label, with_line}
+use Rattle.part_code.specs.Lines.{line_behind, line_in, line_of}
+use Rattle.stmt_code.specs.WholeRefusals.{body_labels}
 use Rattle.source_laws.proofs.SpelledTokens.{AreSpelled, IsKindSpelled}
 
 -- ---- what lists of a language tell, where each token is spelled

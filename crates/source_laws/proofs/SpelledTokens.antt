@@ -7,20 +7,20 @@ use Rattle.std.specs.List.{list_all, list_any}
 use Rattle.std.proofs.lemmas.Bool.{and_from, and_parts, le-leb, lt-ltb}
 use Rattle.std.proofs.lemmas.Bool.Decides.{nat_tests}
 use Rattle.std.proofs.lemmas.List.{length-map}
-use Rattle.ada_link.specs.base.specs.Arithmetic.{is_in_base_range}
-use Rattle.ada_link.specs.base.specs.Names.{is_digit, is_identifier, is_label, is_letter, is_name, is_reserved, is_rest}
-use Rattle.ada_link.specs.base.specs.Names as names
-use Rattle.ada_link.specs.base.specs.declared.limits.TheConstants.{LABEL_LIMIT, NAME_LIMIT}
-use Rattle.ada_link.specs.lexer.specs.declared.token.Token.{Token}
-use Rattle.ada_link.specs.lexer.specs.declared.token.TokenKind.{TokenKind}
-use Rattle.ada_link.specs.lexer.specs.declared.token.TokenKind.TheVariants as kinds
-use Rattle.ada_link.specs.lexer.specs.declared.word.Word.{Word}
-use Rattle.ada_link.specs.lexer.specs.declared.word.Word.TheVariants as words
-use Rattle.ada_link.specs.lexer.specs.Characters.{begins, is_underline, is_word_character}
-use Rattle.ada_link.specs.lexer.specs.Elements.{IsLabel, IsName, IsToken, has_single_underlines, upper_case, value}
-use Rattle.ada_link.specs.lexer.specs.Limits.{number_limit}
-use Rattle.ada_link.specs.lexer.specs.Spelling.{Comment, Here, Lexeme, Row, White}
-use Rattle.ada_link.specs.lexer.specs.Words.{spelling}
+use Rattle.base.specs.Arithmetic.{is_in_base_range}
+use Rattle.base.specs.Names.{is_digit, is_identifier, is_label, is_letter, is_name, is_reserved, is_rest}
+use Rattle.base.specs.Names as names
+use Rattle.base.specs.declared.limits.TheConstants.{LABEL_LIMIT, NAME_LIMIT}
+use Rattle.lexer.specs.declared.token.Token.{Token}
+use Rattle.lexer.specs.declared.token.TokenKind.{TokenKind}
+use Rattle.lexer.specs.declared.token.TokenKind.TheVariants as kinds
+use Rattle.lexer.specs.declared.word.Word.{Word}
+use Rattle.lexer.specs.declared.word.Word.TheVariants as words
+use Rattle.lexer.specs.Characters.{begins, is_underline, is_word_character}
+use Rattle.lexer.specs.Elements.{IsLabel, IsName, IsToken, has_single_underlines, upper_case, value}
+use Rattle.lexer.specs.Limits.{number_limit}
+use Rattle.lexer.specs.Spelling.{Comment, Here, Lexeme, Row, White}
+use Rattle.lexer.specs.Words.{spelling}
 
 -- a token's name is a name, its label a label, and its number has 64 bits
 abbrev pub IsKindSpelled : TokenKind → Type 0

@@ -2,7 +2,7 @@
 -- the name of a package has no value. So what main's aspect names stands in front of all names of the package.
 use Rattle.std.proofs.Common.{◌≡◌, ◌++◌, ◌⊎◌, inl, inr, ℕ, ℤ, Bool, true, false, cond, not, List, [], Option, Some, None, refl, sym, ap, ◌∙◌, subst}
 use Rattle.std.specs.Prelude.{bytes_eq, codes, is_some}
-use Rattle.ada_link.specs.base.specs.declared.faults.TheConstants.{NAME_NOT_VISIBLE, NO_MEANING}
+use Rattle.base.specs.declared.faults.TheConstants.{NAME_NOT_VISIBLE, NO_MEANING}
 use Rattle.ada_tree.specs.declared.expression.Identifier.{Identifier}
 use Rattle.ada_tree.specs.ExpressionTree as tree
 use Rattle.ada_tree.specs.ExpressionTree.{Arguments, Attribute, Binary, Component, Conditional, ExprTree, MoreSelectors, Named, NoSelectors, Parenthesized, SelectorTrees, Unary}

@@ -1,7 +1,7 @@
 -- In front of each declaration and body of an accepted text the limits of what is visible are kept.
 use Rattle.std.proofs.Common.{◌≡◌, ℕ, zero, suc, ◌+◌, ◌≤◌, true, List, [], ◌∷◌, ◌++◌, drop, Some, refl, sym, ap, ◌∙◌, subst, arith}
 use Rattle.std.specs.List.{list_all}
-use Rattle.ada_link.specs.base.specs.declared.limits.TheConstants.{WORDS}
+use Rattle.base.specs.declared.limits.TheConstants.{WORDS}
 use Rattle.ada_tree.specs.ProgramTree.{ProgramTree}
 use Rattle.types.specs.declared.entity.Role.{Role}
 use Rattle.types.specs.declared.entity.Role.TheVariants as role
@@ -27,8 +27,8 @@ use Rattle.program_soundness.proofs.Listing.{same_some}
 use Rattle.program_soundness.proofs.Trees.{tree_package}
 use Rattle.program_soundness.proofs.Walked.{scope_behind}
 use Rattle.program_soundness.proofs.Whole.{IsPackage}
-use Rattle.ada_link.specs.package_code.proofs.InFront.{known_inside}
-use Rattle.ada_link.specs.package_code.proofs.Seen.{all_behind}
+use Rattle.package_code.proofs.InFront.{known_inside}
+use Rattle.package_code.proofs.Seen.{all_behind}
 use Rattle.source_laws.specs.Visible.{FrontsKeepLimits, KeepsLimits}
 use Rattle.source_laws.proofs.BoundedNames.{AreBounded, bounded_at, fronts_bounded, is_bounded, start_bounded}
 use Rattle.source_laws.proofs.WholeItems.{declared_whole, is_whole_body_item}

@@ -1,8 +1,8 @@
 -- What holds of each body with code of an accepted text, a subprogram's, a task's, or one of a protected object: it breaks no rule and no restriction.
-use Rattle.std.proofs.Common.{◌≡◌, ◌++◌, ℕ, zero, suc, ◌≤◌, ◌⊎◌, inl, inr, Bool, true, false, ◌||◌, ◌&&◌, not, List, [], ◌∷◌, length, take, Option, Some, None, refl, sym, ap, ◌∙◌, subst, arith}
+use Rattle.std.proofs.Common.{◌≡◌, ◌++◌, ℕ, zero, suc, ◌≤◌, inl, inr, true, false, ◌||◌, ◌&&◌, not, List, [], ◌∷◌, length, take, Option, Some, None, refl, sym, ap, ◌∙◌, subst, arith}
 use Rattle.std.specs.Prelude.{◌≢◌, is_some, slice_get}
-use Rattle.ada_link.specs.base.specs.declared.faults.TheConstants.{WRONG_FUNCTION}
-use Rattle.ada_link.specs.base.specs.declared.limits.TheConstants.{FORMALS}
+use Rattle.base.specs.declared.faults.TheConstants.{WRONG_FUNCTION}
+use Rattle.base.specs.declared.limits.TheConstants.{FORMALS}
 use Rattle.ada_tree.specs.declared.declaration.Formal.{Formal}
 use Rattle.ada_tree.specs.declared.expression.Identifier.{Identifier}
 use Rattle.ada_tree.specs.ExpressionTree.{ExprTree}
@@ -15,10 +15,10 @@ use Rattle.types.specs.Scopes.{Scope, form_at}
 use Rattle.expr_soundness.specs.expr_rules.specs.declared.own.Wanted.TheVariants.{OfType}
 use Rattle.expr_soundness.specs.expr_rules.specs.ExpressionRules.{faults_of}
 use Rattle.expr_soundness.specs.expr_rules.proofs.TypedLaw.{back_empty, front_empty, judged, unbroken}
-use Rattle.expr_soundness.specs.type_rules.specs.ProfileRules.{formals_faults, function_faults, has_wrong_formal, profile_entity, profile_faults, profile_with, formal_parameters, result_faults, subprogram_scope}
+use Rattle.expr_soundness.specs.type_rules.specs.ProfileRules.{formals_faults, function_faults, has_wrong_formal, profile_entity, profile_faults, profile_with, formal_parameters, result_faults}
 use Rattle.expr_soundness.specs.type_rules.specs.SubtypeNames.{end_rule, is_composite, named_entity, subtype_faults, subtype_of}
 use Rattle.program_soundness.specs.declaring.specs.BodyNames.{components_scope, formals_scope}
-use Rattle.program_soundness.specs.legality.specs.BodyRules.{body_faults, function_body_faults, head_faults, is_function_body, kind_of, own_name_faults}
+use Rattle.program_soundness.specs.legality.specs.BodyRules.{body_faults, function_body_faults, head_faults, is_function_body, kind_of}
 use Rattle.program_soundness.specs.legality.specs.ProtectedBodyRules.{entry_rule, protected_item_faults, protected_items_scope}
 use Rattle.program_soundness.specs.stmt_rules.specs.SimpleRules.{condition_faults}
 use Rattle.program_soundness.specs.stmt_rules.specs.declared.around.BodyKind.{BodyKind}
@@ -27,7 +27,7 @@ use Rattle.program_soundness.specs.step_soundness.specs.body_restrictions.specs.
 use Rattle.checking.specs.ProgramRules.{IsLegal}
 use Rattle.program_soundness.specs.ravenscar.specs.ProgramRules.{IsRestricted, components_named}
 use Rattle.expr_soundness.specs.meaning.specs.Programs.{program_of, returned, subtype_named}
-use Rattle.expr_soundness.specs.SoundScopes.{IsKnown, SoundScope}
+use Rattle.expr_soundness.specs.SoundScopes.{SoundScope}
 use Rattle.expr_soundness.proofs.Growing.{grown, test_kept}
 use Rattle.program_soundness.specs.Fronts.{declared_in, front, start_in}
 use Rattle.program_soundness.proofs.BodyProfiles.{named_is, subtype_kept}
@@ -39,24 +39,23 @@ use Rattle.program_soundness.proofs.Trees.{tree_package}
 use Rattle.program_soundness.proofs.Walked.{legal_at, scope_next}
 use Rattle.program_soundness.proofs.Whole.{IsPackage, kept, legal_subtype, value_returned}
 use Rattle.program_soundness.proofs.WiderScopes.{number_stands, stands}
-use Rattle.ada_link.specs.package_code.specs.Bodies.{Coded, coded_at, object_number, of_operation, of_subprogram, of_task}
-use Rattle.ada_link.specs.package_code.specs.Laws.{MayBeAdded}
-use Rattle.ada_link.specs.package_code.proofs.Adding as adding
-use Rattle.ada_link.specs.package_code.proofs.Adding.{task_legal}
-use Rattle.ada_link.specs.package_code.proofs.BodyFronts.{IsBehindName, IsBodyFront, formal_told, package_front}
-use Rattle.ada_link.specs.package_code.proofs.Coded.{coded_by}
-use Rattle.ada_link.specs.package_code.proofs.InFront.{LawsOfNames}
-use Rattle.ada_link.specs.package_code.proofs.ObjectFronts.{operation_is_front}
-use Rattle.ada_link.specs.package_code.proofs.OperationsAdded as added
-use Rattle.ada_link.specs.package_code.proofs.OperationsAdded.{bodies_added}
-use Rattle.source_laws.specs.Covered.{NameSubtypes}
-use Rattle.source_laws.specs.Depths.{is_scalar_form}
-use Rattle.source_laws.specs.Visible.{IsBodyOf}
+use Rattle.package_code.specs.Bodies.{Coded, coded_at, object_number, of_operation, of_subprogram, of_task, IsBodyOf}
+use Rattle.package_code.proofs.Adding.{IsSoundBody}
+use Rattle.package_code.proofs.Adding as adding
+use Rattle.package_code.proofs.Adding.{task_legal}
+use Rattle.package_code.proofs.BodyFronts.{IsBehindName, IsBodyFront, formal_told, package_front}
+use Rattle.package_code.proofs.Coded.{coded_by}
+use Rattle.package_code.proofs.InFront.{LawsOfNames}
+use Rattle.package_code.proofs.ObjectFronts.{operation_is_front}
+use Rattle.package_code.proofs.OperationsAdded as added
+use Rattle.package_code.proofs.OperationsAdded.{bodies_sound}
+use Rattle.stmt_code.specs.Subprograms.{NameSubtypes}
+use Rattle.expr_code.specs.Providing.{is_scalar_form}
 use Rattle.source_laws.proofs.AddedNames.{with_behind}
 use Rattle.source_laws.proofs.FewCallees.{few_formals, scalar_form}
 
 pub record IsLegalBody (t : ProgramTree) (c : Coded) : Type 0 where
-  pub added : MayBeAdded t c.front c.head c.body
+  pub added : IsSoundBody t c.front c.head c.body
   pub named : NameSubtypes c.front c.head.formals
   pub few : length c.head.formals ≤ FORMALS
   pub kind : BodyKind
@@ -145,7 +144,7 @@ module _ (laws : LawsOfNames) (t : ProgramTree) (legal : IsLegal t) (restricted 
         (subst (λ s. is_scalar_form (form_at s u.0.type_number) ≡ true) (sym more.1 ∙ own.0)
         (test_kept before (before ++ more.0) (grown before more.0) is_scalar_form refl u.0.type_number here))
 
-    behind_name : IsBodyFront t c.owner c.front c.head c.body → MayBeAdded t c.front c.head c.body → restrictions.body_faults c.body ≡ [] → IsLegalBody t c
+    behind_name : IsBodyFront t c.owner c.front c.head c.body → IsSoundBody t c.front c.head c.body → restrictions.body_faults c.body ≡ [] → IsLegalBody t c
     behind_name f may own_restricted =
         record {
           added = may;
@@ -164,7 +163,7 @@ module _ (laws : LawsOfNames) (t : ProgramTree) (legal : IsLegal t) (restricted 
 
   -- ---- one that returns nothing, and has no name of its own behind its front
 
-  nameless : (c : Coded) → MayBeAdded t c.front c.head c.body → NameSubtypes c.front c.head.formals → length c.head.formals ≤ FORMALS → c.head.result ≡ None
+  nameless : (c : Coded) → IsSoundBody t c.front c.head c.body → NameSubtypes c.front c.head.formals → length c.head.formals ≤ FORMALS → c.head.result ≡ None
       → (kind : BodyKind) → ((u : Option ℕ) → kind ≢ kinds.Function u) → body_faults (formals_scope c.front c.head.formals) kind c.body ≡ []
       → restrictions.body_faults c.body ≡ [] → IsLegalBody t c
   nameless c may named few none kind nothing own_legal own_restricted =
@@ -184,8 +183,8 @@ module _ (laws : LawsOfNames) (t : ProgramTree) (legal : IsLegal t) (restricted 
   -- ---- bodies of subprograms and tasks
 
   may_be_added : (place : ℕ) (x : BodyItemTree) (k : ℕ) (c : Coded) → slice_get all place ≡ Some x → slice_get (coded_at t place x) k ≡ Some c
-      → MayBeAdded t c.front c.head c.body
-  may_be_added place x k c at is = bodies_added laws.scopes laws.names laws.premises t legal restricted place x k c at is
+      → IsSoundBody t c.front c.head c.body
+  may_be_added place x k c at is = bodies_sound laws.scopes laws.names laws.premises t legal restricted place x k c at is
 
   subprogram_legal : (place : ℕ) (d : SubprogramTree) (b : BodyTree) → slice_get all place ≡ Some (SubprogramBody d b)
       → IsLegalBody t (of_subprogram (front t (suc place)) d b)
@@ -241,7 +240,7 @@ module _ (laws : LawsOfNames) (t : ProgramTree) (legal : IsLegal t) (restricted 
         (bodies.item_legal (program_of t) start all w place name items end_name at k i there)
 
     entry_legal : (e : EntryTree) (barrier : ExprTree) (b : BodyTree) → slice_get items k ≡ Some (EntryBody e barrier b)
-        → (MayBeAdded t (coded (EntryBody e barrier b)).front (coded (EntryBody e barrier b)).head b)
+        → (IsSoundBody t (coded (EntryBody e barrier b)).front (coded (EntryBody e barrier b)).head b)
         → IsLegalBody t (coded (EntryBody e barrier b))
     entry_legal e barrier b there may =
         let s : Scope = components_scope earlier false components in
@@ -258,7 +257,7 @@ module _ (laws : LawsOfNames) (t : ProgramTree) (legal : IsLegal t) (restricted 
         (back_empty _ (restrictions.body_faults b) (own_restricted unit_ there))
 
     operation_legal : (d : SubprogramTree) (b : BodyTree) → slice_get items k ≡ Some (OperationBody d b)
-        → (MayBeAdded t (coded (OperationBody d b)).front d b)
+        → (IsSoundBody t (coded (OperationBody d b)).front d b)
         → IsLegalBody t (coded (OperationBody d b))
     operation_legal d b there may =
         let unit_ = OperationBody d b in
@@ -284,10 +283,10 @@ module _ (laws : LawsOfNames) (t : ProgramTree) (legal : IsLegal t) (restricted 
       by_object name items end_name at k e here =
           let y = added.inside_coded laws.scopes laws.names laws.premises t legal restricted x.place name items end_name at k e here in
           let may = may_be_added x.place (ProtectedBody name items end_name) k e at here in
-          subst (IsLegalBody t) (sym y.2) (by_item y.0 y.1 (subst (λ z. MayBeAdded t z.front z.head z.body) y.2 may))
+          subst (IsLegalBody t) (sym y.2) (by_item y.0 y.1 (subst (λ z. IsSoundBody t z.front z.head z.body) y.2 may))
         where
           by_item : (i : ProtectedItemTree) → slice_get items k ≡ Some i
-              → MayBeAdded t (coded x.place name items end_name at k i).front (coded x.place name items end_name at k i).head
+              → IsSoundBody t (coded x.place name items end_name at k i).front (coded x.place name items end_name at k i).head
               (coded x.place name items end_name at k i).body
               → IsLegalBody t (coded x.place name items end_name at k i)
           by_item (OperationBody d b) there may = operation_legal x.place name items end_name at k d b there may

@@ -1,6 +1,6 @@
 -- That each part of a text has no more nodes than tokens, so the code of each body has a bound by the tokens of the item that it stands in.
 use Rattle.std.specs.Prelude.{◌≡◌, ◌≤◌, ◌+◌, ◌*◌, ◌++◌, ℕ, List, length, Some, slice_get}
-use Rattle.ada_link.specs.lexer.specs.declared.token.Token.{Token}
+use Rattle.lexer.specs.declared.token.Token.{Token}
 use Rattle.ada_tree.specs.ExpressionGrammar.{expression}
 use Rattle.ada_tree.specs.ExpressionTree.{ExprTree}
 use Rattle.ada_tree.specs.Language.{Limit}
@@ -10,10 +10,9 @@ use Rattle.ada_tree.specs.Size.{body_item_size, body_size, expr_size, protected_
 use Rattle.ada_tree.specs.StatementGrammar.{stmt}
 use Rattle.ada_tree.specs.StatementTree.{StmtTree}
 use Rattle.program_soundness.specs.declaring.specs.BodyNames.{formals_scope}
-use Rattle.ada_link.specs.part_code.specs.Bounds.{body_words, formals_words}
-use Rattle.ada_link.specs.package_code.specs.Bodies.{Coded}
-use Rattle.ada_link.specs.package_code.specs.Counts.{bound_of}
-use Rattle.source_laws.specs.Visible.{IsBodyOf}
+use Rattle.part_code.specs.Bounds.{body_words, formals_words}
+use Rattle.package_code.specs.Bodies.{Coded, IsBodyOf}
+use Rattle.package_code.specs.Counts.{bound_of}
 
 -- ---- nodes
 

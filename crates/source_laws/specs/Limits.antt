@@ -1,14 +1,14 @@
 -- Which limits of images the code of an accepted text may pass: its length alone if its bodies are small, and none if it is.
 use Rattle.std.specs.Prelude.{◌<◌, ◌⊎◌, List, max}
-use Rattle.ada_link.specs.base.specs.declared.limits.TheConstants.{FRAME_WORDS, INSTRUCTIONS, ROWS}
-use Rattle.ada_link.specs.lexer.specs.declared.token.Token.{Token}
+use Rattle.base.specs.declared.limits.TheConstants.{FRAME_WORDS, INSTRUCTIONS, ROWS}
+use Rattle.lexer.specs.declared.token.Token.{Token}
 use Rattle.ada_tree.specs.ProgramTree.{ProgramTree}
 use Rattle.ada_tree.specs.Language.{Limit}
 use Rattle.ada_tree.specs.ProgramGrammar.{program}
 use Rattle.checking.specs.ProgramRules.{IsLegal}
 use Rattle.program_soundness.specs.ravenscar.specs.ProgramRules.{IsRestricted}
-use Rattle.ada_link.specs.expr_code.specs.declared.refusal.Refusal.TheVariants as refusal
-use Rattle.ada_link.specs.package_code.specs.Refusing.{RefusesLinking, program_bound, program_needs, program_rows}
+use Rattle.expr_code.specs.declared.refusal.Refusal.TheVariants as refusal
+use Rattle.package_code.specs.Refusing.{RefusesLinking, program_bound, program_needs, program_rows}
 use Rattle.source_laws.specs.Depths.{StaysWithinLimits}
 use Rattle.source_laws.specs.Small.{HasSmallBodies, IsSmall}
 

@@ -2,7 +2,7 @@
 -- Integer for
 -- a subtype, the first value of a type for an initial value, a priority, no body. None of these is ever taken for an accepted text.
 use Rattle.std.specs.Prelude.{◌≡◌, ℕ, pos, false, List, [], ◌∷◌, Option, Some, None, slice_get, ⊤}
-use Rattle.ada_link.specs.lexer.specs.declared.token.Token.{Token}
+use Rattle.lexer.specs.declared.token.Token.{Token}
 use Rattle.ada_tree.specs.declared.expression.Identifier.{Identifier}
 use Rattle.ada_tree.specs.ExpressionTree.{ExprTree}
 use Rattle.ada_tree.specs.StatementTree.{AlternativeTrees, AspectTree, Block, Case, ChoicesTree, DeclarationTree, ElsifTrees, HandlerTrees, If, LocalObject, Loop, MoreAlternatives, MoreElsifs, MoreHandlers, MoreStmts, NoAlternatives, NoElsifs, NoHandlers, NoStmts, ObjectTree, OtherValues, ProtectedComponentTree, ProtectedTree, StmtTree, StmtTrees, TaskTree, Values}
@@ -27,10 +27,9 @@ use Rattle.program_soundness.specs.ravenscar.specs.ProgramRules.{IsRestricted}
 use Rattle.expr_soundness.specs.Agreeing.{Agrees}
 use Rattle.expr_soundness.specs.meaning.specs.Programs.{OfBody, base_priority, body_among, object_numbered, package_bodies, program_of, returned}
 use Rattle.program_soundness.specs.Fronts.{declared_in}
-use Rattle.ada_link.specs.package_code.specs.Bodies.{Coded}
-use Rattle.source_laws.specs.Covered.{NameSubtypes}
-use Rattle.source_laws.specs.Spelled.{IsText}
-use Rattle.source_laws.specs.Visible.{IsBodyOf}
+use Rattle.package_code.specs.Bodies.{Coded, IsBodyOf}
+use Rattle.stmt_code.specs.Subprograms.{NameSubtypes}
+use Rattle.ada_tree.specs.Parsed.{IsText}
 
 -- ---- objects of the package, and components of protected objects
 

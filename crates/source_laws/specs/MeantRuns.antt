@@ -3,7 +3,7 @@
 -- program
 -- comes to, all is there.
 use Rattle.std.specs.Prelude.{◌≡◌, ℕ, Bool, List, [], ◌∷◌, length, Some, ⊤}
-use Rattle.ada_link.specs.base.specs.declared.schedule.ScheduleLine.{ScheduleLine}
+use Rattle.base.specs.declared.schedule.ScheduleLine.{ScheduleLine}
 use Rattle.ada_tree.specs.ExpressionTree.{ArgumentTrees, ExprTree}
 use Rattle.ada_tree.specs.ProgramTree.{ProgramTree}
 use Rattle.ada_tree.specs.StatementTree.{Assignment, Exit}

@@ -1,8 +1,8 @@
 -- When a source text is small, and what is promised of one: its code passes no limit on the numbers of an image.
 use Rattle.std.specs.Prelude.{ℕ, ◌+◌, ◌≤◌, List, length}
 use Rattle.std.specs.List.{AllByRecursion}
-use Rattle.ada_link.specs.base.specs.declared.limits.TheConstants.{INSTRUCTIONS, ROWS}
-use Rattle.ada_link.specs.lexer.specs.declared.token.Token.{Token}
+use Rattle.base.specs.declared.limits.TheConstants.{INSTRUCTIONS, ROWS}
+use Rattle.lexer.specs.declared.token.Token.{Token}
 use Rattle.ada_tree.specs.StatementTree.{AlternativeTrees, Block, Case, ElsifTrees, For, HandlerTrees, If, IterationTree, Loop, MoreAlternatives, MoreElsifs, MoreHandlers, MoreStmts, NoAlternatives, NoElsifs, NoHandlers, NoStmts, StmtTree, StmtTrees}
 use Rattle.ada_tree.specs.ProgramTree.{BodyTree, ProgramTree}
 use Rattle.ada_tree.specs.Depth.{depth}
@@ -11,9 +11,9 @@ use Rattle.ada_tree.specs.ProgramGrammar.{program}
 use Rattle.program_soundness.specs.declaring.specs.BodyNames.{formals_scope}
 use Rattle.checking.specs.ProgramRules.{IsLegal}
 use Rattle.program_soundness.specs.ravenscar.specs.ProgramRules.{IsRestricted}
-use Rattle.ada_link.specs.part_code.specs.Bounds.{body_words, formals_words}
-use Rattle.ada_link.specs.package_code.specs.Bodies.{Coded, bodies_of}
-use Rattle.ada_link.specs.package_code.specs.Refusing.{program_bound, program_rows}
+use Rattle.part_code.specs.Bounds.{body_words, formals_words}
+use Rattle.package_code.specs.Bodies.{Coded, bodies_of}
+use Rattle.package_code.specs.Refusing.{program_bound, program_rows}
 
 -- ---- counted loops, whose parameters take a word each (RM 5.5)
 

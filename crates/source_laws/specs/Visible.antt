@@ -1,8 +1,8 @@
 -- What is visible in front of the declarations and bodies of an accepted text keeps limits that its code counts on.
-use Rattle.std.specs.Prelude.{◌≡◌, ℕ, ◌≤◌, true, false, List, Some, slice_get}
-use Rattle.ada_link.specs.base.specs.declared.limits.TheConstants.{WORDS}
-use Rattle.ada_link.specs.lexer.specs.declared.token.Token.{Token}
-use Rattle.ada_tree.specs.ProgramTree.{BodyItemTree, ProgramTree}
+use Rattle.std.specs.Prelude.{◌≡◌, ℕ, ◌≤◌, true, false, List, Some}
+use Rattle.base.specs.declared.limits.TheConstants.{WORDS}
+use Rattle.lexer.specs.declared.token.Token.{Token}
+use Rattle.ada_tree.specs.ProgramTree.{ProgramTree}
 use Rattle.ada_tree.specs.Language.{Limit}
 use Rattle.ada_tree.specs.ProgramGrammar.{program}
 use Rattle.types.specs.declared.entity.Role.{Role}
@@ -14,11 +14,13 @@ use Rattle.types.specs.Shapes.{shape_of}
 use Rattle.checking.specs.ProgramRules.{IsLegal}
 use Rattle.program_soundness.specs.ravenscar.specs.ProgramRules.{IsRestricted}
 use Rattle.expr_soundness.specs.SoundScopes.{IsKnown}
-use Rattle.program_soundness.specs.Fronts.{declared_in, front}
-use Rattle.ada_link.specs.expr_code.specs.Refusing.{is_fit}
-use Rattle.ada_link.specs.package_code.specs.Bodies.{Coded, coded_at}
-use Rattle.ada_link.specs.package_code.specs.Refusing.{program_needs}
-use Rattle.source_laws.specs.Depths.{FewFormals, IsSmallScope, is_full}
+use Rattle.program_soundness.specs.Fronts.{front}
+use Rattle.expr_code.specs.Refusing.{is_fit}
+use Rattle.package_code.specs.Bodies.{IsBodyOf, Coded}
+use Rattle.package_code.specs.Refusing.{program_needs}
+use Rattle.source_laws.specs.Depths.{IsSmallScope}
+use Rattle.expr_code.specs.Providing.{FewFormals}
+use Rattle.part_code.specs.Providing.{is_full}
 use Rattle.source_laws.specs.Small.{HasSmallBodies}
 
 -- ---- limits of what is visible
@@ -35,14 +37,6 @@ pub record KeepsLimits (s : Scope) : Type 0 where
 abbrev pub FrontsKeepLimits : Type 0
 FrontsKeepLimits = (limit : Limit) (t : ProgramTree) (tokens : List Token) → program limit t tokens → IsLegal t → IsRestricted t → (place : ℕ)
     → KeepsLimits (front t place)
-
--- a body of the text that has code of its own: of a subprogram or a task, or of an operation or entry of a protected object
-pub record IsBodyOf (t : ProgramTree) (c : Coded) : Type 0 where
-  pub place : ℕ
-  pub item : BodyItemTree
-  pub index : ℕ
-  pub at : slice_get (declared_in t.package_) place ≡ Some item
-  pub coded : slice_get (coded_at t place item) index ≡ Some c
 
 -- ... and in front of the parameters of each of these
 abbrev pub BodiesKeepLimits : Type 0

@@ -1,12 +1,12 @@
 //! The laws of source texts, each what a function without work ensures.
 ghost use Rattle.source_laws.specs.Limits.{LimitsAreTold, SmallHasRoom, SmallIsUnlimited};
 ghost use Rattle.source_laws.specs.Small.{SmallCodeFits};
-ghost use Rattle.source_laws.specs.Spelled.{OutsideIsTold, TextsAreSpelled};
+ghost use Rattle.source_laws.specs.Spelled.{TextsAreSpelled};
 ghost use Rattle.source_laws.specs.Visible.{BodiesCallFew, BodiesKeepLimits, CalleesHaveFew, FrontsAreSmall, FrontsKeepLimits, NothingIsUnfit};
 
+use crate::cover_laws::names_are_covered;
 use crate::depth_laws::{functions_have_room, procedures_have_room};
-use crate::outside_laws::nothing_is_outside;
-use ada_link::laws::tables_are_small;
+use crate::table_laws::tables_are_small;
 use ada_tree::laws::size_within_tokens;
 use checking::laws::words_have_room;
 use expr_soundness::laws::scopes_are_sound;
@@ -18,11 +18,6 @@ use types::laws::{shapes_stay, values_have_words};
 /// The names and labels in the tree of a text are spelled as such (docs/LANGUAGE.md, "Lexical elements").
 pub fn texts_are_spelled()
     ensures { TextsAreSpelled }
-{}
-
-/// An accepted text is refused for want of code only where its tree has what no code is made of.
-pub fn outside_is_told()
-    ensures { OutsideIsTold }
 {}
 
 /// The code of a small program passes neither the limit of instructions nor that of rows of handlers.
@@ -116,7 +111,7 @@ pub fn small_has_room()
     fronts_fit();
     functions_have_room();
     names_are_known();
-    nothing_is_outside();
+    names_are_covered();
     premises_hold();
     procedures_have_room();
     scopes_are_sound();

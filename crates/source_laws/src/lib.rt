@@ -5,4 +5,4 @@ pub mod cover_laws;
 pub mod depth_laws;
 pub mod laws;
 pub mod meaning_laws;
-pub mod outside_laws;
+pub mod table_laws;

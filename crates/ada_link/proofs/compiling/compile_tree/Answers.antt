@@ -1,6 +1,17 @@
-use Rattle.std.proofs.Common.{ap}
+use Rattle.std.proofs.Common.{ap, rules}
+use Rattle.ada_tree.specs.ProgramTree.{program_tree}
+use Rattle.ada_link.proofs.Refusals.{compiling_refused}
 use Rattle.ada_link.proofs.MemoryAlone.{memory_alone}
 use Rattle.ada_link.proofs.compiling.compile_tree.Goals as goal
+
+pub returns-in_err-parts-clause-refused : goal.returns-in_err-parts-clause-refused
+returns-in_err-parts-clause-refused c =
+    let t = program_tree c.args.accepted.now in
+    let parsed = c.program-program.ensures.parsed in
+    let whole = compiling_refused t
+    (c.limits_are_told.ensures parsed.is.limit t parsed.tokens parsed.is.tree c.program-program.ensures.legal c.program-program.ensures.restricted)
+    c.in_err-parts.field-0.0 c.in_err-parts.ensures.refused in
+    search (rules, whole, c.from_residual.ensures)
 
 pub returns-in-Ok-clause-means : goal.returns-in-Ok-clause-means
 returns-in-Ok-clause-means c =

@@ -4,20 +4,35 @@ use Rattle.ada_tree.specs.ProgramTree.{package_tree, program_tree}
 use Rattle.meaning.specs.Programs.{package_bodies, package_items}
 use Rattle.expr_soundness.specs.SoundScopes.{SoundScope}
 use Rattle.package_code.specs.Directory.{HasManyBodies}
-use Rattle.package_code.specs.Globals.{RefusesGlobals}
+use Rattle.package_code.specs.Globals.{RefusesGlobals, are_placed}
+use Rattle.package_code.specs.Providing.{items_tell}
 use Rattle.package_code.specs.Objects.{RefusesObjects, bare_objects, object_rows, objects_have_words}
 use Rattle.ada_link.proofs.Refusals.{bodies_refused, globals_refused, objects_refused, plain_refused, tables_told}
 use Rattle.ada_link.proofs.program.declarations.Goals as goal
 
 pub globals_of-requires : goal.globals_of-requires
-globals_of-requires c = record {
-  sound = subst SoundScope (sym c.scope-scope.ensures) (c.names_are_sound.ensures (program_tree c.args.accepted.now) c.program.ensures.legal);
-}
+globals_of-requires c =
+    let t = program_tree c.args.accepted.now in
+    let items = ap (λ q. package_items (optional_tree package_tree q.package_)) c.program.ensures.same in
+    record {
+      sound = subst SoundScope (sym c.scope-scope.ensures) (c.names_are_sound.ensures t c.program.ensures.legal);
+      told = (λ j. items_tell (c.scope-scope.ensures j) (items j))
+          ∙ c.declarations_tell.ensures c.program.ensures.parsed.is.limit t c.program.ensures.parsed.tokens c.program.ensures.parsed.is.tree
+          c.program.ensures.legal c.program.ensures.restricted;
+      placed = (λ j. are_placed (c.scope-scope.ensures j) [] (items j))
+          ∙ c.variables_are_placed.ensures t c.program.ensures.legal c.program.ensures.restricted;
+    }
 
 pub protected_objects-requires : goal.protected_objects-requires
-protected_objects-requires c = record {
-  sound = subst SoundScope (sym c.scope-scope.ensures) (c.names_are_sound.ensures (program_tree c.args.accepted.now) c.program.ensures.legal);
-}
+protected_objects-requires c =
+    let t = program_tree c.args.accepted.now in
+    let items = ap (λ q. package_items (optional_tree package_tree q.package_)) c.program.ensures.same in
+    record {
+      sound = subst SoundScope (sym c.scope-scope.ensures) (c.names_are_sound.ensures t c.program.ensures.legal);
+      told = (λ j. items_tell (c.scope-scope.ensures j) (items j))
+          ∙ c.declarations_tell.ensures c.program.ensures.parsed.is.limit t c.program.ensures.parsed.tokens c.program.ensures.parsed.is.tree
+          c.program.ensures.legal c.program.ensures.restricted;
+    }
 
 pub object_rows-requires : goal.object_rows-requires
 object_rows-requires c =
@@ -55,7 +70,7 @@ pub returns-in_err-slots-clause-refused : goal.returns-in_err-slots-clause-refus
 returns-in_err-slots-clause-refused c =
     let t = program_tree c.args.accepted.now in
     let why = c.in_err-slots.field-0.0 in
-    let whole = globals_refused t (c.variables_are_placed.ensures t c.program.ensures.legal c.program.ensures.restricted) why
+    let whole = globals_refused t why
     (subst (λ z. RefusesGlobals z [] (package_items t.package_) why) c.scope-scope.ensures
     (subst (λ p. RefusesGlobals c.scope-scope.result.now [] (package_items (optional_tree package_tree p.package_)) why) c.program.ensures.same
     c.in_err-slots.ensures.refused)) in

@@ -6,12 +6,12 @@ use Rattle.program_soundness.specs.Fronts.{front}
 use Rattle.stmt_code.specs.Subprograms.{AddsMain, CallsProcedures}
 use Rattle.expr_code.specs.Code.{here}
 use Rattle.step_simulation.specs.part_code.specs.Bounds.{main_bound}
-use Rattle.step_simulation.specs.part_code.specs.Needs.{RefusesMain}
+use Rattle.step_simulation.specs.part_code.specs.Needs.{RefusesMain, are_unknown}
 use Rattle.expr_code.specs.declared.refusal.Refusal.TheVariants as refusal
 use Rattle.package_code.specs.Refusing.{RefusesSections}
 use Rattle.package_code.specs.Tasks.{HaveTasks}
 use Rattle.package_code.proofs.TasksAdded.{have_both}
-use Rattle.ada_link.proofs.Refusals.{code_refused, labels_told, main_refused, plain_refused, row_refused, rows_told, task_refused, walked_bodies}
+use Rattle.ada_link.proofs.Refusals.{code_refused, labels_told, main_refused, plain_refused, row_refused, rows_told, seen_last, task_refused, walked_bodies}
 use Rattle.ada_link.proofs.program.put_together.Goals as goal
 
 pub walk_over-requires : goal.walk_over-requires
@@ -19,6 +19,8 @@ walk_over-requires c =
     let t = program_tree c.args.accepted.now in
     record {
       objects = (c.tables_are_small.ensures t c.program-program.ensures.legal c.program-program.ensures.restricted).objects;
+      covered = c.names_are_covered.ensures c.program-program.ensures.parsed.is.limit t c.program-program.ensures.parsed.tokens
+          c.program-program.ensures.parsed.is.tree c.program-program.ensures.legal c.program-program.ensures.restricted;
       directory = c.in_ok-words.ensures.directory;
       exceptions = c.in_ok-words.ensures.globals.exceptions;
     }
@@ -31,6 +33,9 @@ main-requires c =
       called = subst (CallsProcedures s) (sym (c.deref.ensures.value ∙ ap (λ p. p.main.statements.items) c.program-program.ensures.same))
           (subst (λ z. CallsProcedures z t.main.statements) (sym (c.in_ok-walk.ensures.walked.scope ∙ ap (front t) c.in_ok-walk.ensures.whole))
           (c.main_may_be_added.ensures t c.program-program.ensures.legal c.program-program.ensures.restricted));
+      known = (λ j. are_unknown (seen_last t c.in_ok-walk.walk c.in_ok-walk.ensures.told c.in_ok-walk.ensures.whole j)
+          ((c.deref.ensures.value ∙ ap (λ p. p.main.statements.items) c.program-program.ensures.same) j))
+          ∙ c.main_is_known.ensures t c.program-program.ensures.legal c.program-program.ensures.restricted;
     }
 
 pub returns-clause-program : goal.returns-clause-program
@@ -107,8 +112,7 @@ returns-in_err-main-clause-refused c =
     let t = program_tree c.args.accepted.now in
     let why = c.in_err-main.field-0.0 in
     let walk = c.in_ok-walk.walk in
-    let whole = main_refused t walk c.in_ok-walk.ensures.told c.in_ok-walk.ensures.whole
-    (c.main_is_known.ensures t c.program-program.ensures.legal c.program-program.ensures.restricted) why
+    let whole = main_refused t walk c.in_ok-walk.ensures.told c.in_ok-walk.ensures.whole why
     (subst (λ l. RefusesMain walk.visible walk.draft.code l (main_bound l) why)
     (c.deref.ensures.value ∙ ap (λ p. p.main.statements.items) c.program-program.ensures.same) c.in_err-main.ensures.refused) in
     search (rules, whole, c.from_residual-in_err-main.ensures)

@@ -1,13 +1,8 @@
 use Rattle.std.proofs.Common.{sym, ◌∙◌}
 use Rattle.ada_tree.specs.ProgramTree.{program_tree}
 use Rattle.ada_link.proofs.ObjectLines.{as_many_objects}
-use Rattle.ada_link.proofs.Refusals.{limits_refused, texts_refused}
+use Rattle.ada_link.proofs.Refusals.{limits_refused, texts_spelled}
 use Rattle.ada_link.proofs.program.within_tables.Goals as goal
-
-pub returns-then-not-has_texts-clause-refused : goal.returns-then-not-has_texts-clause-refused
-returns-then-not-has_texts-clause-refused c =
-    texts_refused (program_tree c.args.accepted.now) c.in_ok-parts.parts c.in_ok-parts.ensures.program c.in_ok-parts.ensures.labels c.in_ok-parts.ensures.rows
-    (sym c.has_texts.ensures ∙ c.if-not-has_texts.true)
 
 pub returns-then-not-is_within_limits-clause-refused : goal.returns-then-not-is_within_limits-clause-refused
 returns-then-not-is_within_limits-clause-refused c =
@@ -22,3 +17,13 @@ returns-then-not-is_within_limits-clause-refused c =
       fronts = c.fronts_fit.ensures;
     }) (program_tree c.args.accepted.now) c.program-program.ensures.legal c.program-program.ensures.restricted c.in_ok-parts.parts c.in_ok-parts.ensures.program)
     (sym c.is_within_limits.ensures ∙ c.if-not-is_within_limits.true)
+
+pub returns-clause-tables : goal.returns-clause-tables
+returns-clause-tables c =
+    record {
+      texts = texts_spelled (program_tree c.args.accepted.now) c.in_ok-parts.parts c.in_ok-parts.ensures.program c.in_ok-parts.ensures.labels
+          c.in_ok-parts.ensures.rows
+          (c.texts_are_spelled.ensures c.program-program.ensures.parsed.text c.program-program.ensures.parsed.tokens (program_tree c.args.accepted.now)
+          c.program-program.ensures.parsed.is);
+      limits = sym c.is_within_limits.ensures ∙ c.if-not-is_within_limits.false;
+    }

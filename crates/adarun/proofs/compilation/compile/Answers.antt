@@ -2,10 +2,9 @@ use Rattle.std.proofs.Common.{◌≡◌, Err, ap, inl, rules, subst, sym, ◌∙
 use Rattle.std.specs.Prelude.{IfErr}
 use Rattle.ada_link.specs.ada_tree.specs.ProgramTree.{program_tree}
 use Rattle.checking.specs.ProgramRules.{IsLegal}
-use Rattle.ravenscar.specs.ProgramRules.{IsRestricted}
 use Rattle.parser.specs.Parsing.{Derives}
 use Rattle.adarun.specs.Accepted.{CompilesAccepted, IsJudged, RefusesText}
-use Rattle.adarun.proofs.Compiling.{compiles, given, judged, judged_accepted, judged_legal, legal_given, misspelled, never_outside, no_tree, numbered, refused_text, restricted_given, tells, unrestricted_text}
+use Rattle.adarun.proofs.Compiling.{compiles, given, judged, judged_accepted, judged_legal, legal_given, misspelled, no_tree, numbered, parsed, refused_text, restricted_given, tells, unrestricted_text}
 use Rattle.adarun.proofs.compilation.compile.Goals as goal
 
 pub returns-in_err-list-clause-refused : goal.returns-in_err-list-clause-refused
@@ -32,7 +31,7 @@ returns-in_err-checked-clause-judged c = λ tree is_tree.
     let same = c.deref.ensures.value ∙ c.in_ok-list.ensures.complete is_tree.tokens is_tree.spells in
     let only = c.in_ok-program.ensures.only tree (subst (Derives tree) (sym same) is_tree.derives) in
     let is : c.from_residual-in_err-checked.result ≡ Err c.in_err-checked.field-0.0 = search rules in
-    subst (IsJudged c.args.source.now tree) (sym is) (judged _ _ _ _ only c.in_err-checked.ensures.refused)
+    subst (IsJudged c.args.source.now tree) (sym is) (judged _ _ _ _ (ap program_tree c.new.ensures.same ∙ only) c.in_err-checked.ensures.refused)
 
 pub returns-in_err-accepted-clause-judged : goal.returns-in_err-accepted-clause-judged
 returns-in_err-accepted-clause-judged c = λ tree is_tree.
@@ -41,14 +40,14 @@ returns-in_err-accepted-clause-judged c = λ tree is_tree.
     let checked = c.in_ok-checked.ensures.same in
     let is : c.from_residual-in_err-accepted.result ≡ Err c.in_err-accepted.field-0.0 = search rules in
     subst (IsJudged c.args.source.now tree) (sym is)
-    (judged_legal _ _ _ _ (ap program_tree checked ∙ only) (subst (λ p. IsLegal (program_tree p)) (sym checked) c.in_ok-checked.ensures.legal)
+    (judged_legal _ _ _ _ (ap program_tree (checked ∙ c.new.ensures.same) ∙ only) (subst (λ p. IsLegal (program_tree p)) (sym checked) c.in_ok-checked.ensures.legal)
     c.in_err-accepted.ensures.refused)
 
 pub returns-clause-judged : goal.returns-clause-judged
 returns-clause-judged c = λ tree is_tree.
     let same = c.deref.ensures.value ∙ c.in_ok-list.ensures.complete is_tree.tokens is_tree.spells in
-    let lent = ap program_tree (c.in_ok-accepted.ensures.same ∙ c.in_ok-checked.ensures.same) in
-    judged_accepted c.limits_are_told.ensures c.small_is_unlimited.ensures _ _ _ _ is_tree (lent ∙ c.in_ok-program.ensures.only tree (subst (Derives tree) (sym same) is_tree.derives))
+    let lent = ap program_tree (c.in_ok-accepted.ensures.same ∙ c.in_ok-checked.ensures.same ∙ c.new.ensures.same) in
+    judged_accepted c.small_is_unlimited.ensures _ _ _ _ is_tree (lent ∙ c.in_ok-program.ensures.only tree (subst (Derives tree) (sym same) is_tree.derives))
     c.image_of.ensures.legal
     c.image_of.ensures.restricted
     c.image_of.ensures.refused
@@ -56,7 +55,7 @@ returns-clause-judged c = λ tree is_tree.
 pub returns-clause-means : goal.returns-clause-means
 returns-clause-means c =
     compiles _ _ _ _ _ c.in_ok-list.ensures.sound c.deref.ensures.value c.in_ok-program.ensures.found _
-    (c.in_ok-accepted.ensures.same ∙ c.in_ok-checked.ensures.same)
+    (c.in_ok-accepted.ensures.same ∙ c.in_ok-checked.ensures.same ∙ c.new.ensures.same)
     c.image_of.ensures.legal
     c.image_of.ensures.restricted
     c.image_of.ensures.means
@@ -70,7 +69,7 @@ returns-in_err-checked-clause-accepted c = λ tree given_tree.
     let same = c.deref.ensures.value ∙ c.in_ok-list.ensures.complete is_tree.tokens is_tree.spells in
     let only = c.in_ok-program.ensures.only tree (subst (Derives tree) (sym same) is_tree.derives) in
     let is : c.from_residual-in_err-checked.result ≡ Err c.in_err-checked.field-0.0 = search rules in
-    subst (CompilesAccepted c.args.source.now tree) (sym is) (legal_given _ _ _ _ only given_tree.legal c.in_err-checked.ensures.refused)
+    subst (CompilesAccepted c.args.source.now tree) (sym is) (legal_given _ _ _ _ (ap program_tree c.new.ensures.same ∙ only) given_tree.legal c.in_err-checked.ensures.refused)
 
 pub returns-in_err-accepted-clause-accepted : goal.returns-in_err-accepted-clause-accepted
 returns-in_err-accepted-clause-accepted c = λ tree given_tree.
@@ -79,14 +78,14 @@ returns-in_err-accepted-clause-accepted c = λ tree given_tree.
     let only = c.in_ok-program.ensures.only tree (subst (Derives tree) (sym same) is_tree.derives) in
     let is : c.from_residual-in_err-accepted.result ≡ Err c.in_err-accepted.field-0.0 = search rules in
     subst (CompilesAccepted c.args.source.now tree) (sym is)
-    (restricted_given _ _ _ _ (ap program_tree c.in_ok-checked.ensures.same ∙ only) given_tree.restricted c.in_err-accepted.ensures.refused)
+    (restricted_given _ _ _ _ (ap program_tree (c.in_ok-checked.ensures.same ∙ c.new.ensures.same) ∙ only) given_tree.restricted c.in_err-accepted.ensures.refused)
 
 pub returns-clause-accepted : goal.returns-clause-accepted
 returns-clause-accepted c = λ tree given_tree.
     let is_tree = given_tree.is_tree in
     let same = c.deref.ensures.value ∙ c.in_ok-list.ensures.complete is_tree.tokens is_tree.spells in
-    let lent = ap program_tree (c.in_ok-accepted.ensures.same ∙ c.in_ok-checked.ensures.same) in
-    let told = tells c.limits_are_told.ensures c.small_is_unlimited.ensures c.args.source.now tree is_tree given_tree.legal given_tree.restricted in
+    let lent = ap program_tree (c.in_ok-accepted.ensures.same ∙ c.in_ok-checked.ensures.same ∙ c.new.ensures.same) in
+    let told = tells c.small_is_unlimited.ensures c.args.source.now tree is_tree given_tree.legal given_tree.restricted in
     given _ _ _ _ told (lent ∙ c.in_ok-program.ensures.only tree (subst (Derives tree) (sym same) is_tree.derives))
     c.image_of.ensures.means
     c.image_of.ensures.refused
@@ -96,12 +95,13 @@ returns-in_err-accepted-clause-refused c =
     let is : c.from_residual-in_err-accepted.result ≡ Err c.in_err-accepted.field-0.0 = search rules in
     subst (λ r. IfErr r (λ f. RefusesText c.args.source.now f)) (sym is)
     (unrestricted_text _ _ _ _ _ _ c.in_ok-list.ensures.sound c.deref.ensures.value c.in_ok-program.ensures.found
-    c.in_ok-checked.ensures.same c.in_ok-checked.ensures.legal c.in_err-accepted.ensures.refused)
+    (c.in_ok-checked.ensures.same ∙ c.new.ensures.same) (subst (λ p. IsLegal (program_tree p)) c.new.ensures.same c.in_ok-checked.ensures.legal)
+    c.in_err-accepted.ensures.refused)
 
 pub returns-clause-refused : goal.returns-clause-refused
 returns-clause-refused c =
-    refused_text c.limits_are_told.ensures c.small_is_unlimited.ensures _ _ _ _ _ _ c.in_ok-list.ensures.sound c.deref.ensures.value c.in_ok-program.ensures.found
-    (c.in_ok-accepted.ensures.same ∙ c.in_ok-checked.ensures.same)
+    refused_text c.small_is_unlimited.ensures _ _ _ _ _ _ c.in_ok-list.ensures.sound c.deref.ensures.value c.in_ok-program.ensures.found
+    (c.in_ok-accepted.ensures.same ∙ c.in_ok-checked.ensures.same ∙ c.new.ensures.same)
     c.image_of.ensures.legal
     c.image_of.ensures.restricted
     c.image_of.ensures.refused
@@ -121,11 +121,5 @@ returns-clause-numbered c =
     numbered c.spelling_numbers.ensures c.grammar_numbers.ensures c.legality_numbers.ensures c.restriction_numbers.ensures _ c.args.source.now
     (returns-clause-refused c)
 
-pub image_of-requires : goal.image_of-requires
-image_of-requires c = λ refused.
-    never_outside c.outside_is_told.ensures c.nothing_is_outside.ensures _ _ _ _ _ c.in_ok-list.ensures.sound c.deref.ensures.value
-    c.in_ok-program.ensures.found
-    (c.in_ok-accepted.ensures.same ∙ c.in_ok-checked.ensures.same)
-    (subst (λ p. IsLegal (program_tree p)) (sym (c.in_ok-accepted.ensures.same ∙ c.in_ok-checked.ensures.same)) c.in_ok-checked.ensures.legal)
-    (subst (λ p. IsRestricted (program_tree p)) (sym c.in_ok-accepted.ensures.same) c.in_ok-accepted.ensures.restricted)
-    refused
+pub new-requires : goal.new-requires
+new-requires c = record { parsed = parsed _ _ _ c.in_ok-program.program c.in_ok-list.ensures.sound c.deref.ensures.value c.in_ok-program.ensures.found }

@@ -1,13 +1,9 @@
-use Rattle.std.proofs.Common.{◌≡◌, ◌++◌, None, Some, arith, pos, refl, rules, sym, ap, ◌∙◌, subst}
-use Rattle.std.specs.Prelude.{option_map}
-use Rattle.std.proofs.lemmas.Result.{IfErr-weaker, on_ok_weaker}
+use Rattle.std.proofs.Common.{◌≡◌, ◌++◌, Some, arith, pos, refl, rules, sym, ap, ◌∙◌, subst}
+use Rattle.std.proofs.lemmas.Result.{on_ok_weaker}
 use Rattle.types.specs.Entities.{Booleans, Integers, Records, Spans, Times, form_value}
-use Rattle.types.specs.Shapes.{component_shapes, fields_words, initial, initial_fields, repeated, shape_of, shapes, values_words}
+use Rattle.types.specs.Shapes.{component_shapes, fields_words, initial, initial_fields, repeated, shapes, values_words}
 use Rattle.step_simulation.specs.part_code.proofs.Lists.{take_all}
-use Rattle.step_simulation.specs.part_code.proofs.Initials.{earlier_component, earlier_element}
-use Rattle.step_simulation.specs.part_code.proofs.Lacking.{lacking}
-use Rattle.step_simulation.specs.part_code.specs.Needs.{lacks_word}
-use Rattle.package_code.proofs.GlobalsRefused.{component_lacks, element_lacks, plain_lacks}
+use Rattle.step_simulation.specs.part_code.proofs.Initials.{earlier_component, earlier_element, known_component, known_element}
 use Rattle.package_code.proofs.InitialWords.{array_words, elements_next, fields_next, record_words, scalar_words}
 use Rattle.package_code.proofs.initial.+push_default.Goals as goal
 
@@ -15,8 +11,13 @@ pub push_default-requires : goal.push_default-requires
 push_default-requires t c =
     let form = sym c.in-Some-Array.ensures ∙ ap (λ f. Some (form_value f)) c.in-Some-Array.field-0-is in
     let less = earlier_element c.args.scope.now c.requires.sound c.args.subtype c.in-Some-Array.field-0-0 c.in-Some-Array.many
-    c.in-Some-Array.element form in
-    (omega (arith, less, c.decreases), c.requires.sound)
+    c.in-Some-Array.element form in (
+      omega (arith, less, c.decreases),
+      (
+        c.requires.sound,
+        known_element c.args.scope.now c.requires.sound c.args.subtype c.in-Some-Array.field-0-0 c.in-Some-Array.many c.in-Some-Array.element form,
+      ),
+    )
 
 pub loop-preserved : goal.loop-preserved
 loop-preserved t c =
@@ -28,8 +29,14 @@ push_default-requires-in-loop-component t c =
     let form = sym c.in-Some-Record.ensures ∙ ap (λ f. Some (form_value f)) c.in-Some-Record.field-0-is
     ∙ ap (λ l. Some (Records l)) (sym c.as_slice-component-items.ensures) in
     let less = earlier_component c.args.scope.now c.requires.sound c.args.subtype c.as_slice-component-items.result.now c.loop-component.component-index
-    c.component-item.result form c.loop-component-test.true c.component-item.is in
-    (omega (arith, less, c.decreases), c.requires.sound)
+    c.component-item.result form c.loop-component-test.true c.component-item.is in (
+      omega (arith, less, c.decreases),
+      (
+        c.requires.sound,
+        known_component c.args.scope.now c.requires.sound c.args.subtype c.as_slice-component-items.result.now c.loop-component.component-index
+            c.component-item.result form c.loop-component-test.true c.component-item.is,
+      ),
+    )
 
 pub loop-component-preserved : goal.loop-component-preserved
 loop-component-preserved t c =
@@ -83,39 +90,3 @@ returns-after-loop-component-clause-words t c =
     (subst
     (λ l. c.loop-component.words.items ≡ c.args.words.now.items ++ fields_words (initial_fields (component_shapes (shapes s) l)))
     (take_all items c.loop-component.component-index c.loop-component-test.false) c.loop-component.invariant)
-
-pub returns-in_err-push_default-in-Some-Array-clause-refused : goal.returns-in_err-push_default-in-Some-Array-clause-refused
-returns-in_err-push_default-in-Some-Array-clause-refused t c =
-    let form = sym c.in-Some-Array.ensures ∙ ap (λ f. Some (form_value f)) c.in-Some-Array.field-0-is in
-    let whole = element_lacks c.args.scope.now c.requires.sound c.args.subtype c.in-Some-Array.field-0-0 c.in-Some-Array.many c.in-Some-Array.element form
-    c.in_err-push_default-in-Some-Array.field-0.0 c.in_err-push_default-in-Some-Array.ensures.refused in
-    search (rules, whole)
-
-pub returns-in_err-push_default-in-Some-Record-clause-refused : goal.returns-in_err-push_default-in-Some-Record-clause-refused
-returns-in_err-push_default-in-Some-Record-clause-refused t c =
-    let form = sym c.in-Some-Record.ensures ∙ ap (λ f. Some (form_value f)) c.in-Some-Record.field-0-is
-    ∙ ap (λ l. Some (Records l)) (sym c.as_slice-component-items.ensures) in
-    let whole = component_lacks c.args.scope.now c.requires.sound c.args.subtype c.as_slice-component-items.result.now c.loop-component.component-index
-    c.component-item.result form c.loop-component-test.true c.component-item.is c.in_err-push_default-in-Some-Record.field-0.0
-    c.in_err-push_default-in-Some-Record.ensures.refused in
-    search (rules, whole)
-
-pub returns-in-Some-Integer-clause-refused : goal.returns-in-Some-Integer-clause-refused
-returns-in-Some-Integer-clause-refused t c =
-    IfErr-weaker _ _ _ (λ why r. plain_lacks (lacks_word (shape_of c.args.scope.now c.args.subtype)) why r) c.push_word.ensures.refused
-
-pub returns-in-Some-Boolean-clause-refused : goal.returns-in-Some-Boolean-clause-refused
-returns-in-Some-Boolean-clause-refused t c =
-    IfErr-weaker _ _ _ (λ why r. plain_lacks (lacks_word (shape_of c.args.scope.now c.args.subtype)) why r) c.push_word-in-Some-Boolean.ensures.refused
-
-pub returns-in-Some-Time-clause-refused : goal.returns-in-Some-Time-clause-refused
-returns-in-Some-Time-clause-refused t c =
-    IfErr-weaker _ _ _ (λ why r. plain_lacks (lacks_word (shape_of c.args.scope.now c.args.subtype)) why r) c.push_word-in-Some-Time.ensures.refused
-
-pub returns-in-Some-TimeSpan-clause-refused : goal.returns-in-Some-TimeSpan-clause-refused
-returns-in-Some-TimeSpan-clause-refused t c =
-    IfErr-weaker _ _ _ (λ why r. plain_lacks (lacks_word (shape_of c.args.scope.now c.args.subtype)) why r) c.push_word-in-Some-TimeSpan.ensures.refused
-
-pub returns-in-None-clause-refused : goal.returns-in-None-clause-refused
-returns-in-None-clause-refused t c =
-    lacking c.args.scope.now c.args.subtype None (sym c.form.ensures ∙ ap (option_map (λ f. form_value f.now)) c.in-None.is) refl refl

@@ -1,5 +1,8 @@
 use Rattle.std.proofs.Common.{length, ap, rules}
 use Rattle.package_code.proofs.ComponentSlots.{component_made_next, component_slots_next, part_refused}
+use Rattle.ada_tree.specs.StatementTree.{protected_component_tree}
+use Rattle.package_code.specs.Providing.{component_tells}
+use Rattle.package_code.proofs.Declared.{all_at}
 use Rattle.package_code.proofs.ObjectRows.{component_next}
 use Rattle.package_code.proofs.objects.component_words.Goals as goal
 
@@ -19,3 +22,8 @@ returns-in_err-push_component-clause-refused c =
     let whole = part_refused c.args.scope.now c.args.components.now c.loop-part.part-index c.part-item.result (length c.loop-part.words.items)
     c.in_err-push_component.field-0.0 c.loop-part-test.true c.part-item.is (ap length c.loop-part.invariant.0) c.in_err-push_component.ensures.refused in
     search (rules, whole)
+
+pub push_component-requires-clause-told : goal.push_component-requires-clause-told
+push_component-requires-clause-told c =
+    all_at (component_tells c.args.scope.now) protected_component_tree c.args.components.now c.loop-part.part-index c.part-item.result c.loop-part-test.true
+    c.part-item.is c.requires.told

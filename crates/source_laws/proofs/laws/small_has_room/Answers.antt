@@ -7,4 +7,4 @@ returns c =
     small_has_room
     (names_together c.fronts_fit.ensures c.names_are_known.ensures c.premises_hold.ensures c.scopes_are_sound.ensures c.shapes_stay.ensures
     c.starts_are_sound.ensures c.values_have_words.ensures)
-    c.fronts_are_small.ensures c.nothing_is_outside.ensures c.procedures_have_room.ensures c.functions_have_room.ensures
+    c.fronts_are_small.ensures c.names_are_covered.ensures c.procedures_have_room.ensures c.functions_have_room.ensures

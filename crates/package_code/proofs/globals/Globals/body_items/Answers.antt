@@ -3,7 +3,7 @@ use Rattle.ada_tree.specs.ProgramTree.{body_item_tree}
 use Rattle.expr_soundness.specs.meaning.specs.Programs.{items_among}
 use Rattle.step_simulation.specs.part_code.proofs.Lists.{take_all}
 use Rattle.package_code.specs.Globals.{AddsItems}
-use Rattle.package_code.proofs.Declared.{adds_none, body_item_next}
+use Rattle.package_code.proofs.Declared.{adds_none, body_item_next, told_in_body}
 use Rattle.package_code.proofs.GlobalsRefused.{body_item_refuses}
 use Rattle.package_code.proofs.globals.Globals.body_items.Goals as goal
 
@@ -24,3 +24,7 @@ returns-in_err-body_item-clause-refused c =
     let whole = body_item_refuses c.args.scope.now c.args.self.now c.loop-item.self c.args.items.now c.loop-item.item-index c.item-item.result
     c.in_err-body_item.field-0.0 c.loop-item-test.true c.item-item.is c.loop-item.invariant c.in_err-body_item.ensures.refused in
     search (rules, whole)
+
+pub body_item-requires-clause-told : goal.body_item-requires-clause-told
+body_item-requires-clause-told c =
+    told_in_body c.args.scope.now c.args.items.now c.loop-item.item-index c.item-item.result c.loop-item-test.true c.item-item.is c.requires.told

@@ -2,7 +2,8 @@ use Rattle.std.proofs.Common.{map, rules, subst}
 use Rattle.ada_tree.specs.ProgramTree.{item_tree}
 use Rattle.step_simulation.specs.part_code.proofs.Lists.{take_all}
 use Rattle.package_code.specs.Globals.{AddsItems}
-use Rattle.package_code.proofs.Declared.{adds_none, item_next}
+use Rattle.package_code.specs.Providing.{item_tells}
+use Rattle.package_code.proofs.Declared.{adds_none, all_at, item_next}
 use Rattle.package_code.proofs.GlobalsRefused.{item_refuses}
 use Rattle.package_code.proofs.globals.Globals.items.Goals as goal
 
@@ -23,3 +24,8 @@ returns-in_err-item-clause-refused c =
     let whole = item_refuses c.args.scope.now c.args.self.now c.loop-item.self c.args.items.now c.loop-item.item-index c.item-item.result
     c.in_err-item.field-0.0 c.loop-item-test.true c.item-item.is c.loop-item.invariant c.in_err-item.ensures.refused in
     search (rules, whole)
+
+pub item-requires-clause-told : goal.item-requires-clause-told
+item-requires-clause-told c =
+    all_at (item_tells c.args.scope.now) item_tree c.args.items.now c.loop-item.item-index c.item-item.result c.loop-item-test.true c.item-item.is
+    c.requires.told

@@ -1,7 +1,7 @@
 use Rattle.std.proofs.lemmas.Result.{IfErr-weaker, on_ok_weaker}
 use Rattle.ada_tree.specs.StatementTree.{object_tree}
 use Rattle.package_code.proofs.Variables.{adds_constant, adds_variable}
-use Rattle.package_code.proofs.GlobalsRefused.{object_refused}
+use Rattle.package_code.proofs.GlobalsRefused.{variable_refused}
 use Rattle.package_code.proofs.globals.Globals.object.Goals as goal
 
 pub returns-then-object-clause-adds : goal.returns-then-object-clause-adds
@@ -14,4 +14,4 @@ returns-else-object-clause-adds c = on_ok_weaker c.variable.result
 pub returns-else-object-clause-refused : goal.returns-else-object-clause-refused
 returns-else-object-clause-refused c =
     IfErr-weaker _ _ _
-    (λ why r. object_refused c.args.scope.now c.args.self.now (object_tree c.args.object.now) why c.if-object.false r) c.variable.ensures.refused
+    (λ why r. variable_refused c.args.scope.now c.args.self.now (object_tree c.args.object.now) why r) c.variable.ensures.refused

@@ -1,4 +1,5 @@
 use Rattle.std.proofs.Common.{rules}
+use Rattle.package_code.proofs.Declared.{told_in_body}
 use Rattle.package_code.proofs.ComponentSlots.{body_objects_next, body_object_refused}
 use Rattle.package_code.proofs.objects.ProtectedObjects.body_items.Goals as goal
 
@@ -12,3 +13,7 @@ returns-in_err-body_item-clause-refused c =
     let whole = body_object_refused c.args.scope.now c.args.items.now c.loop-item.item-index c.item-item.result c.in_err-body_item.field-0.0 c.loop-item-test.true
     c.item-item.is c.in_err-body_item.ensures.refused in
     search (rules, whole)
+
+pub body_item-requires-clause-told : goal.body_item-requires-clause-told
+body_item-requires-clause-told c =
+    told_in_body c.args.scope.now c.args.items.now c.loop-item.item-index c.item-item.result c.loop-item-test.true c.item-item.is c.requires.told

@@ -14,18 +14,18 @@ use Rattle.package_code.proofs.walk.Walk.function.Goals as goal
 
 pub function-requires-clause-fit : goal.function-requires-clause-fit
 function-requires-clause-fit c =
-    let value = expr_tree c.in_ok-value.value.now in
+    let value = expr_tree c.returned-value.result.now in
     let s = c.args.self.now.visible.scope in
     let same : c.result_subtype-result.result ≡ subtype_named (program_of (program_tree c.args.accepted.now)).scope c.args.subtype.now =
     c.result_subtype-result.ensures ∙ ap (λ z. subtype_named z c.args.subtype.now) c.scope.ensures in
     subst (λ l. IsFit (formals_scope s l) c.result_subtype-result.result value) (sym c.deref-2.ensures.value)
     (subst (λ t. IsFit (formals_scope s c.args.subprogram.now.formals.items) t value) (sym same)
     (c.requires.added.fit c.args.subtype.now value c.requires.subtype
-    (ap (λ l. returned (stmt_trees l)) (sym c.deref.ensures.value) ∙ c.in_ok-value.ensures.value)))
+    (ap (λ l. returned (stmt_trees l)) (sym c.deref.ensures.value) ∙ c.returned-value.ensures)))
 
 pub returns-clause-adds : goal.returns-clause-adds
 returns-clause-adds c =
-    let value = expr_tree c.in_ok-value.value.now in
+    let value = expr_tree c.returned-value.result.now in
     let v = c.args.self.now.visible in
     let old = c.args.self.now.draft in
     let d = subprogram_tree c.args.subprogram.now in
@@ -33,7 +33,7 @@ returns-clause-adds c =
     (λ words. AddsValueFunction (program_tree c.args.accepted.now) d (body_tree c.args.body.now) c.args.subtype.now v old words c.function.new.self)
     (λ words h. record {
       value = value;
-      returns = ap (λ l. returned (stmt_trees l)) (sym c.deref.ensures.value) ∙ c.in_ok-value.ensures.value;
+      returns = ap (λ l. returned (stmt_trees l)) (sym c.deref.ensures.value) ∙ c.returned-value.ensures;
       result = c.result_subtype-result.result;
       named = c.result_subtype-result.ensures ∙ ap (λ z. subtype_named z c.args.subtype.now) c.scope.ensures;
       adds = subst (λ l. AddsFunction v old l c.result_subtype-result.result value words c.function.new.self)
@@ -60,16 +60,12 @@ returns-clause-told c =
 
 pub returns-clause-refused : goal.returns-clause-refused
 returns-clause-refused c =
-    let t = program_tree c.args.accepted.now in
-    let value = expr_tree c.in_ok-value.value.now in
+    let value = expr_tree c.returned-value.result.now in
     let v = c.args.self.now.visible in
     let old = c.args.self.now.draft in
     let d = subprogram_tree c.args.subprogram.now in
-    let named : c.result_subtype-result.result ≡ subtype_named (program_of t).scope c.args.subtype.now =
-    c.result_subtype-result.ensures ∙ ap (λ z. subtype_named z c.args.subtype.now) c.scope.ensures in
-    IfErr-weaker c.function.result (λ why. RefusesFunction v old c.deref-2.result.now c.result_subtype-result.result value why)
-    (λ why. RefusesBody t v old d (body_tree c.args.body.now) why)
+    IfErr-weaker c.function.result (λ why. RefusesFunction v old c.deref-2.result.now value why) (λ why. RefusesBody v old d (body_tree c.args.body.now) why)
     (λ why h.
-    value_refused t v old d (body_tree c.args.body.now) why c.args.subtype.now c.result_subtype-result.result value c.requires.subtype named
-    (ap (λ l. returned (stmt_trees l)) (sym c.deref.ensures.value) ∙ c.in_ok-value.ensures.value)
-    (subst (λ l. RefusesFunction v old l c.result_subtype-result.result value why) c.deref-2.ensures.value h)) c.function.ensures.refused
+    value_refused v old d (body_tree c.args.body.now) why c.args.subtype.now value c.requires.subtype
+    (ap (λ l. returned (stmt_trees l)) (sym c.deref.ensures.value) ∙ c.returned-value.ensures)
+    (subst (λ l. RefusesFunction v old l value why) c.deref-2.ensures.value h)) c.function.ensures.refused

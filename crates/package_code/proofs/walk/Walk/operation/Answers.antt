@@ -3,6 +3,7 @@ use Rattle.std.proofs.lemmas.Result.{on_ok_weaker}
 use Rattle.ada_tree.specs.ProgramTree.{program_tree, protected_item_tree}
 use Rattle.expr_soundness.specs.meaning.specs.Programs.{program_of}
 use Rattle.step_simulation.specs.part_code.specs.Emitting.{HasEntries}
+use Rattle.step_simulation.specs.part_code.specs.Providing.{HasWhatCodeNeeds}
 use Rattle.package_code.specs.Bodies.{of_object}
 use Rattle.package_code.specs.Walking.{AddsBody, behind_operation, first_visible, operation_visible}
 use Rattle.package_code.proofs.SeenInside.{operation_entries}
@@ -19,6 +20,17 @@ inside_body-requires-clause-entries c =
     let seen : c.see_operation.new.visible ≡ operation_visible whole directory c.args.object components i v =
     c.in_ok-see_operation.ensures.seen ∙ (λ j. operation_visible (c.scope-whole.ensures j) directory (c.from-inside.ensures j) components i v) in
     subst HasEntries (sym seen) (operation_entries whole directory c.args.object components i v c.requires.entries)
+
+pub inside_body-requires-clause-covered : goal.inside_body-requires-clause-covered
+inside_body-requires-clause-covered c =
+    let whole = (program_of (program_tree c.args.accepted.now)).scope in
+    let directory = c.args.directory.now in
+    let components = c.args.components.now in
+    let i = protected_item_tree c.args.item.now in
+    let v = c.args.self.now.visible in
+    let seen : c.see_operation.new.visible ≡ operation_visible whole directory c.args.object components i v =
+    c.in_ok-see_operation.ensures.seen ∙ (λ j. operation_visible (c.scope-whole.ensures j) directory (c.from-inside.ensures j) components i v) in
+    subst (HasWhatCodeNeeds c.args.self.now.draft.exceptions.items) (sym seen) c.requires.covered
 
 pub returns-clause-adds : goal.returns-clause-adds
 returns-clause-adds c =

@@ -4,7 +4,7 @@ use Rattle.declaring.specs.BodyNames.{object_body_scope}
 use Rattle.program_soundness.specs.Fronts.{front}
 use Rattle.package_code.specs.Walking.{IsInObjectBody}
 use Rattle.package_code.proofs.Declared.{mapped_at}
-use Rattle.package_code.proofs.WalkedInside.{operation_may, operation_number_is, operation_refused, within_next}
+use Rattle.package_code.proofs.WalkedInside.{operation_covered, operation_may, operation_number_is, operation_refused, within_next}
 use Rattle.package_code.proofs.walk.Walk.operations.Goals as goal
 
 pub operation-requires-clause-added : goal.operation-requires-clause-added
@@ -14,7 +14,16 @@ operation-requires-clause-added c =
     c.requires.directory c.args.object (object_body_scope (front t c.args.self.now.place) c.args.place) c.args.components.now
     (map protected_item_tree c.args.items.now) c.loop-item.item-index c.loop-item.self c.loop-item.invariant.0 (protected_item_tree c.item-item.result)
     (mapped_at protected_item_tree c.args.items.now c.loop-item.item-index c.item-item.result c.loop-item-test.true c.item-item.is)
-    c.bodies_may_be_added.ensures
+    c.requires.covered
+
+pub operation-requires-clause-covered : goal.operation-requires-clause-covered
+operation-requires-clause-covered c =
+    let t = program_tree c.args.accepted.now in
+    operation_covered c.scopes_are_sound.ensures c.names_are_known.ensures c.premises_hold.ensures t c.requires.legal c.requires.restricted c.args.directory.now
+    c.requires.directory c.args.object (object_body_scope (front t c.args.self.now.place) c.args.place) c.args.components.now
+    (map protected_item_tree c.args.items.now) c.loop-item.item-index c.loop-item.self c.loop-item.invariant.0 (protected_item_tree c.item-item.result)
+    (mapped_at protected_item_tree c.args.items.now c.loop-item.item-index c.item-item.result c.loop-item-test.true c.item-item.is)
+    c.requires.covered
 
 pub operation-requires-clause-numbered : goal.operation-requires-clause-numbered
 operation-requires-clause-numbered c =

@@ -1,7 +1,9 @@
 use Rattle.std.proofs.Common.{suc, ◌+◌, length, Some, ap, refl, rules, sym, ◌∙◌, subst}
 use Rattle.ada_tree.specs.StatementTree.{subprogram_tree}
 use Rattle.ada_tree.specs.ProgramTree.{body_tree, program_tree}
+use Rattle.expr_soundness.specs.meaning.specs.Programs.{program_of}
 use Rattle.program_soundness.specs.Fronts.{front}
+use Rattle.step_simulation.specs.part_code.specs.Providing.{HasWhatCodeNeeds}
 use Rattle.package_code.specs.Bodies.{bodies_before, of_subprogram}
 use Rattle.package_code.proofs.AsTold.{body_refused, entries_next, number_there, seen_there, subprogram_told}
 use Rattle.package_code.proofs.Told.{Grows, subprogram_grows}
@@ -14,7 +16,21 @@ body-requires-clause-added c =
     may_be_added (program_tree c.args.accepted.now) c.args.directory.now c.args.self.now (subprogram_tree c.args.subprogram.now)
     (body_tree c.args.body.now) c.declare_subprogram.new.scope c.scope.result.now c.tell.new.visible c.requires.walked c.requires.at
     c.in_ok-declare_subprogram.ensures.ok c.scope.ensures c.in_ok-tell.ensures.tells
-    (c.bodies_may_be_added.ensures _ c.requires.legal c.requires.restricted _ _ 0 _ c.requires.at refl)
+    (c.requires.covered
+    (of_subprogram (front (program_tree c.args.accepted.now) (suc c.args.self.now.place)) (subprogram_tree c.args.subprogram.now) (body_tree c.args.body.now))
+    (record { place = c.args.self.now.place; item = _; index = 0; at = c.requires.at; coded = refl })).added
+
+pub body-requires-clause-covered : goal.body-requires-clause-covered
+body-requires-clause-covered c =
+    let t = program_tree c.args.accepted.now in
+    let d = subprogram_tree c.args.subprogram.now in
+    let b = body_tree c.args.body.now in
+    let seen = seen_there t c.args.directory.now c.requires.directory c.args.self.now d b c.declare_subprogram.new.scope c.scope.result.now c.tell.new.visible
+    c.requires.told c.requires.at c.in_ok-declare_subprogram.ensures.ok c.scope.ensures c.in_ok-tell.ensures.tells in
+    subst (λ e. HasWhatCodeNeeds e c.tell.new.visible) (sym c.requires.walked.exceptions)
+    (subst (HasWhatCodeNeeds (program_of t).exceptions) (sym seen)
+    (c.requires.covered (of_subprogram (front t (suc c.args.self.now.place)) d b)
+    (record { place = c.args.self.now.place; item = _; index = 0; at = c.requires.at; coded = refl })).names)
 
 pub returns-clause-walked : goal.returns-clause-walked
 returns-clause-walked c =
@@ -59,6 +75,6 @@ returns-in_err-body-clause-refused c =
     let t = program_tree c.args.accepted.now in
     let whole = body_refused t c.args.self.now _
     (of_subprogram (front t (suc c.args.self.now.place)) (subprogram_tree c.args.subprogram.now) (body_tree c.args.body.now))
-    c.tell.new.visible c.args.self.now.draft c.in_err-body.field-0.0 c.requires.told c.requires.walked.exceptions c.requires.at refl seen refl
+    c.tell.new.visible c.args.self.now.draft c.in_err-body.field-0.0 c.requires.told c.requires.at refl seen refl
     c.in_err-body.ensures.refused in
     search (rules, whole)

@@ -1,6 +1,8 @@
 use Rattle.std.proofs.Common.{suc, ◌+◌, length, Some, ap, refl, rules, sym, ◌∙◌, subst}
 use Rattle.ada_tree.specs.ProgramTree.{body_tree, program_tree}
+use Rattle.expr_soundness.specs.meaning.specs.Programs.{program_of}
 use Rattle.program_soundness.specs.Fronts.{front}
+use Rattle.step_simulation.specs.part_code.specs.Providing.{HasWhatCodeNeeds}
 use Rattle.package_code.specs.Bodies.{bodies_before, of_task}
 use Rattle.package_code.specs.Walking.{AddsBody}
 use Rattle.package_code.proofs.AsTold.{body_refused, body_told, task_number, task_seen}
@@ -11,7 +13,19 @@ use Rattle.package_code.proofs.walk.Walk.task.Goals as goal
 pub task_body-requires-clause-added : goal.task_body-requires-clause-added
 task_body-requires-clause-added c =
     task_may_be_added (program_tree c.args.accepted.now) c.args.directory.now c.args.self.now c.args.name.now (body_tree c.args.body.now) c.requires.walked
-    c.requires.at (c.bodies_may_be_added.ensures _ c.requires.legal c.requires.restricted _ _ 0 _ c.requires.at refl)
+    c.requires.at
+    (c.requires.covered (of_task (front (program_tree c.args.accepted.now) (suc c.args.self.now.place)) c.args.name.now (body_tree c.args.body.now))
+    (record { place = c.args.self.now.place; item = _; index = 0; at = c.requires.at; coded = refl })).added
+
+pub task_body-requires-clause-covered : goal.task_body-requires-clause-covered
+task_body-requires-clause-covered c =
+    let t = program_tree c.args.accepted.now in
+    let name = c.args.name.now in
+    let b = body_tree c.args.body.now in
+    subst (λ e. HasWhatCodeNeeds e c.args.self.now.visible) (sym c.requires.walked.exceptions)
+    (subst (HasWhatCodeNeeds (program_of t).exceptions) (sym (task_seen t c.args.self.now name b c.requires.told c.requires.at))
+    (c.requires.covered (of_task (front t (suc c.args.self.now.place)) name b)
+    (record { place = c.args.self.now.place; item = _; index = 0; at = c.requires.at; coded = refl })).names)
 
 pub task_body-requires-clause-numbered : goal.task_body-requires-clause-numbered
 task_body-requires-clause-numbered c =
@@ -43,7 +57,7 @@ returns-in_err-task_body-clause-refused c =
     let seen = task_seen (program_tree c.args.accepted.now) c.args.self.now c.args.name.now (body_tree c.args.body.now) c.requires.told c.requires.at in
     let t = program_tree c.args.accepted.now in
     let whole = body_refused t c.args.self.now _ (of_task (front t (suc c.args.self.now.place)) c.args.name.now (body_tree c.args.body.now))
-    c.args.self.now.visible c.args.self.now.draft c.in_err-task_body.field-0.0 c.requires.told c.requires.walked.exceptions c.requires.at refl seen
+    c.args.self.now.visible c.args.self.now.draft c.in_err-task_body.field-0.0 c.requires.told c.requires.at refl seen
     refl
     c.in_err-task_body.ensures.refused in
     search (rules, whole)

@@ -6,11 +6,11 @@ use Rattle.checking.specs.ProgramLayouts.{WordsHaveRoom}
 use Rattle.checking.specs.ProgramRules.{IsLegal}
 use Rattle.program_soundness.specs.size_rules.specs.ProgramSizes.{size_faults}
 use Rattle.package_code.specs.Laws.{TablesAreSmall}
-use Rattle.ada_link.proofs.CountsFit.{exceptions_few}
+use Rattle.source_laws.proofs.CountsFit.{exceptions_few}
 use Rattle.package_code.proofs.InFront.{LawsOfNames}
-use Rattle.ada_link.proofs.LabelsFit.{labels_few}
-use Rattle.ada_link.proofs.TasksFit.{subprograms_few, tasks_few}
-use Rattle.ada_link.proofs.PartsFit.{objects_few, words_few}
+use Rattle.source_laws.proofs.LabelsFit.{labels_few}
+use Rattle.source_laws.proofs.TasksFit.{subprograms_few, tasks_few}
+use Rattle.source_laws.proofs.PartsFit.{objects_few, words_few}
 
 sizes_legal : (t : ProgramTree) → IsLegal t → size_faults t ≡ []
 sizes_legal t legal = back_empty _ (size_faults t) legal

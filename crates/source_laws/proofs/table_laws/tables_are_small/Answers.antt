@@ -1,9 +1,9 @@
-use Rattle.ada_link.proofs.MainCalls.{main_added}
-use Rattle.ada_link.proofs.laws.main_may_be_added.Goals as goal
+use Rattle.source_laws.proofs.Tables.{tables_small}
+use Rattle.source_laws.proofs.table_laws.tables_are_small.Goals as goal
 
 pub returns : goal.returns
 returns c =
-    main_added (record {
+    tables_small (record {
       sized = c.values_have_words.ensures;
       stay = c.shapes_stay.ensures;
       scopes = c.scopes_are_sound.ensures;
@@ -12,3 +12,4 @@ returns c =
       starts = c.starts_are_sound.ensures;
       fronts = c.fronts_fit.ensures;
     })
+    c.words_have_room.ensures

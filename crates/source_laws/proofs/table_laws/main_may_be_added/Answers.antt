@@ -1,9 +1,9 @@
-use Rattle.ada_link.proofs.MainKnown.{main_is_known}
-use Rattle.ada_link.proofs.laws.main_is_known.Goals as goal
+use Rattle.source_laws.proofs.MainCalls.{main_added}
+use Rattle.source_laws.proofs.table_laws.main_may_be_added.Goals as goal
 
 pub returns : goal.returns
 returns c =
-    main_is_known (record {
+    main_added (record {
       sized = c.values_have_words.ensures;
       stay = c.shapes_stay.ensures;
       scopes = c.scopes_are_sound.ensures;

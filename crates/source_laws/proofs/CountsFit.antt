@@ -33,7 +33,7 @@ use Rattle.program_soundness.proofs.Walked as walked
 use Rattle.program_soundness.proofs.WiderScopes.{equal_bytes, same_bytes, seen_some, some_seen, stands}
 use Rattle.program_soundness.proofs.Whole.{IsPackage, kept, known_kind, no_doubt, subprogram_is, subprogram_item}
 use Rattle.package_code.proofs.Differing.{AreAmong, AreDiffering, differing_more, is_of, no_more_than}
-use Rattle.ada_link.proofs.LabelsFit.{within_limit}
+use Rattle.source_laws.proofs.LabelsFit.{within_limit}
 use Rattle.package_code.proofs.ItemsTold.{none_taken}
 use Rattle.package_code.proofs.Variables.{exceptions_both}
 

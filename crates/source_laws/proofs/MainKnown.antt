@@ -27,7 +27,7 @@ use Rattle.package_code.specs.Bodies.{number_in, of_subprogram}
 use Rattle.package_code.specs.Refusing.{seen_at, told_behind}
 use Rattle.package_code.proofs.CodedPackage.{procedure_stands}
 use Rattle.package_code.proofs.InFront.{LawsOfNames, last_is, whole}
-use Rattle.ada_link.proofs.MainCalls.{AreFound, main_found}
+use Rattle.source_laws.proofs.MainCalls.{AreFound, main_found}
 use Rattle.package_code.proofs.Numbered.{bodies_numbered}
 use Rattle.package_code.proofs.Seen.{all_behind}
 

@@ -1,9 +1,9 @@
-use Rattle.ada_link.proofs.Tables.{tables_small}
-use Rattle.ada_link.proofs.laws.tables_are_small.Goals as goal
+use Rattle.source_laws.proofs.MainKnown.{main_is_known}
+use Rattle.source_laws.proofs.table_laws.main_is_known.Goals as goal
 
 pub returns : goal.returns
 returns c =
-    tables_small (record {
+    main_is_known (record {
       sized = c.values_have_words.ensures;
       stay = c.shapes_stay.ensures;
       scopes = c.scopes_are_sound.ensures;
@@ -12,4 +12,3 @@ returns c =
       starts = c.starts_are_sound.ensures;
       fronts = c.fronts_fit.ensures;
     })
-    c.words_have_room.ensures

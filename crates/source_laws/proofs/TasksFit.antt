@@ -31,9 +31,9 @@ use Rattle.package_code.proofs.Differing.{AreDiffering, differing_more, is_of, n
 use Rattle.package_code.proofs.ItemsTold.{none_taken}
 use Rattle.package_code.proofs.TaskNames.{task_entity}
 use Rattle.package_code.proofs.InFront.{LawsOfNames, whole}
-use Rattle.ada_link.proofs.CountsFit.{body_names, declared_none, many_both, no_fewer_than, one_more_than, within_kind}
-use Rattle.ada_link.proofs.LabelsFit.{within_limit}
-use Rattle.ada_link.proofs.OperationsFit.{body_texts, object_texts, subprograms_within}
+use Rattle.source_laws.proofs.CountsFit.{body_names, declared_none, many_both, no_fewer_than, one_more_than, within_kind}
+use Rattle.source_laws.proofs.LabelsFit.{within_limit}
+use Rattle.source_laws.proofs.OperationsFit.{body_texts, object_texts, subprograms_within}
 
 -- ---- declared tasks, by their names
 

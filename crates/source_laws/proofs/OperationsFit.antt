@@ -36,7 +36,7 @@ use Rattle.package_code.specs.Bodies.{object_number, or_zero}
 use Rattle.package_code.proofs.Differing.{AreDiffering, is_of, no_more_than, of_both}
 use Rattle.package_code.proofs.InFront.{LawsOfNames, memory}
 use Rattle.package_code.proofs.ItemsTold.{none_taken}
-use Rattle.ada_link.proofs.CountsFit.{body_names, counted_body, counted_names, many_both, names_few, subprograms_counted}
+use Rattle.source_laws.proofs.CountsFit.{body_names, counted_body, counted_names, many_both, names_few, subprograms_counted}
 
 -- ---- an operation of an object, as one text: the object's number and the name
 

@@ -39,9 +39,9 @@ use Rattle.package_code.proofs.InFront.{LawsOfNames, last_is, memory, whole}
 use Rattle.package_code.proofs.ObjectNumbers.{bare_of, components_of, many_of, many_rows, object_there, trees_among, trees_both}
 use Rattle.package_code.proofs.Placed.{items_are}
 use Rattle.package_code.proofs.Seen.{one_behind}
-use Rattle.ada_link.proofs.CountsFit.{declared_none, many_both, no_fewer_than, within_kind}
-use Rattle.ada_link.proofs.LabelsFit.{within_limit}
-use Rattle.ada_link.proofs.WordsFit.{first_words_wide, none_taken, some_at, subtypes_words, variables_within}
+use Rattle.source_laws.proofs.CountsFit.{declared_none, many_both, no_fewer_than, within_kind}
+use Rattle.source_laws.proofs.LabelsFit.{within_limit}
+use Rattle.source_laws.proofs.WordsFit.{first_words_wide, none_taken, some_at, subtypes_words, variables_within}
 
 -- ---- how many objects are declared
 
