@@ -1,12 +1,15 @@
 /* Makes one call go wrong that the program makes of the system: the one whose number stands in NUMBER, counted from 1, or each of them where it is 0. WHERE says
-   which calls are counted: `out` those of write(2) to standard output, `files` those to files, `reads` those of read(2) from files. HOW says what such a call
-   does: `none` takes or gives nothing and answers 0, `byte` one byte, and a number is the error that it fails with. Where a call was made so, the file that
-   REACHED names is made. To be loaded before the C library. */
+   which calls are counted: `out` those of write(2) to standard output, `files` those to files, `reads` those of read(2) from files, and `names`, `owners` and
+   `modes` those that give a file a name, an owner or permissions. HOW says what such a call does: a number is the error that it fails with, and a read or write
+   with `none` takes or gives nothing and answers 0, with `byte` one byte. Where a call was made so, the file that REACHED names is made. To be loaded before the
+   C library. */
 #define _GNU_SOURCE
 #include <errno.h>
 #include <fcntl.h>
+#include <stdio.h>
 #include <stdlib.h>
 #include <string.h>
+#include <sys/stat.h>
 #include <sys/syscall.h>
 #include <unistd.h>
 
@@ -60,4 +63,30 @@ ssize_t __write(int file, const void *bytes, size_t size)
 ssize_t read(int file, void *bytes, size_t size)
 {
     return done(file > STDERR_FILENO ? "reads" : "", SYS_read, file, bytes, size);
+}
+
+/* Whether this call, which takes no bytes, fails, with its error. */
+static int fails(const char *place)
+{
+    const char *how = getenv("HOW");
+    if (!how || !goes_wrong(place))
+        return 0;
+    tell();
+    errno = atoi(how);
+    return 1;
+}
+
+int rename(const char *old, const char *new)
+{
+    return fails("names") ? -1 : (int)syscall(SYS_rename, old, new);
+}
+
+int fchown(int file, uid_t owner, gid_t group)
+{
+    return fails("owners") ? -1 : (int)syscall(SYS_fchown, file, owner, group);
+}
+
+int fchmod(int file, mode_t mode)
+{
+    return fails("modes") ? -1 : (int)syscall(SYS_fchmod, file, mode);
 }

@@ -1,16 +1,17 @@
 #!/usr/bin/env python3
 """Has the program compile to where nothing can be written, or not all of it, and read what can't be read, or not all of it: a message, status 1, and what
-docs/FORMATS.md says of what was there ("Commands").
+docs/FORMATS.md says of what was there ("Commands"). What is written beside an image is never left, and what has that name already stays.
 
     unwritable.py PROGRAM STREAMS SCRATCH
 
-STREAMS is what makes a read or a write go wrong (streams.c). The bytes of the image are those that the program writes where it can, which checks/listing.py reads.
+STREAMS is what makes a call of the system go wrong (streams.c). The bytes of the image are those that the program writes where it can, which checks/listing.py reads.
 """
 import errno
 import os
 import resource
 import shutil
 import signal
+import stat
 import subprocess
 import sys
 
@@ -21,6 +22,7 @@ OLD = b"what was there"
 CANNOT_WRITE = (b"", b"cannot write\n", 1)
 NO_MEMORY = (b"", b"no memory\n", 8)
 ROOM = 64 << 20
+PLACES = (".", "folder", "open")
 MOST = 1_000
 DONE = (b"", b"", 0)
 ROW = ("entries", "a consumer that waits is served by the producer, before that goes on")
@@ -33,7 +35,8 @@ class Folder:
     def __init__(self, program, scratch):
         self.scratch, self.program = scratch, os.path.join(scratch, "program")
         self.wrong, self.calls = [], 0
-        os.makedirs(scratch)
+        for place in PLACES:
+            os.makedirs(os.path.join(scratch, place), exist_ok=True)
         os.chmod(scratch, 0o755)
         shutil.copy(program, self.program)
         self.source = row_of(*ROW)[0]
@@ -53,6 +56,20 @@ class Folder:
         with open(self.path(name), "rb") as file:
             return file.read()
 
+    def state(self, name):
+        """The number of a file, its kind and permissions, its owner and its group."""
+        found = os.lstat(self.path(name))
+        return found.st_ino, found.st_mode, found.st_uid, found.st_gid
+
+    def beside(self):
+        """The files with a name that one beside an image has, and their bytes."""
+        names = [os.path.join(place, name) for place in PLACES for name in os.listdir(self.path(place)) if name.endswith(".new")]
+        return {name: self.read(name) for name in names}
+
+    def expect(self, holds, what):
+        if not holds:
+            self.wrong.append(what)
+
     def was_reached(self, what):
         """A call that should go wrong was made; the file that tells it is removed."""
         if os.path.exists(self.path("reached")):
@@ -62,14 +79,15 @@ class Folder:
 
     def call(self, what, words, left, files, **others):
         """Calls the program on the words; it leaves this, and these files."""
+        beside = self.beside()
         run = subprocess.run([self.program, *words], cwd=self.scratch, capture_output=True, check=False, **others)
         self.calls += 1
         found = (run.stdout, run.stderr, run.returncode)
         if found != left:
             self.wrong.append(f"{what}: {words} leaves {found}, not {left}")
         for name, data in {"main.adb": self.source, **files}.items():
-            if self.read(name) != data:
-                self.wrong.append(f"{what}: {words} leaves {name} as {self.read(name)!r}")
+            self.expect(self.read(name) == data, f"{what}: {words} leaves {name} as {self.read(name)!r}")
+        self.expect(self.beside() == beside, f"{what}: {words} leaves {self.beside()} beside, not {beside}")
 
 
 def as_nobody():
@@ -80,7 +98,6 @@ def as_nobody():
 def try_places(folder):
     """Places that can't be opened to write: what was there stays."""
     compile_to = lambda name: ["compile", "main.adb", name]
-    os.mkdir(folder.path("folder"))
     folder.call("a folder", compile_to("folder"), CANNOT_WRITE, {})
     folder.call("a folder by its end", compile_to("folder/"), CANNOT_WRITE, {})
     if os.listdir(folder.path("folder")):
@@ -137,38 +154,111 @@ def image_of(folder):
     return image
 
 
-def try_same_name(folder, image):
-    """Where IMG is SRC nothing is written; by another name for the same file the image takes the place of a source that isn't refused."""
+def try_same_file(folder, image):
+    """Where IMG is SRC, by whatever names, nothing is written."""
     refused = b"procedure Main is begin null; end Main;"
     folder.write("refused.adb", refused)
     folder.call("a refused source to its own file", ["compile", "refused.adb", "./refused.adb"], (b"", b"fault 39 at 1:1\n", 2), {"refused.adb": refused})
     folder.write("own.adb", folder.source)
-    folder.call("a source to its own name", ["compile", "own.adb", "own.adb"], CANNOT_WRITE, {"own.adb": folder.source})
-    folder.call("a source to its own file by another name", ["compile", "own.adb", "./own.adb"], DONE, {"own.adb": image})
+    os.symlink("own.adb", folder.path("linked.adb"))
+    os.link(folder.path("own.adb"), folder.path("second.adb"))
+    for name in ("own.adb", "./own.adb", "linked.adb", "second.adb"):
+        folder.call("a source to its own file", ["compile", "own.adb", name], CANNOT_WRITE, {"own.adb": folder.source, "second.adb": folder.source})
+    folder.call("a link to a source to that source", ["compile", "linked.adb", "own.adb"], CANNOT_WRITE, {"own.adb": folder.source})
+    folder.write("own.new", folder.source)
+    folder.call("a source where a file is made beside the image", ["compile", "own.new", "own"], DONE, {"own.new": folder.source, "own": image})
+
+
+def replaces(folder, what, name, image, **others):
+    """Compiles to a file that is there; whether another one has taken its name."""
+    before = folder.state(name)
+    folder.call(what, ["compile", "main.adb", name], DONE, {name: image}, **others)
+    after = folder.state(name)
+    folder.expect(after[1:] == before[1:], f"{what}: {before} has become {after}")
+    return after[0] != before[0]
+
+
+def try_replaced(folder, image):
+    """A regular file is replaced by another one with its permissions, owner and group; other names of it keep what was there."""
+    folder.write("kept.img", OLD)
+    for mode in (0o600, 0o644, 0o777) + ((0o4755, 0o2711) if os.getuid() == 0 else ()):
+        os.chmod(folder.path("kept.img"), mode)
+        folder.expect(replaces(folder, f"permissions {mode:o}", "kept.img", image), f"permissions {mode:o}: the file was written to itself")
+    if os.getuid() == 0:
+        os.chown(folder.path("kept.img"), NOBODY, NOBODY - 1)
+        folder.expect(replaces(folder, "another owner", "kept.img", image), "another owner: the file was written to itself")
+    folder.write("first.img", OLD)
+    os.link(folder.path("first.img"), folder.path("second.img"))
+    folder.expect(replaces(folder, "two names", "first.img", image), "two names: the file was written to itself")
+    folder.expect(folder.read("second.img") == OLD, "two names: the other name has lost what was there")
+
+
+def try_itself(folder, image, streams):
+    """What is no regular file is written to itself, and so is a regular one that can't be replaced."""
+
+    def written(what, name, **others):
+        folder.expect(not replaces(folder, what, name, image, **others), f"{what}: another file was made")
+
+    folder.write("there.img", OLD)
+    before = folder.state("there.img")
+    written("a link", "link.img")
+    folder.expect(folder.state("there.img") == before and folder.read("there.img") == image, "a link: its file was not written to itself")
+    os.symlink("made.img", folder.path("free.img"))
+    folder.call("a link to nothing", ["compile", "main.adb", "free.img"], DONE, {"made.img": image})
+    folder.expect(stat.S_ISLNK(folder.state("free.img")[1]), "a link to nothing: it has gone")
+    os.mkfifo(folder.path("pipe"))
+    pipe = os.open(folder.path("pipe"), os.O_RDWR)
+    folder.call("a pipe", ["compile", "main.adb", "pipe"], DONE, {})
+    folder.expect(os.read(pipe, 2 * len(image)) == image and stat.S_ISFIFO(folder.state("pipe")[1]), "a pipe: it wasn't written to")
+    os.close(pipe)
+    folder.write("used.img", OLD)
+    folder.write("used.img.new", OLD)
+    written("a file beside it", "used.img")
+    long = "n" * 252
+    folder.write(long, OLD)
+    written("a name that is as long as can be", long)
+    for where, error in (("owners", errno.EPERM), ("modes", errno.EPERM), ("names", errno.EBUSY)):
+        folder.write("fixed.img", OLD)
+        written(f"no {where}", "fixed.img", env=failing(folder, streams, where, str(error), 1))
+        folder.was_reached(f"no {where}")
+    if os.getuid() == 0:
+        for place in ("folder", "open"):
+            name = os.path.join(place, "free.img")
+            folder.write(name, OLD)
+            os.chmod(folder.path(name), 0o666)
+            os.chmod(folder.path(place), 0o777 if place == "open" else 0o555)
+            written(f"a file in {place}", name, **as_nobody())
+
+
+def full(size):
+    """A file takes this many bytes."""
+
+    def confine():
+        signal.signal(signal.SIGXFSZ, signal.SIG_IGN)
+        resource.setrlimit(resource.RLIMIT_FSIZE, (size, size))
+
+    return confine
 
 
 def try_full(folder, image, streams):
-    """A file that takes only so many bytes: the old content is gone, and what stands there is a beginning of the image."""
-
-    def full(size):
-        def confine():
-            signal.signal(signal.SIGXFSZ, signal.SIG_IGN)
-            resource.setrlimit(resource.RLIMIT_FSIZE, (size, size))
-
-        return confine
-
+    """A file that takes only so many bytes, and writes that fail: what was there stays, or nothing where there was nothing. A file that is written to itself has
+    a beginning of the image."""
+    compile_to = lambda name: ["compile", "main.adb", name]
     for size in (0, 1, 50, len(image) - 1):
         folder.write("full.img", OLD)
-        folder.call(f"room for {size} bytes", ["compile", "main.adb", "full.img"], CANNOT_WRITE, {"full.img": image[:size]}, preexec_fn=full(size))
-    folder.call("just room enough", ["compile", "main.adb", "full.img"], DONE, {"full.img": image}, preexec_fn=full(len(image)))
-    for how, left, data in [(str(errno.ENOSPC), CANNOT_WRITE, b""), (str(errno.EIO), CANNOT_WRITE, b""), ("none", CANNOT_WRITE, b""), ("byte", DONE, image)]:
+        folder.call(f"room for {size} bytes", compile_to("full.img"), CANNOT_WRITE, {"full.img": OLD}, preexec_fn=full(size))
+        folder.call(f"room for {size} bytes of a new file", compile_to("none.img"), CANNOT_WRITE, {"none.img": None}, preexec_fn=full(size))
+        folder.write("used.img", OLD)
+        folder.call(f"room for {size} bytes, in place", compile_to("used.img"), CANNOT_WRITE, {"used.img": image[:size]}, preexec_fn=full(size))
+    folder.call("just room enough", compile_to("full.img"), DONE, {"full.img": image}, preexec_fn=full(len(image)))
+    for how, left, data in [(str(errno.ENOSPC), CANNOT_WRITE, OLD), (str(errno.EIO), CANNOT_WRITE, OLD), ("none", CANNOT_WRITE, OLD), ("byte", DONE, image)]:
         folder.write("full.img", OLD)
-        folder.call(f"a write with {how}", ["compile", "main.adb", "full.img"], left, {"full.img": data}, env=failing(folder, streams, "files", how, how != "byte"))
+        folder.call(f"a write with {how}", compile_to("full.img"), left, {"full.img": data}, env=failing(folder, streams, "files", how, how != "byte"))
         folder.was_reached(f"a write with {how}")
 
 
 def failing(folder, streams, where, how, number):
-    """The environment of a call whose read or write of this number goes wrong."""
+    """The environment of a call whose call of the system of this number goes wrong."""
     return {**os.environ, "LD_PRELOAD": streams, "WHERE": where, "NUMBER": str(int(number)), "HOW": how, "REACHED": folder.path("reached")}
 
 
@@ -199,7 +289,9 @@ def main():
     try_unreadable(folder)
     try_endless(folder)
     image = image_of(folder)
-    try_same_name(folder, image)
+    try_same_file(folder, image)
+    try_replaced(folder, image)
+    try_itself(folder, image, streams)
     try_full(folder, image, streams)
     try_reads(folder, streams)
     for told in folder.wrong:

@@ -6,33 +6,36 @@ ghost use Rattle.std.specs.Prelude.{◌≡◌, None};
 use adarun::{FileStore, ReadError, Status, WriteError, drive};
 use machine::WriterSink;
 use std::alloc::Global;
+use std::env;
 use std::io::{self, ErrorKind};
 use std::marker::Brand;
 use std::process::ExitCode;
 use std::sync::ledger::{Blank, Ledger};
-use std::{env, fs};
+use system_files::{FileError, SystemFiles};
 
-/// The files of the system.
+/// The files of the system, as the program asks for them.
 #[derive(Drop)]
-struct SystemFiles<'a> {
-    rt: &'a HostRuntime,
+struct Files<'a> {
+    system: SystemFiles<'a>,
 }
 
-impl<'a> FileStore for SystemFiles<'a> {
+impl<'a> FileStore for Files<'a> {
     ghost contents = { λ _ _. None };
 
     fn read(&self, _alloc: Global, name: &str) -> Result<Vec<u8>, ReadError> {
-        fs::read(self.rt, name).map_err(|error| match error.kind() {
-            ErrorKind::OutOfMemory => ReadError::Memory,
-            _ => ReadError::Unreadable,
-        })
+        match self.system.read(name) {
+            Ok(bytes) => Ok(bytes),
+            Err(FileError::Memory) => Err(ReadError::Memory),
+            Err(FileError::Other) => Err(ReadError::Unreadable),
+        }
     }
 
     fn write(&mut self, name: &str, bytes: &[u8]) -> Result<(), WriteError> {
-        fs::write(self.rt, name, bytes).map_err(|error| match error.kind() {
-            ErrorKind::OutOfMemory => WriteError::Memory,
-            _ => WriteError::Unwritable,
-        })
+        match self.system.replace(name, bytes) {
+            Ok(()) => Ok(()),
+            Err(FileError::Memory) => Err(WriteError::Memory),
+            Err(FileError::Other) => Err(WriteError::Unwritable),
+        }
     }
 }
 
@@ -52,13 +55,8 @@ fn status_over<L: Ledger, M: Ledger>(
 {
     let mut out = WriterSink::<_, L>::new(rt.stdout(), first);
     let mut err = WriterSink::<_, M>::new(rt.stderr(), second);
-    drive(
-        rt.alloc(),
-        words,
-        &mut SystemFiles { rt },
-        &mut out,
-        &mut err,
-    )
+    let system = SystemFiles::new(rt);
+    drive(rt.alloc(), words, &mut Files { system }, &mut out, &mut err)
 }
 
 fn status(rt: &HostRuntime) -> io::Result<u8> {
