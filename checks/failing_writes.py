@@ -98,6 +98,7 @@ def calls_of(folder):
     listing = os.path.join(os.path.dirname(os.path.abspath(__file__)), "listing.py")
     lines = subprocess.run([sys.executable, listing, "thousand.img"], cwd=folder, capture_output=True, check=True).stdout
     found.append(Call("list", ["list", "thousand.img"], (lines, b"", 0)))
+    found.append(Call("explain", ["explain", "52"], row_of("words", "a fault that is explained")[3:]))
     return found
 
 

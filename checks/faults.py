@@ -1,5 +1,5 @@
 """Writes the texts of docs/FAULTS.md to a folder, each as N.text, or N.image, with the line that it is refused with as N.fault. Those of first mistakes are K.mistake,
-counted from 1, with K.wrong, and the sentence that ./run shows as K.hint.
+counted from 1, with K.wrong, and the sentence that ./run shows as K.hint. What `adarun explain N` says of a number is N.explained: the lines of its section.
 
     faults.py FAULTS.md FOLDER
 
@@ -33,12 +33,24 @@ def examples(lines):
             yield number, "\n".join(text).rstrip("\n") + "\n", fault[1]
 
 
+def explanations(lines):
+    """The number of each section that has one, and its lines for a terminal: the heading without marks, the line that the program writes likewise."""
+    found, number = {}, None
+    for line in lines:
+        if line.startswith("##"):
+            heading = re.match(r"### (\d+) ", line)
+            number = heading and heading[1]
+        if number:
+            found.setdefault(number, []).append(re.sub(r"^### |^`([a-z ]*fault \d+ at .*)`$", r"\1", line))
+    return {number: "\n".join(section).rstrip("\n") + "\n" for number, section in found.items()}
+
+
 def changed(image, changes):
-    """The image with these bytes in their places; a place without bytes cuts it there."""
+    """The image with these bytes in their places; a place with nothing cuts it there."""
     for change in changes.split("\n"):
         if change:
-            at, given = change.split(":")
-            at, given = int(at), bytes.fromhex(given)
+            at, given = change.removeprefix("from byte ").split(": ")
+            at, given = int(at), bytes.fromhex(given.replace("nothing", ""))
             image = image[:at] + given + image[at + len(given) :] if given else image[:at]
     return image
 
@@ -53,7 +65,8 @@ def content_of(image, text, fault):
 
 source, folder = sys.argv[1:]
 with open(source, encoding="utf-8") as file:
-    found = list(examples(file.read().split("\n")))
+    lines = file.read().split("\n")
+found = list(examples(lines))
 image = bytes.fromhex(next(text for number, text, fault in found if number is None))
 mistakes = 0
 for number, text, fault in found:
@@ -69,3 +82,6 @@ for number, text, fault in found:
     for name, content in files.items():
         with open(os.path.join(folder, name), "wb") as file:
             file.write(content)
+for number, text in explanations(lines).items():
+    with open(os.path.join(folder, f"{number}.explained"), "w", encoding="utf-8") as file:
+        file.write(text)

@@ -1,3 +1,4 @@
 mod Compiling
 mod Running
 mod Driving
+mod Explaining

@@ -6,6 +6,7 @@ use Rattle.base.specs.declared.faults.TheConstants.{MEMORY_REFUSED}
 use Rattle.base.specs.declared.schedule.ScheduleLine.{ScheduleLine}
 use Rattle.clock.specs.Schedules as schedules
 use Rattle.clock.specs.declared.schedule.ScheduleFault.{ScheduleFault}
+use Rattle.explanations.specs.Explained.{explanation_of}
 use Rattle.lexer.specs.declared.fault.Fault.{Fault}
 use Rattle.image_format.specs.Bytes.{bytes_of}
 use Rattle.image.specs.Code.{code, code_text}
@@ -19,7 +20,7 @@ use Rattle.machine.specs.Written.{AppendsBeginning}
 use Rattle.machine.specs.declared.reports.Outcome.{Outcome}
 use Rattle.machine.specs.declared.reports.Outcome.TheVariants as outcomes
 use Rattle.tracing.specs.Traces.{trace_text}
-use Rattle.command_line.specs.Words.{Command, CompileText, GoText, ListImage, Nothing, RunImage, TraceText, asked, is_plain}
+use Rattle.command_line.specs.Words.{Command, CompileText, ExplainFault, GoText, ListImage, Nothing, RunImage, TraceText, asked, is_plain}
 use Rattle.adarun.specs.Accepted.{Compiles, RefusesText}
 use Rattle.adarun.specs.Headline.{Runs, WritesBeginning}
 use Rattle.adarun.specs.Stopping.{HasImage}
@@ -179,6 +180,25 @@ LeavesList contents name NoMemory old new = new ≡ old
 LeavesList contents name Failed old new = (new ≡ old) ⊎ HasBegunListing contents name old new
 LeavesList contents name status old new = ⊥
 
+-- ---- `explain`
+
+-- the number is that of a fault, and its explanation was written
+pub record HasExplained (number : ℕ) (old new : Option (List ℕ)) : Type 0 where
+  pub text : List ℕ
+  pub explained : explanation_of number ≡ Some text
+  pub written : Appends old new text
+
+-- a beginning of the explanation was written
+pub record HasBegunExplaining (number : ℕ) (old new : Option (List ℕ)) : Type 0 where
+  pub text : List ℕ
+  pub explained : explanation_of number ≡ Some text
+  pub begins : AppendsBeginning old new text
+
+abbrev pub LeavesExplain : ℕ → Status → Option (List ℕ) → Option (List ℕ) → Type 0
+LeavesExplain number Done old new = HasExplained number old new
+LeavesExplain number Failed old new = ((explanation_of number ≡ None) × (new ≡ old)) ⊎ HasBegunExplaining number old new
+LeavesExplain number status old new = ⊥
+
 -- ---- `run`
 
 -- the image was loaded, the second file is a schedule, and the image's run had an outcome of this status
@@ -264,6 +284,7 @@ LeavesWritten (RunImage image schedule limit) before after status old new = AreF
 LeavesWritten (GoText source schedule limit) before after status old new = AreFilesKept before after × LeavesGo before source schedule limit status old new
 LeavesWritten (TraceText source schedule limit) before after status old new = AreFilesKept before after
     × LeavesTrace before source schedule limit status old new
+LeavesWritten (ExplainFault number) before after status old new = AreFilesKept before after × LeavesExplain number status old new
 LeavesWritten Nothing before after status old new = AreFilesKept before after × ((new ≡ old) × ((status ≡ Failed) ⊎ (status ≡ NoMemory)))
 
 -- the number of an exit status

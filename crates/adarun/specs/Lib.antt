@@ -3,3 +3,4 @@ pub mod Headline
 pub mod Stopping
 pub mod Joined
 pub mod Driving
+pub mod Explaining

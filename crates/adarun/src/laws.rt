@@ -1,6 +1,8 @@
-//! The law that joins compiling, files of images and running: it is what a function without work ensures.
+//! The laws of the whole: each is what a function without work ensures.
+ghost use Rattle.adarun.specs.Explaining.{ScheduleFaultsExplained, TextFaultsExplained};
 ghost use Rattle.adarun.specs.Joined.{RunsAsItsSource};
 
+use fault_numbers::{grammar_numbers, legality_numbers, restriction_numbers, spelling_numbers};
 use image::Image;
 use image_laws::outcome_stays;
 use image_loading::laws::comes_back;
@@ -12,4 +14,15 @@ pub fn loaded_image_runs_as_its_source(image: &Image)
 {
     outcome_stays();
     comes_back(image);
+}
+
+/// What a text or a schedule is refused with has a number that is explained.
+pub fn refusals_are_explained()
+    ensures texts { TextFaultsExplained }
+    ensures schedules { ScheduleFaultsExplained }
+{
+    spelling_numbers();
+    grammar_numbers();
+    legality_numbers();
+    restriction_numbers();
 }

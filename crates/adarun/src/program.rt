@@ -2,7 +2,7 @@
 ghost use Rattle.std.specs.Prelude.{◌≡◌, ◌≢◌, ◌<◌, ◌⊎◌, ℕ, List, Option, map, nat_eq, if◌then◌else◌};
 ghost use Rattle.base.specs.declared.faults.TheConstants.{MEMORY_REFUSED};
 ghost use Rattle.adarun.specs.Driving as driving;
-ghost use Rattle.adarun.specs.Driving.{AnswersStatus, KeepsSink, LeavesCompile, LeavesGo, LeavesList, LeavesRun, LeavesTrace};
+ghost use Rattle.adarun.specs.Driving.{AnswersStatus, KeepsSink, LeavesCompile, LeavesExplain, LeavesGo, LeavesList, LeavesRun, LeavesTrace};
 
 use crate::compilation::compile;
 use crate::files::{FileStore, ReadError, WriteError};
@@ -10,6 +10,7 @@ use crate::going::{GoFault, go};
 use base::faults::MEMORY_REFUSED;
 use clock::{Schedule, ScheduleFault};
 use command_line::{Request, WordsError, request_of};
+use explanations::explanation;
 use image::ImageFault;
 use image_format::{encode, list};
 use image_loading::load;
@@ -33,11 +34,11 @@ pub enum Status {
     NoMemory = 8,
 }
 
-/// Does what the words, without the program's name, ask for: reads files, writes one of them or to `out`, and where it stops early one
-/// line to `err`. It answers the exit status. Where a run came to an outcome, `out` was given its text (`go`, `run`) or its trace (`trace`); where an image was
-/// listed, its listing; and no write to `out` failed under any status but 1. Where a text, an image or a schedule was refused or memory was wanting, nothing
-/// was written; where a write to `out` failed, a beginning of what was to be written. `compile` writes the image's file, and nothing to `out`: that file stays
-/// as it was unless the bytes of the source's image were there to be written, and no other file changes.
+/// Does what the words, without the program's name, ask for: reads files, writes one of them or to `out`, and where it stops early one line to `err`. It
+/// answers the exit status. Where a run came to an outcome, `out` was given its text (`go`, `run`) or its trace (`trace`); where an image was listed, its
+/// listing; where a fault was explained, its explanation; and no write to `out` failed under any status but 1. Where a text, an image or a schedule was
+/// refused or memory was wanting, nothing was written; where a write to `out` failed, a beginning of what was to be written. `compile` writes the image's
+/// file, and nothing to `out`: that file stays as it was unless the bytes of the source's image were there to be written, and no other file changes.
 pub fn drive<F: FileStore, O: Sink, E: Sink>(
     alloc: Global,
     words: &[&str],
@@ -76,7 +77,8 @@ pub fn drive<F: FileStore, O: Sink, E: Sink>(
                 limit,
             },
         ) => drive_trace(alloc, files, source, schedule, limit, out, err),
-        Err(WordsError::Usage) => tell(err, Status::Failed, &[b"usage"]),
+        Ok(Request::Explain { number }) => drive_explain(number, out, err),
+        Err(WordsError::Usage) => usage(err),
         Err(WordsError::Memory) => no_memory(err),
     };
     status as u8
@@ -254,6 +256,20 @@ fn drive_trace<F: FileStore, O: Sink, E: Sink>(
     }
 }
 
+// A number that no fault has asks for nothing.
+fn drive_explain<O: Sink, E: Sink>(number: u64, out: &mut O, err: &mut E) -> Status
+    ensures leaves { LeavesExplain number result (O.bytes out.old) (O.bytes out.new) }
+    ensures sink { KeepsSink result (out.new ≡ out.old) (O.failures out.old) (O.failures out.new) }
+{
+    let Some(text) = explanation(number) else {
+        return usage(err);
+    };
+    match write_all(out, text.as_bytes()) {
+        Ok(()) => Status::Done,
+        Err(_) => cannot_write(err),
+    }
+}
+
 fn status_of(outcome: &Outcome) -> Status
     ensures is { result ≡ driving.status_of outcome.now }
     ensures source { result ≡ Status.SourceRefused → ⊥ }
@@ -279,6 +295,12 @@ fn tell<E: Sink>(err: &mut E, status: Status, pieces: &[&[u8]]) -> Status
     }
     let _ = write_all(err, b"\n");
     status
+}
+
+fn usage<E: Sink>(err: &mut E) -> Status
+    ensures { result ≡ Status.Failed }
+{
+    tell(err, Status::Failed, &[b"usage"])
 }
 
 fn no_memory<E: Sink>(err: &mut E) -> Status

@@ -1,4 +1,4 @@
--- What clap makes of all words, none of which begins with `-`: the five commands, and every other row of words is refused.
+-- What clap makes of all words, none of which begins with `-`: the six commands, and every other row of words is refused.
 use Rattle.std.proofs.Common.{◌≡◌, ◌∙◌, ap, ap₂, sym, subst, refl, inl, inr, Result, Err, Bool, true, false, List, [], ◌∷◌, ◌++◌, Option, Some, None, codes, bytes_eq}
 use Rattle.std.specs.Prelude.{◌&&◌, fold, is_some, option_map, ⊤}
 use Rattle.std.proofs.lemmas.Option.{none-some}
@@ -23,7 +23,7 @@ use Rattle.command_line.specs.declared.WordsError.{WordsError}
 use Rattle.command_line.specs.declared.WordsError.TheVariants as errors
 use Rattle.command_line.specs.Words.{AnswersWords, Nothing, asked, is_plain}
 use Rattle.command_line.specs.Finding.{asked_by, asked_in, program_app}
-use Rattle.command_line.proofs.Reading.{IsNoFlag, IsRefusal, Refuses, at, fault_plain, go_refused_more, go_refused_none, go_refused_one, go_refused_two, go_rows, go_taken, level_by, no_flag, one_refused_more, one_refused_none, one_rows, one_taken, run_refused_more, run_refused_none, run_refused_one, run_refused_two, run_rows, run_taken, two_refused_more, two_refused_none, two_refused_one, two_rows, two_taken}
+use Rattle.command_line.proofs.Reading.{IsNoFlag, IsRefusal, Refuses, at, fault_plain, go_refused_more, go_refused_none, go_refused_one, go_refused_two, go_rows, go_taken, level_by, no_flag, number_refused_more, number_refused_none, number_rows, number_taken, one_refused_more, one_refused_none, one_rows, one_taken, run_refused_more, run_refused_none, run_refused_one, run_refused_two, run_rows, run_taken, two_refused_more, two_refused_none, two_refused_one, two_rows, two_taken}
 
 -- ---- the command that the first word names
 
@@ -175,6 +175,21 @@ trace_judged (a ∷ b ∷ c ∷ []) (na, (nb, (nc, none))) =
 trace_judged (a ∷ b ∷ c ∷ d ∷ more) (na, (nb, (nc, (nd, others)))) =
     Refused (refused_whole (codes "trace") (a ∷ b ∷ c ∷ d ∷ more) refl refl refl (go_refused_more (codes "trace") a b c d more na nb nc nd)) refl
 
+explain_judged : (rest : List Text) → AreNoFlags rest → Judged (codes "explain" ∷ rest)
+unfolding walked
+explain_judged [] none = Refused (refused_whole (codes "explain") [] refl refl refl (number_refused_none (codes "explain"))) refl
+explain_judged (a ∷ []) (na, none) =
+    Taken (codes "explain") _
+    (taken_whole (codes "explain") (a ∷ []) refl refl refl (number_taken (codes "explain") a na))
+    (found_is (codes "explain") (a ∷ []) refl refl _ (ap (λ rows. Some (codes "explain", rows)) (number_rows (codes "explain") a na)))
+    refl
+explain_judged (a ∷ b ∷ []) (na, (nb, none)) =
+    Refused (refused_whole (codes "explain") (a ∷ b ∷ []) refl refl refl (number_refused_more (codes "explain") a b [] na nb)) refl
+explain_judged (a ∷ b ∷ c ∷ []) (na, (nb, others)) =
+    Refused (refused_whole (codes "explain") (a ∷ b ∷ c ∷ []) refl refl refl (number_refused_more (codes "explain") a b (c ∷ []) na nb)) refl
+explain_judged (a ∷ b ∷ c ∷ d ∷ more) (na, (nb, others)) =
+    Refused (refused_whole (codes "explain") (a ∷ b ∷ c ∷ d ∷ more) refl refl refl (number_refused_more (codes "explain") a b (c ∷ d ∷ more) na nb)) refl
+
 flip : (x y : Text) → bytes_eq x y ≡ false → bytes_eq y x ≡ false
 flip x y e = by (bytes_eq y x) refl
   where
@@ -191,9 +206,9 @@ help_judged (a ∷ b ∷ c ∷ []) = Refused Refuses refl
 help_judged (a ∷ b ∷ c ∷ d ∷ more) = Refused Refuses refl
 
 -- a word that names no command
-module _ (name : Text) (plain : IsNoFlag name) (compile : bytes_eq (codes "compile") name ≡ false) (list : bytes_eq (codes "list") name ≡ false) (run_too : bytes_eq (codes "run") name ≡ false) (go_too : bytes_eq (codes "go") name ≡ false) (trace : bytes_eq (codes "trace") name ≡ false) (help : bytes_eq (codes "help") name ≡ false) where
+module _ (name : Text) (plain : IsNoFlag name) (compile : bytes_eq (codes "compile") name ≡ false) (list : bytes_eq (codes "list") name ≡ false) (run_too : bytes_eq (codes "run") name ≡ false) (go_too : bytes_eq (codes "go") name ≡ false) (trace : bytes_eq (codes "trace") name ≡ false) (explain : bytes_eq (codes "explain") name ≡ false) (help : bytes_eq (codes "help") name ≡ false) where
   unmet : subcommand_met names idle name ≡ None
-  unmet = rw (compile, list, run_too, go_too, trace, help) refl
+  unmet = rw (compile, list, run_too, go_too, trace, explain, help) refl
 
   stray : (rest : List Text) → IsRefusal (fault_of program_app (name ∷ rest))
   stray rest =
@@ -202,7 +217,7 @@ module _ (name : Text) (plain : IsNoFlag name) (compile : bytes_eq (codes "compi
 
   stray_asked : (rest : List Text) → asked (name ∷ rest) ≡ Nothing
   stray_asked [] = refl
-  stray_asked (a ∷ []) = rw (flip (codes "list") name list) refl
+  stray_asked (a ∷ []) = rw (flip (codes "list") name list, flip (codes "explain") name explain) refl
   stray_asked (a ∷ b ∷ []) = rw (flip (codes "compile") name compile) refl
   stray_asked (a ∷ b ∷ c ∷ []) = rw (flip (codes "run") name run_too, flip (codes "go") name go_too, flip (codes "trace") name trace) refl
   stray_asked (a ∷ b ∷ c ∷ d ∷ more) = refl
@@ -213,22 +228,23 @@ named name rest n e j = subst (λ w. Judged (w ∷ rest)) ((bytes_eq-Decides n n
 pub judged : (words : List Text) → ArePlain words → Judged words
 unfolding clap_on_literals
 judged [] h = Refused Refuses refl
-judged (name ∷ rest) h = by _ _ _ _ _ _ refl refl refl refl refl refl
+judged (name ∷ rest) h = by _ _ _ _ _ _ _ refl refl refl refl refl refl refl
   where
     plain : AreNoFlags (name ∷ rest)
     plain = no_flags (name ∷ rest) h
 
-    by : (c l r g t q : Bool)
+    by : (c l r g t x q : Bool)
         → bytes_eq (codes "compile") name ≡ c → bytes_eq (codes "list") name ≡ l → bytes_eq (codes "run") name ≡ r → bytes_eq (codes "go") name ≡ g
-        → bytes_eq (codes "trace") name ≡ t → bytes_eq (codes "help") name ≡ q → Judged (name ∷ rest)
-    by true l r g t q ec el er eg et eq = named name rest _ ec (compile_judged rest plain.1)
-    by false true r g t q ec el er eg et eq = named name rest _ el (list_judged rest plain.1)
-    by false false true g t q ec el er eg et eq = named name rest _ er (run_judged rest plain.1)
-    by false false false true t q ec el er eg et eq = named name rest _ eg (go_judged rest plain.1)
-    by false false false false true q ec el er eg et eq = named name rest _ et (trace_judged rest plain.1)
-    by false false false false false true ec el er eg et eq = named name rest _ eq (help_judged rest)
-    by false false false false false false ec el er eg et eq =
-        Refused (stray name plain.0 ec el er eg et eq rest) (stray_asked name plain.0 ec el er eg et eq rest)
+        → bytes_eq (codes "trace") name ≡ t → bytes_eq (codes "explain") name ≡ x → bytes_eq (codes "help") name ≡ q → Judged (name ∷ rest)
+    by true l r g t x q ec el er eg et ex eq = named name rest _ ec (compile_judged rest plain.1)
+    by false true r g t x q ec el er eg et ex eq = named name rest _ el (list_judged rest plain.1)
+    by false false true g t x q ec el er eg et ex eq = named name rest _ er (run_judged rest plain.1)
+    by false false false true t x q ec el er eg et ex eq = named name rest _ eg (go_judged rest plain.1)
+    by false false false false true x q ec el er eg et ex eq = named name rest _ et (trace_judged rest plain.1)
+    by false false false false false true q ec el er eg et ex eq = named name rest _ ex (explain_judged rest plain.1)
+    by false false false false false false true ec el er eg et ex eq = named name rest _ eq (help_judged rest)
+    by false false false false false false false ec el er eg et ex eq =
+        Refused (stray name plain.0 ec el er eg et ex eq rest) (stray_asked name plain.0 ec el er eg et ex eq rest)
 
 -- ---- what clap answers
 

@@ -6,7 +6,7 @@ use Rattle.std.specs.Result.{result_ok}
 use Rattle.std.specs.Str.Parse.{AllDigits, IsNumeral, ParsesUnsigned, digits_value, without_leading_plus}
 use Rattle.std.specs.Char.{digit_value}
 use Rattle.std.proofs.lemmas.Bool.{and_parts, eqb-true, leb-true, le-ltb, lt-ltb, ltb-true}
-use Rattle.command_line.specs.Words.{is_digit, limit_of}
+use Rattle.command_line.specs.Words.{is_digit, numeral_of}
 
 apart : (c : ℕ) → is_digit c ≡ true → nat_eq c 43 ≡ false
 apart c h = by (nat_eq c 43) refl
@@ -36,7 +36,7 @@ abbrev among : (some all small : Bool) → ℕ → Option ℕ
 among some all small n = if some && (all && small) then Some n else None
 
 pub limit_is : {E : Type 0} (digits : List ℕ) (r : Result ℕ E) (o : Option ℕ) → list_all is_digit digits ≡ true → ParsesUnsigned 64 10 digits r
-    → o ≡ result_ok r → o ≡ limit_of digits
+    → o ≡ result_ok r → o ≡ numeral_of digits
 limit_is digits (Ok n) o all parses is =
     let same = no_plus digits all in
     let some = lt-ltb 0 (length digits) (subst (λ ds. 0 < length ds) same parses.0.0.0) in
@@ -47,7 +47,7 @@ limit_is digits (Ok n) o all parses is =
     ∙ ap (λ b. among true true b (digits_value 10 digits)) small)
 limit_is digits (Err e) o all parses is = is ∙ sym (by (nat_lt 0 (length digits)) (nat_lt (digits_value 10 digits) (2 ^ 64)) refl refl)
   where
-    by : (some small : Bool) → nat_lt 0 (length digits) ≡ some → nat_lt (digits_value 10 digits) (2 ^ 64) ≡ small → limit_of digits ≡ None
+    by : (some small : Bool) → nat_lt 0 (length digits) ≡ some → nat_lt (digits_value 10 digits) (2 ^ 64) ≡ small → numeral_of digits ≡ None
     by false small es em = ap (λ b. among b (list_all is_digit digits) (nat_lt (digits_value 10 digits) (2 ^ 64)) (digits_value 10 digits)) es
     by true false es em =
         ap (λ b. among b (list_all is_digit digits) (nat_lt (digits_value 10 digits) (2 ^ 64)) (digits_value 10 digits)) es

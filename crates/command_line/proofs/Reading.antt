@@ -1,4 +1,4 @@
--- What clap makes of words of which none begins with `-`, for the four commands.
+-- What clap makes of words of which none begins with `-`, for the six commands.
 use Rattle.std.proofs.Common.{◌≡◌, ◌∙◌, ap, sym, subst, refl, ℕ, Bool, true, false, not, List, [], ◌∷◌, Some, None, if◌then◌else◌, nat_eq, codes, bytes_eq}
 use Rattle.std.specs.Option.{option_map_or}
 use Rattle.clap.specs.Lexer.{long_of, short_of}
@@ -93,6 +93,9 @@ leaf name ids = built_leaf (inherited (with_leaf_noted (marked_built program_sha
 abbrev pub one_id : List Text
 one_id = codes "IMG" ∷ []
 
+abbrev pub number_id : List Text
+number_id = codes "NUMBER" ∷ []
+
 abbrev pub two_ids : List Text
 two_ids = codes "SRC" ∷ codes "IMG" ∷ []
 
@@ -175,6 +178,32 @@ module _ (name : Text) where
 
   pub one_rows : (a : Text) → IsNoFlag a → rows_after l.rules [] (a ∷ []) ≡ finished l.rules (reading [] (codes "IMG") a)
   one_rows a na = ap (λ w. finished l.rules w.held) (end_one a na)
+
+module _ (name : Text) where
+  abbrev pub x : Shape
+  x = leaf name number_id
+
+  pub end_number : (a : Text) → IsNoFlag a → walk x.rules [] nothing_held (a ∷ []) ≡ at (reading [] (codes "NUMBER") a) 2
+  end_number a na = walked_plain x.rules [] 1 a nothing_held na refl
+
+  pub wrong_number : (a : Text) (more : List Text) → IsNoFlag a
+      → walk_fault x [] (at nothing_held 1) (a ∷ more) ≡ walk_fault x [] (at (reading [] (codes "NUMBER") a) 2) more
+  wrong_number a more na = fault_plain x [] 1 a nothing_held more na refl
+
+  pub number_refused_none : IsRefusal (level_fault x [] nothing_held [] false [])
+  unfolding clap_on_literals
+  number_refused_none = Refuses
+
+  pub number_taken : (a : Text) → IsNoFlag a → level_fault x [] nothing_held (a ∷ []) false [] ≡ []
+  unfolding clap_on_literals
+  number_taken a na = level_by x [] (a ∷ []) false [] [] _ (wrong_number a [] na) (ap (λ w. w.held) (end_number a na))
+
+  pub number_refused_more : (a b : Text) (more : List Text) → IsNoFlag a → IsNoFlag b → IsRefusal (level_fault x [] nothing_held (a ∷ b ∷ more) false [])
+  number_refused_more a b more na nb =
+      subst IsRefusal (sym (level_by x [] (a ∷ b ∷ more) false [] _ _ (wrong_number a (b ∷ more) na ∙ fault_plain x [] 2 b _ more nb refl) refl)) Refuses
+
+  pub number_rows : (a : Text) → IsNoFlag a → rows_after x.rules [] (a ∷ []) ≡ finished x.rules (reading [] (codes "NUMBER") a)
+  number_rows a na = ap (λ w. finished x.rules w.held) (end_number a na)
 
 module _ (name : Text) where
   abbrev pub run : Shape

@@ -2,7 +2,7 @@
 use Rattle.std.specs.Prelude.{ℕ, true, false, List, [], ◌∷◌, map, Option, Some, None, if◌then◌else◌, bytes_eq, codes}
 use Rattle.clap.specs.Words.{App, Row, Rule, Shape, Text, first_of, new_rule}
 use Rattle.clap.specs.Simple.{new_shape}
-use Rattle.command_line.specs.Words.{Command, CompileText, GoText, ListImage, Nothing, RunImage, TraceText, limit_of, within}
+use Rattle.command_line.specs.Words.{Command, CompileText, ExplainFault, GoText, ListImage, Nothing, RunImage, TraceText, numeral_of, within}
 
 -- an argument that has to be given
 abbrev pub required_rule : Text → Rule
@@ -19,7 +19,7 @@ bare_app = record { top = record (new_shape (codes "adarun")) { no_binary_name =
 abbrev pub program_shape : Shape
 program_shape = record (new_shape (codes "adarun")) { no_binary_name = true; subcommand_required = true; is_leaf = false }
 
--- the five commands
+-- the six commands
 abbrev pub program_app : App
 program_app = record {
   top = program_shape;
@@ -28,6 +28,7 @@ program_app = record {
       ∷ (command_app (codes "run") (codes "IMG" ∷ codes "SCHED" ∷ codes "LIMIT" ∷ [])).top
       ∷ (command_app (codes "go") (codes "SRC" ∷ codes "SCHED" ∷ codes "LIMIT" ∷ [])).top
       ∷ (command_app (codes "trace") (codes "SRC" ∷ codes "SCHED" ∷ codes "LIMIT" ∷ [])).top
+      ∷ (command_app (codes "explain") (codes "NUMBER" ∷ [])).top
       ∷ [];
 }
 
@@ -39,12 +40,12 @@ abbrev pub of_two : (Text → Text → Command) → Option Text → Option Text 
 of_two command (Some first) second = of_one (command first) second
 of_two command None second = Nothing
 
-abbrev pub limited : (ℕ → Command) → Option Text → Command
-limited command (Some limit) = within command (limit_of limit)
-limited command None = Nothing
+abbrev pub by_numeral : (ℕ → Command) → Option Text → Command
+by_numeral command (Some digits) = within command (numeral_of digits)
+by_numeral command None = Nothing
 
 abbrev pub of_three : (Text → Text → ℕ → Command) → Option Text → Option Text → Option Text → Command
-of_three command (Some first) (Some second) limit = limited (command first second) limit
+of_three command (Some first) (Some second) limit = by_numeral (command first second) limit
 of_three command first second limit = Nothing
 
 -- what the command of this name asks for, where these are the words for its arguments
@@ -55,7 +56,8 @@ asked_in name value =
     else (if bytes_eq name (codes "run") then of_three RunImage (value (codes "IMG")) (value (codes "SCHED")) (value (codes "LIMIT"))
     else (if bytes_eq name (codes "go") then of_three GoText (value (codes "SRC")) (value (codes "SCHED")) (value (codes "LIMIT"))
     else (if bytes_eq name (codes "trace") then of_three TraceText (value (codes "SRC")) (value (codes "SCHED")) (value (codes "LIMIT"))
-    else Nothing))))
+    else (if bytes_eq name (codes "explain") then by_numeral ExplainFault (value (codes "NUMBER"))
+    else Nothing)))))
 
 -- what the command that clap found asks for, by its name and its matches
 abbrev pub asked_by : Option (Text × List Row) → Command

@@ -7,35 +7,38 @@ use Rattle.command_line.specs.declared.Request.TheVariants as requests
 use Rattle.command_line.specs.declared.WordsError.{WordsError}
 use Rattle.command_line.specs.declared.WordsError.TheVariants as errors
 
--- what is asked for: names are those of files
+-- what is asked for: names are those of files, a number is that of a fault or of none
 pub data Command : Type 0 where
   CompileText : (source image : List ℕ) → Command
   ListImage : (image : List ℕ) → Command
   RunImage : (image schedule : List ℕ) (limit : ℕ) → Command
   GoText TraceText : (source schedule : List ℕ) (limit : ℕ) → Command
+  ExplainFault : (number : ℕ) → Command
   Nothing : Command
 
 abbrev pub is_digit : ℕ → Bool
 is_digit c = nat_le 48 c && nat_le c 57
 
 -- the value of one or more decimal digits, where that is below 2 ^ 64
-abbrev pub limit_of : List ℕ → Option ℕ
-limit_of digits =
+abbrev pub numeral_of : List ℕ → Option ℕ
+numeral_of digits =
     if nat_lt 0 (length digits) && (list_all is_digit digits && nat_lt (digits_value 10 digits) (2 ^ 64)) then Some (digits_value 10 digits)
     else None
 
 abbrev pub within : (ℕ → Command) → Option ℕ → Command
-within command (Some limit) = command limit
+within command (Some value) = command value
 within command None = Nothing
 
--- the five commands
+-- the six commands
 abbrev pub asked : List (List ℕ) → Command
-asked (name ∷ image ∷ []) = if bytes_eq name (codes "list") then ListImage image else Nothing
+asked (name ∷ word ∷ []) =
+    if bytes_eq name (codes "list") then ListImage word
+    else (if bytes_eq name (codes "explain") then within ExplainFault (numeral_of word) else Nothing)
 asked (name ∷ source ∷ image ∷ []) = if bytes_eq name (codes "compile") then CompileText source image else Nothing
 asked (name ∷ file ∷ schedule ∷ limit ∷ []) =
-    if bytes_eq name (codes "run") then within (RunImage file schedule) (limit_of limit)
-    else (if bytes_eq name (codes "go") then within (GoText file schedule) (limit_of limit)
-    else (if bytes_eq name (codes "trace") then within (TraceText file schedule) (limit_of limit) else Nothing))
+    if bytes_eq name (codes "run") then within (RunImage file schedule) (numeral_of limit)
+    else (if bytes_eq name (codes "go") then within (GoText file schedule) (numeral_of limit)
+    else (if bytes_eq name (codes "trace") then within (TraceText file schedule) (numeral_of limit) else Nothing))
 asked words = Nothing
 
 -- a word that can be no option: it doesn't begin with `-`
@@ -49,6 +52,7 @@ command_of (requests.List image) = ListImage image.now
 command_of (requests.Run image schedule limit) = RunImage image.now schedule.now limit
 command_of (requests.Go source schedule limit) = GoText source.now schedule.now limit
 command_of (requests.Trace source schedule limit) = TraceText source.now schedule.now limit
+command_of (requests.Explain number) = ExplainFault number
 
 -- the request is that for the command; the words are refused where there is none; or memory was refused
 abbrev pub AnswersWords : Command → Result Request WordsError → Type 0

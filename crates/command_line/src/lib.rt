@@ -43,6 +43,10 @@ pub enum Request<'a> {
         schedule: &'a str,
         limit: u64,
     },
+    /// Explain the fault of this number, which may be that of none.
+    Explain {
+        number: u64,
+    },
 }
 
 /// Why a command line was not understood.
@@ -57,8 +61,8 @@ pub enum WordsError {
 /// What the words, without the program's name, ask for.
 ///
 /// # Errors
-/// Usage for other words than a request's, those that ask for help among them, and for a limit that isn't one or more decimal digits
-/// of a value below 2**64; Memory where memory was refused.
+/// Usage for other words than a request's, those that ask for help among them, and for a limit or a number that isn't one or more decimal
+/// digits of a value below 2**64; Memory where memory was refused.
 pub fn request_of<'a>(alloc: Global, words: &'a [&'a str]) -> Result<Request<'a>, WordsError>
     // Words of which none begins with `-` ask for just what the table of commands says.
     ensures { list_all is_plain (map (λ w. w.now) words.now) ≡ true → AnswersWords (asked (map (λ w. w.now) words.now)) result }
@@ -97,17 +101,20 @@ fn request_in<'a>(name: &str, found: &ArgMatches<'a>) -> Result<Request<'a>, Wor
         "run" => Ok(Request::Run {
             image: word(found, "IMG")?,
             schedule: word(found, "SCHED")?,
-            limit: limit_of(word(found, "LIMIT")?).ok_or(WordsError::Usage)?,
+            limit: numeral_of(word(found, "LIMIT")?).ok_or(WordsError::Usage)?,
         }),
         "go" => Ok(Request::Go {
             source: word(found, "SRC")?,
             schedule: word(found, "SCHED")?,
-            limit: limit_of(word(found, "LIMIT")?).ok_or(WordsError::Usage)?,
+            limit: numeral_of(word(found, "LIMIT")?).ok_or(WordsError::Usage)?,
         }),
         "trace" => Ok(Request::Trace {
             source: word(found, "SRC")?,
             schedule: word(found, "SCHED")?,
-            limit: limit_of(word(found, "LIMIT")?).ok_or(WordsError::Usage)?,
+            limit: numeral_of(word(found, "LIMIT")?).ok_or(WordsError::Usage)?,
+        }),
+        "explain" => Ok(Request::Explain {
+            number: numeral_of(word(found, "NUMBER")?).ok_or(WordsError::Usage)?,
         }),
         _ => Err(WordsError::Usage),
     }
@@ -154,7 +161,8 @@ fn command<'a>(alloc: Global) -> Result<Command<'a>, AllocError>
         .subcommand(command_with(alloc, "list", &["IMG"])?)?
         .subcommand(command_with(alloc, "run", &["IMG", "SCHED", "LIMIT"])?)?
         .subcommand(command_with(alloc, "go", &["SRC", "SCHED", "LIMIT"])?)?
-        .subcommand(command_with(alloc, "trace", &["SRC", "SCHED", "LIMIT"])?)
+        .subcommand(command_with(alloc, "trace", &["SRC", "SCHED", "LIMIT"])?)?
+        .subcommand(command_with(alloc, "explain", &["NUMBER"])?)
 }
 
 fn error_of(error: &Error) -> WordsError
@@ -173,11 +181,11 @@ fn are_digits(text: &str) -> bool
 }
 
 // One or more decimal digits, of a value below 2**64.
-fn limit_of(limit: &str) -> Option<u64>
-    ensures { result ≡ words_of.limit_of limit.now }
+fn numeral_of(digits: &str) -> Option<u64>
+    ensures { result ≡ words_of.numeral_of digits.now }
 {
-    if are_digits(limit) {
-        limit.parse().ok()
+    if are_digits(digits) {
+        digits.parse().ok()
     } else {
         None
     }

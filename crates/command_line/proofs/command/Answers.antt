@@ -20,6 +20,9 @@ go = command_app (codes "go") (codes "SRC" ∷ codes "SCHED" ∷ codes "LIMIT" �
 abbrev trace : App
 trace = command_app (codes "trace") (codes "SRC" ∷ codes "SCHED" ∷ codes "LIMIT" ∷ [])
 
+abbrev explain : App
+explain = command_app (codes "explain") (codes "NUMBER" ∷ [])
+
 abbrev shape : App → Shape
 shape a = a.top
 
@@ -31,13 +34,16 @@ returns c =
     let third : app_of c.in_ok-command_with-3.field-0 ≡ run = c.in_ok-command_with-3.ensures.app in
     let fourth : app_of c.in_ok-command_with-4.field-0 ≡ go = c.in_ok-command_with-4.ensures.app in
     let fifth : app_of c.in_ok-command_with-5.field-0 ≡ trace = c.in_ok-command_with-5.ensures.app in
+    let sixth : app_of c.in_ok-command_with-6.field-0 ≡ explain = c.in_ok-command_with-6.ensures.app in
     let local : (out-Command c.in_ok-command_with.field-0).has_globals ≡ false = c.in_ok-command_with.ensures.local in
     let local_2 : (out-Command c.in_ok-command_with-2.field-0).has_globals ≡ false = c.in_ok-command_with-2.ensures.local in
     let local_3 : (out-Command c.in_ok-command_with-3.field-0).has_globals ≡ false = c.in_ok-command_with-3.ensures.local in
     let local_4 : (out-Command c.in_ok-command_with-4.field-0).has_globals ≡ false = c.in_ok-command_with-4.ensures.local in
     let local_5 : (out-Command c.in_ok-command_with-5.field-0).has_globals ≡ false = c.in_ok-command_with-5.ensures.local in
+    let local_6 : (out-Command c.in_ok-command_with-6.field-0).has_globals ≡ false = c.in_ok-command_with-6.ensures.local in
     let one = c.in_ok-subcommand.ensures.shape local ∙ ap₂ with_subcommand top (ap shape first) in
     let two = c.in_ok-subcommand-2.ensures.shape local_2 ∙ ap₂ with_subcommand one (ap shape second) in
     let three = c.in_ok-subcommand-3.ensures.shape local_3 ∙ ap₂ with_subcommand two (ap shape third) in
     let four = c.in_ok-subcommand-4.ensures.shape local_4 ∙ ap₂ with_subcommand three (ap shape fourth) in
-    IfOk-weaker c.subcommand-5.result _ _ (λ m adds. adds.shape local_5 ∙ ap₂ with_subcommand four (ap shape fifth)) c.subcommand-5.ensures
+    let five = c.in_ok-subcommand-5.ensures.shape local_5 ∙ ap₂ with_subcommand four (ap shape fifth) in
+    IfOk-weaker c.subcommand-6.result _ _ (λ m adds. adds.shape local_6 ∙ ap₂ with_subcommand five (ap shape sixth)) c.subcommand-6.ensures

@@ -1,5 +1,5 @@
 use Rattle.std.proofs.Common.{inl, inr, refl, rules}
-use Rattle.command_line.specs.Words.{CompileText, GoText, ListImage, Nothing, RunImage, TraceText}
+use Rattle.command_line.specs.Words.{CompileText, ExplainFault, GoText, ListImage, Nothing, RunImage, TraceText}
 use Rattle.adarun.specs.declared.program.Status.TheVariants.{Failed, NoMemory}
 use Rattle.adarun.proofs.Driving.{asked_as, asked_nothing}
 use Rattle.adarun.proofs.program.drive.Goals as goal
@@ -53,6 +53,15 @@ returns-in-Ok-Trace-clause-answers g c = record {
   leaves = (λ name. refl, c.drive_trace-status.ensures.leaves);
 }
 
+pub returns-in-Ok-Explain-clause-answers : goal.returns-in-Ok-Explain-clause-answers
+returns-in-Ok-Explain-clause-answers g c = record {
+  work = ExplainFault c.in-Ok-Explain.number;
+  status = c.drive_explain-status.result;
+  answer_is = search rules;
+  asked_for = λ plain. inl (asked_as _ _ _ c.in-Ok-Explain.field-0-is (c.in-Ok-Explain.ensures plain));
+  leaves = (λ name. refl, c.drive_explain-status.ensures.leaves);
+}
+
 pub returns-in-Err-Usage-clause-answers : goal.returns-in-Err-Usage-clause-answers
 returns-in-Err-Usage-clause-answers g c =
-    rw c.tell-status.ensures (record { work = Nothing; status = Failed; answer_is = refl; asked_for = λ plain. inl (asked_nothing _ _ c.in-Err-Usage.field-0-is (c.in-Err-Usage.ensures plain)); leaves = (λ name. refl, (refl, inl refl)) })
+    rw c.usage-status.ensures (record { work = Nothing; status = Failed; answer_is = refl; asked_for = λ plain. inl (asked_nothing _ _ c.in-Err-Usage.field-0-is (c.in-Err-Usage.ensures plain)); leaves = (λ name. refl, (refl, inl refl)) })

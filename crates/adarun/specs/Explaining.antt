@@ -1,0 +1,13 @@
+-- What a text or a schedule is refused with is explained.
+use Rattle.std.specs.Prelude.{◌≡◌, ℕ, List, true}
+use Rattle.clock.specs.Schedules.{RefusesSchedule}
+use Rattle.clock.specs.declared.schedule.ScheduleFault.{ScheduleFault}
+use Rattle.explanations.specs.Explained.{is_fault_number}
+use Rattle.lexer.specs.declared.fault.Fault.{Fault}
+use Rattle.adarun.specs.Accepted.{RefusesText}
+
+abbrev pub TextFaultsExplained : Type 0
+TextFaultsExplained = (text : List ℕ) (fault : Fault) → RefusesText text fault → is_fault_number fault.number ≡ true
+
+abbrev pub ScheduleFaultsExplained : Type 0
+ScheduleFaultsExplained = (text : List ℕ) (fault : ScheduleFault) → RefusesSchedule text fault → is_fault_number fault.number ≡ true
