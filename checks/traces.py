@@ -1,0 +1,94 @@
+#!/usr/bin/env python3
+"""Compares the traces of the sources in the tables and of the examples, byte for byte, with those that bench/reference.py makes of their images.
+
+    traces.py PROGRAM FOLDER EXAMPLES SCRATCH
+
+FOLDER has the tables of rows.py, of which all count whose sources are compiled; EXAMPLES has programs NAME.adb, some with a NAME.schedule, and their traces
+NAME.trace, which the reference has made too.
+"""
+import os
+import subprocess
+import sys
+
+import rows
+
+sys.path.insert(0, os.path.join(os.path.dirname(os.path.abspath(__file__)), "..", "bench"))
+from reference import STATUSES, World  # noqa: E402
+
+TABLES = ("programs", "time", "delays", "tasks", "protected", "entries", "traces")
+STEPS, ALL_STEPS = 3_000, 1_000_000
+REFUSED = (rows.STATUSES["fault"], rows.STATUSES["schedule"])
+
+
+def rows_of(folder):
+    """Names, sources and schedules of the rows that are compiled and run."""
+    for table in TABLES:
+        with open(os.path.join(folder, f"{table}.txt"), encoding="utf-8") as file:
+            for row in rows.rows_of(table, file.read().split("\n")):
+                if rows.expected_of(row)[2] not in REFUSED:
+                    yield row["name"], rows.framed(row["frame"], row), rows.bytes_of("".join(row.get("schedule", [])))
+
+
+def examples_of(folder):
+    """Names, sources, schedules and traces of the examples."""
+    for name in sorted(name[:-4] for name in os.listdir(folder) if name.endswith(".adb")):
+        source, schedule, trace = (os.path.join(folder, f"{name}.{kind}") for kind in ("adb", "schedule", "trace"))
+        yield name, read(source), read(schedule) if os.path.exists(schedule) else b"", read(trace).decode()
+
+
+def read(path):
+    with open(path, "rb") as file:
+        return file.read()
+
+
+class Comparer:
+    """Traces sources with the program, and their images with the reference."""
+
+    def __init__(self, program, folder):
+        self.program, self.folder = os.path.abspath(program), folder
+        self.rows, self.wrong = 0, []
+        os.makedirs(folder)
+
+    def call(self, *words):
+        return subprocess.run([self.program, *words], cwd=self.folder, capture_output=True, check=False)
+
+    def write(self, source, schedule):
+        for file, content in (("main.adb", source), ("input", schedule)):
+            with open(os.path.join(self.folder, file), "wb") as written:
+                written.write(content)
+
+    def reference_of(self, schedule):
+        self.call("compile", "main.adb", "main.img")
+        lines = [tuple(map(int, line.split())) for line in schedule.decode().splitlines()]
+        return World(read(os.path.join(self.folder, "main.img")), lines).trace(STEPS)
+
+    def compare(self, name, steps, expected):
+        """Traces the source that was written: its trace is what is expected, and the status that of its last line."""
+        run = self.call("trace", "main.adb", "input", str(steps))
+        told = run.stdout.decode()
+        self.rows += told.count("\n")
+        if (told, run.stderr, run.returncode) != (expected, b"", STATUSES[expected.splitlines()[-1].split()[0]]):
+            first = next((pair for pair in zip(told.splitlines(), expected.splitlines()) if pair[0] != pair[1]), None)
+            self.wrong.append(f"{name}: status {run.returncode}, {run.stderr!r}; they differ first in {first}")
+
+
+def main():
+    program, folder, examples, scratch = sys.argv[1:]
+    comparer, sources = Comparer(program, scratch), 0
+    for name, source, schedule in rows_of(folder):
+        comparer.write(source, schedule)
+        comparer.compare(name, STEPS, comparer.reference_of(schedule))
+        sources += 1
+    for name, source, schedule, trace in examples_of(examples):
+        comparer.write(source, schedule)
+        comparer.compare(name, STEPS, comparer.reference_of(schedule))
+        comparer.compare(name, ALL_STEPS, trace)
+        sources += 1
+    for told in comparer.wrong:
+        print(f"traces: {told}", file=sys.stderr)
+    print(f"traces: {sources} sources, {comparer.rows} rows, {len(comparer.wrong)} wrong")
+    sys.exit(1 if comparer.wrong or not comparer.rows else 0)
+
+
+if __name__ == "__main__":
+    main()
