@@ -39,7 +39,7 @@ mod MeantStatements
 mod MeantTexts
 mod MeantBarriers
 mod MeantWorlds
-mod NamesTogether
+pub mod NamesTogether
 mod SpelledNumbers
 mod NumberScopes
 mod StandardStatics
