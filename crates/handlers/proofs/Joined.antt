@@ -1,12 +1,21 @@
 -- The innermost row of rows that are put together.
-use Rattle.std.proofs.Common.{◌≡◌, ℕ, ◌<◌, ◌≤◌, List, [], ◌∷◌, ◌++◌, Bool, true, false, cond, Option, Some, None, nat_le, All, IfSome, slice_index_or, refl, sym, ap, ◌∙◌, subst}
+use Rattle.std.proofs.Common.{◌≡◌, ℕ, ◌<◌, ◌≤◌, List, [], ◌∷◌, ◌++◌, Bool, true, false, cond, Option, Some, None, nat_le, All, arith, IfSome, slice_index_or, refl, sym, ap, ◌∙◌, subst}
 use Rattle.std.proofs.lemmas.Bool.{le-leb, lt-leb}
+use Rattle.std.proofs.lemmas.Bool.Decides.{leb_tells}
 use Rattle.std.proofs.lemmas.Option.{none-some}
 use Rattle.std.proofs.lemmas.List.Elements.{All-head, All-tail}
 use Rattle.handlers.specs.declared.rows.Row.{Row}
 use Rattle.handlers.specs.Innermost.{width, inner_of, innermost, target_of}
 use Rattle.handlers.specs.Laws.{takes, RowsElsewhere, RowsInside, RowsInsideLast, RowsAround}
-use Rattle.handlers.proofs.Found.{found_and, inner_of-inner_of}
+
+-- the innermost one of a row that was found and of those after it
+abbrev found_and : Option Row → Option Row → Option Row
+found_and None later = later
+found_and (Some r) later = Some (inner_of r later)
+
+inner_of-inner_of : (q r : Row) (o : Option Row) → inner_of q (Some (inner_of r o)) ≡ inner_of (inner_of q (Some r)) o
+inner_of-inner_of q r None = refl
+inner_of-inner_of q r (Some s) = grind (arith, leb_tells)
 
 module _ (place x : ℕ) where
   abbrev best : List Row → Option Row

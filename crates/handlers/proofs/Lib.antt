@@ -1,7 +1,13 @@
+mod Covering
 mod Crossing
+mod Elements
 mod Examples
-mod Found
-mod PlacesHeld
+mod Halving
+mod Indexed
 mod Joined
+mod Ordered
+mod Pieces
+mod PlacesHeld
 mod Regions
+mod Searched
 mod Swept

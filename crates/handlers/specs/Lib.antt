@@ -4,4 +4,5 @@ pub mod Holding
 pub mod Innermost
 pub mod Laws
 pub mod Nesting
+pub mod Searching
 pub mod Sweeping

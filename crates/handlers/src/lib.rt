@@ -6,6 +6,7 @@ mod holding;
 pub mod laws;
 mod nesting;
 mod rows;
+mod searching;
 
 pub use counting::Probes;
 pub use holding::Holders;

@@ -82,7 +82,7 @@ fn sweep(alloc: Global, rows: &[Row]) -> Result<bool, AllocError>
     Ok(true)
 }
 
-fn copied(alloc: Global, rows: &[Row]) -> Result<Vec<Row>, AllocError>
+pub(crate) fn copied(alloc: Global, rows: &[Row]) -> Result<Vec<Row>, AllocError>
     ensures { IfOk result (λ copy. copy.items ≡ rows.now) }
 {
     rows.to_vec(alloc)

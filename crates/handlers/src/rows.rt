@@ -1,10 +1,13 @@
-//! Handler rows, the table made of them, and its search.
+//! Handler rows, and the table made of them.
 
-ghost use Rattle.std.specs.Prelude.{◌≡◌, length, not, position, is_none, true, IfErr, IfOk, IfSome, OnOk};
+ghost use Rattle.std.specs.Prelude.{◌≡◌, ◌≤◌, ◌+◌, length, not, position, is_none, true, IfErr, IfOk, IfSome, OnOk};
 ghost use Rattle.handlers.specs.Handlers.{LeadsWithin, is_within_one};
 ghost use Rattle.handlers.specs.Nesting.{IsFirst, RefusesRows, are_sound, is_broken_at, lesser_of, memory_fault};
-ghost use Rattle.handlers.specs.Innermost.{covers, handles, width, inside, innermost, handler_of};
+ghost use Rattle.std.specs.List.{count_by};
+ghost use Rattle.handlers.specs.Innermost.{covers, handles, width, handler_of};
+ghost use Rattle.handlers.specs.Searching.{ComparesPlaces};
 
+use crate::searching::Index;
 use crate::{Holders, Probes, first_crossing};
 use base::faults::{MEMORY_REFUSED, TABLES_DISAGREE};
 use std::alloc::{AllocError, Global};
@@ -25,13 +28,13 @@ pub struct Row {
 }
 
 impl Row {
-    fn covers(&self, place: u16) -> bool
+    pub(crate) fn covers(&self, place: u16) -> bool
         ensures { result ≡ covers place self.now }
     {
         self.start <= place && place < self.end_
     }
 
-    fn handles(&self, exception: u16) -> bool
+    pub(crate) fn handles(&self, exception: u16) -> bool
         ensures { result ≡ handles exception self.now }
     {
         self.exception == 0 || self.exception == exception
@@ -49,20 +52,10 @@ impl Row {
     }
 
     // How many places it covers.
-    fn width(&self) -> u16
+    pub(crate) fn width(&self) -> u16
         ensures { result ≡ width self.now }
     {
         self.end_.saturating_sub(self.start)
-    }
-
-    // The row with the shorter region, the one that was found before it where they are equal.
-    fn inside(&self, found: Option<Row>) -> Row
-        ensures { result ≡ inside found self.now }
-    {
-        match found {
-            Some(before) if before.width() <= self.width() => before,
-            _ => *self,
-        }
     }
 }
 
@@ -93,17 +86,19 @@ impl From<AllocError> for TableFault {
 pub struct Table {
     rows: Vec<Row>,
     ends: Vec<u16>,
+    index: Index,
 }
 
 impl Model for Table {
     ghost use Rattle.std.specs.Prelude.{◌≡◌, true};
     ghost use Rattle.handlers.specs.Handlers.{Handlers, are_within_one};
+    ghost use Rattle.handlers.specs.Searching.{AreByWidth};
 
     ghost Value = { Handlers };
 
     ghost view = { λ t. record { rows = t.rows.items; ends = t.ends.items } };
 
-    ghost invariant = { λ t. are_within_one t.ends.items t.rows.items ≡ true };
+    ghost invariant = { λ t. (are_within_one t.ends.items t.rows.items ≡ true) × AreByWidth t.rows.items t.index };
 }
 
 // The first row that breaks a rule by itself.
@@ -148,12 +143,15 @@ pub fn build(alloc: Global, rows: Vec<Row>, ends: &[u16]) -> Result<Table, Table
             row,
         });
     }
+    let index = Index::new(alloc, &rows)?;
     let ends = ends.to_vec(alloc)?;
-    Ok(Table { rows, ends })
+    Ok(Table { rows, ends, index })
 }
 
 /// The target of the innermost row that covers `place` and handles `exception`: the one with the shortest region, the first
-/// of equal ones. `None` where no row does both. The target lies in the subprogram that holds `place`.
+/// of equal ones. `None` where no row does both. The target lies in the subprogram that holds `place`. It compares the place at
+/// most as often as the number of distinct starts and ends of rows has binary digits, and the exception at most once for each
+/// row that covers the place.
 pub fn lookup<L: Ledger>(
     table: &Table,
     place: u16,
@@ -162,29 +160,8 @@ pub fn lookup<L: Ledger>(
 ) -> Option<u16>
     ensures innermost { result ≡ handler_of table.now.rows place exception }
     ensures within { IfSome result (LeadsWithin table.now place) }
+    ensures places { ComparesPlaces table.now.rows probes.old.places probes.new.places }
+    ensures exceptions { probes.new.exceptions ≤ probes.old.exceptions + count_by (covers place) table.now.rows }
 {
-    innermost(table, place, exception, probes).map(|row| row.target)
-}
-
-// The innermost row itself.
-fn innermost<L: Ledger>(
-    table: &Table,
-    place: u16,
-    exception: u16,
-    probes: &mut Probes<L>,
-) -> Option<Row>
-    ensures innermost { result ≡ innermost table.now.rows place exception }
-    ensures within { IfSome result (λ row. LeadsWithin table.now place row.target) }
-{
-    let mut found = None;
-    for row in &table.rows {
-        probes.count_place();
-        if row.covers(place) {
-            probes.count_exception();
-            if row.handles(exception) {
-                found = Some(row.inside(found));
-            }
-        }
-    }
-    found
+    table.index.target(place, exception, probes)
 }
