@@ -292,7 +292,7 @@ module _ (s : Scope) (p : Place) (agrees : Agrees s p) (calls : Calls) (answers 
     name_suits (MoreSelectors x rest) place w (Raises n) g d h v none = refl
     name_suits (MoreSelectors x rest) place w Meaningless g d h v none = absurd (empty_ends s agrees.sound place (MoreSelectors x rest) w d g h v none)
 
-    part_comes : (x : SelectorTree) (place : ℕ) (w : Standing) (m : Meaning) → Good s w → Denotes s p w m → selector_faults s place w x ≡ []
+    pub part_comes : (x : SelectorTree) (place : ℕ) (w : Standing) (m : Meaning) → Good s w → Denotes s p w m → selector_faults s place w x ≡ []
         → Comes s p (select s w x) (part_with calls p m x)
     part_comes (Component name) place w m g d h = component_comes s p agrees calls answers place name w m g d h
     part_comes (Attribute name) place w m g d h = attribute_empty s w name

@@ -5,7 +5,7 @@ pub mod Growing
 pub mod Hiding
 pub mod Agreement
 pub mod FixedNames
-mod Elements
+pub mod Elements
 pub mod Denoting
 pub mod Applying
 pub mod Arguments
@@ -18,3 +18,13 @@ pub mod Standard
 pub mod Widening
 pub mod Clauses
 mod LoopExample
+pub mod Numbers
+pub mod Lies
+mod LanguageValues
+mod InitialValues
+mod StoredParts
+mod NamesLie
+mod Between
+mod Worth
+mod Composites
+mod LyingExamples

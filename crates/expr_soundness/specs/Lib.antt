@@ -14,3 +14,8 @@ pub mod Agreeing
 pub mod Answers
 pub mod Laws
 pub mod Variables
+pub mod Lying
+pub mod BoundsLaw
+pub mod InitialLaw
+pub mod StoringLaw
+pub mod CompositesLaw

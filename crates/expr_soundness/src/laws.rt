@@ -1,6 +1,12 @@
-//! The laws of values and types, each what a function without work ensures.
+//! The laws of values, types and bounds, each what a function without work ensures.
+ghost use Rattle.expr_soundness.specs.BoundsLaw.{ChecksAreSpared, ExpressionsLie, LanguageLies, ValuesAreBounded};
+ghost use Rattle.expr_soundness.specs.CompositesLaw.{CompositesLie};
+ghost use Rattle.expr_soundness.specs.InitialLaw.{InitialValuesLie};
 ghost use Rattle.expr_soundness.specs.Laws.{AgreementIsKept, CallsAreTyped, ExpressionsAreTyped, ScopesAreSound};
+ghost use Rattle.expr_soundness.specs.StoringLaw.{StoredValuesLie};
 ghost use Rattle.expr_soundness.specs.Variables.{TargetsAreVariables};
+
+use types::laws::static_is_value;
 
 /// A legal expression comes to a value of its type or raises an exception, at every place that agrees with the visible names and where calls are answered
 /// (RM 4).
@@ -29,3 +35,49 @@ pub fn agreement_is_kept()
 pub fn targets_are_variables()
     ensures { TargetsAreVariables }
 {}
+
+/// A legal expression comes to a value between its bounds, or raises an exception, where what is visible has values in its subtypes and functions return
+/// such (RM 3.2, 4).
+pub fn expressions_lie()
+    ensures { ExpressionsLie }
+{
+    static_is_value();
+}
+
+/// The same of the value at a place where each function is sound, however many frames are left; what functions return is checked (RM 6.5).
+pub fn values_are_bounded()
+    ensures { ValuesAreBounded }
+{
+    static_is_value();
+    calls_are_typed();
+}
+
+/// An expression whose bounds lie inside a subtype passes the check against it (RM 4.6, 5.2, 6.4.1, 6.5).
+pub fn checks_are_spared()
+    ensures { ChecksAreSpared }
+{
+    static_is_value();
+}
+
+/// What Ada.Real_Time and Control_IO give for actuals in their subtypes is of the base range, where the time and the inputs are (RM D.8).
+pub fn language_lies()
+    ensures { LanguageLies }
+{}
+
+/// An object without initial value begins in its subtype, part by part, where each subtype has the value at which its objects begin (RM 3.3.1).
+pub fn initial_values_lie()
+    ensures { InitialValuesLie }
+{}
+
+/// An object with a part changed to a value of that part's subtype lies in its own subtype as before (RM 5.2).
+pub fn stored_values_lie()
+    ensures { StoredValuesLie }
+{}
+
+/// A legal expression of a composite type comes to a value each part of which lies in its subtype, where the parts of the visible objects do and functions
+/// return no composite values (RM 3.2, 4).
+pub fn composites_lie()
+    ensures { CompositesLie }
+{
+    calls_are_typed();
+}

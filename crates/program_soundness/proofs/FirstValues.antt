@@ -138,7 +138,7 @@ known_is (Array vs) c h = cc
 known_is (Record fs) c h = cc
 
 module _ (law : StaticIsValue) (s : Scope) (sound : SoundScope s) (g : Scope) (x : Extends s g) where
-  clock_first : (e : ExprTree) → is_clock s e ≡ true → val (static_place g) e ≡ Gives (Number (pos 0))
+  pub clock_first : (e : ExprTree) → is_clock s e ≡ true → val (static_place g) e ≡ Gives (Number (pos 0))
   clock_first (Named first NoSelectors) h =
       let o = clock_operation s sound first h in
       operation_value law s sound g x first is_now o NoSelectors ∙ now_value (static_place g) o.operation o.passes

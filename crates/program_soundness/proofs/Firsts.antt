@@ -290,25 +290,30 @@ pub items_are : (ds : List ItemTree) (bodies : List BodyItemTree) → items_amon
 items_are [] bodies = refl
 items_are (d ∷ ds) bodies = ap (λ l. d ∷ l) (items_are ds bodies)
 
-sound_both : (g : Scope) (xs ys : List Object) → AreSoundObjects g xs → AreSoundObjects g ys → AreSoundObjects g (xs ++ ys)
-sound_both g [] ys h k = k
-sound_both g (y ∷ xs) ys h k = (h.0, sound_both g xs ys h.1 k)
+-- what holds of each object that a legal declaration of the package makes holds of all variables, and of the components of each protected object
+abbrev pub AddsObject : ProgramTree → (List Object → Type 0) → Type 0
+AddsObject t Holds = (s : Scope) → SoundScope s → Extends s (program_scope t) → (name subtype : Identifier) (value : Option ExprTree) (u : Subtype)
+    → subtype_of s subtype ≡ Some u → IsKnown s u → ((e : ExprTree) → value ≡ Some e → fixed_faults s (Some u) e ≡ [])
+    → (xs : List Object) → Holds xs → Holds (object_named (program_scope t) name subtype value ∷ xs)
 
-abbrev AllSound : Scope → List (List Object) → Type 0
-AllSound g [] = ⊤
-AllSound g (xs ∷ all) = AreSoundObjects g xs × AllSound g all
+module _ (Holds : List Object → Type 0) (none : Holds []) where
+  abbrev AllHold : List (List Object) → Type 0
+  AllHold [] = ⊤
+  AllHold (xs ∷ all) = Holds xs × AllHold all
 
-sound_at : (g : Scope) (all : List (List Object)) (n : ℕ) → AllSound g all → AreSoundObjects g (objects_or_none (slice_get all n))
-sound_at g [] n h = tt
-sound_at g (xs ∷ all) zero h = h.0
-sound_at g (xs ∷ all) (suc n) h = sound_at g all n h.1
+  hold_at : (all : List (List Object)) (n : ℕ) → AllHold all → Holds (objects_or_none (slice_get all n))
+  hold_at [] n h = none
+  hold_at (xs ∷ all) zero h = h.0
+  hold_at (xs ∷ all) (suc n) h = hold_at all n h.1
 
-module _ (law : StaticIsValue) (shaped : InitialValuesHaveShape) (t : ProgramTree) (p : PackageTree) (legal : IsLegal t) (is : t.package_ ≡ Some p) where
+module _ (t : ProgramTree) (p : PackageTree) (legal : IsLegal t) (is : t.package_ ≡ Some p) (Holds : List Object → Type 0) (none : Holds [])
+    (more : AddsObject t Holds) where
   abbrev whole : Scope
   whole = program_scope t
 
-  variable_sound : (front : List BodyItemTree) (d : ObjectTree) (behind : List BodyItemTree) → all_items p ≡ front ++ OfItem (OfObject d) ∷ behind → AreSoundObjects whole (variable whole d)
-  variable_sound front d behind split = by_constant d.constant
+  variable_holds : (front : List BodyItemTree) (d : ObjectTree) (behind : List BodyItemTree) → all_items p ≡ front ++ OfItem (OfObject d) ∷ behind
+      → (xs : List Object) → Holds xs → Holds (variable whole d ++ xs)
+  variable_holds front d behind split xs rest = by_constant d.constant
     where
       s : Scope
       s = scope_of p front
@@ -324,82 +329,103 @@ module _ (law : StaticIsValue) (shaped : InitialValuesHaveShape) (t : ProgramTre
       this : Object
       this = object_named whole d.name d.subtype d.value
 
-      suits : IsOf whole this.subtype.type_number this.value
-      suits =
+      with_this : Holds (object_named whole d.name d.subtype d.value ∷ xs)
+      with_this =
           let y = legal_object t p legal is front d behind split in
-          object_suits law s (at t p legal is front (OfItem (OfObject d)) behind split).sound whole (prefix t p legal is front (OfItem (OfObject d) ∷ behind) split) shaped d.name d.subtype d.value
-          y.named.subtype y.named.is y.named.known faults
+          more s (at t p legal is front (OfItem (OfObject d)) behind split).sound (prefix t p legal is front (OfItem (OfObject d) ∷ behind) split) d.name d.subtype
+          d.value y.named.subtype y.named.is y.named.known faults xs rest
 
-      by_constant : (b : Bool) → AreSoundObjects whole (cond b [] (this ∷ []))
-      by_constant true = tt
-      by_constant false = (suits, tt)
+      by_constant : (b : Bool) → Holds (cond b [] (object_named whole d.name d.subtype d.value ∷ []) ++ xs)
+      by_constant true = rest
+      by_constant false = with_this
 
   next : (front : List BodyItemTree) (i : BodyItemTree) (rest : List BodyItemTree) → all_items p ≡ front ++ i ∷ rest → all_items p ≡ (front ++ i ∷ []) ++ rest
   next front i rest split = split ∙ sym (append_assoc front (i ∷ []) rest)
 
-  variables_sound : (front rest : List BodyItemTree) → all_items p ≡ front ++ rest → AreSoundObjects whole (variables_among whole (items_among rest))
-  variables_sound front [] split = tt
-  variables_sound front (OfItem (OfObject d) ∷ rest) split =
-      sound_both whole (variable whole d) (variables_among whole (items_among rest)) (variable_sound front d rest split)
-      (variables_sound (front ++ OfItem (OfObject d) ∷ []) rest (next front (OfItem (OfObject d)) rest split))
-  variables_sound front (OfItem (OfType d) ∷ rest) split = variables_sound (front ++ OfItem (OfType d) ∷ []) rest (next front (OfItem (OfType d)) rest split)
-  variables_sound front (OfItem (OfException d) ∷ rest) split = variables_sound (front ++ OfItem (OfException d) ∷ []) rest (next front (OfItem (OfException d)) rest split)
-  variables_sound front (OfItem (OfSubprogram d) ∷ rest) split = variables_sound (front ++ OfItem (OfSubprogram d) ∷ []) rest (next front (OfItem (OfSubprogram d)) rest split)
-  variables_sound front (OfItem (OfTask d) ∷ rest) split = variables_sound (front ++ OfItem (OfTask d) ∷ []) rest (next front (OfItem (OfTask d)) rest split)
-  variables_sound front (OfItem (OfProtected d) ∷ rest) split = variables_sound (front ++ OfItem (OfProtected d) ∷ []) rest (next front (OfItem (OfProtected d)) rest split)
-  variables_sound front (SubprogramBody d b ∷ rest) split = variables_sound (front ++ SubprogramBody d b ∷ []) rest (next front (SubprogramBody d b) rest split)
-  variables_sound front (TaskBody n b ∷ rest) split = variables_sound (front ++ TaskBody n b ∷ []) rest (next front (TaskBody n b) rest split)
-  variables_sound front (ProtectedBody n items e ∷ rest) split = variables_sound (front ++ ProtectedBody n items e ∷ []) rest (next front (ProtectedBody n items e) rest split)
+  variables_hold : (front rest : List BodyItemTree) → all_items p ≡ front ++ rest → Holds (variables_among whole (items_among rest))
+  variables_hold front [] split = none
+  variables_hold front (OfItem (OfObject d) ∷ rest) split =
+      variable_holds front d rest split (variables_among whole (items_among rest))
+      (variables_hold (front ++ OfItem (OfObject d) ∷ []) rest (next front (OfItem (OfObject d)) rest split))
+  variables_hold front (OfItem (OfType d) ∷ rest) split = variables_hold (front ++ OfItem (OfType d) ∷ []) rest (next front (OfItem (OfType d)) rest split)
+  variables_hold front (OfItem (OfException d) ∷ rest) split =
+      variables_hold (front ++ OfItem (OfException d) ∷ []) rest (next front (OfItem (OfException d)) rest split)
+  variables_hold front (OfItem (OfSubprogram d) ∷ rest) split =
+      variables_hold (front ++ OfItem (OfSubprogram d) ∷ []) rest (next front (OfItem (OfSubprogram d)) rest split)
+  variables_hold front (OfItem (OfTask d) ∷ rest) split = variables_hold (front ++ OfItem (OfTask d) ∷ []) rest (next front (OfItem (OfTask d)) rest split)
+  variables_hold front (OfItem (OfProtected d) ∷ rest) split =
+      variables_hold (front ++ OfItem (OfProtected d) ∷ []) rest (next front (OfItem (OfProtected d)) rest split)
+  variables_hold front (SubprogramBody d b ∷ rest) split = variables_hold (front ++ SubprogramBody d b ∷ []) rest (next front (SubprogramBody d b) rest split)
+  variables_hold front (TaskBody n b ∷ rest) split = variables_hold (front ++ TaskBody n b ∷ []) rest (next front (TaskBody n b) rest split)
+  variables_hold front (ProtectedBody n items e ∷ rest) split =
+      variables_hold (front ++ ProtectedBody n items e ∷ []) rest (next front (ProtectedBody n items e) rest split)
 
-  parts_sound : (s : Scope) → SoundScope s → Extends s whole → (own : Identifier) (os : List OperationTree) (before cs : List ProtectedComponentTree)
-      → parts_faults s own os before cs ≡ [] → AreSoundObjects whole (map (component whole) cs)
-  parts_sound s sound x own os before [] h = tt
-  parts_sound s sound x own os before (c ∷ cs) h =
+  parts_hold : (s : Scope) → SoundScope s → Extends s whole → (own : Identifier) (os : List OperationTree) (before cs : List ProtectedComponentTree)
+      → parts_faults s own os before cs ≡ [] → Holds (map (component whole) cs)
+  parts_hold s sound x own os before [] h = none
+  parts_hold s sound x own os before (c ∷ cs) h =
       let here = front_empty (part_faults s own os before c) (parts_faults s own os (before ++ c ∷ []) cs) h in
       let y = component_named s sound own os before c here in
       let like = rule DECLARED_TWICE c.name.place (is_component_like s own os before c.name.name) in
-      let initial = back_empty (like ++ subtype_faults s c.subtype) (component_initial_faults s c) here in (
-        object_suits law s sound whole x shaped c.name c.subtype c.value y.subtype y.is y.known (λ e i. ap (λ u. fixed_faults s u e) (sym y.is) ∙ sym (ap (initial_faults s c) i) ∙ initial),
-        parts_sound s sound x own os (before ++ c ∷ []) cs (back_empty (part_faults s own os before c) (parts_faults s own os (before ++ c ∷ []) cs) h),
-      )
+      let initial = back_empty (like ++ subtype_faults s c.subtype) (component_initial_faults s c) here in
+      more s sound x c.name c.subtype c.value y.subtype y.is y.known (λ e i. ap (λ u. fixed_faults s u e) (sym y.is) ∙ sym (ap (initial_faults s c) i) ∙ initial)
+      (map (component whole) cs)
+      (parts_hold s sound x own os (before ++ c ∷ []) cs (back_empty (part_faults s own os before c) (parts_faults s own os (before ++ c ∷ []) cs) h))
     where
       initial_faults : Scope → ProtectedComponentTree → Option ExprTree → Faults
       initial_faults s c o = elim o [ Some e ↦ fixed_faults s (subtype_of s c.subtype) e | None ↦ [] ]
 
-  components_sound : (front rest : List BodyItemTree) → all_items p ≡ front ++ rest → AllSound whole (components_among whole (items_among rest))
-  components_sound front [] split = tt
-  components_sound front (OfItem (OfProtected d) ∷ rest) split = (
-    parts_sound (scope_of p front) (at t p legal is front (OfItem (OfProtected d)) rest split).sound (prefix t p legal is front (OfItem (OfProtected d) ∷ rest) split) d.name d.operations [] d.components
+  components_hold : (front rest : List BodyItemTree) → all_items p ≡ front ++ rest → AllHold Holds none (components_among whole (items_among rest))
+  components_hold front [] split = tt
+  components_hold front (OfItem (OfProtected d) ∷ rest) split = (
+    parts_hold (scope_of p front) (at t p legal is front (OfItem (OfProtected d)) rest split).sound (prefix t p legal is front (OfItem (OfProtected d) ∷ rest) split) d.name d.operations [] d.components
         (parts_of_object (scope_of p front) d (object_faults t p legal is front d rest split).0),
-    components_sound (front ++ OfItem (OfProtected d) ∷ []) rest (next front (OfItem (OfProtected d)) rest split),
+    components_hold (front ++ OfItem (OfProtected d) ∷ []) rest (next front (OfItem (OfProtected d)) rest split),
   )
-  components_sound front (OfItem (OfObject d) ∷ rest) split = components_sound (front ++ OfItem (OfObject d) ∷ []) rest (next front (OfItem (OfObject d)) rest split)
-  components_sound front (OfItem (OfType d) ∷ rest) split = components_sound (front ++ OfItem (OfType d) ∷ []) rest (next front (OfItem (OfType d)) rest split)
-  components_sound front (OfItem (OfException d) ∷ rest) split = components_sound (front ++ OfItem (OfException d) ∷ []) rest (next front (OfItem (OfException d)) rest split)
-  components_sound front (OfItem (OfSubprogram d) ∷ rest) split = components_sound (front ++ OfItem (OfSubprogram d) ∷ []) rest (next front (OfItem (OfSubprogram d)) rest split)
-  components_sound front (OfItem (OfTask d) ∷ rest) split = components_sound (front ++ OfItem (OfTask d) ∷ []) rest (next front (OfItem (OfTask d)) rest split)
-  components_sound front (SubprogramBody d b ∷ rest) split = components_sound (front ++ SubprogramBody d b ∷ []) rest (next front (SubprogramBody d b) rest split)
-  components_sound front (TaskBody n b ∷ rest) split = components_sound (front ++ TaskBody n b ∷ []) rest (next front (TaskBody n b) rest split)
-  components_sound front (ProtectedBody n items e ∷ rest) split = components_sound (front ++ ProtectedBody n items e ∷ []) rest (next front (ProtectedBody n items e) rest split)
+  components_hold front (OfItem (OfObject d) ∷ rest) split = components_hold (front ++ OfItem (OfObject d) ∷ []) rest (next front (OfItem (OfObject d)) rest split)
+  components_hold front (OfItem (OfType d) ∷ rest) split = components_hold (front ++ OfItem (OfType d) ∷ []) rest (next front (OfItem (OfType d)) rest split)
+  components_hold front (OfItem (OfException d) ∷ rest) split =
+      components_hold (front ++ OfItem (OfException d) ∷ []) rest (next front (OfItem (OfException d)) rest split)
+  components_hold front (OfItem (OfSubprogram d) ∷ rest) split =
+      components_hold (front ++ OfItem (OfSubprogram d) ∷ []) rest (next front (OfItem (OfSubprogram d)) rest split)
+  components_hold front (OfItem (OfTask d) ∷ rest) split = components_hold (front ++ OfItem (OfTask d) ∷ []) rest (next front (OfItem (OfTask d)) rest split)
+  components_hold front (SubprogramBody d b ∷ rest) split = components_hold (front ++ SubprogramBody d b ∷ []) rest (next front (SubprogramBody d b) rest split)
+  components_hold front (TaskBody n b ∷ rest) split = components_hold (front ++ TaskBody n b ∷ []) rest (next front (TaskBody n b) rest split)
+  components_hold front (ProtectedBody n items e ∷ rest) split =
+      components_hold (front ++ ProtectedBody n items e ∷ []) rest (next front (ProtectedBody n items e) rest split)
 
-  pub package_variables : AreSoundObjects whole (variables_among whole (package_items (Some p)))
-  package_variables = subst (λ l. AreSoundObjects whole (variables_among whole l)) (items_are p.declaration.items p.body.items) (variables_sound [] (all_items p) refl)
+  package_variables : Holds (variables_among whole (package_items (Some p)))
+  package_variables = subst (λ l. Holds (variables_among whole l)) (items_are p.declaration.items p.body.items) (variables_hold [] (all_items p) refl)
 
-  pub package_components : (o : ℕ) → AreSoundObjects whole (objects_or_none (slice_get (components_among whole (package_items (Some p))) o))
+  package_components : (o : ℕ) → Holds (objects_or_none (slice_get (components_among whole (package_items (Some p))) o))
   package_components o =
-      sound_at whole (components_among whole (package_items (Some p))) o
-      (subst (λ l. AllSound whole (components_among whole l)) (items_are p.declaration.items p.body.items) (components_sound [] (all_items p) refl))
+      hold_at Holds none (components_among whole (package_items (Some p))) o
+      (subst (λ l. AllHold Holds none (components_among whole l)) (items_are p.declaration.items p.body.items) (components_hold [] (all_items p) refl))
+
+-- of all objects at the start
+pub record FirstObjects (t : ProgramTree) (Holds : List Object → Type 0) : Type 0 where
+  pub variables : Holds (program_of t).variables
+  pub components : (o : ℕ) → Holds ((program_of t).components o)
+
+pub first_objects : (t : ProgramTree) → IsLegal t → (Holds : List Object → Type 0) → Holds [] → AddsObject t Holds → FirstObjects t Holds
+first_objects t legal Holds none more = record { variables = variables t.package_ refl; components = λ o. components o t.package_ refl }
+  where
+    variables : (o : Option PackageTree) → t.package_ ≡ o → Holds (program_of t).variables
+    variables None is = subst (λ o. Holds (variables_among (program_scope t) (package_items o))) (sym is) none
+    variables (Some p) is =
+        subst (λ o. Holds (variables_among (program_scope t) (package_items o))) (sym is) (package_variables t p legal is Holds none more)
+
+    components : (k : ℕ) → (o : Option PackageTree) → t.package_ ≡ o → Holds ((program_of t).components k)
+    components k None is = subst (λ o. Holds (objects_or_none (slice_get (components_among (program_scope t) (package_items o)) k))) (sym is) none
+    components k (Some p) is =
+        subst (λ o. Holds (objects_or_none (slice_get (components_among (program_scope t) (package_items o)) k))) (sym is)
+        (package_components t p legal is Holds none more k)
 
 pub objects_are_sound : StaticIsValue → InitialValuesHaveShape → ObjectsAreSound
-objects_are_sound law shaped = record { variables = λ t legal. variables t legal t.package_ refl; components = λ t legal o. components t legal o t.package_ refl }
+objects_are_sound law shaped = record { variables = λ t legal. (first t legal).variables; components = λ t legal. (first t legal).components }
   where
-    variables : (t : ProgramTree) → IsLegal t → (o : Option PackageTree) → t.package_ ≡ o → AreSoundObjects (program_scope t) (program_of t).variables
-    variables t legal None is = subst (λ o. AreSoundObjects (program_scope t) (variables_among (program_scope t) (package_items o))) (sym is) tt
-    variables t legal (Some p) is =
-        subst (λ o. AreSoundObjects (program_scope t) (variables_among (program_scope t) (package_items o))) (sym is) (package_variables law shaped t p legal is)
-
-    components : (t : ProgramTree) → IsLegal t → (k : ℕ) → (o : Option PackageTree) → t.package_ ≡ o → AreSoundObjects (program_scope t) ((program_of t).components k)
-    components t legal k None is =
-        subst (λ o. AreSoundObjects (program_scope t) (objects_or_none (slice_get (components_among (program_scope t) (package_items o)) k))) (sym is) tt
-    components t legal k (Some p) is =
-        subst (λ o. AreSoundObjects (program_scope t) (objects_or_none (slice_get (components_among (program_scope t) (package_items o)) k))) (sym is) (package_components law shaped t p legal is k)
+    first : (t : ProgramTree) → IsLegal t → FirstObjects t (AreSoundObjects (program_scope t))
+    first t legal =
+        first_objects t legal (AreSoundObjects (program_scope t)) tt
+        (λ s sound x name subtype value u is known faults xs rest.
+        (object_suits law s sound (program_scope t) x shaped name subtype value u is known faults, rest))

@@ -49,12 +49,12 @@ use Rattle.program_soundness.proofs.Statics.{IsStatic, both_left, must_be_static
 
 -- ---- static values are scalar
 
-abbrev is_scalar_value : Value → Bool
+abbrev pub is_scalar_value : Value → Bool
 is_scalar_value (Number z) = true
 is_scalar_value (Truth b) = true
 is_scalar_value v = false
 
-abbrev gives_scalar : Val Value → Bool
+abbrev pub gives_scalar : Val Value → Bool
 gives_scalar (Gives v) = is_scalar_value v
 gives_scalar v = true
 
@@ -119,13 +119,13 @@ fixed_scalar_value : (c : Scalar) → is_scalar_value (value_of c) ≡ true
 fixed_scalar_value (scalar.Number z) = refl
 fixed_scalar_value (scalar.Truth b) = refl
 
-known_value : (v : Value) → is_scalar_value v ≡ true → (c : Scalar) × (known_scalar (Some v) ≡ Some c) × (value_of c ≡ v)
+pub known_value : (v : Value) → is_scalar_value v ≡ true → (c : Scalar) × (known_scalar (Some v) ≡ Some c) × (value_of c ≡ v)
 known_value (Number z) h = (scalar.Number z, refl, refl)
 known_value (Truth b) h = (scalar.Truth b, refl, refl)
 known_value (Array vs) h = cc
 known_value (Record fs) h = cc
 
-static_is_scalar : (s : Scope) (e : ExprTree) → static_form s e ≡ Static → gives_scalar (static_value s e) ≡ true
+pub static_is_scalar : (s : Scope) (e : ExprTree) → static_form s e ≡ Static → gives_scalar (static_value s e) ≡ true
 static_is_scalar s (tree.Number z place) h = refl
 static_is_scalar s (Named first selectors) h =
     let v = static_name (standing_of s first selectors) h in

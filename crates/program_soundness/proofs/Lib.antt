@@ -56,3 +56,8 @@ mod Entering
 pub mod OfObjects
 mod Gathered
 mod Starts
+mod LyingRuns
+mod BegunScopes
+mod LyingFirsts
+mod SimpleResults
+mod LyingStarts

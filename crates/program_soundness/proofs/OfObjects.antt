@@ -28,6 +28,7 @@ use Rattle.program_soundness.proofs.Same.{SameTypes, types_then, types_with_all}
 use Rattle.program_soundness.proofs.Moved.{profile_moved}
 use Rattle.program_soundness.proofs.ObjectBodies as bodies
 use Rattle.program_soundness.proofs.ObjectFits.{CameTo, came_seen, object_fits, profile_no_type, seen_types}
+use Rattle.program_soundness.proofs.SimpleResults.{IsSimpleResult, result_simple}
 use Rattle.program_soundness.proofs.Entering.{IsSoundFunction, function_sound}
 
 module _ (program : Program) (s : Scope) (all : List BodyItemTree) (w : IsPackage program s all) (laws : Premises program) (scopes : ScopesAreSound)
@@ -108,3 +109,10 @@ module _ (program : Program) (s : Scope) (all : List BodyItemTree) (w : IsPackag
     operation_sound =
         function_sound program laws scopes m (Some obj.number) front doubt (bodies.types_seen program s all w k nm items end_name at j (is_some e.result)) e b
         (bodies.item_legal program s all w k nm items end_name at j (OperationBody e b) h) agrees
+
+    -- and gives no composite value
+    pub operation_simple : Place → (r : Identifier) → e.result ≡ Some r → IsSimpleResult program r
+    operation_simple p r some =
+        result_simple program scopes front doubt (bodies.types_seen program s all w k nm items end_name at j (is_some e.result)) e b
+        (bodies.item_legal program s all w k nm items end_name at j (OperationBody e b) h) (inside program m (record { within = Some obj.number; locals = [] }) p) refl
+        (agrees p) r some

@@ -38,7 +38,7 @@ times_sound = clauses.scopes_are_sound.real_time standard standard_is_sound refl
 io_sound : SoundScope (with_control_io standard)
 io_sound = clauses.scopes_are_sound.control_io standard standard_is_sound refl refl
 
-seen_sound : (u : Units) → SoundScope (seen u)
+pub seen_sound : (u : Units) → SoundScope (seen u)
 seen_sound NoUnits = standard_is_sound
 seen_sound Times = times_sound
 seen_sound Io = io_sound

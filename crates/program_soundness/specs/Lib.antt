@@ -17,3 +17,4 @@ pub mod Fronts
 pub mod BodyLaws
 pub mod FunctionLaws
 pub mod ProgramLaws
+pub mod LyingWorlds

@@ -6,3 +6,4 @@ pub mod function_laws;
 pub mod program_laws;
 pub mod run_laws;
 pub mod scope_laws;
+pub mod subtype_laws;

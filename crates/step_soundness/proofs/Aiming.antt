@@ -32,7 +32,7 @@ below_test n m h = grind (arith, h)
 below : (n m : ℕ) → nat_lt n m ≡ true → n < m
 below n m h = grind (arith, h)
 
-parts_there : (s : Scope) (parts : List Part) (t u : Subtype) → PartOf s t parts u → part_subtype s t parts ≡ Some u
+pub parts_there : (s : Scope) (parts : List Part) (t u : Subtype) → PartOf s t parts u → part_subtype s t parts ≡ Some u
 parts_there s [] t u h = ap Some h
 parts_there s (Element n ∷ parts) t u h =
     ap (λ o. elim o [ Some w ↦ part_subtype s w parts | None ↦ None ]) (ap (λ o. part_in o (Element n)) h.3 ∙ ap (λ b. cond b (Some h.2) None) (below_test n h.1 h.4))

@@ -5,6 +5,7 @@ use Rattle.expr_soundness.specs.base.specs.declared.exceptions.PredefinedExcepti
 use Rattle.expr_soundness.specs.kernel.specs.State.{Action, is_object_open}
 use Rattle.expr_soundness.specs.kernel.specs.Effects.{Effect, Quiet, Opens, Queues, Refusal, AboveCeiling, SameObject, call_refusal, is_above_ceiling, is_full, is_inside_any}
 use Rattle.expr_soundness.specs.ada_tree.specs.StatementTree.{DeclarationTree}
+use Rattle.expr_soundness.specs.types.specs.declared.entity.Subtype.{Subtype}
 use Rattle.expr_soundness.specs.types.specs.Scopes.{Scope}
 use Rattle.expr_soundness.specs.types.specs.Values.{Value}
 use Rattle.expr_soundness.specs.types.specs.Places.{is_of, or_else}
@@ -49,12 +50,14 @@ pub bound_sound : (s : Scope) (fs : List Parameter) (vs : List Value) → AreOf 
 bound_sound s [] vs given = tt
 bound_sound s (f ∷ fs) vs given = by_mode (is_out f.mode) given (λ ws of. bound_sound s fs ws of)
   where
-    taken : (ws : List Value) → AreOf s (f.subtype.type_number ∷ taken_types fs) ws → ((us : List Value) → AreOf s (taken_types fs) us → AreSoundObjects s (bound fs us))
+    taken : (ws : List Value) → AreOf s (f.subtype.type_number ∷ taken_types fs) ws
+        → ((us : List Value) → AreOf s (taken_types fs) us → AreSoundObjects s (bound fs us))
         → AreSoundObjects s (with_first f ws (bound fs (drop 1 ws)))
     taken [] of later = absurd of
     taken (w ∷ ws) of later = (of.0, later ws of.1)
 
-    by_mode : (b : Bool) → AreOf s (cond b (taken_types fs) (f.subtype.type_number ∷ taken_types fs)) vs → ((us : List Value) → AreOf s (taken_types fs) us → AreSoundObjects s (bound fs us))
+    by_mode : (b : Bool) → AreOf s (cond b (taken_types fs) (f.subtype.type_number ∷ taken_types fs)) vs
+        → ((us : List Value) → AreOf s (taken_types fs) us → AreSoundObjects s (bound fs us))
         → AreSoundObjects s (cond b (bound fs vs) (with_first f vs (bound fs (drop 1 vs))))
     by_mode true of later = later vs of
     by_mode false of later = taken vs of later
@@ -71,7 +74,8 @@ pub among_owner : (ps : List Procedure) (owner : Option ℕ) (name : List ℕ) (
 among_owner [] owner name q h = cc
 among_owner (p ∷ ps) owner name q h = by_test (is_of p.object owner) (bytes_eq p.name name) refl h (λ k. among_owner ps owner name q k)
   where
-    by_test : (b d : Bool) → is_of p.object owner ≡ b → cond (b && d) (Some p) (procedure_among ps owner name) ≡ Some q → (procedure_among ps owner name ≡ Some q → q.object ≡ owner)
+    by_test : (b d : Bool) → is_of p.object owner ≡ b → cond (b && d) (Some p) (procedure_among ps owner name) ≡ Some q
+        → (procedure_among ps owner name ≡ Some q → q.object ≡ owner)
         → q.object ≡ owner
     by_test true true is k later = subst (λ r. r.object ≡ owner) (same_some p q k) (same_owner p.object owner is)
     by_test true false is k later = later k
@@ -83,10 +87,12 @@ pub record IsHere (program : Program) (within : Option ℕ) (name : List ℕ) (q
   pub is : procedure_among program.procedures owner name ≡ Some q
   pub place : (q.object ≡ within) ⊎ (q.object ≡ None)
 
-pub found_here : (program : Program) (within : Option ℕ) (name : List ℕ) (q : Procedure) → procedure_here program within name ≡ Some q → IsHere program within name q
+pub found_here : (program : Program) (within : Option ℕ) (name : List ℕ) (q : Procedure) → procedure_here program within name ≡ Some q
+    → IsHere program within name q
 found_here program within name q h = by_first (procedure_among program.procedures within name) refl h
   where
-    by_first : (o : Option Procedure) → procedure_among program.procedures within name ≡ o → or_else o (procedure_among program.procedures None name) ≡ Some q → IsHere program within name q
+    by_first : (o : Option Procedure) → procedure_among program.procedures within name ≡ o
+        → or_else o (procedure_among program.procedures None name) ≡ Some q → IsHere program within name q
     by_first (Some p) is k = record { owner = within; is = is ∙ k; place = inl (among_owner program.procedures within name q (is ∙ k)) }
     by_first None is k = record { owner = None; is = k; place = inr (among_owner program.procedures None name q k) }
 
@@ -99,13 +105,15 @@ outside_all : (actions : List Action) (o : ℕ) → (elim actions [ [] ↦ false
 outside_all [] o h = refl
 outside_all (a ∷ outer) o h = cc
 
-module _ (h : Here) (s : Scope) (outer : List Waiting) (a : Around) (items : List Item) (laws : Premises h.program) (at : At h s outer a items) where
+module _ (Worth : Subtype → Value → Type 0) (h : Here) (s : Scope) (outer : List Waiting) (a : Around) (items : List Item) (laws : Premises h.program)
+    (at : At h s outer a items) where
   c : Current h s outer
   c = at.current
 
   -- ---- a body begins
 
-  enters_sound : (q : Procedure) (x : Actuals) (e : Effect) (opened : Option ℕ) → IsSoundProcedure h.program h.memory q → ActualsFit h.program h.own q.parameters x → waits_after e ≡ None
+  enters_sound : (q : Procedure) (x : Actuals) (e : Effect) (opened : Option ℕ) → IsSoundProcedure h.program h.memory q
+      → ActualsFit Worth h.program h.own q.parameters x → waits_after e ≡ None
       → IsHeld q.object (opened_by opened (opened_in items)) → Accounts h e h.memory (opened_in items) (opened_by opened (opened_in items)) None
       → ((t : TaskWork) → WhenEnds e (IsSoundServer h.program h.memory t)) → IsSoundStep h (opened_in items) (run_body h e opened q x items)
   enters_sound q x e opened sound fit running held accounts server =
@@ -143,16 +151,21 @@ module _ (h : Here) (s : Scope) (outer : List Waiting) (a : Around) (items : Lis
   frame_sound zero go f = at_refused h s outer a items at StorageError
   frame_sound (suc n) go f = f
 
-  pub plain_sound : (q : Procedure) (x : Actuals) → IsSoundProcedure h.program h.memory q → ActualsFit h.program h.own q.parameters x → IsHeld q.object (opened_in items)
+  pub plain_sound : (q : Procedure) (x : Actuals) → IsSoundProcedure h.program h.memory q → ActualsFit Worth h.program h.own q.parameters x
+      → IsHeld q.object (opened_in items)
       → IsSoundStep h (opened_in items) (plain_call h q x items)
-  plain_sound q x sound fit held = frame_sound (frames_left items) (run_body h Quiet None q x items) (enters_sound q x Quiet None sound fit refl held (refl, refl) (λ t. tt))
+  plain_sound q x sound fit held = frame_sound (frames_left items) (run_body h Quiet None q x items)
+      (enters_sound q x Quiet None sound fit refl held (refl, refl) (λ t. tt))
 
-  opens_sound : (o : ℕ) (q : Procedure) (x : Actuals) → IsSoundProcedure h.program h.memory q → ActualsFit h.program h.own q.parameters x → q.object ≡ Some o → call_refusal h.kernel h.task o ≡ None
+  opens_sound : (o : ℕ) (q : Procedure) (x : Actuals) → IsSoundProcedure h.program h.memory q → ActualsFit Worth h.program h.own q.parameters x
+      → q.object ≡ Some o → call_refusal h.kernel h.task o ≡ None
       → IsSoundStep h (opened_in items) (run_body h (Opens o) (Some o) q x items)
   opens_sound o q x sound fit owner allowed =
-      enters_sound q x (Opens o) (Some o) sound fit refl (subst (λ w. IsHeld w (ForCall o ∷ opened_in items)) (sym owner) (inl refl)) (refl, refl, allowed) (λ t. tt)
+      enters_sound q x (Opens o) (Some o) sound fit refl (subst
+      (λ w. IsHeld w (ForCall o ∷ opened_in items)) (sym owner) (inl refl)) (refl, refl, allowed) (λ t. tt)
 
-  pub external_sound : (o : ℕ) (q : Procedure) (x : Actuals) → IsSoundProcedure h.program h.memory q → ActualsFit h.program h.own q.parameters x → q.object ≡ Some o
+  pub external_sound : (o : ℕ) (q : Procedure) (x : Actuals) → IsSoundProcedure h.program h.memory q → ActualsFit Worth h.program h.own q.parameters x
+      → q.object ≡ Some o
       → IsSoundStep h (opened_in items) (external_call h o q x items)
   external_sound o q x sound fit owner = by_refusal (call_refusal h.kernel h.task o) refl
     where
@@ -163,15 +176,18 @@ module _ (h : Here) (s : Scope) (outer : List Waiting) (a : Around) (items : Lis
       by_refusal None is = frame_sound (frames_left items) (run_body h (Opens o) (Some o) q x items) (opens_sound o q x sound fit owner is)
       by_refusal (Some r) is = at_refused h s outer a items at ProgramError
 
-  queue_sound : (o : ℕ) (q : Procedure) (x : Actuals) → ActualsFit h.program h.own q.parameters x → q.object ≡ Some o → entry_of h.program.procedures o ≡ Some q
-      → is_inside_any h.kernel h.task ≡ false → is_above_ceiling h.kernel h.task o ≡ false → is_open h.program h.memory o ≡ false → IsSoundStep h (opened_in items) (queue_call h o q x items)
+  queue_sound : (o : ℕ) (q : Procedure) (x : Actuals) → ActualsFit Worth h.program h.own q.parameters x → q.object ≡ Some o
+      → entry_of h.program.procedures o ≡ Some q
+      → is_inside_any h.kernel h.task ≡ false → is_above_ceiling h.kernel h.task o ≡ false → is_open h.program h.memory o ≡ false
+      → IsSoundStep h (opened_in items) (queue_call h o q x items)
   queue_sound o q x fit owner only outside below closed =
       at_chosen h s outer a items (is_full h.kernel o) (raises_predefined h ProgramError items) _ (λ i. at_refused h s outer a items at ProgramError)
       (λ free.
       worked h s outer c a (Queues o) (Goes (Queued q x.values x.targets ∷ items)) (opened_in items) at.behind.0 at.behind.1
       (record { owner = owner; only = only; given = fit.0; targets = fit.1 }, at.behind.2) (refl, refl, outside, below, closed, free) at.held tt)
 
-  pub entry_sound : (o : ℕ) (q : Procedure) (x : Actuals) → IsSoundProcedure h.program h.memory q → ActualsFit h.program h.own q.parameters x → q.object ≡ Some o
+  pub entry_sound : (o : ℕ) (q : Procedure) (x : Actuals) → IsSoundProcedure h.program h.memory q → ActualsFit Worth h.program h.own q.parameters x
+      → q.object ≡ Some o
       → entry_of h.program.procedures o ≡ Some q → is_inside_any h.kernel h.task ≡ false → IsSoundStep h (opened_in items) (entry_call h o q x items)
   entry_sound o q x sound fit owner only outside =
       let runs = run_body h (Opens o) (Some o) q x items in
@@ -180,9 +196,11 @@ module _ (h : Here) (s : Scope) (outer : List Waiting) (a : Around) (items : Lis
       (if_frame_left h (frames_left items) items (cond (is_open h.program h.memory o) runs waits)) (λ i. at_refused h s outer a items at ProgramError)
       (λ below.
       frame_sound (frames_left items) (cond (is_open h.program h.memory o) runs waits)
-      (at_chosen h s outer a items (is_open h.program h.memory o) runs waits (λ i. opens_sound o q x sound fit owner (allowed below)) (λ closed. queue_sound o q x fit owner only outside below closed)))
+      (at_chosen h s outer a items (is_open h.program h.memory o) runs waits
+      (λ i. opens_sound o q x sound fit owner (allowed below)) (λ closed. queue_sound o q x fit owner only outside below closed)))
     where
       allowed : is_above_ceiling h.kernel h.task o ≡ false → call_refusal h.kernel h.task o ≡ None
       allowed below =
-          ap (λ b. cond b (Some SameObject) (cond (is_above_ceiling h.kernel h.task o) (Some AboveCeiling) None)) (outside_all (h.kernel.actions h.task) o outside)
+          ap (λ b. cond b (Some SameObject) (cond (is_above_ceiling h.kernel h.task o) (Some AboveCeiling) None))
+          (outside_all (h.kernel.actions h.task) o outside)
           ∙ ap (λ b. cond b (Some AboveCeiling) None) below

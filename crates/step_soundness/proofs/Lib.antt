@@ -19,3 +19,6 @@ mod Stepping
 mod Serving
 mod Alike
 mod Owing
+pub mod LyingLists
+mod LyingPlaces
+pub mod LyingSteps

@@ -1,5 +1,6 @@
 -- Every step of a task that does not wait in an entry call has a meaning, and all holds after it.
 use Rattle.std.proofs.Common.{◌≡◌, List, [], ◌∷◌, None, refl, sym, subst}
+use Rattle.std.specs.Prelude.{⊤}
 use Rattle.expr_soundness.specs.kernel.specs.Effects.{Dies, Finishes}
 use Rattle.expr_soundness.specs.ada_tree.specs.declared.program.MainStatement.{MainStatement}
 use Rattle.expr_soundness.specs.ada_tree.specs.declared.program.MainStatement.TheVariants as main
@@ -32,9 +33,9 @@ module _ (h : Here) (s : Scope) (outer : List Waiting) (laws : Premises h.progra
       let q = legal.0 in
       let x : Actuals = record { values = []; targets = [] } in
       let here = found_here h.program None name.name q legal.1 in
-      let fit : ActualsFit h.program h.own q.parameters x = subst (λ fs. ActualsFit h.program h.own fs x) (sym legal.2) (tt, tt) in
+      let fit : ActualsFit (λ t v. ⊤) h.program h.own q.parameters x = subst (λ fs. ActualsFit (λ t v. ⊤) h.program h.own fs x) (sym legal.2) (tt, tt, tt) in
       subst (λ o. IsSoundStep h (opened_in items) (main_call h o items)) (sym legal.1)
-      (plain_sound h s outer a items laws at q x (c.store.procedures here.owner name.name q here.is) fit (held_here None q.object (opened_in items) here.place tt))
+      (plain_sound (λ t v. ⊤) h s outer a items laws at q x (c.store.procedures here.owner name.name q here.is) fit (held_here None q.object (opened_in items) here.place tt))
 
   -- a sequence of statements begins
   sequence_sound : (body : StmtTrees) (all : HandlerTrees) (items : List Item) → IsHeld h.own.within (opened_in items) → AreFaultless s a body → AreFaultlessHandlers s a all → Behind h.program s outer a items

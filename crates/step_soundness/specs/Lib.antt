@@ -11,3 +11,4 @@ pub mod Judged
 pub mod Holding
 pub mod Laws
 pub mod Starting
+pub mod InSubtypes

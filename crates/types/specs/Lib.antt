@@ -11,6 +11,8 @@ pub mod Operators
 pub mod Places
 pub mod Evaluating
 pub mod Statics
+pub mod Bounds
 pub mod Knowing
+pub mod Walking
 pub mod Laws
 pub mod Kept

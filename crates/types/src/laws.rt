@@ -1,10 +1,16 @@
-//! The laws of static values, layouts and words, each what a function without work ensures.
+//! The laws of static values, bounds, layouts and words, each what a function without work ensures.
+ghost use Rattle.types.specs.Bounds.{StaticBounds};
 ghost use Rattle.types.specs.Laws.{InitialValuesHaveShape, ObjectsLieApart, PartsHavePlaces, ShapesStay, ValuesHaveWords};
 ghost use Rattle.types.specs.Statics.{StaticIsValue};
 
 /// A static expression has its value at every place where nothing hides the names of the scope, whatever can be called there.
 pub fn static_is_value()
     ensures { StaticIsValue }
+{}
+
+/// A static expression whose evaluation doesn't raise has its value for both bounds, whatever its form (RM 4.9).
+pub fn static_bounds()
+    ensures { StaticBounds }
 {}
 
 /// The words of different objects do not overlap, and lie within those of all objects together.

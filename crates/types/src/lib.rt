@@ -3,6 +3,7 @@
 
 mod entity;
 mod evaluation;
+mod extent;
 pub mod laws;
 mod layout;
 mod parts;
@@ -16,6 +17,7 @@ pub use entity::{
     Barrier, Entity, FormalParameter, Operation, PredefinedOperation, Profile, ProtectedObject,
     RecordComponent, Role, Subtype, TypeForm, Value,
 };
+pub use extent::bounds;
 pub use layout::{Layout, LayoutFault};
 pub use parts::{Components, Operations};
 pub use scope::{MORE_WORDS, Scope};
