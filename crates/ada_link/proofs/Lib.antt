@@ -12,3 +12,4 @@ mod WellFormed
 mod Refusals
 mod TaskLines
 mod MemoryAlone
+mod Located

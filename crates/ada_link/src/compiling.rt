@@ -7,15 +7,57 @@ ghost use Rattle.ravenscar.specs.ProgramRules.{IsRestricted};
 ghost use Rattle.expr_code.specs.Coming.{most_steps};
 ghost use Rattle.meaning.specs.SameMeaning.{KeepsCount, SameMeaning};
 ghost use Rattle.ada_link.specs.Compiled.{IsBounded, RefusesCompiling};
+ghost use Rattle.package_code.specs.Places.{PlacesTell};
 
-use crate::laws::{sections_are_bounded, sections_are_well_formed, sections_mean_the_same};
-use crate::program::sections;
+use crate::laws::{
+    places_are_told, sections_are_bounded, sections_are_well_formed, sections_mean_the_same,
+};
+use crate::places::Places;
+use crate::program::{Linked, sections};
 use base::faults::MEMORY_REFUSED;
 use expr_code::Refusal;
 use image::Image;
 use ravenscar::Accepted;
 use source_laws::laws::limits_are_told;
 use std::alloc::Global;
+
+/// The image of a program, and the places of its statements.
+#[derive(Drop)]
+pub struct Compiled {
+    pub image: Image,
+    pub places: Places,
+}
+
+/// The image of an accepted program, which means the same, with the same lines, times and outcome, and the places of its statements.
+///
+/// # Errors
+/// Those of `compile_tree`.
+pub fn compile_with_places(alloc: Global, accepted: &Accepted) -> Result<Compiled, Refusal>
+    ensures means { IfOk result (λ made. SameMeaning (program_tree accepted.now) made.image) }
+    ensures counted { IfOk result (λ made. KeepsCount (program_tree accepted.now) made.image (most_steps made.image)) }
+    ensures bounded { IfOk result (λ made. IsBounded (program_tree accepted.now) made.image) }
+    ensures places { IfOk result (λ made. PlacesTell (program_tree accepted.now) made.image made.places) }
+    ensures well_formed { IfOk result (λ made. IsWellFormed made.image) }
+    ensures refused { IfErr result (λ why. RefusesCompiling (program_tree accepted.now) why) }
+    ensures legal { IsLegal (program_tree accepted.now) }
+    ensures restricted { IsRestricted (program_tree accepted.now) }
+{
+    limits_are_told();
+    places_are_told();
+    sections_are_bounded();
+    sections_are_well_formed();
+    sections_mean_the_same();
+    let _program = accepted.program();
+    let Linked { parts, places } = sections(alloc, accepted)?;
+    match Image::build(alloc, parts) {
+        Ok(image) => Ok(Compiled {
+            image,
+            places: Places::new(places),
+        }),
+        Err(fault) if fault.number == MEMORY_REFUSED => Err(Refusal::Memory),
+        Err(_) => unreachable!(),
+    }
+}
 
 /// The image of an accepted program: it means the same, with the same lines, times and outcome.
 ///
@@ -30,15 +72,8 @@ pub fn compile_tree(alloc: Global, accepted: &Accepted) -> Result<Image, Refusal
     ensures legal { IsLegal (program_tree accepted.now) }
     ensures restricted { IsRestricted (program_tree accepted.now) }
 {
-    limits_are_told();
-    sections_are_bounded();
-    sections_are_well_formed();
-    sections_mean_the_same();
-    let _program = accepted.program();
-    let parts = sections(alloc, accepted)?;
-    match Image::build(alloc, parts) {
-        Ok(image) => Ok(image),
-        Err(fault) if fault.number == MEMORY_REFUSED => Err(Refusal::Memory),
-        Err(_) => unreachable!(),
+    match compile_with_places(alloc, accepted) {
+        Ok(made) => Ok(made.image),
+        Err(why) => Err(why),
     }
 }

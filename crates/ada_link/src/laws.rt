@@ -1,5 +1,7 @@
 //! The laws of code that is put together from a program, each what a function without work ensures.
 ghost use Rattle.package_code.specs.Laws.{NamesAreSound, SectionsAreBounded, SectionsAreWellFormed, SectionsMeanTheSame, VariablesArePlaced};
+ghost use Rattle.package_code.specs.Places.{PlacesAreTold};
+ghost use Rattle.ada_link.specs.Located.{PlacesAreInnermost};
 
 use crate::link_laws::{linked_keeps_count, linked_means_the_same};
 use expr_soundness::laws::scopes_are_sound;
@@ -43,6 +45,29 @@ pub fn sections_mean_the_same()
     views_back();
     views_on();
 }
+
+/// The rows of places that come with the code of an accepted program tell of the statements of its bodies.
+pub fn places_are_told()
+    ensures { PlacesAreTold }
+{
+    code_leads_on();
+    fronts_fit();
+    initial_values_have_shape();
+    names_are_known();
+    premises_hold();
+    quiet_stays();
+    scopes_are_sound();
+    shapes_stay();
+    starts_are_sound();
+    values_have_words();
+    views_back();
+    views_on();
+}
+
+/// The first row of places that covers an instruction is that of the innermost statement whose code it is.
+pub fn places_are_innermost()
+    ensures { PlacesAreInnermost }
+{}
 
 /// Each subprogram of sections that were put together from a program has at most 20 instructions for each part of its text, and two for each word of an object
 /// that is declared in it.

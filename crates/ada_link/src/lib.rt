@@ -4,7 +4,9 @@
 mod compiling;
 pub mod laws;
 pub mod link_laws;
+mod places;
 mod program;
 
-pub use compiling::compile_tree;
+pub use compiling::{Compiled, compile_tree, compile_with_places};
 pub use expr_code::Refusal;
+pub use places::Places;

@@ -6,6 +6,7 @@ ghost use Rattle.expr_code.specs.Refusing.{IsRefused};
 ghost use Rattle.package_code.specs.Directory.{IsDirectory};
 ghost use Rattle.package_code.specs.Globals.{AreGlobals};
 ghost use Rattle.package_code.specs.Objects.{HaveObjects, objects_have_words};
+ghost use Rattle.package_code.specs.Places.{HasPlaces};
 ghost use Rattle.package_code.specs.Program.{HasProgram, KeepsTables, is_within_limits};
 ghost use Rattle.package_code.specs.Refusing.{RefusesSections, RefusesLinking, program_labels, program_rows};
 
@@ -26,6 +27,7 @@ use source_laws::cover_laws::{declarations_tell, names_are_covered};
 use source_laws::laws::texts_are_spelled;
 use source_laws::table_laws::{main_is_known, main_may_be_added, tables_are_small};
 use std::alloc::Global;
+use stmt_code::PlaceRow;
 use types::laws::{shapes_stay, values_have_words};
 
 // The row of main, whose subprogram has this number.
@@ -80,12 +82,20 @@ fn declarations(alloc: Global, accepted: &Accepted) -> Result<DeclaredTables, Re
     })
 }
 
+/// The sections of the image of a program, and the places of its statements.
+#[derive(Drop)]
+pub(crate) struct Linked {
+    pub(crate) parts: Parts,
+    pub(crate) places: Vec<PlaceRow>,
+}
+
 // The code of its subprograms and tasks one behind another, in the order of their bodies, with their rows of handlers, that of main behind them, and the
-// variables, protected objects and tasks in the order of their declarations.
-fn put_together(alloc: Global, accepted: &Accepted) -> Result<Parts, Refusal>
-    ensures program { IfOk result (λ parts. HasProgram (program_tree accepted.now) parts) }
-    ensures labels { IfOk result (λ parts. parts.labels ≡ program_labels (program_tree accepted.now)) }
-    ensures rows { IfOk result (λ parts. length parts.rows ≡ program_rows (program_tree accepted.now)) }
+// variables, protected objects and tasks in the order of their declarations; and the places of the statements of these bodies.
+fn put_together(alloc: Global, accepted: &Accepted) -> Result<Linked, Refusal>
+    ensures program { IfOk result (λ linked. HasProgram (program_tree accepted.now) linked.parts) }
+    ensures places { IfOk result (λ linked. HasPlaces (program_tree accepted.now) linked.parts linked.places.items) }
+    ensures labels { IfOk result (λ linked. linked.parts.labels ≡ program_labels (program_tree accepted.now)) }
+    ensures rows { IfOk result (λ linked. length linked.parts.rows ≡ program_rows (program_tree accepted.now)) }
     ensures refused { IfErr result (λ why. RefusesSections (program_tree accepted.now) why) }
 {
     main_is_known();
@@ -111,16 +121,18 @@ fn put_together(alloc: Global, accepted: &Accepted) -> Result<Parts, Refusal>
     let mut tasks = task_rows(alloc, accepted, &directory)?;
     tasks.push(main_task(accepted, subprograms.len())?)?;
     subprograms.push(row(Kind::TaskBody, main, &draft)?)?;
-    Ok(Parts {
+    let (rows, places) = draft.rows.split();
+    let parts = Parts {
         exceptions: draft.exceptions,
         labels: draft.labels.texts(alloc)?,
         plain_words: words,
         objects,
         subprograms,
         tasks,
-        rows: draft.rows,
+        rows,
         instructions: draft.code.instructions,
-    })
+    };
+    Ok(Linked { parts, places })
 }
 
 // Whether what the program has of its own is within the limits of images.
@@ -137,9 +149,10 @@ fn is_within_limits(parts: &Parts) -> bool
 }
 
 // They are put together, and have the texts and counts of an image.
-fn within_tables(alloc: Global, accepted: &Accepted) -> Result<Parts, Refusal>
-    ensures program { IfOk result (λ parts. HasProgram (program_tree accepted.now) parts) }
-    ensures tables { IfOk result (λ parts. KeepsTables parts) }
+fn within_tables(alloc: Global, accepted: &Accepted) -> Result<Linked, Refusal>
+    ensures program { IfOk result (λ linked. HasProgram (program_tree accepted.now) linked.parts) }
+    ensures places { IfOk result (λ linked. HasPlaces (program_tree accepted.now) linked.parts linked.places.items) }
+    ensures tables { IfOk result (λ linked. KeepsTables linked.parts) }
     ensures refused { IfErr result (λ why. RefusesSections (program_tree accepted.now) why) }
 {
     fronts_fit();
@@ -151,23 +164,24 @@ fn within_tables(alloc: Global, accepted: &Accepted) -> Result<Parts, Refusal>
     texts_are_spelled();
     values_have_words();
     let _program = accepted.program();
-    let parts = put_together(alloc, accepted)?;
-    if !is_within_limits(&parts) {
+    let linked = put_together(alloc, accepted)?;
+    if !is_within_limits(&linked.parts) {
         return Err(Refusal::Limit);
     }
-    Ok(parts)
+    Ok(linked)
 }
 
 /// The sections of the image of an accepted program (docs/FORMATS.md): the code of its subprograms and tasks one behind another, in the order of their bodies,
 /// with their rows of handlers, that of main behind them, the variables, the protected objects and the tasks in the order of their declarations, and main as
-/// the last task (RM 10.2). They make a well-formed image (`sections_are_well_formed`).
+/// the last task (RM 10.2). They make a well-formed image (`sections_are_well_formed`). With them come the places of the statements of its bodies.
 ///
 /// # Errors
 /// `Limit` where the bound on its instructions, the choices of its handlers, or the words of a frame or of an object, pass those of images (specs/Refusing);
 /// `Memory` where memory was refused.
-pub(crate) fn sections(alloc: Global, accepted: &Accepted) -> Result<Parts, Refusal>
-    ensures program { IfOk result (λ parts. HasProgram (program_tree accepted.now) parts) }
-    ensures tables { IfOk result (λ parts. KeepsTables parts) }
+pub(crate) fn sections(alloc: Global, accepted: &Accepted) -> Result<Linked, Refusal>
+    ensures program { IfOk result (λ linked. HasProgram (program_tree accepted.now) linked.parts) }
+    ensures places { IfOk result (λ linked. HasPlaces (program_tree accepted.now) linked.parts linked.places.items) }
+    ensures tables { IfOk result (λ linked. KeepsTables linked.parts) }
     ensures refused { IfErr result (λ why. RefusesLinking (program_tree accepted.now) why) }
 {
     tables_are_small();

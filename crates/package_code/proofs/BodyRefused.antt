@@ -33,11 +33,12 @@ procedure_told old new d b none labels rows = record {
   rows = rows ∙ sym (ap (rows_by (length old.rows.items) b) none);
 }
 
-pub value_told : (old new : Draft) (d : SubprogramTree) (b : BodyTree) (r : Identifier) → d.result ≡ Some r → new.labels ≡ old.labels → new.rows ≡ old.rows
+pub value_told : (old new : Draft) (d : SubprogramTree) (b : BodyTree) (r : Identifier) → d.result ≡ Some r → new.labels ≡ old.labels
+    → new.rows.items ≡ old.rows.items
     → AddsAsTold old d b new
 value_told old new d b r some labels rows = record {
   labels = labels ∙ sym (ap (labels_by old.labels b) some);
-  rows = ap (λ l. length l.items) rows ∙ sym (ap (rows_by (length old.rows.items) b) some);
+  rows = ap length rows ∙ sym (ap (rows_by (length old.rows.items) b) some);
 }
 
 pub both_ok : {X Y : Type 0} (r : Result X Y) (P Q : Type 0) → OnOk r P → OnOk r Q → OnOk r (P × Q)

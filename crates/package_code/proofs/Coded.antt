@@ -125,7 +125,7 @@ pub record IsOfItem (t : ProgramTree) (first : ℕ) (items : List BodyItemTree) 
   pub is : slice_get (coded_at t (first + place) item) k ≡ Some c
   pub before : number ≡ bodies_among (take place items) + k
 
-get_either : {X : Type 0} (xs ys : List X) (n : ℕ) (x : X) → slice_get (xs ++ ys) n ≡ Some x
+pub get_either : {X : Type 0} (xs ys : List X) (n : ℕ) (x : X) → slice_get (xs ++ ys) n ≡ Some x
     → (slice_get xs n ≡ Some x) ⊎ ((k : ℕ) × (n ≡ length xs + k) × (slice_get ys k ≡ Some x))
 get_either [] ys n x h = (let e : n ≡ 0 + n = omega arith in inr (n, e, h))
 get_either (z ∷ xs) ys zero x h = inl h
@@ -135,7 +135,7 @@ get_either (z ∷ xs) ys (suc n) x h =
       | inr r ↦ inr (r.0, (let e = r.1 in omega (arith, e)), r.2)
     ]
 
-get_behind : {X : Type 0} (xs ys : List X) (k : ℕ) → slice_get (xs ++ ys) (length xs + k) ≡ slice_get ys k
+pub get_behind : {X : Type 0} (xs ys : List X) (k : ℕ) → slice_get (xs ++ ys) (length xs + k) ≡ slice_get ys k
 get_behind [] ys k = (let e : 0 + k ≡ k = omega arith in ap (slice_get ys) e)
 get_behind (x ∷ xs) ys k =
     (let e : suc (length xs) + k ≡ suc (length xs + k) = omega arith in ap (slice_get (x ∷ (xs ++ ys))) e ∙ get_behind xs ys k)

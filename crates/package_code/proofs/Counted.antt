@@ -87,7 +87,8 @@ adds_few t d b v old words new adds = by_result d.result adds
     by_result (Some r) h =
         let few = h.adds.sized in
         let up = function_within v.scope d.formals b h.value h.returns in
-        omega (arith, few, up)
+        let same = ap (λ z. here z.code) h.marked in
+        omega (arith, few, up, same)
 
 -- ---- the code of each subprogram
 

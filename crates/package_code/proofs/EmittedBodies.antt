@@ -26,7 +26,8 @@ use Rattle.expr_code.specs.Seeing.{Package}
 use Rattle.expr_code.specs.declared.visible.Visible.{Visible}
 use Rattle.expr_code.proofs.Growing.{holds_before, holds_later}
 use Rattle.step_simulation.specs.part_code.specs.Copying.{GivesBack, left_out}
-use Rattle.stmt_code.specs.Emitting.{HasLabels, IsHandled, Serves}
+use Rattle.stmt_code.specs.Emitting.{HasLabels, IsHandled, Serves, TellPlaces}
+use Rattle.stmt_code.specs.Placing.{sequence_within}
 use Rattle.step_simulation.specs.part_code.specs.Emitting.{first_word}
 use Rattle.step_simulation.specs.part_code.specs.Layout.{EndsBelow}
 use Rattle.step_simulation.specs.part_code.specs.Formals.{AddsEach, AreReturned, Placed, outs_end, passed_end, words_returned}
@@ -215,6 +216,12 @@ module _ (laws : LawsOfNames) (quiet : QuietStays) (shaped : InitialValuesHaveSh
         (adds.returns.returns i at_back)
         (results_are ∙ adds.returns.high ∙ ap (λ z. words_returned z items) (sym scope_is) ∙ back_words base program.scope last.names.scope items)
 
+    room_enough : adds.run.words.most ≤ last.room
+    room_enough =
+        let r = room_stays xs v last added in
+        let l = adds.locals in
+        omega (arith, r, l, locals_are)
+
     does : DoesBody laws t legal restricted i well_formed g of_program numbers owner d b v before number s there refl last xs passed frames
         (parameters_are ∙ adds.passed ∙ sym ending)
     does = record {
@@ -233,14 +240,14 @@ module _ (laws : LawsOfNames) (quiet : QuietStays) (shaped : InitialValuesHaveSh
       gives = giving.0;
       within = (let e = adds.returns.end in let b = giving.1 in omega (arith, e, b, end_is));
     }
-      where
-        room_enough : adds.run.words.most ≤ last.room
-        room_enough =
-            let r = room_stays xs v last added in
-            let l = adds.locals in
-            omega (arith, r, l, locals_are)
 
     pub procedure_emitted : IsProcedureCode i program g numbers (record (procedure_by program.scope (subprogram_body owner d b)) { barrier = barrier }) number
     procedure_emitted =
         procedure_coded laws t legal restricted i well_formed g of_program numbers owner d b v before number s there refl last xs passed frames
         (parameters_are ∙ adds.passed ∙ sym ending) barrier kind_is does
+
+    -- the rows of places of its statements tell of them
+    pub procedure_tells : TellPlaces i program g numbers adds.runs.rows.placed (sequence_within b.statements b.handlers)
+    procedure_tells =
+        adds.runs.tells i (holds_later i (here old.code) (here adds.initial) adds.run.code grows_initial.longer at_run)
+        (subst (HasLabels i) adds.labels labels) program g numbers last names_same serves room_enough unhandled handled

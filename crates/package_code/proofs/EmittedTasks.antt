@@ -26,7 +26,8 @@ use Rattle.expr_code.specs.Seeing.{Package}
 use Rattle.expr_code.specs.Views.{At}
 use Rattle.expr_code.specs.declared.visible.Visible.{Visible}
 use Rattle.expr_code.proofs.Growing.{holds_before, holds_later}
-use Rattle.stmt_code.specs.Emitting.{HasLabels, IsHandled, Serves}
+use Rattle.stmt_code.specs.Emitting.{HasLabels, IsHandled, Serves, TellPlaces}
+use Rattle.stmt_code.specs.Placing.{sequence_within}
 use Rattle.step_simulation.specs.part_code.specs.Formals.{AreInitial, AreReturned, StandInTurn, slot_for, no_subprogram, words_returned}
 use Rattle.step_simulation.specs.part_code.specs.Handling.{unhandled}
 use Rattle.step_simulation.specs.part_code.specs.Jumping.{Here, Jumps, There}
@@ -215,6 +216,13 @@ module _ (laws : LawsOfNames) (t : ProgramTree) (legal : IsLegal t) (restricted 
         (adds.runs.stands i (holds_later i (here old.code) (here adds.initial) adds.run.code grows_initial.longer at_run)
         (subst (HasLabels i) adds.labels labels) program g numbers v (same_names seen old b sizes new adds) serves
         (let l = adds.locals in omega (arith, l, locals_are)) unhandled handled refl)
+
+    -- the rows of places of its statements tell of them
+    pub task_tells : TellPlaces i program g numbers adds.runs.rows.placed (sequence_within b.statements b.handlers)
+    task_tells =
+        adds.runs.tells i (holds_later i (here old.code) (here adds.initial) adds.run.code grows_initial.longer at_run)
+        (subst (HasLabels i) adds.labels labels) program g numbers v (same_names seen old b sizes new adds) serves
+        (let l = adds.locals in omega (arith, l, locals_are)) unhandled handled
 
     pub task_begins : (around : Around i program g numbers)
         × ((note : Note) → Follows i program g numbers note around number (first_place i number) (duty_items (OfBody b)) Inner [] [])

@@ -44,6 +44,7 @@ mod BodyRows
 pub mod Adding
 pub mod OperationsAdded
 pub mod Linking
+pub mod ProgramPlaces
 pub mod Counted
 pub mod Seen
 pub mod ItemsTold
@@ -59,3 +60,4 @@ mod NamedExceptions
 mod GlobalsRefused
 pub mod Differing
 mod BodyRefused
+mod MarkedFunctions

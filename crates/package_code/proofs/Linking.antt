@@ -129,10 +129,10 @@ with_one P V (Some q) a r e = subst V (same_some q r e) a
 
 module _ (t : ProgramTree) (d : SubprogramTree) (b : BodyTree) (v : Visible) (old : Draft) (words : SubprogramWords) (new : Draft)
     (a : AddsSubprogram t d b v old words new) where
-  as_procedure : d.result ≡ None → AddsProcedure v old d.formals b words new
+  pub as_procedure : d.result ≡ None → AddsProcedure v old d.formals b words new
   as_procedure e = without (AddsProcedure v old d.formals b words new) (λ r. AddsValueFunction t d b r v old words new) d.result a e
 
-  as_function : (r : Identifier) → d.result ≡ Some r → AddsValueFunction t d b r v old words new
+  pub as_function : (r : Identifier) → d.result ≡ Some r → AddsValueFunction t d b r v old words new
   as_function r e = with_one (AddsProcedure v old d.formals b words new) (λ z. AddsValueFunction t d b z v old words new) d.result a r e
 
 -- ---- where subprograms begin
@@ -268,7 +268,7 @@ module _ (t : ProgramTree) (i : Sections) (h : HasProgram t i) where
         rows_are ∙ body.kept.rows ∙ ap (λ l. l ++ body.kept.later) more ∙ append_assoc body.old.rows.items own body.kept.later
 
     -- what a procedure raises goes on by the rows that were added with its code
-    handled_there : AreNamed program → (adds : AddsProcedure body.seen body.old c.head.formals c.body body.words body.new)
+    pub handled_there : AreNamed program → (adds : AddsProcedure body.seen body.old c.head.formals c.body body.words body.new)
         → IsHandled i program (record body.old { code = adds.initial; words = adds.framed }) adds.run adds.runs.rows unhandled
     handled_there named adds = record {
       named = named;
@@ -282,20 +282,20 @@ module _ (t : ProgramTree) (i : Sections) (h : HasProgram t i) where
     }
 
     -- no row covers code that adds none
-    uncovered_there : body.new.rows ≡ body.old.rows → GoesBy i unhandled (here body.old.code) (here body.new.code)
+    uncovered_there : body.new.rows.items ≡ body.old.rows.items → GoesBy i unhandled (here body.old.code) (here body.new.code)
     uncovered_there same =
         goes_past i body.old.rows.items body.kept.later (here body.old.code) (here body.new.code)
-        (rows_are ∙ body.kept.rows ∙ ap (λ r. r.items ++ body.kept.later) same) body.before body.kept.behind
+        (rows_are ∙ body.kept.rows ∙ ap (λ r. r ++ body.kept.later) same) body.before body.kept.behind
 
   module _ (laws : LawsOfNames) (quiet : QuietStays) (views : ViewsOn) (back : ViewsBack) (shaped : InitialValuesHaveShape) (legal : IsLegal t)
       (restricted : IsRestricted t) (well_formed : IsWellFormed i) where
-    of_program : IsPackageOf t i g
+    pub of_program : IsPackageOf t i g
     of_program = package_in_order laws t legal restricted i g ordered
 
     -- ---- the body of an operation or an entry
 
     module _ (owner : Option ℕ) (u : ProtectedItemTree) (x : IsOperation laws t legal restricted owner u) where
-      abbrev operation_code : Coded
+      abbrev pub operation_code : Coded
       operation_code = code_of laws.scopes laws.names laws.premises t legal restricted x.place x.name x.items x.end_name x.at x.k u
 
       abbrev operation_number : ℕ
@@ -350,10 +350,13 @@ module _ (t : ProgramTree) (i : Sections) (h : HasProgram t i) where
           → IsFunctionCode i (library_of g) (function_by program.scope (subprogram_body c.owner c.head c.body) r value) number
       function_there r some value returns kind =
           let y = as_function t c.head c.body body.seen body.old body.words body.new body.adds r some in
+          let code = ap (λ z. z.code) y.marked in
           subst (λ e. IsFunctionCode i (library_of g) (function_by program.scope (subprogram_body c.owner c.head c.body) r e) number)
           (same_some y.value value (sym y.returns ∙ returns))
           (function_emitted laws shaped t legal restricted i well_formed g of_program numbers c.owner c.head c.body r some y.value y.result y.named body.seen
-          body.old body.new body.words y.adds number row there first refl refl refl kind holds (uncovered_there number c body y.adds.rows)
+          body.old y.mid body.words y.adds number row there first (ap here code) refl refl kind (subst (Holds i (here body.old.code)) code holds)
+          (subst (λ n. GoesBy i unhandled (here body.old.code) n) (ap here code)
+          (uncovered_there number c body (ap (λ z. z.rows.items) y.marked ∙ ap (λ z. z.items) y.adds.rows)))
           (entrance _ (in_front c.front c.owner _ body.scope refl body.told)))
 
       -- the number is the one that is told of the name
@@ -363,7 +366,7 @@ module _ (t : ProgramTree) (i : Sections) (h : HasProgram t i) where
     -- ---- those of the package, and those of protected objects
 
     module _ (place : ℕ) (d : SubprogramTree) (b : BodyTree) (at : slice_get (declared_in t.package_) place ≡ Some (SubprogramBody d b)) where
-      abbrev own_code : Coded
+      abbrev pub own_code : Coded
       own_code = of_subprogram (front t (suc place)) d b
 
       abbrev package_number : ℕ
@@ -372,11 +375,11 @@ module _ (t : ProgramTree) (i : Sections) (h : HasProgram t i) where
       package_is : slice_get (bodies_of t) package_number ≡ Some own_code
       package_is = body_at t place 0 (SubprogramBody d b) own_code at refl
 
-      package_enters : (v : Framed) → IsInFront (front t (suc place)) g None v → IsEntrance t g None v d b
+      pub package_enters : (v : Framed) → IsInFront (front t (suc place)) g None v → IsEntrance t g None v d b
       package_enters v before = package_entrance laws t legal restricted i g of_program place d b at v before
 
     module _ (owner : Option ℕ) (u : ProtectedItemTree) (x : IsOperation laws t legal restricted owner u) where
-      operation_enters : (v : Framed) → IsInFront (operation_code owner u x).front g (operation_code owner u x).owner v
+      pub operation_enters : (v : Framed) → IsInFront (operation_code owner u x).front g (operation_code owner u x).owner v
           → IsEntrance t g (operation_code owner u x).owner v (own_head u) (own_body u)
       operation_enters v before =
           object_entrance laws t legal restricted x.place x.name x.items x.end_name x.at x.k u x.there i g ordered of_program h.told.operations v before

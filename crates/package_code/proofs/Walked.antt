@@ -25,14 +25,15 @@ use Rattle.stmt_code.specs.Emitting.{AddsRows}
 use Rattle.step_simulation.specs.part_code.specs.Rows.{LiesWithin}
 use Rattle.stmt_code.specs.Subprograms.{KeepsRules, fresh}
 use Rattle.stmt_code.specs.declared.draft.Draft.{Draft}
+use Rattle.stmt_code.specs.declared.tables.PlaceRow.{PlaceRow}
 use Rattle.stmt_code.proofs.RowsAdded.{rows_kept, rows_then}
 use Rattle.package_code.specs.Bodies.{Coded, bodies_among, bodies_before, bodies_of, coded_at, of_subprogram, of_task}
 use Rattle.package_code.specs.Directory.{AreTold, TellsNext, operations_told}
 use Rattle.package_code.specs.Providing.{MayBeAdded}
-use Rattle.package_code.specs.Walking.{AddsBody, AddsSubprogram, BeginsWalk, HasBody, HasRows, IsDraftKept, IsWalked, LieInFront, LiesInOne, begins_at, row_of}
+use Rattle.package_code.specs.Walking.{AddsBody, AddsSubprogram, BeginsWalk, HasBody, HasRows, IsDraftKept, IsOfBody, IsWalked, LieInFront, LiesInOne, begins_at, row_of}
 use Rattle.package_code.specs.declared.directory.Directory.{Directory}
 use Rattle.package_code.specs.declared.walk.Walk.{Walk}
-use Rattle.package_code.proofs.Coded.{among_next, body_at, coded_many}
+use Rattle.package_code.proofs.Coded.{among_next, body_at, coded_many, get_either}
 use Rattle.package_code.proofs.Seen.{first_front}
 use Rattle.package_code.proofs.Told.{Grows, item_grows, subprogram_grows, told_next, unseen_told}
 
@@ -50,6 +51,8 @@ kept_self a = record {
   later = [];
   rows = sym (append-nil a.rows.items);
   behind = All-nil (λ q. here a.code ≤ q.start);
+  placed = [];
+  places = sym (append-nil a.rows.places);
 }
 
 pub kept_then : (a b c : Draft) → IsDraftKept a b → IsDraftKept b c → IsDraftKept a c
@@ -62,6 +65,8 @@ kept_then a b c h k = record {
   rows = k.rows ∙ ap (λ l. l ++ k.later) h.rows ∙ append_assoc a.rows.items h.later k.later;
   behind = All-append (λ q. here a.code ≤ q.start) h.later k.later h.behind
       (All-weaker (λ q. here b.code ≤ q.start) (λ q. here a.code ≤ q.start) (λ q up. let one = h.longer in omega (arith, one, up)) k.later k.behind);
+  placed = h.placed ++ k.placed;
+  places = k.places ∙ ap (λ l. l ++ k.placed) h.places ∙ append_assoc a.rows.places h.placed k.placed;
 }
 
 -- code that extends what is there, with these labels and rows
@@ -74,6 +79,8 @@ kept_by old new extends labels rows = record {
   later = rows.added;
   rows = rows.appended;
   behind = All-weaker (LiesWithin (here old.code) (here new.code)) (λ q. here old.code ≤ q.start) (λ q within. within.start) rows.added rows.within;
+  placed = rows.placed;
+  places = rows.located;
 }
 
 -- ---- where subprograms begin
@@ -104,11 +111,12 @@ module _ (all : List Subprogram) (draft : Draft) where
       (All-weaker (LiesWithin (here has.begun.code) (here draft.code)) (λ q. q.end_ ≤ here draft.code) (λ q within. within.end) has.rows.added has.rows.within)
 
   -- in front of all
-  rows_begin : draft.code.instructions.items ≡ [] → draft.rows.items ≡ [] → HasRows all draft
-  rows_begin bare none = record {
+  rows_begin : draft.code.instructions.items ≡ [] → draft.rows.items ≡ [] → draft.rows.places ≡ [] → HasRows all draft
+  rows_begin bare none unplaced = record {
     begun = draft;
     bare = bare;
     none = none;
+    unplaced = unplaced;
     rows = rows_kept draft draft (refl, refl);
     inside = All-nil (LiesInOne all);
   }
@@ -145,6 +153,7 @@ module _ (all : List Subprogram) (row : Subprogram) (old new : Draft) (has : Has
     begun = has.begun;
     bare = has.bare;
     none = has.none;
+    unplaced = has.unplaced;
     rows = rows_then has.begun old new has.rows adds (let none : here has.begun.code ≡ 0 = ap length has.bare in omega (arith, none)) extends.longer
         (λ place h. record { operation = h.operation; there = extends.instructions place _ (omega arith) h.there });
     inside = All-append (LiesInOne more) has.rows.added adds.added (All-weaker (LiesInOne all) (LiesInOne more) inside_before has.rows.added has.inside)
@@ -176,7 +185,8 @@ module _ (t : ProgramTree) (directory : Directory) where
     end = ap (λ l. begins_at l (length l)) begins.subprograms ∙ sym (ap length begins.instructions);
     many = ap length begins.subprograms ∙ sym (ap (bodies_before t) begins.place);
     exceptions = begins.exceptions ∙ known;
-    rows = rows_begin w.subprograms.items w.draft begins.instructions begins.rows;
+    rows = rows_begin w.subprograms.items w.draft begins.instructions begins.rows begins.places;
+    places = λ n q is. absurd (let none : None ≡ Some q = ap (λ l. slice_get l n) (sym begins.places) ∙ is in cc);
   }
 
   -- what bodies have stays while more are added
@@ -203,6 +213,19 @@ module _ (t : ProgramTree) (directory : Directory) where
         kept = kept_then has.new old.draft new.draft has.kept kept;
       }
 
+  pub place_moved : (old new : Walk) (more : List Subprogram) (q : PlaceRow) → IsDraftKept old.draft new.draft
+      → new.subprograms.items ≡ old.subprograms.items ++ more → IsOfBody t directory old q → IsOfBody t directory new q
+  unfolding moved
+  place_moved old new more q kept subprograms x = record {
+    number = x.number;
+    coded = x.coded;
+    less = (let less = x.less in let long = ap length subprograms ∙ length-append old.subprograms.items more in omega (arith, less, long));
+    there = x.there;
+    body = moved old new x.number x.coded more kept subprograms x.body;
+    index = x.index;
+    among = x.among;
+  }
+
   -- the last of the first places, or one in front of it
   pub last_or_before : (n k : ℕ) → n < suc k → (n ≡ k) ⊎ (n < k)
   last_or_before zero zero h = inl refl
@@ -218,9 +241,11 @@ module _ (t : ProgramTree) (directory : Directory) where
     pub end : begins_at w.subprograms.items (length w.subprograms.items) ≡ here w.draft.code
     pub exceptions : w.draft.exceptions.items ≡ (program_of t).exceptions
     pub rows : HasRows w.subprograms.items w.draft
+    pub places : (index : ℕ) (q : PlaceRow) → slice_get w.draft.rows.places index ≡ Some q → IsOfBody t directory w q
 
   pub walked_code : (w : Walk) → IsWalked t directory w → HaveCode w
-  walked_code w walked = record { bodies = walked.bodies; end = walked.end; exceptions = walked.exceptions; rows = walked.rows }
+  walked_code w walked =
+      record { bodies = walked.bodies; end = walked.end; exceptions = walked.exceptions; rows = walked.rows; places = walked.places }
 
   -- where nothing was added
   pub code_kept : (old new : Walk) → new.draft ≡ old.draft → new.subprograms ≡ old.subprograms → HaveCode old → HaveCode new
@@ -231,6 +256,9 @@ module _ (t : ProgramTree) (directory : Directory) where
     end = ap (λ l. begins_at l.items (length l.items)) subprograms ∙ has.end ∙ ap (λ z. here z.code) (sym draft);
     exceptions = ap (λ z. z.exceptions.items) draft ∙ has.exceptions;
     rows = subst (λ z. HasRows new.subprograms.items z) (sym draft) (subst (λ l. HasRows l.items old.draft) (sym subprograms) has.rows);
+    places = λ n q is. place_moved old new [] q (subst (IsDraftKept old.draft) (sym draft) (kept_self old.draft))
+        (ap (λ l. l.items) subprograms ∙ sym (append-nil old.subprograms.items))
+        (has.places n q (ap (λ z. slice_get z.rows.places n) (sym draft) ∙ is));
   }
 
   -- one body more, whose code was added where its names are visible
@@ -283,6 +311,20 @@ module _ (t : ProgramTree) (directory : Directory) where
         subst (λ k. HasBody t directory k e after) (sym same) (subst (λ z. HasBody t directory (length old.subprograms.items) z after) code this)
     by_number n e there (inr less) = moved old after n e (row ∷ []) kept rows (has.bodies n e less there)
 
+    by_place : (n : ℕ) (q : PlaceRow) → (slice_get old.draft.rows.places n ≡ Some q)
+        ⊎ ((k : ℕ) × (n ≡ length old.draft.rows.places + k) × (slice_get keeps.rows.placed k ≡ Some q)) → IsOfBody t directory after q
+    unfolding this
+    by_place n q (inl e) = place_moved old after (row ∷ []) q kept rows (has.places n q e)
+    by_place n q (inr r) = record {
+      number = length old.subprograms.items;
+      coded = c;
+      less = (let long = ap length rows ∙ length-append old.subprograms.items (row ∷ []) in omega (arith, long));
+      there = that;
+      body = this;
+      index = r.0;
+      among = r.2;
+    }
+
     pub code_more : HaveCode after
     code_more = record {
       bodies = λ n e less there. by_number n e there
@@ -292,6 +334,8 @@ module _ (t : ProgramTree) (directory : Directory) where
       exceptions = ap (λ e. e.items) kept.exceptions ∙ has.exceptions;
       rows = subst (λ l. HasRows l after.draft) (sym rows)
           (rows_more old.subprograms.items row old.draft after.draft has.rows keeps.rows keeps.extends has.end refl);
+      places = λ n q is. by_place n q
+          (get_either old.draft.rows.places keeps.rows.placed n q (ap (λ l. slice_get l n) (sym keeps.rows.located) ∙ is));
     }
 
     pub many_more : length after.subprograms.items ≡ bodies_before t place + suc k
@@ -314,6 +358,7 @@ module _ (t : ProgramTree) (directory : Directory) where
             ∙ sym (ap (bodies_before t) next ∙ more_before old.place (OfItem i) at ∙ plus_none (bodies_before t old.place));
         exceptions = code.exceptions;
         rows = code.rows;
+        places = code.places;
       }
     where
       next : new.place ≡ suc old.place
@@ -339,6 +384,7 @@ module _ (t : ProgramTree) (directory : Directory) where
             ∙ ap (λ n. bodies_before t old.place + n) (sym (coded_many t old.place item) ∙ ap length alone));
         exceptions = code.exceptions;
         rows = code.rows;
+        places = code.places;
       }
     where
       next : new.place ≡ suc old.place

@@ -137,6 +137,7 @@ module _ (scopes : ScopesAreSound) (known : NamesAreKnown) (premises : PremisesH
       many = ap (λ l. length l.items) subprograms ∙ walked.many ∙ ap (bodies_before t) (sym stays) ∙ sym (plus_none (bodies_before t mid.place));
       exceptions = code.exceptions;
       rows = code.rows;
+      places = code.places;
       few = (let up = told.few in
           let same = ap (λ (d : Draft). here d.code) draft in
           let there = ap (λ p. total (bounds_from t 0 (take p all))) stays in
@@ -203,7 +204,7 @@ module _ (scopes : ScopesAreSound) (known : NamesAreKnown) (premises : PremisesH
     scope_is = ap (λ (v : Visible). v.scope) h.seen
 
     pub code_within : HaveCode t directory old
-    code_within = record { bodies = h.bodies; end = h.end; exceptions = h.exceptions; rows = h.rows }
+    code_within = record { bodies = h.bodies; end = h.end; exceptions = h.exceptions; rows = h.rows; places = h.places }
 
     -- the item at this place is this body
     pub coded_there : (i : ProtectedItemTree) → slice_get items k ≡ Some i → slice_get (coded_at t old.place h.item) k ≡ Some (of_operation o u components i)
@@ -262,6 +263,7 @@ module _ (scopes : ScopesAreSound) (known : NamesAreKnown) (premises : PremisesH
             ∙ ap (λ p. bodies_before t p + suc k) (sym a.place);
         exceptions = code.exceptions;
         rows = code.rows;
+        places = code.places;
         few = (let before = h.few in
             let own = adds_few t (own_head i) (own_body i) mid.visible old.draft a.adds.words a.after.draft a.adds.adds in
             let bound = ap (λ z. procedure_bound z (own_head i).formals (own_body i)) front_is in
@@ -348,7 +350,8 @@ module _ (scopes : ScopesAreSound) (known : NamesAreKnown) (premises : PremisesH
           (take_all (length items) items (omega arith)))
 
       code : HaveCode t directory new
-      code = code_kept t directory mid new draft subprograms (record { bodies = h.bodies; end = h.end; exceptions = h.exceptions; rows = h.rows })
+      code = code_kept t directory mid new draft subprograms
+          (record { bodies = h.bodies; end = h.end; exceptions = h.exceptions; rows = h.rows; places = h.places })
 
       pub walked_behind : IsWalked t directory new
       walked_behind = record {
@@ -363,6 +366,7 @@ module _ (scopes : ScopesAreSound) (known : NamesAreKnown) (premises : PremisesH
             omega (arith, count, there, more, behind));
         exceptions = code.exceptions;
         rows = code.rows;
+        places = code.places;
       }
 
       pub told_behind_it : IsAsTold t new

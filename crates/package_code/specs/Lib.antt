@@ -12,5 +12,6 @@ pub mod BareObjects
 pub mod Objects
 pub mod Tasks
 pub mod Program
+pub mod Places
 pub mod Laws
 pub mod Owners

@@ -3,7 +3,7 @@ use Rattle.std.specs.Prelude.{◌≡◌, ◌+◌, ◌<◌, ◌≤◌, ◌⊎◌,
 use Rattle.std.specs.List.{All}
 use Rattle.ada_tree.specs.declared.expression.Identifier.{Identifier}
 use Rattle.ada_tree.specs.ExpressionTree.{ExprTree}
-use Rattle.ada_tree.specs.StatementTree.{SubprogramTree}
+use Rattle.ada_tree.specs.StatementTree.{MoreStmts, NoStmts, StmtTrees, SubprogramTree}
 use Rattle.ada_tree.specs.ProgramTree.{BodyItemTree, BodyTree, EntryBody, OperationBody, ProgramTree, ProtectedBody, ProtectedItemTree}
 use Rattle.image_laws.specs.handlers.specs.declared.rows.Row.{Row}
 use Rattle.image.specs.Sections.{end_of}
@@ -26,8 +26,10 @@ use Rattle.stmt_code.specs.Emitting.{AddsRows}
 use Rattle.step_simulation.specs.part_code.specs.Needs.{HasManyLabels, IsNeeding}
 use Rattle.step_simulation.specs.part_code.specs.Rows.{LiesWithin}
 use Rattle.stmt_code.specs.Subprograms.{AddsFunction, AddsProcedure, IsCalledFunction, IsCalledProcedure, KeepsRules}
+use Rattle.stmt_code.specs.Placing.{stmt_place}
 use Rattle.stmt_code.specs.declared.draft.Draft.{Draft}
 use Rattle.stmt_code.specs.declared.subprogram.SubprogramWords.{SubprogramWords}
+use Rattle.stmt_code.specs.declared.tables.PlaceRow.{PlaceRow}
 use Rattle.package_code.specs.Bodies.{Coded, bodies_before, bodies_of, coded_at, of_operation, operations_of, own_body, own_head}
 use Rattle.package_code.specs.Counts.{bound_of, bounds_from}
 use Rattle.package_code.specs.Directory.{AreTold, IsUnseen, number_told, seen_inside}
@@ -42,7 +44,12 @@ StandFrom whole from part = (n : ℕ) (item : BodyItemTree) → slice_get part n
 
 -- ---- one body
 
--- the code of a function was added, which returns the value of one expression
+-- the place of the first of these statements
+abbrev pub first_statement_place : StmtTrees → ℕ
+first_statement_place NoStmts = 0
+first_statement_place (MoreStmts x rest) = stmt_place x
+
+-- the code of a function was added, which returns the value of one expression, and a row for all of it with the place of the return
 pub record AddsValueFunction (t : ProgramTree) (d : SubprogramTree) (b : BodyTree) (r : Identifier) (v : Visible) (old : Draft) (words : SubprogramWords)
     (new : Draft)
     : Type 0 where
@@ -50,7 +57,14 @@ pub record AddsValueFunction (t : ProgramTree) (d : SubprogramTree) (b : BodyTre
   pub returns : returned b.statements ≡ Some value
   pub result : Subtype
   pub named : result ≡ subtype_named (program_of t).scope r
-  pub adds : AddsFunction v old d.formals result value words new
+  pub mid : Draft
+  pub adds : AddsFunction v old d.formals result value words mid
+  pub marked : new ≡ record mid {
+    rows = record mid.rows {
+      places = mid.rows.places ++ (record
+          { first = here old.code; behind = here mid.code; place = first_statement_place b.statements }) ∷ [];
+    };
+  }
 
 -- the code of the procedure, or of the function, was added
 abbrev pub AddsSubprogram : ProgramTree → SubprogramTree → BodyTree → Visible → (old : Draft) → SubprogramWords → (new : Draft) → Type 0
@@ -142,7 +156,7 @@ abbrev pub begins_at : List Subprogram → ℕ → ℕ
 begins_at all zero = 0
 begins_at all (suc n) = end_of (slice_get all n)
 
--- what one draft has, the other has too; its other rows of handlers are those of code behind
+-- what one draft has, the other has too; its other rows of handlers are those of code behind, and other places stand behind its own
 pub record IsDraftKept (old new : Draft) : Type 0 where
   pub instructions : StandsFrom 0 old.code.instructions.items new.code.instructions.items
   pub longer : here old.code ≤ here new.code
@@ -151,6 +165,8 @@ pub record IsDraftKept (old new : Draft) : Type 0 where
   pub later : List Row
   pub rows : new.rows.items ≡ old.rows.items ++ later
   pub behind : All (λ q. here old.code ≤ q.start) later
+  pub placed : List PlaceRow
+  pub places : new.rows.places ≡ old.rows.places ++ placed
 
 -- rows of handlers that lie in front of a place
 abbrev pub LieInFront : (place : ℕ) → List Row → Type 0
@@ -173,6 +189,16 @@ pub record HasBody (t : ProgramTree) (directory : Directory) (number : ℕ) (c :
   pub begins : begins_at w.subprograms.items number ≡ here old.code
   pub kept : IsDraftKept new w.draft
 
+-- The row of a place was added with the code of the body of this number.
+pub record IsOfBody (t : ProgramTree) (directory : Directory) (w : Walk) (q : PlaceRow) : Type 0 where
+  pub number : ℕ
+  pub coded : Coded
+  pub less : number < length w.subprograms.items
+  pub there : slice_get (bodies_of t) number ≡ Some coded
+  pub body : HasBody t directory number coded w
+  pub index : ℕ
+  pub among : slice_get body.keeps.rows.placed index ≡ Some q
+
 -- ---- rows of handlers
 
 -- the row covers places of one of these subprograms, and leads to one of it
@@ -181,11 +207,12 @@ pub record LiesInOne (all : List Subprogram) (q : Row) : Type 0 where
   pub there : number < length all
   pub within : LiesWithin (begins_at all number) (begins_at all (suc number)) q
 
--- All rows of the draft were added to one that had neither code nor rows, and each lies in one of these subprograms.
+-- All rows of the draft were added to one that had neither code nor rows, and each of handlers lies in one of these subprograms.
 pub record HasRows (all : List Subprogram) (draft : Draft) : Type 0 where
   pub begun : Draft
   pub bare : begun.code.instructions.items ≡ []
   pub none : begun.rows.items ≡ []
+  pub unplaced : begun.rows.places ≡ []
   pub rows : AddsRows begun draft
   pub inside : All (LiesInOne all) rows.added
 
@@ -198,11 +225,12 @@ pub record BeginsWalk (s : Scope) (operations : List (List (Option ℕ))) (names
   pub instructions : w.draft.code.instructions.items ≡ []
   pub labels : w.draft.labels ≡ []
   pub rows : w.draft.rows.items ≡ []
+  pub places : w.draft.rows.places ≡ []
   pub exceptions : w.draft.exceptions.items ≡ names
   pub subprograms : w.subprograms.items ≡ []
 
 -- Each body in front of the place where the walk is has its code, and no others have; what is visible there is told by the directory; the program has the
--- draft's exceptions, and the rows of handlers are rows of the bodies.
+-- draft's exceptions, and the rows of handlers and of places are rows of the bodies.
 pub record IsWalked (t : ProgramTree) (directory : Directory) (w : Walk) : Type 0 where
   pub scope : w.visible.scope ≡ front t w.place
   pub told : AreTold (program_of t).scope directory None w.visible
@@ -211,6 +239,7 @@ pub record IsWalked (t : ProgramTree) (directory : Directory) (w : Walk) : Type 
   pub many : length w.subprograms.items ≡ bodies_before t w.place
   pub exceptions : w.draft.exceptions.items ≡ (program_of t).exceptions
   pub rows : HasRows w.subprograms.items w.draft
+  pub places : (index : ℕ) (q : PlaceRow) → slice_get w.draft.rows.places index ≡ Some q → IsOfBody t directory w q
 
 -- What is visible where the walk is, the labels there, how many rows of handlers there are, and how many instructions at most, are told by the text alone.
 pub record IsAsTold (t : ProgramTree) (w : Walk) : Type 0 where
@@ -242,6 +271,7 @@ pub record IsInObjectBody (t : ProgramTree) (directory : Directory) (o : ℕ) (s
   pub many : length w.subprograms.items ≡ bodies_before t w.place + k
   pub exceptions : w.draft.exceptions.items ≡ (program_of t).exceptions
   pub rows : HasRows w.subprograms.items w.draft
+  pub places : (index : ℕ) (q : PlaceRow) → slice_get w.draft.rows.places index ≡ Some q → IsOfBody t directory w q
   pub few : here w.draft.code ≤ total (bounds_from t 0 (take w.place (declared_in t.package_))) + total (map bound_of (take k (coded_at t w.place item)))
   pub labels : w.draft.labels ≡ coded_labels (items_labels [] (take w.place (declared_in t.package_))) (take k (coded_at t w.place item))
   pub choices : length w.draft.rows.items ≡ coded_rows (items_rows 0 (take w.place (declared_in t.package_))) (take k (coded_at t w.place item))

@@ -22,7 +22,7 @@ ghost use Rattle.package_code.specs.Bodies.{components_or_none, of_object, of_op
 ghost use Rattle.package_code.specs.Directory.{IsDirectory, number_told};
 ghost use Rattle.package_code.specs.Providing.{BodiesAreCovered, MayBeAdded};
 ghost use Rattle.package_code.specs.Refusing.{RefusesCode};
-ghost use Rattle.package_code.specs.Walking.{AddsAsTold, AddsBody, AddsOperation, AddsSubprogram, AddsValueFunction, BeginsWalk, HasObjectBody, IsAsTold, IsCalledSubprogram, IsWalked, IsInObjectBody, RefusesBody, StandFrom, operation_visible, row_of};
+ghost use Rattle.package_code.specs.Walking.{AddsAsTold, AddsBody, AddsOperation, AddsSubprogram, AddsValueFunction, BeginsWalk, HasObjectBody, IsAsTold, IsCalledSubprogram, IsWalked, IsInObjectBody, RefusesBody, StandFrom, first_statement_place, operation_visible, row_of};
 
 use crate::directory::{Directory, unseen};
 use crate::inside::{see_behind, see_operation};
@@ -41,7 +41,7 @@ use lexer::Text;
 use program_soundness::body_laws::{names_are_known, premises_hold};
 use ravenscar::Accepted;
 use std::alloc::Global;
-use stmt_code::{Draft, SubprogramWords};
+use stmt_code::{Draft, PlaceRow, SubprogramWords, stmt_place};
 use type_rules::{declare_subprogram, subtype_of};
 use types::{RecordComponent, Scope, Subtype};
 
@@ -78,6 +78,16 @@ fn returned(statements: &[Stmt]) -> &Expr
         [statement] => returned_value(statement),
         [] => unreachable!(),
         [_, _, ..] => unreachable!(),
+    }
+}
+
+// The place of the first of a body's statements.
+fn first_statement_place(statements: &[Stmt]) -> u32
+    ensures { result ≡ first_statement_place (stmt_trees statements.now) }
+{
+    match statements {
+        [] => 0,
+        [statement, ..] => stmt_place(statement),
     }
 }
 
@@ -181,7 +191,7 @@ impl Walk {
         })
     }
 
-    // Adds the code of a function, which returns the value of one expression.
+    // Adds the code of a function, which returns the value of one expression, and its row of places.
     fn function(
         &mut self,
         accepted: &Accepted,
@@ -207,8 +217,18 @@ impl Walk {
     {
         let value = returned(&body.statements);
         let result = result_subtype(accepted.scope(), subtype);
-        self.draft
-            .function(&mut self.visible, &subprogram.formals, result, value)
+        let first = self.draft.code.instructions.len();
+        let words = self
+            .draft
+            .function(&mut self.visible, &subprogram.formals, result, value)?;
+        let behind = self.draft.code.instructions.len();
+        let place = first_statement_place(&body.statements);
+        self.draft.rows.mark(PlaceRow {
+            first,
+            behind,
+            place,
+        })?;
+        Ok(words)
     }
 
     // Adds the code of a procedure or a function.

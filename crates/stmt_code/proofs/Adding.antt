@@ -1,6 +1,7 @@
 -- Code of statements that was added: nothing, statements one behind another, jumps to the ways out, and lines.
 use Rattle.std.proofs.Common.{◌≡◌, ℕ, zero, suc, ◌+◌, ◌-◌, ◌<◌, ◌≤◌, ◌++◌, List, [], ◌∷◌, length, map, take, true, false, Option, Some, None, refl, sym, ap, ◌∙◌, subst, arith}
 use Rattle.std.specs.Prelude.{get_or}
+use Rattle.std.proofs.lemmas.List.{append-nil}
 use Rattle.ada_tree.specs.declared.statement.Stmt.{Stmt}
 use Rattle.ada_tree.specs.ExpressionTree.{ExprTree}
 use Rattle.ada_tree.specs.StatementTree as statements
@@ -39,12 +40,14 @@ use Rattle.part_code.specs.Handling.{Handling}
 use Rattle.part_code.specs.Bounds.{handlers_words, sequence_bound, stmt_bound, stmts_bound, stmts_words}
 use Rattle.stmt_code.specs.Covering.{EmitsSequence}
 use Rattle.part_code.specs.Suiting.{SuitsStatements}
-use Rattle.stmt_code.specs.Emitting.{Allows, AreAcceptedHandlers, AreAcceptedStatements, Emits, EmitsDeclarations, EmitsStatement, EmitsStatements, HasLabels, IsAcceptedStatement, Meant, Serves, seeing}
+use Rattle.stmt_code.specs.Emitting.{Allows, AreAcceptedHandlers, AreAcceptedStatements, Emits, EmitsDeclarations, EmitsMarkedStatement, EmitsStatement, EmitsStatements, HasLabels, IsAcceptedStatement, Meant, Serves, TellPlaces, seeing}
+use Rattle.stmt_code.specs.Placing.{stmt_place, stmt_within, stmts_within}
 use Rattle.part_code.specs.Emitting.{IsReachable}
 use Rattle.part_code.specs.Resting.{Framed}
 use Rattle.part_code.specs.Statements.{AreStatements, IsSequence, IsStatement, Numbers, Ways}
 use Rattle.stmt_code.specs.declared.draft.Draft.{Draft}
-use Rattle.stmt_code.proofs.RowsAdded.{KeepsRows, Surrounds, finds_later, goes_front, goes_kept, handled_first, handled_inside, handled_second, rows_around, rows_kept, rows_then}
+use Rattle.stmt_code.proofs.PlacesAdded.{statements_joined, tells_then}
+use Rattle.stmt_code.proofs.RowsAdded.{KeepsRows, Surrounds, finds_later, goes_front, goes_kept, handled_first, handled_inside, handled_marked, handled_second, marked, own_place, rows_around, rows_kept, rows_marked, rows_then}
 use Rattle.part_code.proofs.Lists.{mapped_next, take_all}
 use Rattle.part_code.proofs.Jumps.{same_place, jump_kept}
 
@@ -106,7 +109,7 @@ module _ (v : Visible) where
     -- ---- nothing, and one behind the other
     pub none_emits : (Is : Meant) (c : Draft) (size : ℕ)
         → ((i : Sections) (program : Program) (g : Package) (numbers : Numbers) (f : Framed) (handling : Handling) (at : ℕ)
-        → Is i program g numbers f handling at at) → Emits Is v w c size c
+        → Is i program g numbers f handling at at) → Emits Is v w c size [] c
     none_emits Is c size same = record {
       extends = extends_self c.code;
       labels = λ k x le h. h;
@@ -115,6 +118,7 @@ module _ (v : Visible) where
       sized = omega arith;
       rows = rows_kept c c (refl, refl);
       stands = λ i h l program g numbers f names serves room handling goes. same i program g numbers f handling (here c.code);
+      tells = λ i h l program g numbers f names serves room handling goes. tt;
       flows = λ i s low high down up h l suits deep wide ends ways.
           record { begins = ends; shallow = omega arith; each = λ k x le less there. absurd (omega (arith, le, less)) };
     }
@@ -124,12 +128,12 @@ module _ (v : Visible) where
         (stmt_bound v.scope (statements.Null place))
         (λ i program g numbers f handling at. refl)
 
-    pub emits_then : (P Q R : Meant) (a b c : Draft) (m n : ℕ)
+    pub emits_then : {xs ys : List StmtTree} → (P Q R : Meant) (a b c : Draft) (m n : ℕ)
         → ((i : Sections) (program : Program) (g : Package) (numbers : Numbers) (f : Framed) (handling : Handling) (from mid to : ℕ)
         → from ≤ mid → mid ≤ to
         → P i program g numbers f handling from mid → Q i program g numbers f handling mid to → R i program g numbers f handling from to)
-        → Emits P v w a m b → Emits Q v w b n c → Emits R v w a (m + n) c
-    emits_then P Q R a b c m n both p q = record {
+        → Emits P v w a m xs b → Emits Q v w b n ys c → Emits R v w a (m + n) (xs ++ ys) c
+    emits_then {xs} {ys} P Q R a b c m n both p q = record {
       extends = extends_trans a.code b.code c.code p.extends q.extends;
       labels = labels_then a.labels b.labels c.labels p.labels q.labels;
       taken = q.taken ∙ p.taken;
@@ -144,6 +148,14 @@ module _ (v : Visible) where
           (q.stands i (holds_later i (here a.code) (here b.code) c.code p.extends.longer h) l program g numbers f names
           (subst (Serves program g numbers f) (sym p.taken) serves) room handling
           (handled_second a b c p.rows q.rows p.extends.longer q.extends.longer (finds_later b.code c.code q.extends) i program handling goes));
+      tells = λ i h l program g numbers f names serves room handling goes.
+          tells_then i program g numbers p.rows.placed q.rows.placed xs ys
+          (p.tells i (holds_before i (here a.code) b.code c.code q.extends h) (labels_before i b.labels c.labels q.labels l) program g numbers f names serves
+          (omega (arith, q.most, room)) handling
+          (handled_first a b c p.rows q.rows p.extends.longer q.extends.longer (finds_later b.code c.code q.extends) i program handling goes))
+          (q.tells i (holds_later i (here a.code) (here b.code) c.code p.extends.longer h) l program g numbers f names
+          (subst (Serves program g numbers f) (sym p.taken) serves) room handling
+          (handled_second a b c p.rows q.rows p.extends.longer q.extends.longer (finds_later b.code c.code q.extends) i program handling goes));
       flows = λ i s low high down up h l suits deep wide ends ways.
           let second = q.flows i s low high (omega (arith, down, p.extends.longer)) up (holds_later i (here a.code) (here b.code) c.code p.extends.longer h) l suits deep wide ends ways in
           let first = p.flows i s low high down (omega (arith, up, q.extends.longer)) (holds_before i (here a.code) b.code c.code q.extends h)
@@ -152,11 +164,11 @@ module _ (v : Visible) where
     }
 
     -- the same code, as what it also means, and with room
-    pub emits_as : (P Q : Meant) (a c : Draft) (m n : ℕ)
+    pub emits_as : {xs ys : List StmtTree} → (P Q : Meant) (a c : Draft) (m n : ℕ)
         → ((i : Sections) (program : Program) (g : Package) (numbers : Numbers) (f : Framed) (handling : Handling) (from to : ℕ)
         → P i program g numbers f handling from to → Q i program g numbers f handling from to)
-        → m ≤ n → Emits P v w a m c → Emits Q v w a n c
-    emits_as P Q a c m n means more p = record {
+        → m ≤ n → xs ≡ ys → Emits P v w a m xs c → Emits Q v w a n ys c
+    emits_as P Q a c m n means more same p = record {
       extends = p.extends;
       labels = p.labels;
       taken = p.taken;
@@ -165,8 +177,41 @@ module _ (v : Visible) where
       rows = p.rows;
       stands = λ i h l program g numbers f names serves room handling goes.
           means i program g numbers f handling (here a.code) (here c.code) (p.stands i h l program g numbers f names serves room handling goes);
+      tells = λ i h l program g numbers f names serves room handling goes.
+          subst (TellPlaces i program g numbers p.rows.placed) same (p.tells i h l program g numbers f names serves room handling goes);
       flows = p.flows;
     }
+
+    -- ---- a statement with the row of its place
+
+    pub marked_emits : (a m c : Draft) (x : StmtTree) → EmitsStatement v w a x m → c ≡ marked a m (stmt_place x) → EmitsMarkedStatement v w a x c
+    marked_emits a m c x p same = subst (EmitsMarkedStatement v w a x) (sym same) (record {
+      extends = p.extends;
+      labels = p.labels;
+      taken = p.taken;
+      most = p.most;
+      sized = p.sized;
+      rows = rows_marked a m (stmt_place x) p.rows p.extends.longer;
+      stands = λ i h l program g numbers f names serves room handling goes.
+          p.stands i h l program g numbers f names serves room handling
+          (handled_marked a m (stmt_place x) p.rows p.extends.longer i program handling goes);
+      tells = λ i h l program g numbers f names serves room handling goes.
+          let inner = handled_marked a m (stmt_place x) p.rows p.extends.longer i program handling goes in
+          tells_then i program g numbers p.rows.placed (own_place a m (stmt_place x) ∷ []) (stmt_within x) (x ∷ [])
+          (p.tells i h l program g numbers f names serves room handling inner) (
+            record {
+              place = refl;
+              frame = f;
+              taken = a.words.taken;
+              serves = serves;
+              ways = w;
+              handling = handling;
+              code = p.stands i h l program g numbers f names serves room handling inner;
+            },
+            tt,
+          );
+      flows = p.flows;
+    })
 
     -- ---- jumps to the ways out
 
@@ -175,7 +220,7 @@ module _ (v : Visible) where
         → ((i : Sections) (program : Program) (g : Package) (numbers : Numbers) (f : Framed) (handling : Handling) (from : ℕ)
         → At i from (op.Jump place)
         → Is i program g numbers f handling from (suc from))
-        → Adds a.code 0 (op.Jump place) c.code → IsBeside a c → Emits Is v w a size c
+        → Adds a.code 0 (op.Jump place) c.code → IsBeside a c → Emits Is v w a size [] c
     jump_emits Is a c place size one reached means q same =
         let next = added_here a.code c.code 0 (op.Jump place) q in
         record {
@@ -188,6 +233,7 @@ module _ (v : Visible) where
           stands = λ i h l program g numbers f names serves room handling goes.
               subst (λ n. Is i program g numbers f handling (here a.code) n) (sym next)
               (means i program g numbers f handling (here a.code) (added_at a.code c.code 0 (op.Jump place) q i (here a.code) (omega arith) h));
+          tells = λ i h l program g numbers f names serves room handling goes. tt;
           flows = λ i s low high down up h l suits deep wide ends ways.
               subst (λ n. AreKeptBetween i s low high (here a.code) n 0) (sym next)
               (jump_kept i s low high (here a.code) place (added_there a.code c.code 0 (op.Jump place) q i (here a.code) (omega arith) h)
@@ -234,6 +280,7 @@ module _ (v : Visible) where
             ),
             goes_kept a c same.2 i program handling goes,
           );
+          tells = λ i h l program g numbers f names serves room handling goes. tt;
           flows = λ i s low high down up h l suits deep wide ends ways.
               value_kept a.code m c.code o p.extends p.flows q i s low high down up h suits deep refl refl (omega arith) (omega arith) refl ends
               (λ t g. subst (IsReachable i low high) (sym (same_place o place t refl g)) (ways.exit place way));
@@ -259,7 +306,7 @@ module _ (v : Visible) where
         (λ i program g numbers f handling at. refl)
 
     pub statements_next : (a b c : Draft) (all : List Stmt) (n : ℕ) (x : Stmt) → n < length all → x ≡ get_or all n x
-        → EmitsStatements v w a (stmt_trees (take n all)) b → EmitsStatement v w b (stmt_tree x) c → EmitsStatements v w a (stmt_trees (take (n + 1) all)) c
+        → EmitsStatements v w a (stmt_trees (take n all)) b → EmitsMarkedStatement v w b (stmt_tree x) c → EmitsStatements v w a (stmt_trees (take (n + 1) all)) c
     statements_next a b c all n x less is p q =
         let front = map stmt_tree (take n all) in
         let more = mapped_next stmt_tree all n x less is in
@@ -267,7 +314,7 @@ module _ (v : Visible) where
         (emits_as (λ i program g numbers f handling from to. AreStatements i program g numbers f w handling from to (stmts_of (front ++ stmt_tree x ∷ [])))
         (λ i program g numbers f handling from to. AreStatements i program g numbers f w handling from to (stmts_of (front ++ stmt_tree x ∷ []))) a c
         (stmts_bound v.scope (stmts_of front) + stmt_bound v.scope (stmt_tree x)) (stmts_bound v.scope (stmts_of (front ++ stmt_tree x ∷ []))) (λ i program g numbers f handling from to h. h)
-        (let e = bounds v.scope front (stmt_tree x) in omega (arith, e))
+        (let e = bounds v.scope front (stmt_tree x) in omega (arith, e)) (sym (statements_joined front (stmt_tree x)))
         (emits_then (λ i program g numbers f handling from to. AreStatements i program g numbers f w handling from to (stmts_of front))
         (λ i program g numbers f handling from to. IsStatement i program g numbers f w handling from to (stmt_tree x))
         (λ i program g numbers f handling from to. AreStatements i program g numbers f w handling from to (stmts_of (front ++ stmt_tree x ∷ []))) a b c
@@ -283,7 +330,7 @@ module _ (v : Visible) where
     without_handlers a c body p =
         emits_as (λ i program g numbers f handling from to. AreStatements i program g numbers f w handling from to body)
         (λ i program g numbers f handling from to. IsSequence i program g numbers f w handling from to body NoHandlers) a c (stmts_bound v.scope body)
-        (sequence_bound v.scope body NoHandlers) (λ i program g numbers f handling from to h. h) (omega arith) p
+        (sequence_bound v.scope body NoHandlers) (λ i program g numbers f handling from to h. h) (omega arith) (sym (append-nil (stmts_within body))) p
 
     pub block_emits : (a b c d : Draft) (later : Visible) (place : ℕ) (ds : List DeclarationTree) (body : StmtTrees) (all : HandlerTrees)
         → EmitsDeclarations v a ds later b
@@ -318,6 +365,11 @@ module _ (v : Visible) where
                     (handled_inside a b c (given_back a c) around q.rows i program handling goes),
                 goes_front a b c (given_back a c) around q.rows i program handling goes,
               );
+          tells = λ i h l program g numbers f names serves room handling goes.
+              let declared = p.stands i (holds_before i (here a.code) b.code c.code q.extends h) (labels_before i b.labels c.labels q.labels l) program g numbers f names serves
+              (omega (arith, q.most, room)) in
+              q.tells i (holds_later i (here a.code) (here b.code) c.code p.extends.longer h) l program g numbers (seeing f later) refl declared.1 room handling
+              (handled_inside a b c (given_back a c) around q.rows i program handling goes);
           flows = λ i s low high down up h l suits deep wide ends ways.
               let second = q.flows i s low high (omega (arith, down, p.extends.longer)) up (holds_later i (here a.code) (here b.code) c.code p.extends.longer h) l
               (p.suits i s suits (omega (arith, q.most, wide))) deep wide ends ways in

@@ -1,6 +1,7 @@
 -- Code of alternatives that was added, one behind another, and that of a whole `case`.
 use Rattle.std.proofs.Common.{◌≡◌, ℕ, zero, suc, ◌+◌, ◌<◌, ◌≤◌, ◌++◌, List, [], ◌∷◌, length, map, take, true, false, ◌||◌, Some, refl, sym, ap, ◌∙◌, subst, arith}
 use Rattle.std.specs.Prelude.{get_or, slice_get}
+use Rattle.std.proofs.lemmas.List.{append-nil}
 use Rattle.ada_tree.specs.declared.statement.Alternative.{Alternative}
 use Rattle.ada_tree.specs.ExpressionTree.{ExprTree}
 use Rattle.ada_tree.specs.StatementTree as statements
@@ -31,7 +32,8 @@ use Rattle.expr_code.proofs.Growing.{added_extends, added_here, extends_trans}
 use Rattle.stmt_code.specs.Alternatives.{AddsAlternatives, AreAcceptedAlternatives, AreSelected, in_front}
 use Rattle.part_code.specs.Choices.{AreLegalChoices}
 use Rattle.part_code.specs.Bounds.{alternatives_bound, stmt_bound}
-use Rattle.stmt_code.specs.Emitting.{AreAcceptedStatements, EmitsOpen, EmitsStatement, EmitsStatements, IsAcceptedStatement, MeantTo, Serves}
+use Rattle.stmt_code.specs.Emitting.{AreAcceptedStatements, EmitsOpen, EmitsStatement, EmitsStatements, IsAcceptedStatement, MeantTo, Serves, TellPlaces}
+use Rattle.stmt_code.specs.Placing.{alternatives_within, stmts_within}
 use Rattle.part_code.specs.Statements.{AreAlternatives, IsChoice, IsStatement, Ways}
 use Rattle.stmt_code.specs.declared.draft.Draft.{Draft}
 use Rattle.stmt_code.proofs.Adding.{IsBeside, labels_before, labels_beside, labels_then, most_beside, taken_beside}
@@ -41,6 +43,7 @@ use Rattle.part_code.proofs.Jumps.{added_is}
 use Rattle.part_code.proofs.Lists.{alone, append_again, append_none, none_before, none_behind, not_alone, same_self, shorter}
 use Rattle.stmt_code.proofs.Opening.{joined, open_then}
 use Rattle.part_code.proofs.Selecting.{Selects, selecting_inside}
+use Rattle.stmt_code.proofs.PlacesAdded.{alternatives_joined}
 use Rattle.stmt_code.proofs.RowsAdded.{Surrounds, finds_later, finds_rejoined, goes_front, handled_inside, rows_around, rows_kept}
 
 module _ (v : Visible) (w : Ways) (e : ExprTree) where
@@ -112,6 +115,7 @@ module _ (v : Visible) (w : Ways) (e : ExprTree) where
 
     pub alternative_emits : EmitsOpen (AreSelected w e ((place, (choices, body)) ∷ [])) v w 1 start
         (alternatives_bound v.scope (alternatives_of ((place, (choices, body)) ∷ [])))
+        (alternatives_within (alternatives_of ((place, (choices, body)) ∷ [])))
         (here valued.code ∷ []) new
     alternative_emits = record {
       extends = whole_extends;
@@ -137,6 +141,12 @@ module _ (v : Visible) (w : Ways) (e : ExprTree) where
         (0, at_close i end up j),
         subst (λ n. AreAlternatives i program g numbers f w handling n end e rest) (patch.long ∙ four) code,
       );
+      tells = λ i end up j l program g numbers f names serves room handling goes.
+          subst (TellPlaces i program g numbers second.rows.placed) (sym (append-nil (stmts_within body)))
+          (second.tells i (in_valued i end up j) (labels_before i valued.labels new.labels (labels_beside valued new still) l) program g numbers f names
+          (subst (Serves program g numbers f) (sym (taken_beside start chosen same)) serves)
+          (let m = most_beside valued new still in omega (arith, m, room)) handling
+          (handled_inside start chosen valued new alternative_around second.rows i program handling goes));
       flows = λ i s low high end down up over j l suits deep wide shallow ends more ways.
           let deepest : closed.deepest ≤ s.stack = omega (arith, ap (λ m. m) patch.deepest, deep) in
           let closes = jump_kept i s low high (here valued.code) end (at_close i end up j)
@@ -204,6 +214,7 @@ module _ (v : Visible) (w : Ways) (e : ExprTree) where
       inside = λ k is. absurd cc;
       waits = λ k is. absurd cc;
       stands = λ i end up j l program g numbers f names serves room handling goes rest code. code;
+      tells = λ i end up j l program g numbers f names serves room handling goes. tt;
       flows = λ i s low high end down up over j l suits deep wide shallow ends next ways.
           record { begins = next; shallow = omega (arith, shallow); each = λ k x le less there. absurd (omega (arith, le, less)) };
     };
@@ -215,11 +226,15 @@ module _ (v : Visible) (w : Ways) (e : ExprTree) where
   alternatives_then a b c one two before mid after p q = record {
     waiting = p.waiting ++ q.waiting;
     after_is = q.after_is ∙ ap (λ l. l ++ q.waiting) p.after_is ∙ append_again before p.waiting q.waiting;
-    emits = subst (λ n. EmitsOpen (AreSelected w e (one ++ two)) v w 1 a n (p.waiting ++ q.waiting) c) (sym (bounds v.scope one two))
+    emits = subst (λ l. EmitsOpen (AreSelected w e (one ++ two)) v w 1 a (alternatives_bound v.scope (alternatives_of (one ++ two))) l
+        (p.waiting ++ q.waiting) c) (sym (alternatives_joined one two))
+        (subst (λ n. EmitsOpen (AreSelected w e (one ++ two)) v w 1 a n (alternatives_within (alternatives_of one) ++ alternatives_within (alternatives_of two))
+        (p.waiting ++ q.waiting) c) (sym (bounds v.scope one two))
         (open_then v w (AreSelected w e one) (AreSelected w e two) (AreSelected w e (one ++ two)) 1 a b c (alternatives_bound v.scope (alternatives_of one))
-        (alternatives_bound v.scope (alternatives_of two)) p.waiting q.waiting
+        (alternatives_bound v.scope (alternatives_of two)) (alternatives_within (alternatives_of one)) (alternatives_within (alternatives_of two))
+        p.waiting q.waiting
         (λ i program g numbers f handling end from m to up over within x y rest code.
-        subst (λ t. AreAlternatives i program g numbers f w handling from end e t) (sym (front one two rest)) (x (in_front two rest) (y rest code))) p.emits q.emits);
+        subst (λ t. AreAlternatives i program g numbers f w handling from end e t) (sym (front one two rest)) (x (in_front two rest) (y rest code))) p.emits q.emits));
   }
 
   pub alternatives_next : (a b c : Draft) (all : List Alternative) (n : ℕ) (x : Alternative) (before mid after : List ℕ) → n < length all → x ≡ get_or all n x
@@ -282,7 +297,8 @@ module _ (v : Visible) (w : Ways) (e : ExprTree) where
       still = finds_later selected.code dropped.code dropping;
     }
 
-    case_open : EmitsOpen Whole v w 0 start (stmt_bound v.scope (statements.Case place e (alternatives_of all))) p.waiting dropped
+    case_open : EmitsOpen Whole v w 0 start (stmt_bound v.scope (statements.Case place e (alternatives_of all))) (alternatives_within (alternatives_of all))
+        p.waiting dropped
     case_open = record {
       extends = extends_trans start.code valued.code dropped.code first.extends valued_extends;
       labels = labels_then start.labels valued.labels dropped.labels (labels_beside start valued same)
@@ -306,6 +322,12 @@ module _ (v : Visible) (w : Ways) (e : ExprTree) where
             NoAlternatives tt),
         goes_front start valued selected dropped case_around p.emits.rows i program handling goes,
       );
+      tells = λ i end up j l program g numbers f names serves room handling goes.
+          p.emits.tells i end (omega (arith, dropping.longer, up)) (in_selected i end j)
+          (labels_before i selected.labels dropped.labels (labels_beside selected dropped kept) l) program g numbers f names
+          (subst (Serves program g numbers f) (sym (taken_beside start valued same)) serves)
+          (let m = most_beside selected dropped kept in omega (arith, m, room)) handling
+          (handled_inside start valued selected dropped case_around p.emits.rows i program handling goes);
       flows = λ i s low high end down up over j l suits deep wide shallow ends next ways.
           let one : 1 ≤ s.stack = omega (arith, drop.within, deep) in
           let last = kept_one i s low high (here selected.code) 1 0 op.Drop (at_drop i end j) one (omega arith) refl refl (omega arith) (omega arith) refl
@@ -328,8 +350,9 @@ module _ (v : Visible) (w : Ways) (e : ExprTree) where
         → EmitsStatement v w start (statements.Case place e (alternatives_of all)) d
     case_emits n n_is r still =
         joined v w Whole (λ i program g numbers f handling from to. IsStatement i program g numbers f w handling from to (statements.Case place e (alternatives_of all))) start dropped d
-        (stmt_bound v.scope (statements.Case place e (alternatives_of all))) places (λ i program g numbers f handling from to h. h)
-        (subst (λ l. EmitsOpen Whole v w 0 start (stmt_bound v.scope (statements.Case place e (alternatives_of all))) l dropped) waiting_is case_open)
+        (stmt_bound v.scope (statements.Case place e (alternatives_of all))) (alternatives_within (alternatives_of all)) places (λ i program g numbers f handling from to h. h)
+        (subst (λ l. EmitsOpen Whole v w 0 start (stmt_bound v.scope (statements.Case place e (alternatives_of all))) (alternatives_within (alternatives_of all)) l
+        dropped) waiting_is case_open)
         (subst (λ m. Rejoins dropped.code places m d.code) n_is r) still
 
 -- ---- what is legal

@@ -328,6 +328,7 @@ call_added v w a c name beside extends sized stands flows = record {
   rows = rows_kept a c beside.2;
   stands = λ i h l program g numbers f seen serves room handling goes.
       (stands i h program g numbers f seen serves, goes_kept a c beside.2 i program handling goes);
+  tells = λ i h l program g numbers f names serves room handling goes. tt;
   flows = λ i s low high down up h l suits deep wide ends ways.
       widened i s (here a.code) (here c.code) low high (here a.code) (here c.code) 0 down up (flows.flows i s h suits deep (omega arith) ends);
 }

@@ -106,6 +106,7 @@ module _ (v : Visible) (w : Ways) (a c : Draft) (b m : Code) (place : ℕ) (e : 
       ),
       goes_kept a c same.2 i program handling goes,
     );
+    tells = λ i h l program g numbers f names serves room handling goes. tt;
     flows = λ i s low high down up h l suits deep wide ends ways.
         let last = value_kept v b m c.code op.DelayUntil x.extends x.flows q i s low high (omega (arith, down, first_here)) up (behind i h) suits deep refl refl
         (omega arith) (omega arith) refl ends (λ t g. absurd (nowhere t g)) in

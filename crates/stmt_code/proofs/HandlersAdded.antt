@@ -1,11 +1,12 @@
 -- Code of handlers that was added: a handler, and handlers one behind another.
 use Rattle.std.proofs.Common.{◌≡◌, ℕ, zero, suc, ◌+◌, ◌<◌, ◌≤◌, ◌++◌, List, [], ◌∷◌, All, length, length-append, map, take, Bool, true, false, ◌&&◌, ◌||◌, Option, Some, None, refl, sym, ap, ◌∙◌, subst, arith, rules, ◌⊎◌, inl, inr}
 use Rattle.std.specs.Prelude.{get_or, if◌then◌else◌, nat_eq, nat_lt, slice_get}
+use Rattle.std.proofs.lemmas.List.{append-nil}
 use Rattle.std.proofs.lemmas.List.Elements.{All-append, All-nil, All-weaker}
 use Rattle.ada_tree.specs.declared.statement.ExceptionChoice.{ExceptionChoice}
 use Rattle.ada_tree.specs.declared.statement.Handler.{Handler}
 use Rattle.ada_tree.specs.StatementTree as statements
-use Rattle.ada_tree.specs.StatementTree.{HandlerTrees, NoHandlers, StmtTrees, handler_tree, handler_trees, handlers_of, stmt_trees}
+use Rattle.ada_tree.specs.StatementTree.{HandlerTrees, NoHandlers, StmtTree, StmtTrees, handler_tree, handler_trees, handlers_of, stmt_trees}
 use Rattle.handlers.specs.declared.rows.Row.{Row}
 use Rattle.image.specs.Sections.{Sections}
 use Rattle.image.specs.Rules.{has_depth}
@@ -33,7 +34,8 @@ use Rattle.expr_code.proofs.Flowing.{kept_one, kept_then}
 use Rattle.expr_code.proofs.Growing.{added_at, added_extends, added_here, added_there, extends_self, extends_trans, holds_before, holds_later}
 use Rattle.stmt_code.specs.Covering.{AddsHandlers, AreEachKept, AreHandling, EmitsApart, IsOwn, bound_of, first_for, in_front}
 use Rattle.part_code.specs.ChoiceRows.{choice_rows}
-use Rattle.stmt_code.specs.Emitting.{Allows, AreAcceptedHandlers, AreAcceptedStatements, EmitsStatements, HasLabels, IsHandled, MeantTo, Serves}
+use Rattle.stmt_code.specs.Emitting.{Allows, AreAcceptedHandlers, AreAcceptedStatements, EmitsStatements, HasLabels, IsHandled, MeantTo, Serves, TellPlaces}
+use Rattle.stmt_code.specs.Placing.{handlers_within, stmts_within}
 use Rattle.part_code.specs.Emitting.{TakesWords}
 use Rattle.part_code.specs.Handling.{Handling, or_answer}
 use Rattle.part_code.specs.Layout.{IsFree, IsLaidOut}
@@ -51,6 +53,7 @@ use Rattle.stmt_code.proofs.ExceptionWords.{keeps_exception, reserving}
 use Rattle.part_code.proofs.Jumps.{added_is}
 use Rattle.part_code.proofs.Lists.{alone, among_both, append_again, append_none, none_before, none_behind, not_alone, one_of, same_self, shorter, some_same}
 use Rattle.stmt_code.proofs.Parameters.{IsUnseen, free_one_more}
+use Rattle.stmt_code.proofs.PlacesAdded.{handlers_joined, tells_then}
 use Rattle.stmt_code.proofs.RowsAdded.{KeepsRows, Surrounds, finds_later, handled_first, handled_inside, handled_second, rows_around, rows_kept, rows_then}
 
 -- ---- a word of the frame for the exception
@@ -194,6 +197,12 @@ module _ (v : Visible) (w : Ways) (region : Row) (a b c d : Draft) (word target 
         jump = (0, at_jump);
       }
 
+      handler_tells : TellPlaces i program g numbers q.rows.placed (stmts_within body)
+      handler_tells =
+          q.tells i (holds_later i (here a.code) (here b.code) c.code stored.longer in_body) (labels_in l) program g numbers (reserving word f) names
+          (serves_reserving program g numbers f a.words.taken word serves word_is b.words.taken takes.taken) (omega (arith, most_is, room)) handling
+          (handled_inside a b c d around q.rows i program handling goes)
+
     handler_kept : (s : Subprogram) (low high : ℕ) → low ≤ here a.code → end ≤ high → HasLabels i d.labels
         → SuitsStatements v i s → d.code.deepest ≤ s.stack → d.words.most ≤ s.locals → has_depth i end 0 ≡ true → Allows i s low high w
         → AreEachKept i s low high (here a.code) (here d.code)
@@ -235,7 +244,8 @@ module _ (v : Visible) (w : Ways) (region : Row) (a b c d : Draft) (word target 
         ready = record { operation = op.StoreLocal word; there = ready_there };
       }) choices numbered
 
-  pub handler_emits : QuietStays → ValuesHaveWords → EmitsApart (AreHandling w own all) v w a (bound_of v.scope all) (here c.code ∷ []) d
+  pub handler_emits : QuietStays → ValuesHaveWords → EmitsApart (AreHandling w own all) v w a (bound_of v.scope all) (handlers_within (handlers_of all))
+      (here c.code ∷ []) d
   handler_emits quiet sized = record {
     extends = extends_trans a.code b.code d.code stored body_on;
     labels = labels_on;
@@ -251,6 +261,9 @@ module _ (v : Visible) (w : Ways) (region : Row) (a b c d : Draft) (word target 
       is_handler i end up j quiet sized l program g numbers f names serves room handling goes next,
       subst (λ n. AreHandlers i program g numbers f w handling next n end rest) two code,
     );
+    tells = λ i end up j l program g numbers f names serves room handling goes.
+        subst (TellPlaces i program g numbers q.rows.placed) (sym (append-nil (stmts_within body)))
+        (handler_tells i end up j quiet sized l program g numbers f names serves room handling goes);
     flows = λ i s low high end down up over j l suits deep wide ends ways. handler_kept i end up j s low high down over l suits deep wide ends ways;
   }
 
@@ -290,10 +303,10 @@ each_then i s low high from mid to first second = λ k x le less is. by k x le l
     by k x le less is (inr large) = second k x large less is
 
 module _ (v : Visible) (w : Ways) where
-  module _ (P Q R : MeantTo) (a b c : Draft) (m n : ℕ) (first second : List ℕ)
+  module _ (P Q R : MeantTo) (a b c : Draft) (m n : ℕ) (xs ys : List StmtTree) (first second : List ℕ)
       (both : (i : Sections) (program : Program) (g : Package) (numbers : Numbers) (f : Framed) (handling : Handling) (end from mid to : ℕ)
       → P i program g numbers f handling end from mid → Q i program g numbers f handling end mid to → R i program g numbers f handling end from to)
-      (p : EmitsApart P v w a m first b) (q : EmitsApart Q v w b n second c) where
+      (p : EmitsApart P v w a m xs first b) (q : EmitsApart Q v w b n ys second c) where
     joins_before : (i : Sections) (end : ℕ) → Joins i (here a.code) (first ++ second) end 0 c.code → Joins i (here a.code) first end 0 b.code
     joins_before i end j = record {
       others = λ k x le none is.
@@ -319,7 +332,7 @@ module _ (v : Visible) (w : Ways) where
     on : Extends b.code c.code
     on = q.extends
 
-    pub apart_then : EmitsApart R v w a (m + n) (first ++ second) c
+    pub apart_then : EmitsApart R v w a (m + n) (xs ++ ys) (first ++ second) c
     apart_then = record {
       extends = extends_trans a.code b.code c.code p.extends q.extends;
       labels = labels_then a.labels b.labels c.labels p.labels q.labels;
@@ -336,6 +349,14 @@ module _ (v : Visible) (w : Ways) where
           (omega (arith, q.most, room)) handling
           (handled_first a b c p.rows q.rows p.extends.longer q.extends.longer (finds_later b.code c.code on) i program handling goes))
           (q.stands i end up (joins_behind i end j) l program g numbers f names (subst (Serves program g numbers f) (sym p.taken) serves) room handling
+          (handled_second a b c p.rows q.rows p.extends.longer q.extends.longer (finds_later b.code c.code on) i program handling goes));
+      tells = λ i end up j l program g numbers f names serves room handling goes.
+          tells_then i program g numbers p.rows.placed q.rows.placed xs ys
+          (p.tells i end (omega (arith, q.extends.longer, up)) (joins_before i end j)
+          (labels_before i b.labels c.labels q.labels l) program g numbers f names serves
+          (omega (arith, q.most, room)) handling
+          (handled_first a b c p.rows q.rows p.extends.longer q.extends.longer (finds_later b.code c.code on) i program handling goes))
+          (q.tells i end up (joins_behind i end j) l program g numbers f names (subst (Serves program g numbers f) (sym p.taken) serves) room handling
           (handled_second a b c p.rows q.rows p.extends.longer q.extends.longer (finds_later b.code c.code on) i program handling goes));
       flows = λ i s low high end down up over j l suits deep wide ends ways.
           each_then i s low high (here a.code) (here b.code) (here c.code)
@@ -453,6 +474,7 @@ module _ (v : Visible) (w : Ways) where
         inside = λ k is. absurd cc;
         waits = λ k is. absurd cc;
         stands = λ i end up j l program g numbers f names serves room handling goes rest next code. code;
+        tells = λ i end up j l program g numbers f names serves room handling goes. tt;
         flows = λ i s low high end down up over j l suits deep wide ends ways k x le less is. absurd (omega (arith, le, less));
       };
     }
@@ -467,9 +489,13 @@ module _ (v : Visible) (w : Ways) where
       are_own = All-append (IsOwn region.start region.end_ a c) p.own q.own (own_first a b c p.own q.emits.extends p.are_own)
           (own_second a b c q.own p.emits.extends.longer p.emits.rows.exceptions q.are_own);
       spare = (let s = p.spare in let t = q.spare in let n = length-append one two in let e = bounds v.scope one two in omega (arith, s, t, n, e));
-      emits = subst (λ n. EmitsApart (AreHandling w (p.own ++ q.own) (one ++ two)) v w a n (p.waiting ++ q.waiting) c) (sym (bounds v.scope one two))
+      emits = subst (λ l. EmitsApart (AreHandling w (p.own ++ q.own) (one ++ two)) v w a (bound_of v.scope (one ++ two)) l (p.waiting ++ q.waiting) c)
+          (sym (handlers_joined one two))
+          (subst (λ n. EmitsApart (AreHandling w (p.own ++ q.own) (one ++ two)) v w a n (handlers_within (handlers_of one) ++ handlers_within (handlers_of two))
+          (p.waiting ++ q.waiting) c) (sym (bounds v.scope one two))
           (apart_then (AreHandling w p.own one) (AreHandling w q.own two) (AreHandling w (p.own ++ q.own) (one ++ two)) a b c (bound_of v.scope one)
-          (bound_of v.scope two) p.waiting q.waiting (handling_then p.own q.own one two) p.emits q.emits);
+          (bound_of v.scope two) (handlers_within (handlers_of one)) (handlers_within (handlers_of two)) p.waiting q.waiting
+          (handling_then p.own q.own one two) p.emits q.emits));
     }
 
     pub handlers_next : (a b c : Draft) (all : List Handler) (n : ℕ) (h : Handler) (before mid after : List ℕ) (x y z : List Row) → n < length all

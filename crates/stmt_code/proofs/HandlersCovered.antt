@@ -20,6 +20,7 @@ use Rattle.expr_code.proofs.Growing.{added_extends, added_here, extends_trans}
 use Rattle.part_code.specs.Bounds.{stmts_bound}
 use Rattle.stmt_code.specs.Covering.{AddsCovered, AddsHandled, EmitsSequence, IsOwn, first_for}
 use Rattle.stmt_code.specs.Emitting.{AddsRows, FindsException, HasLabels, IsHandled, Serves}
+use Rattle.stmt_code.specs.Placing.{handlers_within, stmts_within}
 use Rattle.part_code.specs.Handling.{CoverJust, Handling, or_answer}
 use Rattle.part_code.specs.Rows.{LiesWithin}
 use Rattle.part_code.specs.Statements.{AreHandlers, Ways}
@@ -32,6 +33,7 @@ use Rattle.stmt_code.proofs.HandlersAdded.{each_then, none_front}
 use Rattle.part_code.proofs.Jumps.{added_is}
 use Rattle.part_code.proofs.Lists.{none_before, one_of, shorter}
 use Rattle.stmt_code.proofs.PartsRefused.{IsLike}
+use Rattle.stmt_code.proofs.PlacesAdded.{tells_then, wider_places}
 use Rattle.stmt_code.proofs.RowsAdded.{Surrounds, finds_later, finds_rejoined, rows_around, rows_then, wider_rows}
 
 eq_is : (a b : ℕ) → nat_eq a b ≡ true → a ≡ b
@@ -167,6 +169,10 @@ module _ (v : Visible) (w : Ways) (a b c : Draft) (cover : Cover) (body : StmtTr
     ready = All-append (λ r. FindsException c.code r.target) inner.added q.own
         (All-weaker (λ r. FindsException h.code r.target) (λ r. FindsException c.code r.target) (λ r f. finds r.target f) inner.added inner.ready)
         (All-weaker (IsOwn cover.region.start cover.region.end_ b h) (λ r. FindsException c.code r.target) (λ r o. finds r.target o.ready) q.own q.are_own);
+    placed = inner.placed;
+    located = q.places ∙ inner.located;
+    between = wider_places (here a.code) (here h.code) (here a.code) (here c.code) inner.placed (omega arith) (omega (arith, three)) inner.between;
+    innermost = inner.innermost;
   }
 
   -- what goes on for the statements, by the rows of the handlers
@@ -260,6 +266,14 @@ module _ (v : Visible) (w : Ways) (a b c : Draft) (cover : Cover) (body : StmtTr
           (handled_handlers i program handling goes) NoHandlers
           handling (λ y is. refl)))),
     );
+    tells = λ i hold l program g numbers f names serves room handling goes.
+        tells_then i program g numbers p.emits.rows.placed q.emits.rows.placed (stmts_within body) (handlers_within (handlers_of (x ∷ xs)))
+        (p.emits.tells i (in_body i hold) (labels_e i l) program g numbers f names serves
+        (let n = q.emits.most in omega (arith, n, most_covered, most_handled, room)) (covering handling)
+        (handled_covered i program handling goes rows_in rows_out))
+        (q.emits.tells i (here h.code) (omega arith) (joins_of i hold) (labels_h i l) program g numbers f names
+        (subst (Serves program g numbers f) (sym taken_is) serves) (omega (arith, most_handled, room)) handling
+        (handled_handlers i program handling goes));
     flows = λ i s low high down up hold l suits deep wide ends ways.
         let l_one = p.emits.extends.longer in
         let l_two = q.emits.extends.longer in

@@ -1,5 +1,6 @@
 mod ExceptionWords
 pub mod AddedRows
+pub mod PlacesAdded
 pub mod RowsAdded
 mod RowsCounted
 pub mod Narrowing

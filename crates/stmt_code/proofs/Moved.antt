@@ -123,6 +123,7 @@ module _ (kept : AgreementIsKept) (sized : ValuesHaveWords) (places : PartsHaveP
       moved_there i h program g numbers f names serves.laid,
       goes_kept a c same.2 i program handling goes,
     );
+    tells = λ i h l program g numbers f names serves room handling goes. tt;
     flows = λ i s low high down up h l suits deep wide ends ways.
         widened i s (here a.code) (here c.code) low high (here a.code) (here c.code) 0 down up (whole_flows.flows i s h suits deep (omega arith) ends);
   }

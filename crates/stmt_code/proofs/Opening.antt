@@ -1,10 +1,11 @@
 -- Code whose jumps to its end wait for the place: parts of an `if`, one behind the other, and the whole.
 use Rattle.std.proofs.Common.{◌≡◌, ℕ, zero, suc, ◌+◌, ◌<◌, ◌≤◌, ◌++◌, List, [], ◌∷◌, length, map, take, Bool, true, false, ◌||◌, Some, refl, sym, ap, ◌∙◌, subst, arith, ◌⊎◌, inl, inr}
 use Rattle.std.specs.Prelude.{get_or, slice_get}
+use Rattle.std.proofs.lemmas.List.{append-nil}
 use Rattle.ada_tree.specs.declared.statement.ElsifPart.{ElsifPart}
 use Rattle.ada_tree.specs.ExpressionTree.{ExprTree, expr_tree}
 use Rattle.ada_tree.specs.StatementTree as statements
-use Rattle.ada_tree.specs.StatementTree.{ElsifTrees, MoreElsifs, NoElsifs, StmtTrees, elsif_tree, elsif_trees, elsifs_of, stmt_trees}
+use Rattle.ada_tree.specs.StatementTree.{ElsifTrees, MoreElsifs, NoElsifs, StmtTree, StmtTrees, elsif_tree, elsif_trees, elsifs_of, stmt_trees}
 use Rattle.image.specs.Sections.{Sections}
 use Rattle.image.specs.Rules.{has_depth}
 use Rattle.image.specs.declared.instruction.Operation.TheVariants as op
@@ -29,7 +30,8 @@ use Rattle.expr_code.proofs.Flowing.{kept_one, kept_then, widened}
 use Rattle.expr_code.proofs.Growing.{added_extends, added_here, extends_trans, patched_extends, patched_here, patched_other}
 use Rattle.part_code.specs.Handling.{Handling}
 use Rattle.part_code.specs.Bounds.{elsifs_bound, stmt_bound, stmts_bound}
-use Rattle.stmt_code.specs.Emitting.{AddsParts, AreAcceptedElsifs, AreAcceptedStatements, AreParts, Emits, EmitsOpen, EmitsStatement, EmitsStatements, IsAcceptedStatement, Meant, MeantTo, Serves, in_front}
+use Rattle.stmt_code.specs.Emitting.{AddsParts, AreAcceptedElsifs, AreAcceptedStatements, AreParts, Emits, EmitsOpen, EmitsStatement, EmitsStatements, IsAcceptedStatement, Meant, MeantTo, Serves, TellPlaces, in_front}
+use Rattle.stmt_code.specs.Placing.{elsifs_within, stmts_within}
 use Rattle.part_code.specs.Resting.{Framed}
 use Rattle.part_code.specs.Statements.{AreStatements, IsOtherwise, IsStatement, Numbers, Ways}
 use Rattle.stmt_code.specs.declared.draft.Draft.{Draft}
@@ -37,6 +39,7 @@ use Rattle.stmt_code.proofs.Adding.{IsBeside, emits_as, labels_before, labels_be
 use Rattle.part_code.proofs.Jumps.{jump_kept, same_place, added_is, patched_is}
 use Rattle.part_code.proofs.Lists.{mapped_next, take_all, shorter, same_self, append_again, append_none, among_both, one_of, alone, not_alone, none_before, none_behind}
 use Rattle.part_code.proofs.Handling.{goes_within}
+use Rattle.stmt_code.proofs.PlacesAdded.{elsifs_joined, tells_then}
 use Rattle.stmt_code.proofs.RowsAdded.{Surrounds, finds_later, finds_patched, finds_rejoined, goes_front, handled_first, handled_inside, handled_second, rows_around, rows_kept, rows_then}
 
 -- ---- instructions that were added or patched
@@ -44,8 +47,8 @@ use Rattle.stmt_code.proofs.RowsAdded.{Surrounds, finds_later, finds_patched, fi
 module _ (v : Visible) (w : Ways) where
   -- ---- one behind the other
 
-  pub opened : (Is : Meant) (a c : Draft) (size : ℕ) → Emits Is v w a size c
-      → EmitsOpen (λ i program g numbers f handling end from to. Is i program g numbers f handling from to) v w 0 a size [] c
+  pub opened : {xs : List StmtTree} → (Is : Meant) (a c : Draft) (size : ℕ) → Emits Is v w a size xs c
+      → EmitsOpen (λ i program g numbers f handling end from to. Is i program g numbers f handling from to) v w 0 a size xs [] c
   opened Is a c size p = record {
     extends = p.extends;
     labels = p.labels;
@@ -57,15 +60,17 @@ module _ (v : Visible) (w : Ways) where
     waits = λ k is. absurd cc;
     stands = λ i end up j l program g numbers f names serves room handling goes.
         p.stands i (λ k x le is. j.others k x le refl is) l program g numbers f names serves room handling goes;
+    tells = λ i end up j l program g numbers f names serves room handling goes.
+        p.tells i (λ k x le is. j.others k x le refl is) l program g numbers f names serves room handling goes;
     flows = λ i s low high end down up over j l suits deep wide shallow ends next ways.
         p.flows i s low high down (omega (arith, up, over)) (λ k x le is. j.others k x le refl is) l suits deep wide next ways;
   }
 
-  module _ (P Q R : MeantTo) (depth : ℕ) (a b c : Draft) (m n : ℕ) (first second : List ℕ)
+  module _ (P Q R : MeantTo) (depth : ℕ) (a b c : Draft) (m n : ℕ) (xs ys : List StmtTree) (first second : List ℕ)
       (both : (i : Sections) (program : Program) (g : Package) (numbers : Numbers) (f : Framed) (handling : Handling) (end from mid to : ℕ)
       → from ≤ mid → mid ≤ to → to ≤ end
       → P i program g numbers f handling end from mid → Q i program g numbers f handling end mid to → R i program g numbers f handling end from to)
-      (p : EmitsOpen P v w depth a m first b) (q : EmitsOpen Q v w depth b n second c) where
+      (p : EmitsOpen P v w depth a m xs first b) (q : EmitsOpen Q v w depth b n ys second c) where
     joins_before : (i : Sections) (end : ℕ) → Joins i (here a.code) (first ++ second) end 0 c.code → Joins i (here a.code) first end 0 b.code
     joins_before i end j = record {
       others = λ k x le none is.
@@ -88,7 +93,7 @@ module _ (v : Visible) (w : Ways) where
         last true = refl
         last false = refl
 
-    pub open_then : EmitsOpen R v w depth a (m + n) (first ++ second) c
+    pub open_then : EmitsOpen R v w depth a (m + n) (xs ++ ys) (first ++ second) c
     open_then = record {
       extends = extends_trans a.code b.code c.code p.extends q.extends;
       labels = labels_then a.labels b.labels c.labels p.labels q.labels;
@@ -104,6 +109,13 @@ module _ (v : Visible) (w : Ways) where
           (omega (arith, q.most, room)) handling
           (handled_first a b c p.rows q.rows p.extends.longer q.extends.longer (finds_later b.code c.code q.extends) i program handling goes))
           (q.stands i end up (joins_behind i end j) l program g numbers f names (subst (Serves program g numbers f) (sym p.taken) serves) room handling
+          (handled_second a b c p.rows q.rows p.extends.longer q.extends.longer (finds_later b.code c.code q.extends) i program handling goes));
+      tells = λ i end up j l program g numbers f names serves room handling goes.
+          tells_then i program g numbers p.rows.placed q.rows.placed xs ys
+          (p.tells i end (omega (arith, q.extends.longer, up)) (joins_before i end j) (labels_before i b.labels c.labels q.labels l) program g numbers f names serves
+          (omega (arith, q.most, room)) handling
+          (handled_first a b c p.rows q.rows p.extends.longer q.extends.longer (finds_later b.code c.code q.extends) i program handling goes))
+          (q.tells i end up (joins_behind i end j) l program g numbers f names (subst (Serves program g numbers f) (sym p.taken) serves) room handling
           (handled_second a b c p.rows q.rows p.extends.longer q.extends.longer (finds_later b.code c.code q.extends) i program handling goes));
       flows = λ i s low high end down up over j l suits deep wide shallow ends next ways.
           let more = q.flows i s low high end (omega (arith, down, p.extends.longer)) up over (joins_behind i end j) l suits deep wide shallow ends next ways in
@@ -122,10 +134,10 @@ module _ (v : Visible) (w : Ways) where
         waiting k (inr e) = q.waits k e
 
   -- ---- the end, to which the jumps lead then
-  module _ (P : MeantTo) (R : Meant) (a c d : Draft) (size : ℕ) (waiting : List ℕ)
+  module _ (P : MeantTo) (R : Meant) (a c d : Draft) (size : ℕ) (xs : List StmtTree) (waiting : List ℕ)
       (means : (i : Sections) (program : Program) (g : Package) (numbers : Numbers) (f : Framed) (handling : Handling) (from to : ℕ)
       → P i program g numbers f handling to from to → R i program g numbers f handling from to)
-      (p : EmitsOpen P v w 0 a size waiting c) (r : Rejoins c.code waiting (here c.code) d.code) (same : IsBeside c d) where
+      (p : EmitsOpen P v w 0 a size xs waiting c) (r : Rejoins c.code waiting (here c.code) d.code) (same : IsBeside c d) where
     joins : (i : Sections) → Holds i (here a.code) d.code → Joins i (here a.code) waiting (here c.code) 0 c.code
     joins i h = record {
       others = λ k x le none is. h k x le (r.others k none ∙ is);
@@ -150,7 +162,7 @@ module _ (v : Visible) (w : Ways) where
       still = finds_rejoined c.code d.code waiting (here c.code) r;
     }
 
-    pub joined : Emits R v w a size d
+    pub joined : Emits R v w a size xs d
     joined = record {
       extends = joined_extends;
       labels = labels_then a.labels c.labels d.labels p.labels (labels_beside c d same);
@@ -164,6 +176,9 @@ module _ (v : Visible) (w : Ways) where
           (p.stands i (here c.code) (omega arith) (joins i h) (labels_before i c.labels d.labels (labels_beside c d same) l) program g numbers f names serves
           (let m = most_beside c d same in omega (arith, m, room)) handling
           (handled_inside a a c d rejoined p.rows i program handling goes)));
+      tells = λ i h l program g numbers f names serves room handling goes.
+          p.tells i (here c.code) (omega arith) (joins i h) (labels_before i c.labels d.labels (labels_beside c d same) l) program g numbers f names serves
+          (let m = most_beside c d same in omega (arith, m, room)) handling (handled_inside a a c d rejoined p.rows i program handling goes);
       flows = λ i s low high down up h l suits deep wide ends ways.
           let empty = ap (λ n. has_depth i n 0) (sym r.long) ∙ ends in
           subst (λ n. AreKeptBetween i s low high (here a.code) n 0) (sym r.long)
@@ -242,7 +257,8 @@ module _ (v : Visible) (w : Ways) where
       still = λ place h. finds_patched closed new.code (here tested) (op.JumpIfZero n) patch place (finds_later valued.code closed closing place h);
     }
 
-    pub branch_emits : EmitsOpen (AreParts w ((e, body) ∷ [])) v w 0 start (elsifs_bound v.scope (elsifs_of ((e, body) ∷ []))) (here valued.code ∷ []) new
+    pub branch_emits : EmitsOpen (AreParts w ((e, body) ∷ [])) v w 0 start (elsifs_bound v.scope (elsifs_of ((e, body) ∷ [])))
+        (elsifs_within (elsifs_of ((e, body) ∷ []))) (here valued.code ∷ []) new
     branch_emits = record {
       extends = extends_trans start.code tested new.code first.extends tested_extends;
       labels = labels_then start.labels valued.labels new.labels labels_on (labels_beside valued new still);
@@ -271,6 +287,12 @@ module _ (v : Visible) (w : Ways) where
             goes_within i handling (here start.code) (here start.code) (here tested) (here jumped.code)
                 (goes_front start jumped valued new around second.rows i program handling goes) (omega arith) (omega (arith, two)),
           );
+      tells = λ i end up j l program g numbers f names serves room handling goes.
+          subst (TellPlaces i program g numbers second.rows.placed) (sym (append-nil (stmts_within body)))
+          (second.tells i (in_valued i end up j) (labels_before i valued.labels new.labels (labels_beside valued new still) l) program g numbers f names
+          (subst (Serves program g numbers f) (sym (taken_beside start jumped same)) serves)
+          (let m = most_beside valued new still in omega (arith, m, room)) handling
+          (handled_inside start jumped valued new around second.rows i program handling goes));
       flows = λ i s low high end down up over j l suits deep wide shallow ends next ways.
           let to : n ≡ here new.code = sym end_is in
           let deepest : closed.deepest ≤ s.stack = omega (arith, ap (λ m. m) patch.deepest, deep) in
@@ -325,6 +347,7 @@ module _ (v : Visible) (w : Ways) where
       inside = λ k is. absurd cc;
       waits = λ k is. absurd cc;
       stands = λ i end up j l program g numbers f names serves room handling goes rest others code. code;
+      tells = λ i end up j l program g numbers f names serves room handling goes. tt;
       flows = λ i s low high end down up over j l suits deep wide shallow ends next ways.
           record { begins = next; shallow = omega (arith, shallow); each = λ k x le less there. absurd (omega (arith, le, less)) };
     };
@@ -335,12 +358,15 @@ module _ (v : Visible) (w : Ways) where
   parts_then a b c one two before mid after p q = record {
     waiting = p.waiting ++ q.waiting;
     after_is = q.after_is ∙ ap (λ l. l ++ q.waiting) p.after_is ∙ append_again before p.waiting q.waiting;
-    emits = subst (λ n. EmitsOpen (AreParts w (one ++ two)) v w 0 a n (p.waiting ++ q.waiting) c) (sym (bounds v.scope one two))
+    emits = subst (λ l. EmitsOpen (AreParts w (one ++ two)) v w 0 a (elsifs_bound v.scope (elsifs_of (one ++ two))) l (p.waiting ++ q.waiting) c)
+        (sym (elsifs_joined one two))
+        (subst (λ n. EmitsOpen (AreParts w (one ++ two)) v w 0 a n (elsifs_within (elsifs_of one) ++ elsifs_within (elsifs_of two)) (p.waiting ++ q.waiting) c)
+        (sym (bounds v.scope one two))
         (open_then (AreParts w one) (AreParts w two) (AreParts w (one ++ two)) 0 a b c (elsifs_bound v.scope (elsifs_of one)) (elsifs_bound v.scope (elsifs_of two))
-        p.waiting q.waiting
+        (elsifs_within (elsifs_of one)) (elsifs_within (elsifs_of two)) p.waiting q.waiting
         (λ i program g numbers f handling end from m to up over within x y rest others code.
         subst (λ t. IsOtherwise i program g numbers f w handling from end t (λ x y. AreStatements i program g numbers f w handling x y others)) (sym (front one two rest))
-        (x (in_front two rest) others (y rest others code))) p.emits q.emits);
+        (x (in_front two rest) others (y rest others code))) p.emits q.emits));
   }
 
   pub branch_closed : (start jumped valued new : Draft) (tested : Code) (e : ExprTree) (body : StmtTrees) (place : ℕ) (before after : List ℕ) → place ≡ here tested
@@ -387,9 +413,10 @@ module _ (v : Visible) (w : Ways) where
     abbrev Whole : MeantTo
     Whole i program g numbers f handling end from to = to ≡ end → IsStatement i program g numbers f w handling from end (statements.If place e body (elsif_trees elsifs) others)
 
-    ended : EmitsOpen Whole v w 0 start (elsifs_bound v.scope (elsifs_of parts) + stmts_bound v.scope others) (both.waiting ++ []) c
+    ended : EmitsOpen Whole v w 0 start (elsifs_bound v.scope (elsifs_of parts) + stmts_bound v.scope others)
+        (elsifs_within (elsifs_of parts) ++ stmts_within others) (both.waiting ++ []) c
     ended = open_then (AreParts w parts) (λ i program g numbers f handling end from to. AreStatements i program g numbers f w handling from to others) Whole 0 start parted c
-        (elsifs_bound v.scope (elsifs_of parts)) (stmts_bound v.scope others) both.waiting []
+        (elsifs_bound v.scope (elsifs_of parts)) (stmts_bound v.scope others) (elsifs_within (elsifs_of parts)) (stmts_within others) both.waiting []
         (λ i program g numbers f handling end from mid to up over within x y last.
         subst (λ t. IsOtherwise i program g numbers f w handling from end t (λ x y. AreStatements i program g numbers f w handling x y others)) (none_front parts)
         (x NoElsifs others (subst (λ m. AreStatements i program g numbers f w handling mid m others) last y)))
@@ -404,10 +431,11 @@ module _ (v : Visible) (w : Ways) where
         emits_as v w (λ i program g numbers f handling from to. IsStatement i program g numbers f w handling from to (statements.If place e body (elsif_trees elsifs) others))
         (λ i program g numbers f handling from to. IsStatement i program g numbers f w handling from to (statements.If place e body (elsif_trees elsifs) others)) start d
         (elsifs_bound v.scope (elsifs_of parts) + stmts_bound v.scope others) (stmt_bound v.scope (statements.If place e body (elsif_trees elsifs) others))
-        (λ i program g numbers f handling from to h. h) (omega arith)
+        (λ i program g numbers f handling from to h. h) (omega arith) refl
         (joined Whole (λ i program g numbers f handling from to. IsStatement i program g numbers f w handling from to (statements.If place e body (elsif_trees elsifs) others)) start c d
-        (elsifs_bound v.scope (elsifs_of parts) + stmts_bound v.scope others) places (λ i program g numbers f handling from to h. h refl)
-        (subst (λ l. EmitsOpen Whole v w 0 start (elsifs_bound v.scope (elsifs_of parts) + stmts_bound v.scope others) l c) waiting_is ended)
+        (elsifs_bound v.scope (elsifs_of parts) + stmts_bound v.scope others) (elsifs_within (elsifs_of parts) ++ stmts_within others) places (λ i program g numbers f handling from to h. h refl)
+        (subst (λ l. EmitsOpen Whole v w 0 start (elsifs_bound v.scope (elsifs_of parts) + stmts_bound v.scope others)
+        (elsifs_within (elsifs_of parts) ++ stmts_within others) l c) waiting_is ended)
         (subst (λ m. Rejoins c.code places m d.code) n_is r) still)
 
 -- ---- what is legal

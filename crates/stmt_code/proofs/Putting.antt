@@ -165,6 +165,7 @@ module _ (v : Visible) (w : Ways) (a c : Draft) (m : Code) (name : NameTree) (la
     rows = rows_kept a c kept;
     stands = λ i h l program g numbers f names serves room handling goes.
         (means i h l program g numbers f names serves room, goes_kept a c kept i program handling goes);
+    tells = λ i h l program g numbers f names serves room handling goes. tt;
     flows = λ i s low high down up h l suits deep wide ends ways.
         value_kept v a.code m c.code (op.PutLine number) p.extends p.flows q i s low high down up h suits deep refl
         (lt_true number (length i.labels) (shorter i.labels number label (l.labels number label (omega arith) there))) (omega arith) (omega arith) refl ends

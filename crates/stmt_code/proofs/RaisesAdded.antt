@@ -164,5 +164,6 @@ module _ (v : Visible) (w : Ways) (a c : Draft) (m : Code) (place : ℕ) (name :
           (subst (λ n. At i n op.Raise) one (1, at_raise i h))),
       goes_kept a c same.2 i program handling goes,
     );
+    tells = λ i h l program g numbers f names serves room handling goes. tt;
     flows = λ i s low high down up h l suits deep wide ends ways. raise_kept i h s low high deep ways.handled;
   }

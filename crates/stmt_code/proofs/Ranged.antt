@@ -25,7 +25,8 @@ use Rattle.expr_code.proofs.Flowing.{kept_one, kept_then, widened}
 use Rattle.expr_code.proofs.Growing.{added_extends, added_here, extends_trans, patched_extends, patched_here, patched_other}
 use Rattle.part_code.specs.Handling.{GoesBy, Handling}
 use Rattle.part_code.specs.Bounds.{stmts_words}
-use Rattle.stmt_code.specs.Emitting.{Allows, EmitsStatement, EmitsStatements, HasLabels, IsHandled, Serves, seeing}
+use Rattle.stmt_code.specs.Emitting.{Allows, EmitsStatement, EmitsStatements, HasLabels, IsHandled, Serves, TellPlaces, seeing}
+use Rattle.stmt_code.specs.Placing.{stmts_within}
 use Rattle.part_code.specs.Emitting.{BeginsLoop, EndsLoop, HasEntries, IsReachable}
 use Rattle.part_code.specs.Resting.{Framed}
 use Rattle.part_code.specs.Suiting.{SuitsStatements}
@@ -305,6 +306,12 @@ module _ (stay : ShapesStay) (v later : Visible) (w : Ways) (a b e c : Draft) (c
           (serves_inside stay v later b e parameter reversed range t null sound entries legal of_type r kept sized program g numbers f serves room_before) room handling
           handled))
 
+      pub loop_tells : TellPlaces i program g numbers p.rows.placed (stmts_within body)
+      loop_tells =
+          p.tells i in_body l program g numbers in_loop refl
+          (serves_inside stay v later b e parameter reversed range t null sound entries legal of_type r kept sized program g numbers f serves room_before) room handling
+          handled
+
       pub loop_stands : (place : ℕ) → IsStatement i program g numbers (seeing f v) w handling (here a.code) (here whole) (Loop place (For parameter reversed range) body)
       loop_stands place =
           stands_counted quiet kept sized i g (seeing f v) in_loop serves.laid sound parameter.name of_type.number
@@ -490,5 +497,12 @@ module _ (stay : ShapesStay) (v later : Visible) (w : Ways) (a b e c : Draft) (c
         (subst (Serves program g numbers f) (sym (taken_beside a b same)) serves)) room handling
         (handled_inside a e c looped around p.rows i program handling goes) (goes_front a e c looped around p.rows i program handling goes)
         (goes_behind a e c looped around p.rows i program handling goes) place);
+    tells = λ i h l program g numbers f names serves room handling goes.
+        let frame : seeing f v ≡ f = λ j. record f { names = (sym names) j } in
+        loop_tells i h quiet kept sized l program g numbers f
+        (subst (λ z. Serves program g numbers z b.words.taken) (sym frame)
+        (subst (Serves program g numbers f) (sym (taken_beside a b same)) serves)) room handling
+        (handled_inside a e c looped around p.rows i program handling goes) (goes_front a e c looped around p.rows i program handling goes)
+        (goes_behind a e c looped around p.rows i program handling goes);
     flows = λ i s low high down up h l suits deep wide empty ways. loop_kept i h s low high l down up suits deep wide empty ways;
   })

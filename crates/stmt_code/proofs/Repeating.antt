@@ -139,6 +139,9 @@ module _ (v : Visible) (w : Ways) where
         (0, subst (λ n. slice_get i.instructions (here c.code) ≡ Some (record { depth = 0; operation = op.Jump n })) back_is (at_back i h)),
         four ∙ three,
       );
+      tells = λ i h l program g numbers f names serves room handling goes.
+          p.tells i (in_body i h) (inner_labels i l) program g numbers f names (subst (Serves program g numbers f) (sym (taken_beside a b same)) serves)
+          (let m = most_beside c d still in omega (arith, m, room)) handling (handled_inside a b c d around p.rows i program handling goes);
       flows = λ i s low high down up h l suits deep wide end ways.
           let reached : IsReachable i low high out = record {
             down = omega (arith, down, out_is);

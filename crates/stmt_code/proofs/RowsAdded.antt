@@ -1,9 +1,10 @@
--- Rows of handlers that are added with code: none, those of parts one behind the other, and those of a part in code around it; and what of them each part sees.
+-- Rows that are added with code, of handlers and of places: none, those of parts one behind the other, and those of a part in code around it; and what of
+-- them each part sees.
 use Rattle.std.proofs.Common.{◌≡◌, ◌≢◌, ℕ, ◌≤◌, List, [], ◌∷◌, ◌++◌, All, Bool, true, false, Some, length, refl, sym, ap, ◌∙◌, subst, arith, rules}
 use Rattle.std.specs.Prelude.{◌&&◌, ◌||◌, nat_eq, nat_le, slice_get}
 use Rattle.std.specs.List.{list_all}
 use Rattle.std.proofs.lemmas.List.{append-nil, append_assoc}
-use Rattle.std.proofs.lemmas.List.Elements.{All-append, All-head, All-nil, All-tail, All-weaker}
+use Rattle.std.proofs.lemmas.List.Elements.{All-append, All-cons, All-head, All-nil, All-tail, All-weaker}
 use Rattle.std.proofs.lemmas.List.Folds.{list_all-append}
 use Rattle.handlers.specs.Nesting.{all_nested, are_nested}
 use Rattle.handlers.specs.declared.rows.Row.{Row}
@@ -21,6 +22,9 @@ use Rattle.stmt_code.specs.Emitting.{AddsRows, FindsException, IsHandled}
 use Rattle.part_code.specs.Handling.{GoesBy, GoesByRows, Handling}
 use Rattle.part_code.specs.Rows.{LiesWithin}
 use Rattle.stmt_code.specs.declared.draft.Draft.{Draft}
+use Rattle.stmt_code.specs.Placing.{StandsBetween}
+use Rattle.stmt_code.specs.declared.tables.PlaceRow.{PlaceRow}
+use Rattle.stmt_code.proofs.PlacesAdded.{innermost_around, innermost_then, wider_places}
 use Rattle.stmt_code.proofs.AddedRows.{rows_first, rows_none, rows_part, rows_second}
 
 -- ---- instructions that find the exception
@@ -85,6 +89,10 @@ module _ (a c : Draft) (same : KeepsRows a c) where
     nested = refl;
     known = All-nil (λ q. q.exception ≤ length a.exceptions.items);
     ready = All-nil (λ q. FindsException c.code q.target);
+    placed = [];
+    located = ap (λ l. l.places) same.0 ∙ sym (append-nil a.rows.places);
+    between = All-nil (StandsBetween (here a.code) (here c.code));
+    innermost = tt;
   }
 
   pub goes_kept : (i : Sections) (program : Program) (r : Handling) → IsHandled i program a c rows_kept r → GoesBy i r (here a.code) (here c.code)
@@ -173,6 +181,12 @@ module _ (a b c : Draft) (p : AddsRows a b) (q : AddsRows b c) (up : here a.code
         (subst (λ e. All (λ x. x.exception ≤ length e.items) q.added) p.exceptions q.known);
     ready = All-append (λ x. FindsException c.code x.target) p.added q.added
         (All-weaker (λ x. FindsException b.code x.target) (λ x. FindsException c.code x.target) (λ x h. still x.target h) p.added p.ready) q.ready;
+    placed = p.placed ++ q.placed;
+    located = q.located ∙ ap (λ l. l ++ q.placed) p.located ∙ append_assoc a.rows.places p.placed q.placed;
+    between = All-append (StandsBetween (here a.code) (here c.code)) p.placed q.placed
+        (wider_places (here a.code) (here b.code) (here a.code) (here c.code) p.placed (omega arith) over p.between)
+        (wider_places (here b.code) (here c.code) (here a.code) (here c.code) q.placed up (omega arith) q.between);
+    innermost = innermost_then (here a.code) (here b.code) (here c.code) p.placed q.placed p.between q.between p.innermost q.innermost;
   }
 
   module _ (i : Sections) (program : Program) (r : Handling) (h : IsHandled i program a c rows_then r) where
@@ -211,6 +225,10 @@ module _ (a s b d : Draft) (x : Surrounds a s b d) (p : AddsRows s b) where
     nested = p.nested;
     known = subst (λ e. All (λ q. q.exception ≤ length e.items) p.added) x.begun.1 p.known;
     ready = All-weaker (λ q. FindsException b.code q.target) (λ q. FindsException d.code q.target) (λ q h. x.still q.target h) p.added p.ready;
+    placed = p.placed;
+    located = ap (λ l. l.places) x.ended.0 ∙ p.located ∙ ap (λ l. l.places ++ p.placed) x.begun.0;
+    between = wider_places (here s.code) (here b.code) (here a.code) (here d.code) p.placed x.up x.over p.between;
+    innermost = p.innermost;
   }
 
   module _ (i : Sections) (program : Program) (r : Handling) (h : IsHandled i program a d rows_around r) where
@@ -232,3 +250,38 @@ module _ (a s b d : Draft) (x : Surrounds a s b d) (p : AddsRows s b) where
         (rows_second i r p.added [] (here a.code) (here b.code) (here d.code) (let u = x.up in let m = x.mid in omega (arith, u, m))
         (ends_before (here s.code) (here b.code) (here b.code) p.added (omega arith) p.within)
         (subst (λ l. GoesByRows i l r (here a.code) (here d.code)) (sym (append-nil p.added)) h.goes))
+
+-- ---- with the row of the place of the whole
+
+-- the draft with a row of this place for code that begins there
+abbrev pub marked_from : (first : ℕ) → Draft → (place : ℕ) → Draft
+marked_from first m place =
+    record m { rows = record m.rows { places = m.rows.places ++ record { first = first; behind = here m.code; place = place } ∷ [] } }
+
+module _ (a m : Draft) (place : ℕ) where
+  abbrev pub own_place : PlaceRow
+  own_place = record { first = here a.code; behind = here m.code; place = place }
+
+  abbrev pub marked : Draft
+  marked = marked_from (here a.code) m place
+
+  module _ (p : AddsRows a m) (up : here a.code ≤ here m.code) where
+    abbrev pub rows_marked : AddsRows a marked
+    rows_marked = record {
+      added = p.added;
+      appended = p.appended;
+      exceptions = p.exceptions;
+      within = p.within;
+      nested = p.nested;
+      known = p.known;
+      ready = p.ready;
+      placed = p.placed ++ own_place ∷ [];
+      located = ap (λ l. l ++ own_place ∷ []) p.located ∙ append_assoc a.rows.places p.placed (own_place ∷ []);
+      between = All-append (StandsBetween (here a.code) (here m.code)) p.placed (own_place ∷ []) p.between
+          (All-cons (StandsBetween (here a.code) (here m.code)) own_place [] (record { low = omega arith; runs = up; high = omega arith })
+          (All-nil (StandsBetween (here a.code) (here m.code))));
+      innermost = innermost_around own_place p.placed p.between p.innermost;
+    }
+
+    pub handled_marked : (i : Sections) (program : Program) (r : Handling) → IsHandled i program a marked rows_marked r → IsHandled i program a m p r
+    handled_marked i program r h = record { exceptions = h.exceptions; named = h.named; goes = h.goes }

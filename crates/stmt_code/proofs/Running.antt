@@ -148,6 +148,11 @@ module _ (v later : Visible) (a b c d e : Draft) (ds : List DeclarationTree) (bo
               (subst (Serves program g numbers (seeing f later)) (sym (taken_beside b c same)) front.1) (omega (arith, most_is, room)) handling
               (handled_inside a c d e around q.rows i program handling goes)))));
         };
+    tells = λ i h l program g numbers f names serves room handling goes.
+        let front = p.stands i (in_front i h) (labels_in_front i l) program g numbers f names serves (omega (arith, many, room)) in
+        q.tells i (in_body i h) (labels_of i l) program g numbers (seeing f later) refl
+        (subst (Serves program g numbers (seeing f later)) (sym (taken_beside b c same)) front.1) (omega (arith, most_is, room)) handling
+        (handled_inside a c d e around q.rows i program handling goes);
     flows = λ i s low high down up h l suits deep wide ends ways.
         let way : IsReachable i low high out = record {
           down = omega (arith, down, out_is, p.extends.longer);

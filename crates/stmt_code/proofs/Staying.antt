@@ -7,6 +7,7 @@ use Rattle.expr_code.proofs.Shallow.{shallow_as, shallow_more, shallow_self, sha
 use Rattle.part_code.specs.Needs.{Needs}
 use Rattle.stmt_code.specs.Staying.{Stays}
 use Rattle.stmt_code.specs.declared.draft.Draft.{Draft}
+use Rattle.stmt_code.specs.declared.tables.PlaceRow.{PlaceRow}
 use Rattle.part_code.specs.declared.frame_words.FrameWords.{FrameWords}
 use Rattle.part_code.proofs.Within.{Within}
 
@@ -50,6 +51,13 @@ stays_as old mid n l c same p = record {
   stack = shallow_as old.code mid.code c n.stack same p.stack;
   frame = p.frame;
 }
+
+-- ... or where a place was marked
+pub stays_marked : (old mid new : Draft) {n : Needs} {l : List (List ℕ)} {r : ℕ} {places : List PlaceRow} → Stays old n l r mid
+    → new ≡ record mid { rows = record mid.rows { places = places } }
+    → Stays old n l r new
+stays_marked old mid new {n} {l} {r} p same =
+    subst (Stays old n l r) (sym same) (record { labels = p.labels; rows = p.rows; stack = p.stack; frame = p.frame })
 
 -- a part behind others
 pub stays_then : (old mid new : Draft) (n m : Needs) (l : List (List ℕ)) {r : ℕ} (f : List (List ℕ) → List (List ℕ)) (many : ℕ → ℕ) → Within m n

@@ -165,5 +165,6 @@ module _ (kept : AgreementIsKept) (sized : ValuesHaveWords) (calls : CallsAreTyp
       subst (λ n. IsAssigned i program g numbers f (here a.code) n name e) (sym next) (stored i h program g numbers f names serves.laid),
       goes_kept a c same.2 i program handling goes,
     );
+    tells = λ i h l program g numbers f names serves room handling goes. tt;
     flows = λ i s low high down up h l suits deep wide ends ways. flows_by i s low high down up h suits deep ends slot.region refl;
   }

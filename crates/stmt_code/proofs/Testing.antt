@@ -193,6 +193,9 @@ module _ (v : Visible) (w : Ways) where
         goes_within i handling (here a.code) (here a.code + 2) (here tested) (here jumped.code) (goes_front a jumped c d around p.rows i program handling goes)
             (omega arith) (omega (arith, tested_here)),
       );
+      tells = λ i h l program g numbers f names serves room handling goes.
+          p.tells i (in_body i h) (inner_labels i l) program g numbers f names (subst (λ x. Serves program g numbers f x.taken) (sym ahead) serves)
+          (let m = ap (λ x. x.most) after in omega (arith, m, room)) handling (handled_inside a jumped c d around p.rows i program handling goes);
       flows = λ i s low high down up h l suits deep wide empty ways.
           let deepest : ends.turned.deepest ≤ s.stack = omega (arith, ap (λ n. n) patch.deepest, ap (λ n. n) ends.patches.deepest, deep) in
           let single : 1 ≤ s.stack = omega (arith, jump.within, jumped_turned.deeper, deepest) in

@@ -13,6 +13,7 @@ use Rattle.expr_code.specs.declared.visible.Visible.{Visible}
 use Rattle.part_code.specs.Bounds.{alternatives_bound}
 use Rattle.stmt_code.specs.Emitting.{EmitsOpen, HasWays, MeantTo}
 use Rattle.part_code.specs.Statements.{AreAlternatives, Ways}
+use Rattle.stmt_code.specs.Placing.{alternatives_within}
 use Rattle.stmt_code.specs.declared.draft.Draft.{Draft}
 
 -- ---- what is asked
@@ -43,4 +44,5 @@ pub record AddsAlternatives (v : Visible) (w : Ways) (e : ExprTree) (old : Draft
     (before after : List ℕ) (new : Draft) : Type 0 where
   pub waiting : List ℕ
   pub after_is : after ≡ before ++ waiting
-  pub emits : EmitsOpen (AreSelected w e all) v w 1 old (alternatives_bound v.scope (alternatives_of all)) waiting new
+  pub emits : EmitsOpen (AreSelected w e all) v w 1 old (alternatives_bound v.scope (alternatives_of all))
+      (alternatives_within (alternatives_of all)) waiting new

@@ -2,7 +2,7 @@
 use Rattle.std.specs.List.{All}
 use Rattle.std.specs.Prelude.{◌≡◌, ◌+◌, ◌≤◌, ◌<◌, ℕ, true, List, [], ◌∷◌, ◌++◌, length, Some, None, if◌then◌else◌, slice_get}
 use Rattle.ada_tree.specs.declared.statement.ExceptionChoice.{ExceptionChoice}
-use Rattle.ada_tree.specs.StatementTree.{HandlerTrees, MoreHandlers, StmtTrees, handlers_of}
+use Rattle.ada_tree.specs.StatementTree.{HandlerTrees, MoreHandlers, StmtTree, StmtTrees, handlers_of}
 use Rattle.handlers.specs.Innermost.{handles}
 use Rattle.handlers.specs.declared.rows.Row.{Row}
 use Rattle.image.specs.Rules.{has_depth}
@@ -19,7 +19,8 @@ use Rattle.expr_code.specs.Flows.{KeepsInstructionRules}
 use Rattle.expr_code.specs.Seeing.{Package}
 use Rattle.expr_code.specs.declared.visible.Visible.{Visible}
 use Rattle.part_code.specs.Bounds.{handlers_bound, sequence_bound}
-use Rattle.stmt_code.specs.Emitting.{AddsRows, Allows, Emits, EmitsStatements, FindsException, HasLabels, IsHandled, MeantTo, Serves}
+use Rattle.stmt_code.specs.Emitting.{AddsRows, Allows, Emits, EmitsStatements, FindsException, HasLabels, IsHandled, MeantTo, Serves, TellPlaces}
+use Rattle.stmt_code.specs.Placing.{handlers_within, sequence_within}
 use Rattle.part_code.specs.Handling.{Handling, or_answer}
 use Rattle.part_code.specs.Resting.{Framed}
 use Rattle.part_code.specs.Statements.{AreHandlers, IsSequence, Numbers, Ways}
@@ -61,7 +62,7 @@ AreEachKept i s low high from to = (k : ℕ) (x : Instr) → from ≤ k → k < 
 
 -- Code that nothing in front of it goes on to, and which goes on to nothing behind it but by the jumps that wait, which find an empty operand stack: what it is
 -- in every image that joins these to what stands behind, and that it keeps the rules of images.
-pub record EmitsApart (Is : MeantTo) (v : Visible) (w : Ways) (old : Draft) (size : ℕ) (waiting : List ℕ) (new : Draft) : Type 0 where
+pub record EmitsApart (Is : MeantTo) (v : Visible) (w : Ways) (old : Draft) (size : ℕ) (within : List StmtTree) (waiting : List ℕ) (new : Draft) : Type 0 where
   pub extends : Extends old.code new.code
   pub labels : StandsFrom 0 old.labels new.labels
   pub taken : new.words.taken ≡ old.words.taken
@@ -75,6 +76,11 @@ pub record EmitsApart (Is : MeantTo) (v : Visible) (w : Ways) (old : Draft) (siz
       → new.words.most ≤ f.room
       → (handling : Handling) → IsHandled i program old new rows handling
       → Is i program g numbers f handling end (here old.code) (here new.code)
+  pub tells : (i : Sections) (end : ℕ) → here new.code ≤ end → Joins i (here old.code) waiting end 0 new.code → HasLabels i new.labels
+      → (program : Program) (g : Package) (numbers : Numbers) (f : Framed) → f.names ≡ v → Serves program g numbers f old.words.taken
+      → new.words.most ≤ f.room
+      → (handling : Handling) → IsHandled i program old new rows handling
+      → TellPlaces i program g numbers rows.placed within
   pub flows : (i : Sections) (s : Subprogram) (low high end : ℕ) → low ≤ here old.code → here new.code ≤ end → end ≤ high
       → Joins i (here old.code) waiting end 0 new.code → HasLabels i new.labels → SuitsStatements v i s → new.code.deepest ≤ s.stack
       → new.words.most ≤ s.locals
@@ -94,7 +100,7 @@ pub record AddsHandlers (v : Visible) (w : Ways) (region : Row) (old : Draft) (a
   pub behind_is : behind ≡ front ++ own
   pub are_own : All (IsOwn region.start region.end_ old new) own
   pub spare : here new.code + length all ≤ here old.code + bound_of v.scope all
-  pub emits : EmitsApart (AreHandling w own all) v w old (bound_of v.scope all) waiting new
+  pub emits : EmitsApart (AreHandling w own all) v w old (bound_of v.scope all) (handlers_within (handlers_of all)) waiting new
 
 -- ---- the statements that they cover, and the whole
 
@@ -122,12 +128,14 @@ pub record AddsHandled (v : Visible) (w : Ways) (old : Draft) (all : List (List 
   pub own : List Row
   pub are_own : All (IsOwn cover.region.start cover.region.end_ old handled) own
   pub spare : here handled.code + length all ≤ here old.code + bound_of v.scope all
-  pub emits : EmitsApart (AreHandling w own all) v w old (bound_of v.scope all) waiting handled
+  pub emits : EmitsApart (AreHandling w own all) v w old (bound_of v.scope all) (handlers_within (handlers_of all)) waiting handled
   pub joins : Rejoins handled.code (cover.jump ∷ waiting) (here handled.code) new.code
   pub same : IsRest handled new
   pub rows : new.rows.items ≡ handled.rows.items ++ own
+  pub places : new.rows.places ≡ handled.rows.places
 
 -- the code of statements with their handlers, if they have any
 abbrev pub EmitsSequence : Visible → Ways → Draft → StmtTrees → HandlerTrees → Draft → Type 0
 EmitsSequence v w old body all new =
-    Emits (λ i program g numbers f handling from to. IsSequence i program g numbers f w handling from to body all) v w old (sequence_bound v.scope body all) new
+    Emits (λ i program g numbers f handling from to. IsSequence i program g numbers f w handling from to body all) v w old (sequence_bound v.scope body all)
+    (sequence_within body all) new

@@ -1,6 +1,6 @@
 -- What methods that add the code of statements promise.
 use Rattle.std.specs.List.{All}
-use Rattle.std.specs.Prelude.{◌≡◌, ◌≢◌, ℕ, ◌+◌, ◌≤◌, ◌<◌, true, List, [], ◌∷◌, ◌++◌, length, take, Option, Some, None, is_some, slice_get}
+use Rattle.std.specs.Prelude.{◌≡◌, ◌≢◌, ℕ, ◌+◌, ◌≤◌, ◌<◌, true, List, [], ◌∷◌, ◌++◌, length, take, Option, Some, None, is_some, slice_get, ⊤}
 use Rattle.ada_tree.specs.ExpressionTree.{ExprTree, ArgumentTree}
 use Rattle.ada_tree.specs.StatementTree.{DeclarationTree, ElsifTrees, HandlerTrees, MoreElsifs, StmtTree, StmtTrees, elsifs_of}
 use Rattle.handlers.specs.Nesting.{all_nested}
@@ -40,6 +40,8 @@ use Rattle.part_code.specs.Raising.{AreNamed}
 use Rattle.part_code.specs.Rows.{LiesWithin}
 use Rattle.part_code.specs.Statements.{AreDeclared, AreStatements, IsOtherwise, IsRun, IsStatement, Numbers, Ways}
 use Rattle.stmt_code.specs.declared.draft.Draft.{Draft}
+use Rattle.stmt_code.specs.declared.tables.PlaceRow.{PlaceRow}
+use Rattle.stmt_code.specs.Placing.{AreInnermostFirst, StandsBetween, elsifs_within, sequence_within, stmt_place, stmt_within, stmts_within}
 use Rattle.part_code.specs.Emitting.{IsReachable, HasEntries}
 use Rattle.types.specs.declared.entity.FormalParameter.{FormalParameter}
 use Rattle.part_code.specs.declared.call.Destination.{Destination}
@@ -126,15 +128,35 @@ pub record Allows (i : Sections) (s : Subprogram) (low high : ℕ) (w : Ways) : 
   pub return : (place : ℕ) → w.return ≡ Some place → IsReachable i low high place
   pub handled : (word : ℕ) → w.handled ≡ Some word → word < s.locals
 
--- ---- rows of handlers that were added
+-- ---- where the code of statements stands
+
+-- The row is that of the statement: its place, and the code between its places is that of the statement, where what is visible, the ways out and where
+-- exceptions go on are as at some place of the program.
+pub record TellsPlace (i : Sections) (program : Program) (g : Package) (numbers : Numbers) (q : PlaceRow) (x : StmtTree) : Type 0 where
+  pub place : q.place ≡ stmt_place x
+  pub frame : Framed
+  pub taken : ℕ
+  pub serves : Serves program g numbers frame taken
+  pub ways : Ways
+  pub handling : Handling
+  pub code : IsStatement i program g numbers frame ways handling q.first q.behind x
+
+-- as many rows as statements, in the same order, each that of its statement
+abbrev pub TellPlaces : Sections → Program → Package → Numbers → List PlaceRow → List StmtTree → Type 0
+TellPlaces i program g numbers [] [] = ⊤
+TellPlaces i program g numbers (q ∷ rows) (x ∷ xs) = TellsPlace i program g numbers q x × TellPlaces i program g numbers rows xs
+TellPlaces i program g numbers rows xs = ⊥
+
+-- ---- rows that were added
 
 -- the instruction there finds one word on the operand stack, which is the exception
 pub record FindsException (c : Code) (place : ℕ) : Type 0 where
   pub operation : Operation
   pub there : slice_get c.instructions.items place ≡ Some (record { depth = 1; operation = operation })
 
--- Rows were added for the code that was added: each covers places of it, and leads to one of it that finds the exception; they are for exceptions of the
--- program; and the regions of any two are nested, equal or disjoint. The exceptions stay the same.
+-- Rows were added for the code that was added. Of handlers: each covers places of it, and leads to one of it that finds the exception; they are for exceptions
+-- of the program; and the regions of any two are nested, equal or disjoint. Of places: each is that of code of it, inner ones first. The exceptions stay the
+-- same.
 pub record AddsRows (old new : Draft) : Type 0 where
   pub added : List Row
   pub appended : new.rows.items ≡ old.rows.items ++ added
@@ -143,6 +165,10 @@ pub record AddsRows (old new : Draft) : Type 0 where
   pub nested : all_nested added ≡ true
   pub known : All (λ q. q.exception ≤ length old.exceptions.items) added
   pub ready : All (λ q. FindsException new.code q.target) added
+  pub placed : List PlaceRow
+  pub located : new.rows.places ≡ old.rows.places ++ placed
+  pub between : All (StandsBetween (here old.code) (here new.code)) placed
+  pub innermost : AreInnermostFirst placed
 
 -- The program has these exceptions, each of which is found by its name, and what the added code raises goes on as the added rows tell, and else as around it.
 pub record IsHandled (i : Sections) (program : Program) (old new : Draft) (rows : AddsRows old new) (r : Handling) : Type 0 where
@@ -158,8 +184,8 @@ Meant = Sections → Program → Package → Numbers → Framed → Handling →
 
 -- The code that was added is what is meant, in every image that holds it and has the labels, whatever the rows of handlers around it answer, and in every frame
 -- with as many words; it has at most so many instructions; and it keeps the rules of images wherever what is behind it and the ways out are reached with an
--- empty operand stack. The words that it takes for names of its own are given back.
-pub record Emits (Is : Meant) (v : Visible) (w : Ways) (old : Draft) (size : ℕ) (new : Draft) : Type 0 where
+-- empty operand stack. The words that it takes for names of its own are given back. The rows of places that were added tell of these statements.
+pub record Emits (Is : Meant) (v : Visible) (w : Ways) (old : Draft) (size : ℕ) (within : List StmtTree) (new : Draft) : Type 0 where
   pub extends : Extends old.code new.code
   pub labels : StandsFrom 0 old.labels new.labels
   pub taken : new.words.taken ≡ old.words.taken
@@ -171,18 +197,30 @@ pub record Emits (Is : Meant) (v : Visible) (w : Ways) (old : Draft) (size : ℕ
       → new.words.most ≤ f.room
       → (handling : Handling) → IsHandled i program old new rows handling
       → Is i program g numbers f handling (here old.code) (here new.code)
+  pub tells : (i : Sections) → Holds i (here old.code) new.code → HasLabels i new.labels
+      → (program : Program) (g : Package) (numbers : Numbers) (f : Framed) → f.names ≡ v → Serves program g numbers f old.words.taken
+      → new.words.most ≤ f.room
+      → (handling : Handling) → IsHandled i program old new rows handling
+      → TellPlaces i program g numbers rows.placed within
   pub flows : (i : Sections) (s : Subprogram) (low high : ℕ) → low ≤ here old.code → here new.code ≤ high
       → Holds i (here old.code) new.code → HasLabels i new.labels → SuitsStatements v i s → new.code.deepest ≤ s.stack → new.words.most ≤ s.locals
       → has_depth i (here new.code) 0 ≡ true → Allows i s low high w
       → AreKeptBetween i s low high (here old.code) (here new.code) 0
 
+-- rows of places are those of the statements within it
 abbrev pub EmitsStatement : Visible → Ways → Draft → StmtTree → Draft → Type 0
 EmitsStatement v w old x new = Emits (λ i program g numbers f handling from to. IsStatement i program g numbers f w handling from to x) v w old
-    (stmt_bound v.scope x) new
+    (stmt_bound v.scope x) (stmt_within x) new
+
+-- ... and its own
+abbrev pub EmitsMarkedStatement : Visible → Ways → Draft → StmtTree → Draft → Type 0
+EmitsMarkedStatement v w old x new = Emits (λ i program g numbers f handling from to. IsStatement i program g numbers f w handling from to x) v w old
+    (stmt_bound v.scope x) (stmt_within x ++ x ∷ []) new
 
 abbrev pub EmitsStatements : Visible → Ways → Draft → StmtTrees → Draft → Type 0
 EmitsStatements v w old body new =
-    Emits (λ i program g numbers f handling from to. AreStatements i program g numbers f w handling from to body) v w old (stmts_bound v.scope body) new
+    Emits (λ i program g numbers f handling from to. AreStatements i program g numbers f w handling from to body) v w old (stmts_bound v.scope body)
+    (stmts_within body) new
 
 -- ---- declarations
 
@@ -222,7 +260,8 @@ abbrev pub MeantTo : Type 1
 MeantTo = Sections → Program → Package → Numbers → Framed → Handling → (end from to : ℕ) → Type 0
 
 -- ... in every image that joins the waiting jumps, which find an empty operand stack, to what stands behind; in front of it and behind it stand so many words
-pub record EmitsOpen (Is : MeantTo) (v : Visible) (w : Ways) (depth : ℕ) (old : Draft) (size : ℕ) (waiting : List ℕ) (new : Draft) : Type 0 where
+pub record EmitsOpen (Is : MeantTo) (v : Visible) (w : Ways) (depth : ℕ) (old : Draft) (size : ℕ) (within : List StmtTree) (waiting : List ℕ) (new : Draft)
+    : Type 0 where
   pub extends : Extends old.code new.code
   pub labels : StandsFrom 0 old.labels new.labels
   pub taken : new.words.taken ≡ old.words.taken
@@ -236,6 +275,11 @@ pub record EmitsOpen (Is : MeantTo) (v : Visible) (w : Ways) (depth : ℕ) (old 
       → new.words.most ≤ f.room
       → (handling : Handling) → IsHandled i program old new rows handling
       → Is i program g numbers f handling end (here old.code) (here new.code)
+  pub tells : (i : Sections) (end : ℕ) → here new.code ≤ end → Joins i (here old.code) waiting end 0 new.code → HasLabels i new.labels
+      → (program : Program) (g : Package) (numbers : Numbers) (f : Framed) → f.names ≡ v → Serves program g numbers f old.words.taken
+      → new.words.most ≤ f.room
+      → (handling : Handling) → IsHandled i program old new rows handling
+      → TellPlaces i program g numbers rows.placed within
   pub flows : (i : Sections) (s : Subprogram) (low high end : ℕ) → low ≤ here old.code → here new.code ≤ end → end ≤ high
       → Joins i (here old.code) waiting end 0 new.code → HasLabels i new.labels → SuitsStatements v i s → new.code.deepest ≤ s.stack
       → new.words.most ≤ s.locals → depth ≤ s.stack
@@ -258,7 +302,7 @@ AreParts w all i program g numbers f handling end from to =
 pub record AddsParts (v : Visible) (w : Ways) (old : Draft) (all : List (ExprTree × StmtTrees)) (before after : List ℕ) (new : Draft) : Type 0 where
   pub waiting : List ℕ
   pub after_is : after ≡ before ++ waiting
-  pub emits : EmitsOpen (AreParts w all) v w 0 old (elsifs_bound v.scope (elsifs_of all)) waiting new
+  pub emits : EmitsOpen (AreParts w all) v w 0 old (elsifs_bound v.scope (elsifs_of all)) (elsifs_within (elsifs_of all)) waiting new
 
 -- ---- bodies
 
@@ -278,7 +322,7 @@ no_ways = record { exit = None; return = None; handled = None }
 abbrev pub EmitsRun : Visible → Draft → List DeclarationTree → StmtTrees → HandlerTrees → Draft → Type 0
 EmitsRun v old ds body all new =
     Emits (λ i program g numbers f handling from to. handling ≡ unhandled → IsRun i program g numbers f from to ds body all) v no_ways old
-    (run_bound v.scope ds body all) new
+    (run_bound v.scope ds body all) (sequence_within body all) new
 
 -- ---- calls
 

@@ -1,3 +1,5 @@
+pub mod CodeTables
+pub mod Placing
 pub mod Emitting
 pub mod Alternatives
 pub mod Covering

@@ -5,9 +5,9 @@ ghost use Rattle.expr_code.specs.Refusing.{IsRefused};
 ghost use Rattle.part_code.specs.Labels.{with_label};
 ghost use Rattle.part_code.specs.Needs.{HasManyLabels};
 
+use crate::tables::CodeTables;
 use base::limits::LABELS;
 use expr_code::{Code, Refusal};
-use handlers::Row;
 use indexmap::IndexSet;
 use lexer::Text;
 use part_code::FrameWords;
@@ -71,8 +71,8 @@ pub struct Draft {
     pub code: Code,
     pub labels: Labels,
     pub words: FrameWords,
-    /// The rows of handlers in the code, inner ones first (docs/FORMATS.md).
-    pub rows: Vec<Row>,
+    /// The rows of handlers in the code, and those of the places of its statements.
+    pub rows: CodeTables,
     /// The names of the program's exceptions, by their numbers from 1.
     pub exceptions: Vec<Text>,
 }
@@ -85,13 +85,14 @@ impl Draft {
         ensures taken { result.words.taken ≡ 0 }
         ensures most { result.words.most ≡ 0 }
         ensures rows { result.rows.items ≡ [] }
+        ensures places { result.rows.places ≡ [] }
         ensures exceptions { result.exceptions ≡ exceptions }
     {
         Draft {
             code: Code::new(alloc),
             labels: Labels::new(alloc),
             words: FrameWords::new(),
-            rows: Vec::new(alloc),
+            rows: CodeTables::new(alloc),
             exceptions,
         }
     }

@@ -20,7 +20,7 @@ use handlers::Row;
 use handlers::laws::{rows_around, rows_inside};
 use image::Operation;
 use kernel::laws::quiet_stays;
-use part_code::{Leaving, add_choice_rows, add_rows};
+use part_code::{Leaving, add_choice_rows};
 use types::laws::values_have_words;
 
 /// Statements that handlers cover: what their rows cover, and the place of the jump over the handlers, which is the last of it.
@@ -113,7 +113,7 @@ impl Draft {
         waiting.push(cover.jump)?;
         self.each_handler(visible, leaving, all, cover.region, &mut own, &mut waiting)?;
         self.code.rejoin(&waiting)?;
-        add_rows(&mut self.rows, &own)
+        self.rows.handle(&own)
     }
 
     // Adds their code, one behind another, and keeps their rows.

@@ -11,12 +11,16 @@ mod draft;
 mod formals;
 mod handler;
 pub mod laws;
+mod marking;
 mod moving;
 mod put;
 mod raise;
 mod range_loop;
 mod statement;
 mod subprogram;
+mod tables;
 
 pub use draft::{Draft, Labels};
+pub use marking::stmt_place;
 pub use subprogram::SubprogramWords;
+pub use tables::{CodeTables, PlaceRow};

@@ -145,7 +145,9 @@ impl Draft {
         ensures same { OnOk result (visible.new ≡ visible.old) }
     {
         for statement in all {
+            let first = self.code.instructions.len();
             self.statement(visible, leaving, statement)?;
+            self.mark(first, statement)?;
         }
         Ok(())
     }

@@ -80,9 +80,13 @@ returns-clause-program c =
             },
             tt,
           ));
-      rows = refl;
+      rows = c.split-rows.ensures.handlers;
       instructions = refl;
     }
+
+pub returns-clause-places : goal.returns-clause-places
+unfolding returns-clause-program
+returns-clause-places c = record { program = returns-clause-program c; placed = c.split-rows.ensures.places }
 
 pub task_rows-requires : goal.task_rows-requires
 task_rows-requires c = record { directory = c.in_ok-words.ensures.directory }
@@ -95,7 +99,8 @@ returns-clause-labels c =
 pub returns-clause-rows : goal.returns-clause-rows
 returns-clause-rows c =
     let t = program_tree c.args.accepted.now in
-    ap (λ r. length r.items) c.in_ok-main.ensures.adds.rows ∙ rows_told t c.in_ok-walk.walk c.in_ok-walk.ensures.told c.in_ok-walk.ensures.whole
+    ap length c.split-rows.ensures.handlers ∙ ap (λ r. length r.items) c.in_ok-main.ensures.adds.rows
+    ∙ rows_told t c.in_ok-walk.walk c.in_ok-walk.ensures.told c.in_ok-walk.ensures.whole
 
 pub returns-in_err-words-clause-refused : goal.returns-in_err-words-clause-refused
 returns-in_err-words-clause-refused c =

@@ -1,4 +1,4 @@
-use Rattle.std.proofs.Common.{sym, ap, ◌∙◌}
+use Rattle.std.proofs.Common.{rules, sym, ap, ◌∙◌}
 use Rattle.ada_tree.specs.StatementTree.{optional_tree}
 use Rattle.ada_tree.specs.ProgramTree.{package_tree, program_tree}
 use Rattle.program_soundness.specs.Fronts.{start_in}
@@ -36,3 +36,13 @@ declarations-requires-clause-told c =
     c.in_ok-walk.walk c.in_ok-walk.ensures.begins
     (c.in_ok-inside_scope.ensures ∙ ap (λ o. start_in (optional_tree package_tree o)) (sym c.requires.is))
     (c.in_ok-operations.ensures.numbers ∙ ap (λ s. operations_told s c.args.directory.now) c.scope.ensures)
+
+pub returns-in_err-declarations-clause-refused : goal.returns-in_err-declarations-clause-refused
+returns-in_err-declarations-clause-refused c =
+    let whole = c.in_err-declarations.ensures.refused in
+    search (rules, whole, c.from_residual-in_err-declarations.ensures)
+
+pub returns-in_err-bodies-clause-refused : goal.returns-in_err-bodies-clause-refused
+returns-in_err-bodies-clause-refused c =
+    let whole = c.in_err-bodies.ensures.refused in
+    search (rules, whole, c.from_residual-in_err-bodies.ensures)

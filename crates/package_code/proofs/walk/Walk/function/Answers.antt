@@ -1,15 +1,17 @@
-use Rattle.std.proofs.Common.{◌≡◌, sym, ap, ◌∙◌, subst}
-use Rattle.std.proofs.lemmas.Result.{IfErr-weaker, IfOk-weaker, on_ok_weaker}
+use Rattle.std.proofs.Common.{◌≡◌, Err, false, rules, sym, ap, ◌∙◌, subst}
+use Rattle.std.specs.Prelude.{IfErr}
 use Rattle.ada_tree.specs.ExpressionTree.{expr_tree}
 use Rattle.ada_tree.specs.ProgramTree.{body_tree, program_tree}
 use Rattle.ada_tree.specs.StatementTree.{stmt_trees, subprogram_tree}
 use Rattle.declaring.specs.BodyNames.{formals_scope}
 use Rattle.expr_soundness.specs.meaning.specs.Programs.{program_of, returned, subtype_named}
+use Rattle.expr_code.specs.Code.{here}
 use Rattle.expr_code.specs.Emitting.{IsFit}
 use Rattle.stmt_code.specs.Subprograms.{AddsFunction, IsCalledFunction}
 use Rattle.stmt_code.specs.WholeRefusals.{RefusesFunction}
-use Rattle.package_code.specs.Walking.{AddsValueFunction, RefusesBody}
-use Rattle.package_code.proofs.BodyRefused.{both_ok, value_refused, value_told}
+use Rattle.package_code.specs.Walking.{RefusesBody, first_statement_place}
+use Rattle.package_code.proofs.BodyRefused.{value_refused, value_told}
+use Rattle.package_code.proofs.MarkedFunctions.{keeps_marked, marked_so}
 use Rattle.package_code.proofs.walk.Walk.function.Goals as goal
 
 pub function-requires-clause-fit : goal.function-requires-clause-fit
@@ -28,44 +30,58 @@ returns-clause-adds c =
     let value = expr_tree c.returned-value.result.now in
     let v = c.args.self.now.visible in
     let old = c.args.self.now.draft in
-    let d = subprogram_tree c.args.subprogram.now in
-    IfOk-weaker c.function.result (λ words. AddsFunction v old c.deref-2.result.now c.result_subtype-result.result value words c.function.new.self)
-    (λ words. AddsValueFunction (program_tree c.args.accepted.now) d (body_tree c.args.body.now) c.args.subtype.now v old words c.function.new.self)
-    (λ words h. record {
+    let mid = c.function.new.self in
+    let first : c.len-first.result ≡ here old.code = search rules in
+    let behind : c.len-behind.result ≡ here mid.code = search rules in
+    let place = c.first_statement_place-place.ensures ∙ ap (λ l. first_statement_place (stmt_trees l)) c.deref-3.ensures.value in
+    record {
       value = value;
       returns = ap (λ l. returned (stmt_trees l)) (sym c.deref.ensures.value) ∙ c.returned-value.ensures;
       result = c.result_subtype-result.result;
       named = c.result_subtype-result.ensures ∙ ap (λ z. subtype_named z c.args.subtype.now) c.scope.ensures;
-      adds = subst (λ l. AddsFunction v old l c.result_subtype-result.result value words c.function.new.self)
-          c.deref-2.ensures.value h;
-    }) c.function.ensures.adds
+      mid = mid;
+      adds = subst (λ l. AddsFunction v old l c.result_subtype-result.result value c.in_ok-words.words mid) c.deref-2.ensures.value c.in_ok-words.ensures.adds;
+      marked = marked_so mid c.mark.new.self c.len-first.result c.len-behind.result c.first_statement_place-place.result (here old.code) (here mid.code)
+          (first_statement_place (body_tree c.args.body.now).statements) c.in_ok-mark.ensures.rows first behind place;
+    }
+
+pub returns-clause-keeps : goal.returns-clause-keeps
+returns-clause-keeps c =
+    let old = c.args.self.now.draft in
+    let mid = c.function.new.self in
+    let first : c.len-first.result ≡ here old.code = search rules in
+    let behind : c.len-behind.result ≡ here mid.code = search rules in
+    let place = c.first_statement_place-place.ensures ∙ ap (λ l. first_statement_place (stmt_trees l)) c.deref-3.ensures.value in
+    keeps_marked false c.args.self.now.visible old mid (record mid { rows = c.mark.new.self }) c.in_ok-words.words
+    (first_statement_place (body_tree c.args.body.now).statements) c.in_ok-words.ensures.keeps
+    (marked_so mid c.mark.new.self c.len-first.result c.len-behind.result c.first_statement_place-place.result (here old.code) (here mid.code)
+    (first_statement_place (body_tree c.args.body.now).statements) c.in_ok-mark.ensures.rows first behind place)
 
 pub returns-clause-called : goal.returns-clause-called
 returns-clause-called c =
     let s = c.args.self.now.visible.scope in
-    let d = subprogram_tree c.args.subprogram.now in
     let named : c.result_subtype-result.result ≡ subtype_named (program_of (program_tree c.args.accepted.now)).scope c.args.subtype.now =
     c.result_subtype-result.ensures ∙ ap (λ z. subtype_named z c.args.subtype.now) c.scope.ensures in
-    IfOk-weaker c.function.result (λ words. IsCalledFunction s c.deref-2.result.now c.result_subtype-result.result words)
-    (λ words. IsCalledFunction s d.formals (subtype_named (program_of (program_tree c.args.accepted.now)).scope c.args.subtype.now) words)
-    (λ words h.
-    subst (λ l. IsCalledFunction s l (subtype_named (program_of (program_tree c.args.accepted.now)).scope c.args.subtype.now) words) c.deref-2.ensures.value
-    (subst (λ t. IsCalledFunction s c.deref-2.result.now t words) named h)) c.function.ensures.called
+    subst (λ l. IsCalledFunction s l (subtype_named (program_of (program_tree c.args.accepted.now)).scope c.args.subtype.now) c.in_ok-words.words)
+    c.deref-2.ensures.value
+    (subst (λ t. IsCalledFunction s c.deref-2.result.now t c.in_ok-words.words) named c.in_ok-words.ensures.called)
 
 pub returns-clause-told : goal.returns-clause-told
 returns-clause-told c =
-    on_ok_weaker c.function.result
-    (λ h. value_told c.args.self.now.draft c.function.new.self (subprogram_tree c.args.subprogram.now) (body_tree c.args.body.now) c.args.subtype.now
-    c.requires.subtype h.0 h.1) (both_ok c.function.result _ _ c.function.ensures.labels c.function.ensures.rows)
+    value_told c.args.self.now.draft (record c.function.new.self { rows = c.mark.new.self }) (subprogram_tree c.args.subprogram.now)
+    (body_tree c.args.body.now) c.args.subtype.now c.requires.subtype c.in_ok-words.ensures.labels
+    (ap (λ z. z.items) c.in_ok-mark.ensures.rows ∙ ap (λ z. z.items) c.in_ok-words.ensures.rows)
 
-pub returns-clause-refused : goal.returns-clause-refused
-returns-clause-refused c =
+pub returns-in_err-words-clause-refused : goal.returns-in_err-words-clause-refused
+returns-in_err-words-clause-refused c =
     let value = expr_tree c.returned-value.result.now in
     let v = c.args.self.now.visible in
     let old = c.args.self.now.draft in
+    let why = c.in_err-words.field-0.0 in
     let d = subprogram_tree c.args.subprogram.now in
-    IfErr-weaker c.function.result (λ why. RefusesFunction v old c.deref-2.result.now value why) (λ why. RefusesBody v old d (body_tree c.args.body.now) why)
-    (λ why h.
+    let whole : RefusesBody v old d (body_tree c.args.body.now) why =
     value_refused v old d (body_tree c.args.body.now) why c.args.subtype.now value c.requires.subtype
     (ap (λ l. returned (stmt_trees l)) (sym c.deref.ensures.value) ∙ c.returned-value.ensures)
-    (subst (λ l. RefusesFunction v old l value why) c.deref-2.ensures.value h)) c.function.ensures.refused
+    (subst (λ l. RefusesFunction v old l value why) c.deref-2.ensures.value c.in_err-words.ensures.refused) in
+    let is : c.from_residual.result ≡ Err why = search rules in
+    subst (λ r. IfErr r (λ f. RefusesBody v old d (body_tree c.args.body.now) f)) (sym is) whole

@@ -9,11 +9,14 @@ use Rattle.stmt_code.specs.Refusing.{around, stmts_needs}
 use Rattle.stmt_code.specs.Staying.{StaysStatement}
 use Rattle.stmt_code.specs.Emitting.{AddsParts, AreAcceptedElsifs, AreAcceptedStatements, EmitsStatement, EmitsStatements, IsAcceptedStatement}
 use Rattle.part_code.specs.Emitting.{HasEntries, ways_of}
+use Rattle.expr_code.specs.Code.{here}
+use Rattle.stmt_code.specs.Placing.{stmt_place}
 use Rattle.stmt_code.proofs.Accepting.{covered_still}
-use Rattle.stmt_code.proofs.Adding.{all_statements, no_statements, none_there, null_emits, statement_accepted, statements_next}
+use Rattle.stmt_code.proofs.Adding.{all_statements, marked_emits, no_statements, none_there, null_emits, statement_accepted, statements_next}
 use Rattle.stmt_code.proofs.Opening.{if_body, if_condition, if_elsifs, if_emits, if_others, waiting_there}
+use Rattle.stmt_code.proofs.RowsAdded.{marked_from}
 use Rattle.stmt_code.proofs.PartsStay.{statements_end, statements_stay}
-use Rattle.stmt_code.proofs.Staying.{stays_self}
+use Rattle.stmt_code.proofs.Staying.{stays_marked, stays_self}
 use Rattle.stmt_code.proofs.draft.Draft.+statement.Goals as goal
 
 -- ---- a statement
@@ -332,16 +335,21 @@ statements-statement-requires t c =
 pub statements-loop-statement-preserved : goal.statements-loop-statement-preserved
 statements-loop-statement-preserved t c =
     let w = ways_of c.args.leaving in
-    let there = c.loop-statement.invariant.1 in (
-      statements_next c.args.visible.now w c.args.self.now c.loop-statement.self c.statement.new.self c.args.all.now _ c.statement-item.result
+    let there = c.loop-statement.invariant.1 in
+    let first : c.len-first.result ≡ here c.loop-statement.self.code = search rules in
+    let marks = c.in_ok-mark.ensures.marks ∙ ap (λ n. marked_from n c.statement.new.self (stmt_place (stmt_tree c.statement-item.result))) first in (
+      statements_next c.args.visible.now w c.args.self.now c.loop-statement.self c.mark.new.self c.args.all.now _ c.statement-item.result
           c.loop-statement-test.true c.statement-item.is c.loop-statement.invariant.0
-          (subst (λ x. EmitsStatement x w c.loop-statement.self (stmt_tree c.statement-item.result) c.statement.new.self) there c.in_ok-statement.ensures.emits),
+          (marked_emits c.args.visible.now w c.loop-statement.self c.statement.new.self c.mark.new.self (stmt_tree c.statement-item.result)
+          (subst (λ x. EmitsStatement x w c.loop-statement.self (stmt_tree c.statement-item.result) c.statement.new.self) there c.in_ok-statement.ensures.emits)
+          marks),
       c.in_ok-statement.ensures.same ∙ there,
-      statements_stay c.args.visible.now c.args.self.now c.loop-statement.self c.statement.new.self c.args.all.now _ c.statement-item.result
+      statements_stay c.args.visible.now c.args.self.now c.loop-statement.self c.mark.new.self c.args.all.now _ c.statement-item.result
           c.loop-statement-test.true c.statement-item.is c.loop-statement.invariant.0.taken
           c.loop-statement.invariant.2
+          (stays_marked c.loop-statement.self c.statement.new.self c.mark.new.self
           (subst (λ x. StaysStatement x c.loop-statement.self (stmt_tree c.statement-item.result) c.statement.new.self) there
-          c.in_ok-statement.ensures.stays),
+          c.in_ok-statement.ensures.stays) marks),
     )
 
 pub statements-returns-clause-stays : goal.statements-returns-clause-stays

@@ -192,8 +192,8 @@ handlers-returns-clause-handles t c =
     let start : c.push.new.self.items ≡ c.args.cover.jump ∷ [] = search rules in
     let places = c.deref.ensures.value ∙ adds.after_is ∙ ap (λ l. l ++ adds.waiting) start in
     let own = c.deref-2.ensures.value ∙ adds.behind_is ∙ ap (λ l. l ++ adds.own) c.new-own.ensures.items in
-    let new : Draft = record c.each_handler.new.self { code = c.rejoin.new.self; rows = c.add_rows.new.rows } in
-    let handled : c.add_rows.new.rows.items ≡ c.each_handler.new.self.rows.items ++ c.deref-2.result.now
+    let new : Draft = record c.each_handler.new.self { code = c.rejoin.new.self; rows = c.handle.new.self } in
+    let handled : c.handle.new.self ≡ record c.each_handler.new.self.rows { items = c.each_handler.new.self.rows.items ++ c.deref-2.result.now }
     → AddsHandled c.args.visible.now (ways_of c.args.leaving) c.args.self.now (map handler_tree c.args.all.now) c.args.cover new =
     λ r. record {
       handled = c.each_handler.new.self;
@@ -204,13 +204,14 @@ handlers-returns-clause-handles t c =
       emits = adds.emits;
       joins = subst (λ l. Rejoins c.each_handler.new.self.code l (here c.each_handler.new.self.code) c.rejoin.new.self) places c.in_ok-rejoin.ensures.rejoins;
       same = record { labels = refl; words = refl; exceptions = refl };
-      rows = r ∙ ap (λ l. c.each_handler.new.self.rows.items ++ l) own;
+      rows = ap (λ t. t.items) r ∙ ap (λ l. c.each_handler.new.self.rows.items ++ l) own;
+      places = ap (λ t. t.places) r;
     } in
-    on_ok_weaker _ handled c.add_rows.ensures.rows
+    on_ok_weaker _ handled c.handle.ensures.rows
 
 pub handlers-returns-clause-stays : goal.handlers-returns-clause-stays
 handlers-returns-clause-stays t c =
-    let new : Draft = record c.each_handler.new.self { code = c.rejoin.new.self; rows = c.add_rows.new.rows } in
+    let new : Draft = record c.each_handler.new.self { code = c.rejoin.new.self; rows = c.handle.new.self } in
     let none = ap length c.new-own.ensures.items in
     let many = c.in_ok-each_handler.ensures.many in
     on_ok_weaker _
@@ -218,8 +219,8 @@ handlers-returns-clause-stays t c =
     handled_stays c.args.visible.now c.args.self.now
     (handler_trees c.args.all.now) c.each_handler.new.own.items c.each_handler.new.self new
     c.in_ok-each_handler.ensures.stays (omega (arith, none, many)) c.in_ok-rejoin.ensures.rejoins.deepest refl refl
-    (r ∙ ap (λ l. c.each_handler.new.self.rows.items ++ l) c.deref-2.ensures.value))
-    c.add_rows.ensures.rows
+    (ap (λ t. t.items) r ∙ ap (λ l. c.each_handler.new.self.rows.items ++ l) c.deref-2.ensures.value))
+    c.handle.ensures.rows
 
 -- ---- a block with handlers
 

@@ -1,8 +1,9 @@
-use Rattle.std.proofs.Common.{ap, rules}
+use Rattle.std.proofs.Common.{ap, rules, subst, sym}
 use Rattle.ada_tree.specs.ProgramTree.{program_tree}
+use Rattle.package_code.specs.Places.{PlacesTell}
 use Rattle.ada_link.proofs.Refusals.{compiling_refused}
 use Rattle.ada_link.proofs.MemoryAlone.{memory_alone}
-use Rattle.ada_link.proofs.compiling.compile_tree.Goals as goal
+use Rattle.ada_link.proofs.compiling.compile_with_places.Goals as goal
 
 pub returns-in_err-parts-clause-refused : goal.returns-in_err-parts-clause-refused
 returns-in_err-parts-clause-refused c =
@@ -35,3 +36,10 @@ unreachable-requires c =
     (c.sections_are_well_formed.ensures _ _ c.program-program.ensures.legal c.program-program.ensures.restricted c.in_ok-parts.ensures.program c.in_ok-parts.ensures.tables)
     c.in-Err.ensures.refused in
     c.if-fault-eq-MEMORY_REFUSED.false (ap (λ f. f.number) alone)
+
+pub returns-in-Ok-clause-places : goal.returns-in-Ok-clause-places
+returns-in-Ok-clause-places c =
+    rw c.in-Ok.ensures.same
+    (subst (PlacesTell (program_tree c.args.accepted.now) c.in_ok-parts.field-0.parts) (sym c.new.ensures)
+    (c.places_are_told.ensures _ _ _ c.program-program.ensures.legal c.program-program.ensures.restricted c.in-Ok.ensures.well_formed
+    c.in_ok-parts.ensures.places))

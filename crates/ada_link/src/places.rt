@@ -1,0 +1,50 @@
+//! Where in the source stands what an instruction of an image is the code of.
+ghost use Rattle.std.specs.Prelude.{◌≡◌};
+ghost use Rattle.stmt_code.specs.Placing.{place_at};
+
+use std::marker::Model;
+use stmt_code::PlaceRow;
+
+/// The places of a program's statements, by the instructions of its image. Contracts see its rows, those of inner statements first.
+#[derive(Drop)]
+pub struct Places {
+    rows: Vec<PlaceRow>,
+}
+
+impl Model for Places {
+    ghost use Rattle.std.specs.Prelude.{List};
+    ghost use Rattle.stmt_code.specs.declared.tables.PlaceRow.{PlaceRow};
+
+    ghost Value = { List PlaceRow };
+
+    ghost view = { λ p. p.rows.items };
+}
+
+// The place of the first row that covers the instruction at this address.
+fn place_at(rows: &[PlaceRow], address: usize) -> Option<u32>
+    ensures { result ≡ place_at rows.now address }
+{
+    for row in rows {
+        if row.first <= address && address < row.behind {
+            return Some(row.place);
+        }
+    }
+    None
+}
+
+impl Places {
+    /// Those of these rows.
+    pub(crate) fn new(rows: Vec<PlaceRow>) -> Places
+        ensures { result ≡ rows.items }
+    {
+        Places { rows }
+    }
+
+    /// The place, in bytes of the source, of the innermost statement whose code has the instruction at this address, where a function's is that of its return;
+    /// none where it is code of no statement, as that of first values in front of a body's statements, of what a body gives back, and of main.
+    pub fn place_of(&self, address: usize) -> Option<u32>
+        ensures { result ≡ place_at self.now address }
+    {
+        place_at(&self.rows, address)
+    }
+}

@@ -1,0 +1,261 @@
+-- The rows of places of a whole program tell of the statements of its bodies.
+use Rattle.std.proofs.Common.{◌≡◌, ℕ, zero, suc, ◌+◌, List, [], ◌∷◌, ◌++◌, length, ◌⊎◌, inl, inr, Option, None, Some, refl, sym, ap, ◌∙◌, subst, arith, append-nil, append_assoc}
+use Rattle.std.proofs.lemmas.Option.{slice_get_within}
+use Rattle.std.specs.Prelude.{slice_get}
+use Rattle.image_laws.specs.kernel.specs.Laws.{QuietStays, ViewsBack, ViewsOn}
+use Rattle.image_laws.specs.Laws.{ImagesHaveSize}
+use Rattle.ada_tree.specs.declared.expression.Identifier.{Identifier}
+use Rattle.ada_tree.specs.ExpressionTree.{ExprTree}
+use Rattle.ada_tree.specs.StatementTree.{HandlerTrees, MoreStmts, NoStmts, Return, StmtTree, StmtTrees}
+use Rattle.ada_tree.specs.ProgramTree.{BodyItemTree, BodyTree, EntryBody, OfItem, OperationBody, ProgramTree, ProtectedBody, ProtectedItemTree, SubprogramBody, TaskBody}
+use Rattle.image.specs.Operations.{called, results_of}
+use Rattle.image.specs.Rules.{IsWellFormed}
+use Rattle.image.specs.Sections.{Sections}
+use Rattle.image.specs.declared.subprograms.Subprogram.{Subprogram}
+use Rattle.types.specs.Laws.{InitialValuesHaveShape}
+use Rattle.program_soundness.specs.checking.specs.ProgramRules.{IsLegal}
+use Rattle.ravenscar.specs.ProgramRules.{IsRestricted}
+use Rattle.expr_soundness.specs.meaning.specs.Programs.{Program, program_of, returned}
+use Rattle.program_soundness.proofs.Listing.{front_at, same_some}
+use Rattle.program_soundness.specs.Fronts.{declared_in, front}
+use Rattle.expr_code.specs.Code.{here}
+use Rattle.expr_code.specs.Seeing.{Package}
+use Rattle.step_simulation.specs.part_code.specs.Resting.{Framed}
+use Rattle.step_simulation.specs.part_code.specs.Statements.{Numbers, procedure_kind}
+use Rattle.stmt_code.specs.Emitting.{TellPlaces}
+use Rattle.stmt_code.specs.Placing.{AreInnermostFirst, sequence_within, stmt_place}
+use Rattle.stmt_code.specs.declared.tables.PlaceRow.{PlaceRow}
+use Rattle.stmt_code.proofs.PlacesAdded.{row_told, told_row}
+use Rattle.package_code.specs.Bodies.{Coded, bodies_of, coded_at, of_subprogram, of_task, operation_kind}
+use Rattle.package_code.specs.Package.{IsInFront, IsPackageOf}
+use Rattle.package_code.specs.Places.{HasPlaceRow, PlacesAreTold, TellsOfBody, TellsReturn, statements_of}
+use Rattle.package_code.specs.Program.{HasProgram}
+use Rattle.package_code.specs.Walking.{AddsValueFunction, HasBody, IsOfBody, first_statement_place, row_of}
+use Rattle.package_code.proofs.BodyFronts.{IsEntrance}
+use Rattle.package_code.proofs.Coded.{body_of, coded_many, get_behind}
+use Rattle.package_code.proofs.CodedPackage.{IsOperation}
+use Rattle.package_code.proofs.EmittedBodies.{procedure_tells}
+use Rattle.package_code.proofs.EmittedTasks.{task_tells}
+use Rattle.package_code.proofs.EntryRows.{element}
+use Rattle.package_code.proofs.InFront.{LawsOfNames}
+use Rattle.package_code.proofs.Linking.{as_function, as_procedure, begins_there, body_there, called_front, handled_there, holds_there, in_front, labels_there, numbers_of, of_program, operation_code, operation_enters, own_code, package_enters, package_of, sections_linked}
+use Rattle.package_code.proofs.NamedExceptions.{exceptions_are_named}
+use Rattle.package_code.proofs.OperationBodies.{code_of, coded, object}
+
+-- ---- lists
+
+same_tail : {X : Type 0} (x : X) (a b : List X) → (x ∷ a) ≡ (x ∷ b) → a ≡ b
+same_tail x a b e = cc
+
+-- what stands behind the same
+behind_same : {X : Type 0} (xs a b : List X) → xs ++ a ≡ xs ++ b → a ≡ b
+behind_same [] a b e = e
+behind_same (x ∷ xs) a b e = behind_same xs a b (same_tail x (xs ++ a) (xs ++ b) e)
+
+only : {X : Type 0} (x c : X) (k : ℕ) → slice_get (x ∷ []) k ≡ Some c → x ≡ c
+only x c zero e = same_some x c e
+only x c (suc k) e = cc
+
+nothing_there : {X : Type 0} (q : X) (n : ℕ) → slice_get [] n ≡ Some q → ⊥
+nothing_there q n e = cc
+
+either_result : (o : Option Identifier) → (o ≡ None) ⊎ ((r : Identifier) × (o ≡ Some r))
+either_result None = inl refl
+either_result (Some r) = inr (r, refl)
+
+-- ---- the return of a function
+
+-- the statement that returns the value, and its place
+abbrev IsReturned : StmtTrees → HandlerTrees → Type 0
+IsReturned all hs = (x : StmtTree) × (slice_get (sequence_within all hs) 0 ≡ Some x) × (first_statement_place all ≡ stmt_place x)
+
+returned_there : (all : StmtTrees) (hs : HandlerTrees) (value : ExprTree) → returned all ≡ Some value → IsReturned all hs
+returned_there (MoreStmts (Return place e) NoStmts) hs value h = (Return place e, refl, refl)
+returned_there all hs value h = absurd cc
+
+-- ---- the bodies of a program
+
+module _ (t : ProgramTree) (i : Sections) (h : HasProgram t i) (laws : LawsOfNames) (quiet : QuietStays) (views : ViewsOn) (back : ViewsBack)
+    (shaped : InitialValuesHaveShape) (legal : IsLegal t) (restricted : IsRestricted t) (well_formed : IsWellFormed i) where
+  abbrev program : Program
+  program = program_of t
+
+  abbrev g : Package
+  g = package_of program h.directory
+
+  abbrev numbers : Numbers
+  numbers = numbers_of program h.directory
+
+  abbrev package_is : IsPackageOf t i g
+  package_is = of_program t i h laws quiet views back shaped legal restricted well_formed
+
+  -- the rows that were added with the code of such a body tell of its statements
+  abbrev TellsOf : Coded → Type 0
+  TellsOf c = (number : ℕ) (body : HasBody t h.directory number c h.walk) → c.head.result ≡ None
+      → TellPlaces i program g numbers body.keeps.rows.placed (statements_of c)
+
+  procedure_places : (c : Coded) (barrier : Option ExprTree) → (c.head.result ≡ None → c.kind ≡ procedure_kind c.owner barrier)
+      → ((v : Framed) → IsInFront c.front g c.owner v → IsEntrance t g c.owner v c.head c.body) → TellsOf c
+  procedure_places c barrier kind entrance number body none =
+      let adds = as_procedure t c.head c.body body.seen body.old body.words body.new body.adds none in
+      let row : Subprogram = row_of c.kind body.words (here body.new.code) in
+      let there : called i number ≡ Some row = called_front t i h number row body.there in
+      subst (λ l. TellPlaces i program g numbers l (statements_of c))
+      (behind_same body.old.rows.places adds.runs.rows.placed body.keeps.rows.placed
+      (sym adds.runs.rows.located ∙ sym (ap (λ r. r.places) adds.rows) ∙ body.keeps.rows.located))
+      (procedure_tells laws quiet shaped t legal restricted i well_formed g package_is numbers c.owner c.head c.body body.seen body.old body.new body.words
+      adds number row there (begins_there t i h number c body) refl refl (ap results_of there) refl barrier (kind none) (holds_there t i h number c body)
+      (labels_there t i h number c body) (handled_there t i h number c body (exceptions_are_named laws.premises t legal restricted) adds) (λ q n told. told)
+      (entrance _ (in_front t i h c.front c.owner _ body.scope refl body.told)))
+
+  task_places : (place : ℕ) (name : Identifier) (b : BodyTree) → slice_get (declared_in t.package_) place ≡ Some (TaskBody name b)
+      → TellsOf (of_task (front t (suc place)) name b)
+  task_places place name b at number body none =
+      let c : Coded = of_task (front t (suc place)) name b in
+      let row : Subprogram = row_of c.kind body.words (here body.new.code) in
+      let there : called i number ≡ Some row = called_front t i h number row body.there in
+      subst (λ l. TellPlaces i program g numbers l (statements_of c))
+      (behind_same body.old.rows.places body.adds.runs.rows.placed body.keeps.rows.placed
+      (sym body.adds.runs.rows.located ∙ sym (ap (λ r. r.places) body.adds.rows) ∙ body.keeps.rows.located))
+      (task_tells laws t legal restricted i well_formed g package_is numbers place b body.seen body.old body.new body.words body.adds number row there
+      (begins_there t i h number c body) refl refl refl (holds_there t i h number c body) (labels_there t i h number c body)
+      (handled_there t i h number c body (exceptions_are_named laws.premises t legal restricted) body.adds) (λ q n told. told)
+      (in_front t i h (front t (suc place)) None _ body.scope refl body.told))
+
+  operation_places : (owner : Option ℕ) (u : ProtectedItemTree) (x : IsOperation laws t legal restricted owner u)
+      → TellsOf (operation_code t i h laws quiet views back shaped legal restricted well_formed owner u x)
+  operation_places owner (OperationBody d b) x =
+      procedure_places (operation_code t i h laws quiet views back shaped legal restricted well_formed owner (OperationBody d b) x) None
+      (λ none. ap (operation_kind (object laws.scopes laws.names laws.premises t legal restricted x.place x.name x.items x.end_name x.at).number) none)
+      (operation_enters t i h laws quiet views back shaped legal restricted well_formed owner (OperationBody d b) x)
+  operation_places owner (EntryBody d barrier b) x =
+      procedure_places (operation_code t i h laws quiet views back shaped legal restricted well_formed owner (EntryBody d barrier b) x) (Some barrier)
+      (λ none. refl) (operation_enters t i h laws quiet views back shaped legal restricted well_formed owner (EntryBody d barrier b) x)
+
+  body_places : (number : ℕ) (c : Coded) → slice_get (bodies_of t) number ≡ Some c → TellsOf c
+  body_places number c there = let f = body_of t number c there in by_item f.place f.item f.k f.at f.is
+    where
+      by_item : (place : ℕ) (x : BodyItemTree) (k : ℕ) → slice_get (declared_in t.package_) place ≡ Some x → slice_get (coded_at t place x) k ≡ Some c
+          → TellsOf c
+      by_item place (OfItem d) k at is = absurd (nothing_there c k is)
+      by_item place (SubprogramBody d b) k at is =
+          subst TellsOf (only (of_subprogram (front t (suc place)) d b) c k is)
+          (procedure_places (of_subprogram (front t (suc place)) d b) None (λ none. refl)
+          (package_enters t i h laws quiet views back shaped legal restricted well_formed place d b at))
+      by_item place (TaskBody name b) k at is = subst TellsOf (only (of_task (front t (suc place)) name b) c k is) (task_places place name b at)
+      by_item place (ProtectedBody name items end_name) k at is =
+          let less = slice_get_within (coded_at t place (ProtectedBody name items end_name)) k c is in
+          let many = coded_many t place (ProtectedBody name items end_name) in
+          let u = element items k (omega (arith, less, many)) in
+          subst TellsOf
+          (same_some (code_of laws.scopes laws.names laws.premises t legal restricted place name items end_name at k u.0) c
+          (sym (coded laws.scopes laws.names laws.premises t legal restricted place name items end_name at k u.0 u.1) ∙ is))
+          (operation_places (Some (object laws.scopes laws.names laws.premises t legal restricted place name items end_name at).number) u.0
+          (record { place = place; name = name; items = items; end_name = end_name; at = at; k = k; there = u.1; owned = refl }))
+
+  -- ---- the whole table
+
+  module _ (table : List PlaceRow) (placed : table ≡ h.draft.rows.places) where
+    table_is : table ≡ h.walk.draft.rows.places
+    table_is = placed ∙ ap (λ r. r.places) h.main.rows
+
+    module _ (number : ℕ) (c : Coded) (body : HasBody t h.directory number c h.walk) where
+      module _ (r : Identifier) (some : c.head.result ≡ Some r) where
+        abbrev y : AddsValueFunction t c.head c.body r body.seen body.old body.words body.new
+        y = as_function t c.head c.body body.seen body.old body.words body.new body.adds r some
+
+        abbrev own : PlaceRow
+        own = record { first = here body.old.code; behind = here y.mid.code; place = first_statement_place c.body.statements }
+
+        alone : body.keeps.rows.placed ≡ own ∷ []
+        alone =
+            behind_same body.old.rows.places body.keeps.rows.placed (own ∷ [])
+            (sym body.keeps.rows.located ∙ ap (λ z. z.rows.places) y.marked ∙ ap (λ l. l.places ++ own ∷ []) y.adds.rows)
+
+        is_returned : IsReturned c.body.statements c.body.handlers
+        is_returned = returned_there c.body.statements c.body.handlers y.value y.returns
+
+        own_tells : TellsReturn i number own is_returned.0
+        own_tells = record {
+          place = is_returned.2;
+          s = row_of c.kind body.words (here body.new.code);
+          there = called_front t i h number (row_of c.kind body.words (here body.new.code)) body.there;
+          first = sym (begins_there t i h number c body);
+          behind = sym (ap (λ z. here z.code) y.marked);
+        }
+
+    of_body : (q : PlaceRow) (x : IsOfBody t h.directory h.walk q) → (x.coded.head.result ≡ None) ⊎ ((r : Identifier) × (x.coded.head.result ≡ Some r))
+        → TellsOfBody t i g numbers q
+    of_body q x (inl none) =
+        let told = body_places x.number x.coded x.there x.number x.body none in
+        let r = told_row i program g numbers x.body.keeps.rows.placed (statements_of x.coded) told x.index q x.among in
+        record { number = x.number; body = x.coded; there = x.there; index = x.index; statement = r.0; among = r.1; tells = inl r.2 }
+    of_body q x (inr r) =
+        let own_row = own x.number x.coded x.body r.0 r.1 in
+        let same : own_row ≡ q =
+        only own_row q x.index (ap (λ l. slice_get l x.index) (sym (alone x.number x.coded x.body r.0 r.1)) ∙ x.among) in
+        let back = is_returned x.number x.coded x.body r.0 r.1 in
+        record {
+          number = x.number;
+          body = x.coded;
+          there = x.there;
+          index = 0;
+          statement = back.0;
+          among = back.1;
+          tells = inr (subst (λ z. TellsReturn i x.number z back.0) same (own_tells x.number x.coded x.body r.0 r.1));
+        }
+
+    pub each_told : (index : ℕ) (q : PlaceRow) → slice_get table index ≡ Some q → TellsOfBody t i g numbers q
+    each_told index q is =
+        let x = h.walked.places index q (ap (λ l. slice_get l index) (sym table_is) ∙ is) in
+        of_body q x (either_result x.coded.head.result)
+
+    -- a row that came with a body stands in the table
+    in_table : (number : ℕ) (c : Coded) (body : HasBody t h.directory number c h.walk) (index : ℕ) (q : PlaceRow)
+        → slice_get body.keeps.rows.placed index ≡ Some q → slice_get table (length body.old.rows.places + index) ≡ Some q
+    in_table number c body index q is =
+        let whole = table_is ∙ body.kept.places ∙ ap (λ l. l ++ body.kept.placed) body.keeps.rows.located
+        ∙ append_assoc body.old.rows.places body.keeps.rows.placed body.kept.placed in
+        ap (λ l. slice_get l (length body.old.rows.places + index)) whole
+        ∙ get_behind body.old.rows.places (body.keeps.rows.placed ++ body.kept.placed) index
+        ∙ front_at body.keeps.rows.placed body.kept.placed index q is
+
+    pub all_told : (number : ℕ) (c : Coded) → slice_get (bodies_of t) number ≡ Some c → c.head.result ≡ None → (index : ℕ) (x : StmtTree)
+        → slice_get (statements_of c) index ≡ Some x → HasPlaceRow i program g numbers table number x
+    all_told number c there none index x among =
+        let body = body_there t i h number c there in
+        let r = row_told i program g numbers body.keeps.rows.placed (statements_of c) (body_places number c there number body none) index x among in
+        record { index = length body.old.rows.places + index; row = r.0; there = in_table number c body index r.0 r.1; tells = inl r.2 }
+
+    pub returns_told : (number : ℕ) (c : Coded) (r : Identifier) → slice_get (bodies_of t) number ≡ Some c → c.head.result ≡ Some r
+        → (x : StmtTree) × (slice_get (statements_of c) 0 ≡ Some x) × HasPlaceRow i program g numbers table number x
+    returns_told number c r there some =
+        let body = body_there t i h number c there in
+        let back = is_returned number c body r some in (
+          back.0,
+          back.1,
+          record {
+            index = length body.old.rows.places + 0;
+            row = own number c body r some;
+            there = in_table number c body 0 (own number c body r some) (ap (λ l. slice_get l 0) (alone number c body r some));
+            tells = inr (own_tells number c body r some);
+          },
+        )
+
+    pub innermost_first : AreInnermostFirst table
+    innermost_first =
+        let rows = h.walked.rows in
+        subst AreInnermostFirst (sym (table_is ∙ rows.rows.located ∙ ap (λ l. l ++ rows.rows.placed) rows.unplaced)) rows.rows.innermost
+
+pub places_are_told : LawsOfNames → QuietStays → ViewsOn → ViewsBack → InitialValuesHaveShape → ImagesHaveSize → PlacesAreTold
+places_are_told laws quiet views back shaped sizes t i table legal restricted well_formed has =
+    let h = has.program in
+    record {
+      g = package_of (program_of t) h.directory;
+      numbers = numbers_of (program_of t) h.directory;
+      linked = sections_linked t i h laws quiet views back shaped legal restricted well_formed sizes;
+      each = each_told t i h laws quiet views back shaped legal restricted well_formed table has.placed;
+      returns = returns_told t i h laws quiet views back shaped legal restricted well_formed table has.placed;
+      all = all_told t i h laws quiet views back shaped legal restricted well_formed table has.placed;
+      innermost = innermost_first t i h laws quiet views back shaped legal restricted well_formed table has.placed;
+    }

@@ -1,0 +1,77 @@
+-- What a table of places tells of an image that was put together from a program: which code is that of which statement (docs/CODEGEN.md).
+use Rattle.std.specs.Prelude.{◌≡◌, ◌⊎◌, ℕ, List, None, Some, slice_get}
+use Rattle.ada_tree.specs.declared.expression.Identifier.{Identifier}
+use Rattle.ada_tree.specs.ProgramTree.{ProgramTree}
+use Rattle.ada_tree.specs.StatementTree.{StmtTree}
+use Rattle.image.specs.Rules.{IsWellFormed}
+use Rattle.image.specs.Operations.{called}
+use Rattle.image.specs.Sections.{Sections, first_place}
+use Rattle.image.specs.declared.subprograms.Subprogram.{Subprogram}
+use Rattle.program_soundness.specs.checking.specs.ProgramRules.{IsLegal}
+use Rattle.ravenscar.specs.ProgramRules.{IsRestricted}
+use Rattle.expr_soundness.specs.meaning.specs.Programs.{Program, program_of}
+use Rattle.expr_code.specs.Seeing.{Package}
+use Rattle.step_simulation.specs.part_code.specs.Statements.{Numbers}
+use Rattle.stmt_code.specs.Emitting.{TellsPlace}
+use Rattle.stmt_code.specs.Placing.{AreInnermostFirst, sequence_within, stmt_place}
+use Rattle.stmt_code.specs.declared.tables.PlaceRow.{PlaceRow}
+use Rattle.package_code.specs.Bodies.{Coded, bodies_of}
+use Rattle.package_code.specs.Linked.{IsLinkedProgram}
+use Rattle.package_code.specs.Program.{HasProgram}
+
+-- the statements of a body that has code of its own, in the order in which they end
+abbrev pub statements_of : Coded → List StmtTree
+statements_of c = sequence_within c.body.statements c.body.handlers
+
+-- The row is that of the return of a function: its instructions are those of the subprogram with the number of the function's body.
+pub record TellsReturn (i : Sections) (number : ℕ) (q : PlaceRow) (x : StmtTree) : Type 0 where
+  pub place : q.place ≡ stmt_place x
+  pub s : Subprogram
+  pub there : called i number ≡ Some s
+  pub first : q.first ≡ first_place i number
+  pub behind : q.behind ≡ s.end_
+
+-- ... or that of another statement
+abbrev pub TellsStatement : Sections → Program → Package → Numbers → ℕ → PlaceRow → StmtTree → Type 0
+TellsStatement i program g numbers number q x = TellsPlace i program g numbers q x ⊎ TellsReturn i number q x
+
+-- the row is that of a statement in one of the program's bodies
+pub record TellsOfBody (t : ProgramTree) (i : Sections) (g : Package) (numbers : Numbers) (q : PlaceRow) : Type 0 where
+  pub number : ℕ
+  pub body : Coded
+  pub there : slice_get (bodies_of t) number ≡ Some body
+  pub index : ℕ
+  pub statement : StmtTree
+  pub among : slice_get (statements_of body) index ≡ Some statement
+  pub tells : TellsStatement i (program_of t) g numbers number q statement
+
+-- a statement of the body with this number has a row in the table
+pub record HasPlaceRow (i : Sections) (program : Program) (g : Package) (numbers : Numbers) (table : List PlaceRow) (number : ℕ) (x : StmtTree) : Type 0 where
+  pub index : ℕ
+  pub row : PlaceRow
+  pub there : slice_get table index ≡ Some row
+  pub tells : TellsStatement i program g numbers number row x
+
+-- The image has the code of the program, and each row of the table is that of a statement in one of its bodies: the instructions of the row are the code of
+-- that statement, or those of the function that it returns from. Each statement of procedures, entries and tasks has one, and the return of each function; and
+-- inner ones come first, so the first row that covers an instruction is that of the innermost statement whose code it is.
+pub record PlacesTell (t : ProgramTree) (i : Sections) (table : List PlaceRow) : Type 0 where
+  pub g : Package
+  pub numbers : Numbers
+  pub linked : IsLinkedProgram t i g numbers
+  pub each : (index : ℕ) (q : PlaceRow) → slice_get table index ≡ Some q → TellsOfBody t i g numbers q
+  pub all : (number : ℕ) (c : Coded) → slice_get (bodies_of t) number ≡ Some c → c.head.result ≡ None → (index : ℕ) (x : StmtTree)
+      → slice_get (statements_of c) index ≡ Some x → HasPlaceRow i (program_of t) g numbers table number x
+  pub returns : (number : ℕ) (c : Coded) (r : Identifier) → slice_get (bodies_of t) number ≡ Some c → c.head.result ≡ Some r
+      → (x : StmtTree) × (slice_get (statements_of c) 0 ≡ Some x) × HasPlaceRow i (program_of t) g numbers table number x
+  pub innermost : AreInnermostFirst table
+
+-- the sections have what the program needs, and these are the places of its statements
+pub record HasPlaces (t : ProgramTree) (i : Sections) (table : List PlaceRow) : Type 0 where
+  pub program : HasProgram t i
+  pub placed : table ≡ program.draft.rows.places
+
+-- the contract of a public function
+abbrev pub PlacesAreTold : Type 0
+PlacesAreTold = (t : ProgramTree) (i : Sections) (table : List PlaceRow) → IsLegal t → IsRestricted t → IsWellFormed i → HasPlaces t i table
+    → PlacesTell t i table
