@@ -1,12 +1,14 @@
 #!/usr/bin/env python3
-"""Compares the traces of the sources in the tables and of the examples, byte for byte, with those that bench/reference.py makes of their images.
+"""Compares the traces of the sources in the tables and of the examples, byte for byte, with those that bench/reference.py makes of their images. An image has no
+places of the source: where an exception comes from is left out there, and told by raises.txt and by the examples' whole traces.
 
     traces.py PROGRAM FOLDER EXAMPLES SCRATCH
 
 FOLDER has the tables of rows.py, of which all count whose sources are compiled; EXAMPLES has programs NAME.adb, some with a NAME.schedule, and their traces
-NAME.trace, which the reference has made too.
+NAME.trace, which the reference has made too but for those places.
 """
 import os
+import re
 import subprocess
 import sys
 
@@ -18,6 +20,7 @@ from reference import STATUSES, World  # noqa: E402
 TABLES = ("programs", "time", "delays", "tasks", "protected", "entries", "traces")
 STEPS, ALL_STEPS = 3_000, 1_000_000
 REFUSED = (rows.STATUSES["fault"], rows.STATUSES["schedule"])
+PLACED = re.compile(r"^(\d+ \d+ \w+ raises \w+(?: at its call)?) at \d+:\d+$", re.M)
 
 
 def rows_of(folder):
@@ -34,6 +37,12 @@ def examples_of(folder):
     for name in sorted(name[:-4] for name in os.listdir(folder) if name.endswith(".adb")):
         source, schedule, trace = (os.path.join(folder, f"{name}.{kind}") for kind in ("adb", "schedule", "trace"))
         yield name, read(source), read(schedule) if os.path.exists(schedule) else b"", read(trace).decode()
+
+
+def objects_of(source):
+    """The names of the protected objects that a source declares, in their order, in upper case."""
+    text = re.sub(r"--[^\n]*|\"[^\"\n]*\"", " ", source.decode("latin-1")).upper()
+    return [name for name in re.findall(r"\bPROTECTED\s+(\w+)", text) if name != "BODY"]
 
 
 def read(path):
@@ -57,15 +66,15 @@ class Comparer:
             with open(os.path.join(self.folder, file), "wb") as written:
                 written.write(content)
 
-    def reference_of(self, schedule):
+    def reference_of(self, source, schedule):
         self.call("compile", "main.adb", "main.img")
         lines = [tuple(map(int, line.split())) for line in schedule.decode().splitlines()]
-        return World(read(os.path.join(self.folder, "main.img")), lines).trace(STEPS)
+        return World(read(os.path.join(self.folder, "main.img")), lines, objects_of(source)).trace(STEPS)
 
-    def compare(self, name, steps, expected):
-        """Traces the source that was written: its trace is what is expected, and the status that of its last line."""
+    def compare(self, name, steps, expected, placed):
+        """Traces the source that was written: its trace is what is expected, with the places of exceptions or without them, and the status that of its last line."""
         run = self.call("trace", "main.adb", "input", str(steps))
-        told = run.stdout.decode()
+        told = run.stdout.decode() if placed else PLACED.sub(r"\1", run.stdout.decode())
         self.rows += told.count("\n")
         if (told, run.stderr, run.returncode) != (expected, b"", STATUSES[expected.splitlines()[-1].split()[0]]):
             first = next((pair for pair in zip(told.splitlines(), expected.splitlines()) if pair[0] != pair[1]), None)
@@ -77,12 +86,12 @@ def main():
     comparer, sources = Comparer(program, scratch), 0
     for name, source, schedule in rows_of(folder):
         comparer.write(source, schedule)
-        comparer.compare(name, STEPS, comparer.reference_of(schedule))
+        comparer.compare(name, STEPS, comparer.reference_of(source, schedule), False)
         sources += 1
     for name, source, schedule, trace in examples_of(examples):
         comparer.write(source, schedule)
-        comparer.compare(name, STEPS, comparer.reference_of(schedule))
-        comparer.compare(name, ALL_STEPS, trace)
+        comparer.compare(name, STEPS, comparer.reference_of(source, schedule), False)
+        comparer.compare(name, ALL_STEPS, trace, True)
         sources += 1
     for told in comparer.wrong:
         print(f"traces: {told}", file=sys.stderr)

@@ -4,4 +4,5 @@ mod Examples
 mod Heaps
 mod Adding
 mod Waking
+mod Asleep
 mod HeapExamples

@@ -1,5 +1,5 @@
 -- Sleepers in a heap: the one that is taken first stands at the front, and each other one behind its parent.
-use Rattle.std.specs.Prelude.{◌≡◌, ℕ, ℤ, int_le, ◌+◌, ◌-◌, ◌/◌, ◌<◌, List, [], ◌∷◌, length, map, get_or, Bool, true, false, nat_eq, nat_lt, ◌⊎◌, if◌then◌else◌}
+use Rattle.std.specs.Prelude.{◌≡◌, ℕ, ℤ, int_le, ◌+◌, ◌-◌, ◌/◌, ◌<◌, List, [], ◌∷◌, length, map, get_or, Option, Some, None, Bool, true, false, nat_eq, nat_lt, ◌⊎◌, if◌then◌else◌}
 use Rattle.std.specs.Ordering.{int_cmp, is_lt, nat_cmp, ordering_then}
 use Rattle.std.specs.List.{IsDistinct}
 use Rattle.std.specs.List.Sorted.{IsPermutation}
@@ -83,3 +83,13 @@ AreDistinct entries = IsDistinct nat_eq (map (λ e. e.number) entries)
 -- and each number is below the next one
 abbrev pub AreNumbered : ℕ → List Entry → Type 0
 AreNumbered next entries = AreDistinct entries × ((e : Entry) → IsAmong e entries → e.number < next)
+
+-- of two entries the one with the lower number, where there are two
+abbrev pub earlier : Entry → Option Entry → Entry
+earlier e None = e
+earlier e (Some f) = if nat_lt e.number f.number then e else f
+
+-- the entry of a task, if it has one; of several, the one with the least number
+abbrev pub entry_of : ℕ → List Entry → Option Entry
+entry_of task [] = None
+entry_of task (e ∷ es) = if nat_eq e.task task then Some (earlier e (entry_of task es)) else entry_of task es

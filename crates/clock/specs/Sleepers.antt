@@ -1,5 +1,5 @@
 -- Tasks that wait for a time, in the order in which they began to wait (RM 9.6, D.8).
-use Rattle.std.specs.Prelude.{ℕ, ℤ, List, [], ◌∷◌, Bool, not, Option, Some, None, int_le, int_lt, filter, map, if◌then◌else◌}
+use Rattle.std.specs.Prelude.{ℕ, ℤ, List, [], ◌∷◌, Bool, not, Option, Some, None, int_le, int_lt, nat_eq, filter, map, if◌then◌else◌}
 use Rattle.clock.specs.declared.delays.Sleeper.{Sleeper}
 
 -- the least of a time and the wake times of sleepers
@@ -24,3 +24,8 @@ due now sleepers = map number_of (filter (is_due now) sleepers)
 
 abbrev pub waiting : ℤ → List Sleeper → List Sleeper
 waiting now sleepers = filter (λ s. not (is_due now s)) sleepers
+
+-- the time that a task waits for, if it sleeps; of a task that was added twice, the first one
+abbrev pub wake_of : ℕ → List Sleeper → Option ℤ
+wake_of task [] = None
+wake_of task (s ∷ rest) = if nat_eq s.task task then Some s.wake else wake_of task rest

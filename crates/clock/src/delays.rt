@@ -1,6 +1,6 @@
 //! What every keeper of sleeping tasks does.
 ghost use Rattle.std.specs.Prelude.{◌≡◌, ◌<◌, ◌++◌, ◌∷◌, List, [], length};
-ghost use Rattle.clock.specs.Sleepers.{due, least_wake, waiting};
+ghost use Rattle.clock.specs.Sleepers.{due, least_wake, waiting, wake_of};
 ghost use Rattle.clock.specs.declared.delays.Sleeper.{Sleeper as Row};
 ghost use Rattle.base.specs.declared.limits.TheConstants.{TASKS};
 
@@ -33,6 +33,10 @@ pub trait Delays {
     /// The least time that somebody waits for, if there is one.
     fn next_time(&self) -> Option<i64>
         ensures { result ≡ least_wake (sleepers self.now) };
+
+    /// The time that a task waits for, if it sleeps; of a task that was added twice, the first one.
+    fn wake_time(&self, task: u8) -> Option<i64>
+        ensures { result ≡ wake_of task (sleepers self.now) };
 
     /// Takes out the tasks that wait for `now` or an earlier time, in the order in which they began to wait.
     fn expire(&mut self, now: i64) -> ArrayVec<u8, TASKS>

@@ -66,6 +66,13 @@ impl Heap {
         self.entries.as_slice().first().copied()
     }
 
+    /// The entries, the front first.
+    pub fn entries(&self) -> &[Entry]
+        ensures { result.now ≡ self.now }
+    {
+        self.entries.as_slice()
+    }
+
     /// Adds an entry.
     pub fn push(&mut self, entry: Entry)
         requires { length self.old < TASKS }

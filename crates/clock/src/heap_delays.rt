@@ -2,7 +2,7 @@
 ghost use Rattle.std.specs.Prelude.{◌≡◌, ◌<◌, ◌≤◌, ◌-◌, ◌^◌, [], filter, length, not};
 ghost use Rattle.clock.specs.Numbering.{added, free_number};
 ghost use Rattle.clock.specs.Sleepers.{due, waiting};
-ghost use Rattle.clock.specs.Heaps.{AreDistinct, AreNumbered, IsWithin, by_number, is_due_entry, sleepers_of};
+ghost use Rattle.clock.specs.Heaps.{AreDistinct, AreNumbered, IsWithin, by_number, earlier, entry_of, is_due_entry, sleepers_of};
 ghost use Rattle.base.specs.declared.limits.TheConstants.{TASKS};
 
 use crate::delays::Delays;
@@ -55,6 +55,11 @@ impl Delays for HeapDelays {
         Some(first.wake)
     }
 
+    fn wake_time(&self, task: u8) -> Option<i64> {
+        let entry = first_added(self.heap.entries(), task)?;
+        Some(entry.wake)
+    }
+
     fn expire(&mut self, now: i64) -> ArrayVec<u8, TASKS>
         ensures tasks { result.items ≡ due now self.old.sleepers }
         ensures left { self.new ≡ record self.old { sleepers = waiting now self.old.sleepers } }
@@ -83,6 +88,31 @@ impl HeapDelays {
         ensures { result ≡ self.now.next }
     {
         self.next_number
+    }
+}
+
+// The entry of a task that was added before its others, if it has one.
+fn first_added(entries: &[Entry], task: u8) -> Option<Entry>
+    ensures { result ≡ entry_of task entries.now }
+{
+    let mut found = None;
+    let mut at = entries.len();
+    while 0 < at {
+        at -= 1;
+        if entries[at].task == task {
+            found = Some(earlier(entries[at], found));
+        }
+    }
+    found
+}
+
+// The one of two entries that was added first, where there are two.
+fn earlier(entry: Entry, other: Option<Entry>) -> Entry
+    ensures { result ≡ earlier entry other }
+{
+    match other {
+        Some(other) if other.number <= entry.number => other,
+        _ => entry,
     }
 }
 

@@ -1,5 +1,5 @@
 //! Sleeping tasks as a plain list.
-ghost use Rattle.clock.specs.Sleepers.{least, least_wake};
+ghost use Rattle.clock.specs.Sleepers.{least, least_wake, wake_of};
 
 use crate::delays::{Delays, Sleeper};
 use arrayvec::ArrayVec;
@@ -46,6 +46,15 @@ impl Delays for ListDelays {
             }
         }
         Some(time)
+    }
+
+    fn wake_time(&self, task: u8) -> Option<i64> {
+        for sleeper in self.sleepers.as_slice() {
+            if sleeper.task == task {
+                return Some(sleeper.wake);
+            }
+        }
+        None
     }
 
     fn expire(&mut self, now: i64) -> ArrayVec<u8, TASKS> {

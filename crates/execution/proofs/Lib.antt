@@ -1,3 +1,4 @@
+mod Ahead
 mod Advancing
 mod Apart
 mod Ending

@@ -1,11 +1,12 @@
 //! Runs of images, up to what their steps tell.
-ghost use Rattle.std.specs.Prelude.{◌≡◌, ◌⊎◌, ◌<◌, ◌≤◌, ◌+◌, ◌-◌, [], IfOk, IfSome, None, Some};
+ghost use Rattle.std.specs.Prelude.{◌≡◌, ◌⊎◌, ◌<◌, ◌≤◌, ◌+◌, ◌-◌, [], IfOk, IfSome, List, None, Some};
 ghost use Rattle.image.specs.Code.{start};
 ghost use Rattle.image_laws.specs.Whole.{IsWhole};
 ghost use Rattle.kernel.specs.Calm.{IsRunner};
-ghost use Rattle.kernel.specs.State.{Outcome as KernelOutcome};
+ghost use Rattle.kernel.specs.State.{Line as KernelLine, Outcome as KernelOutcome};
 ghost use Rattle.tasking.specs.Held.{kernel_of};
-ghost use Rattle.execution.specs.Held.{Leads, lines_of, world_of};
+ghost use Rattle.execution.specs.Ahead.{next_raising};
+ghost use Rattle.execution.specs.Held.{Leads, lines_of, world_of, world_with};
 
 use crate::line::Line;
 use crate::state::State;
@@ -18,7 +19,7 @@ use processor::Steps;
 use std::alloc::{AllocError, Global};
 use std::marker::{Brand, Model};
 use std::sync::ledger::{Blank, Ledger};
-use task_steps::Memory;
+use task_steps::{Memory, Raising};
 use tasking::Tasking;
 use tasking::laws::{kept_with_lines, lines_apart};
 
@@ -152,6 +153,14 @@ impl<'a, R: Ready, D: Delays> Execution<'a, R, D> {
             None => tasking.running(),
             Some(_) => None,
         }
+    }
+
+    /// The exception that the next step raises, handled or not, if it raises one; nothing changes.
+    pub fn raising_ahead(&self) -> Option<Raising>
+        ensures { (lines : List KernelLine) → result ≡ next_raising self.now.image self.now.schedule (world_with lines self.now) }
+    {
+        let task = self.runner()?;
+        self.state.raising_ahead(task)
     }
 
     /// The image that runs.

@@ -9,3 +9,4 @@ mod state;
 
 pub use execution_of::{Advance, Execution};
 pub use line::Line;
+pub use task_steps::{Cause, Raising};

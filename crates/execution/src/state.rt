@@ -6,20 +6,23 @@ ghost use Rattle.image.specs.Rules.{IsWellFormed};
 ghost use Rattle.image_laws.specs.Whole.{IsWhole};
 ghost use Rattle.kernel.specs.Calm.{IsRunner};
 ghost use Rattle.kernel.specs.Invariant.{Fits};
+ghost use Rattle.kernel.specs.State.{Line};
+ghost use Rattle.kernel.specs.Worlds.{solo_of};
 ghost use Rattle.task_steps.specs.Acting.{ComesToAct, solo_in};
+ghost use Rattle.task_steps.specs.Raised.{raising_ahead};
 ghost use Rattle.tasking.specs.Held.{kernel_of, partition_of};
-ghost use Rattle.execution.specs.Held.{body_state, task_at, world_of};
+ghost use Rattle.execution.specs.Held.{body_state, rest_of, task_at, world_of};
 
 use clock::{Delays, Schedule};
 use dispatch::Ready;
 use image::Image;
-use image_laws::{begins_sound, code_leads_on, frames_have_room, steps_whole};
+use image_laws::{begins_sound, code_leads_on, frames_have_room, lines_unread, steps_whole};
 use kernel::laws::runner_is_calm;
 use processor::{Program, Steps, TaskState};
 use std::alloc::{AllocError, Global};
 use std::marker::Model;
 use std::sync::ledger::Ledger;
-use task_steps::{Memory, Went, called, first_place, go};
+use task_steps::{Memory, Raising, Went, called, first_place, go, raising_ahead};
 use tasking::Tasking;
 
 /// What a run holds: between steps a world of code, and within one what its parts have made of it so far.
@@ -99,6 +102,28 @@ impl<'a, R: Ready, D: Delays> State<'a, R, D> {
             &mut self.memory,
             limit,
             steps,
+        )
+    }
+
+    /// The exception that the next step of the running task raises, if it raises one.
+    pub(crate) fn raising_ahead(&self, task: u8) -> Option<Raising>
+        requires whole { IsWhole self.now.image (world_of self.now) }
+        requires runs { IsRunner (kernel_of self.now.tasking) task }
+        ensures { (lines : List Line) → result ≡ raising_ahead self.now.image self.now.schedule (record (kernel_of self.now.tasking) { lines = lines }) task
+            (solo_of task (rest_of self.now)) }
+    {
+        steps_whole();
+        lines_unread();
+        let Some(state) = self.tasks.get(usize::from(task)) else {
+            unreachable!()
+        };
+        raising_ahead(
+            &self.program,
+            self.schedule,
+            &self.tasking,
+            task,
+            state,
+            &self.memory,
         )
     }
 }

@@ -1,18 +1,20 @@
 //! The machine: one processor that runs the tasks of an image in virtual time.
-ghost use Rattle.std.specs.Prelude.{◌≡◌, None, Some, ℕ, ◌+◌, ◌-◌, ◌<◌, ◌≤◌, Err, IfErr, IfOk, IfSome, OnErr, OnOk, length};
+ghost use Rattle.std.specs.Prelude.{◌≡◌, None, Some, ℕ, ◌+◌, ◌-◌, ◌<◌, ◌≤◌, Err, IfErr, IfOk, IfSome, List, OnErr, OnOk, length};
 ghost use Rattle.std.specs.Io.KnownBytes.{Appends};
 ghost use Rattle.base.specs.declared.limits.TheConstants.{OBJECTS, PRIORITIES, TASKS};
 ghost use Rattle.kernel.specs.Exclusion.{FourStatements};
-ghost use Rattle.kernel.specs.State.{active, inside, is_object_open, Outcome as KernelOutcome};
+ghost use Rattle.kernel.specs.State.{active, inside, is_object_open, Line as KernelLine, Outcome as KernelOutcome};
 ghost use Rattle.kernel.specs.Text.{line_text as text_line, lines_text};
 ghost use Rattle.image.specs.Code.{code, code_text};
 ghost use Rattle.image.specs.Steps.{is_open};
 ghost use Rattle.image.specs.Texts.{names_of};
-ghost use Rattle.execution.specs.Held.{line_of, world_of};
+ghost use Rattle.execution.specs.Ahead.{next_raising};
+ghost use Rattle.execution.specs.Held.{line_of, world_of, world_with};
 ghost use Rattle.machine.specs.Stands.{EndsBy, IsLast, ShowsText, HoldsWorld, kernel_outcome};
 ghost use Rattle.machine.specs.TaskStates.{state_of};
 ghost use Rattle.machine.specs.Written.{AppendsBeginning};
 ghost use Rattle.tasking.specs.Held.{kernel_of, place_of};
+ghost use Rattle.tasking.specs.Waits.{wake_time};
 
 use crate::fault::RunFault;
 use crate::reports::{Event, LineText, Outcome};
@@ -23,7 +25,7 @@ use arrayvec::ArrayVec;
 use base::limits::TASKS;
 use clock::{Delays, HeapDelays, Schedule};
 use dispatch::{Ready, RingReady};
-use execution::{Execution, Line};
+use execution::{Execution, Line, Raising};
 use image::Image;
 use image_laws::{code_leads_on, lines_grow_on, outcome_stays};
 use kernel::laws::{four_statements_hold, left_unmoved};
@@ -143,6 +145,13 @@ impl<'a, R: Ready, D: Delays> Machine<'a, R, D> {
         self.execution.tasking().place(task)
     }
 
+    /// The time that a task waits for, in microseconds, if it sleeps (RM 9.6).
+    pub fn wake_time(&self, task: u8) -> Option<i64>
+        ensures { result ≡ wake_time task (kernel_of self.now.tasking).sleepers }
+    {
+        self.execution.tasking().wake_time(task)
+    }
+
     /// Whether a task is inside an object (RM 9.5.1).
     pub fn is_inside(&self, task: u8, object: u8) -> bool
         requires task { task < length self.now.image.tasks }
@@ -185,6 +194,14 @@ impl<'a, R: Ready, D: Delays> Machine<'a, R, D> {
         self.execution.tasking().inside(object)
     }
 
+    /// The task whose call waits in the queue of an object, if there is one (RM D.7).
+    pub fn queued(&self, object: u8) -> Option<u8>
+        requires { object < length self.now.image.objects }
+        ensures { result ≡ (kernel_of self.now.tasking).queued object }
+    {
+        self.execution.tasking().queued(object)
+    }
+
     /// The outcome, once there is one.
     pub fn outcome(&self) -> Option<Outcome>
         ensures outcome { kernel_outcome result ≡ (kernel_of self.now.tasking).outcome }
@@ -202,6 +219,13 @@ impl<'a, R: Ready, D: Delays> Machine<'a, R, D> {
                 time,
             }),
         }
+    }
+
+    /// The exception that the next step raises, handled or not, if it raises one, and what is refused where that is why; nothing changes.
+    pub fn raising_ahead(&self) -> Option<Raising>
+        ensures { (lines : List KernelLine) → result ≡ next_raising self.now.image self.now.schedule (world_with lines self.now) }
+    {
+        self.execution.raising_ahead()
     }
 
     // The text of a line.

@@ -3,5 +3,6 @@ mod Examples
 mod Going
 mod Operands
 mod Plainly
+mod Raises
 mod Ready
 mod Unwinding

@@ -1,2 +1,5 @@
 pub mod Acting
 pub mod Stepping
+pub mod Raised
+pub mod Foreseen
+pub mod Laws

@@ -73,8 +73,8 @@ pub(crate) fn protected_call<R: Ready, D: Delays>(
     enter(program, state, memory, number, &subprogram, role, effect)
 }
 
-// The object of an external call.
-fn external_object(program: &Program, kind: Kind) -> u8
+/// The object of an external call.
+pub(crate) fn external_object(program: &Program, kind: Kind) -> u8
     requires { IsObjectKind program.now kind }
     ensures { object_of kind ≡ Some result }
 {
@@ -137,8 +137,8 @@ pub(crate) fn entry_call<R: Ready, D: Delays>(
     )
 }
 
-// Whether an entry call is refused before its barrier is asked: inside any action, or above the ceiling (RM 9.5.1, D.3).
-fn is_refused<R: Ready, D: Delays>(tasking: &Tasking<R, D>, task: u8, object: u8) -> bool
+/// Whether an entry call is refused before its barrier is asked: inside any action, or above the ceiling (RM 9.5.1, D.3).
+pub(crate) fn is_refused<R: Ready, D: Delays>(tasking: &Tasking<R, D>, task: u8, object: u8) -> bool
     requires task { IsTask (kernel_of tasking.now) task }
     requires object { object < (kernel_of tasking.now).partition.objects }
     ensures { result ≡ (is_inside_any (kernel_of tasking.now) task || is_above_ceiling (kernel_of tasking.now) task object) }

@@ -123,8 +123,8 @@ pub(crate) fn read_input<R: Ready, D: Delays>(
     }
 }
 
-// The input of a channel at a time, where there is a channel of this number.
-fn input(schedule: &Schedule, now: i64, channel: i64) -> Checked
+/// The input of a channel at a time, where there is a channel of this number.
+pub(crate) fn input(schedule: &Schedule, now: i64, channel: i64) -> Checked
     ensures { result ≡ input_of schedule.now now channel }
 {
     match u8::try_from(channel) {

@@ -4,7 +4,9 @@
 mod acts;
 mod blocks;
 mod calls;
+mod foreseeing;
 mod kernel_steps;
+pub mod laws;
 mod lookups;
 mod memory;
 mod operations;
@@ -13,6 +15,7 @@ mod returns;
 mod steps;
 
 pub use acts::{Act, Effect, Given};
+pub use foreseeing::{Cause, Raising, raising_ahead};
 pub use lookups::{called, entry, first_place};
 pub use memory::Memory;
 pub use steps::{Went, go, step};

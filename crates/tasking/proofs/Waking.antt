@@ -1,11 +1,11 @@
 -- The tasks due: the walk over all sleepers, against those that wake and those that sleep on.
 use Rattle.std.proofs.Common.{◌≡◌, ℕ, ◌+◌, ◌<◌, ◌≤◌, ℤ, List, [], ◌∷◌, ◌++◌, Some, None, Bool, true, false, not, cond, drop, filter, get_or, length, map}
 use Rattle.std.proofs.Common.{refl, sym, ap, ◌∙◌, subst, arith, append-nil, append_assoc, drop-cons, add-one}
-use Rattle.std.specs.Prelude.{int_le, int_lt}
+use Rattle.std.specs.Prelude.{int_le, int_lt, nat_eq}
 use Rattle.std.proofs.lemmas.Int.{ints}
 use Rattle.base.specs.declared.limits.TheConstants.{PRIORITIES}
 use Rattle.clock.specs.declared.delays.Sleeper.{Sleeper as Row}
-use Rattle.clock.specs.Sleepers.{due as due_rows, is_due, least as least_of_rows, least_wake, number_of, waiting as waiting_rows}
+use Rattle.clock.specs.Sleepers.{due as due_rows, is_due, least as least_of_rows, least_wake, number_of, waiting as waiting_rows, wake_of}
 use Rattle.kernel.specs.State.{Kernel, IsFinished, IsReady, Sleeper, active}
 use Rattle.kernel.specs.Dispatching.{becomes_ready, dispatch, leaves}
 use Rattle.kernel.specs.Effects.{Delays as DelaysUntil, effect}
@@ -15,6 +15,7 @@ use Rattle.kernel.specs.Invariant.{count, naps}
 use Rattle.kernel.specs.PutLaws.{eqb_same, put_put}
 use Rattle.tasking.specs.Held.{Held, kernel_of, sleeper_of, sleepers_of}
 use Rattle.tasking.specs.Orderly.{AreAwoken, IsKeptOrderly, IsNowhere, IsOrderly, IsTask, all_ready, due, least_of, waiting}
+use Rattle.tasking.specs.Waits.{wake_time}
 use Rattle.tasking.proofs.Moved.{rows_same}
 use Rattle.tasking.proofs.Standing.{active_low, once_low, ready_orderly, ready_standing, task_of}
 
@@ -53,6 +54,10 @@ least_same : (time : ℤ) (rows : List Row) → least time (sleepers_of rows) �
 least_same time [] = refl
 least_same time (r ∷ rows) = by_test (λ b. cond b (least r.wake (sleepers_of rows)) (least time (sleepers_of rows))
     ≡ cond b (least_of_rows r.wake rows) (least_of_rows time rows)) (int_lt r.wake time) (λ e. least_same r.wake rows) (λ e. least_same time rows)
+
+pub wake_same : (t : ℕ) (rows : List Row) → wake_time t (sleepers_of rows) ≡ wake_of t rows
+wake_same t [] = refl
+wake_same t (r ∷ rows) = ap (λ w. cond (nat_eq r.task t) (Some r.wake) w) (wake_same t rows)
 
 pub next_same : (rows : List Row) → least_of (sleepers_of rows) ≡ least_wake rows
 next_same [] = refl

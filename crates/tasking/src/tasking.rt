@@ -8,6 +8,7 @@ ghost use Rattle.kernel.specs.Effects.{begin, blank, call_refusal, is_above_ceil
 ghost use Rattle.kernel.specs.Effects.{Delays as DelaysUntil, effect, ending_of, ends, outer_of, queues, takes_over, with_actions};
 ghost use Rattle.kernel.specs.Invariant.{Fits};
 ghost use Rattle.tasking.specs.Held.{action_of, ending_as, innermost, kernel_of, outcome_of, partition_of, place_of, refused_as, some_action, some_outcome};
+ghost use Rattle.tasking.specs.Waits.{wake_time};
 ghost use Rattle.tasking.specs.Orderly.{AreAwoken, IsNowhere, IsOfObject, IsOrderly, IsTask, MayEnd, due, is_above, least_of, waiting};
 
 use crate::reports::{Ending, Kind, Outcome, Place};
@@ -110,6 +111,13 @@ impl<R: Ready, D: Delays> Tasking<R, D> {
             None => Place::Finished,
             Some(place) => *place,
         }
+    }
+
+    /// The time that a task waits for, in microseconds since the start, if it sleeps (RM 9.6).
+    pub fn wake_time(&self, task: u8) -> Option<i64>
+        ensures { result ≡ wake_time task (kernel_of self.now).sleepers }
+    {
+        self.delays.wake_time(task)
     }
 
     /// The active priority of a task: the greatest of its base priority and the ceilings of its open actions (RM D.3).

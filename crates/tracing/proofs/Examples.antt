@@ -1,6 +1,6 @@
--- Traces of images worked by computation: a preemption, delays, an entry with queue and service, an unhandled exception.
-use Rattle.std.proofs.Common.{◌≡◌, ℕ, List, [], ◌∷◌, ◌++◌, pos, Some, refl}
-use Rattle.std.specs.Prelude.{codes}
+-- Traces of images worked by computation: a preemption, delays, an entry with queue and service, exceptions, and what is refused.
+use Rattle.std.proofs.Common.{◌≡◌, ℕ, List, [], ◌∷◌, ◌++◌, pos, Option, None, Some, refl}
+use Rattle.std.specs.Prelude.{codes, if◌then◌else◌, nat_eq}
 use Rattle.std.specs.Fmt.{digits}
 use Rattle.base.specs.Names.{predefined}
 use Rattle.image.specs.ObjectTable.{ObjectRow}
@@ -14,6 +14,11 @@ use Rattle.image.specs.declared.subprograms.Kind.TheVariants.{EntryBody, Protect
 use Rattle.image.specs.declared.subprograms.Subprogram.{Subprogram}
 use Rattle.image.specs.declared.tasks.Task.{Task}
 use Rattle.tracing.specs.Traces.{trace_text}
+use Rattle.tracing.specs.declared.origin.Origin.{Origin}
+
+-- no instruction's place is known
+abbrev nowhere : ℕ → Option Origin
+nowhere address = None
 
 abbrev at : ℕ → Operation → Instr
 at depth operation = record { depth = depth; operation = operation }
@@ -44,12 +49,12 @@ served =
     ∷ at 0 (op.EntryCall 0) ∷ at 0 (op.Push (pos 7)) ∷ at 1 (op.PutLine 0) ∷ at 0 op.Return
     ∷ at 0 (op.ProtectedCall 0) ∷ at 0 op.Return ∷ [])
 
-served_trace : trace_text served [] 100
+served_trace : trace_text served (codes "DOOR" ∷ []) nowhere [] 100
     ≡ codes "0 0 CONS is ready\n0 0 MAIN is ready\n0 0 CONS runs at 10\n"
-    ++ codes "0 1 CONS queues at object 0\n0 1 MAIN runs at 5\n"
-    ++ codes "0 2 MAIN enters object 0 at 10\n"
-    ++ codes "0 5 CONS is served at object 0 by MAIN\n"
-    ++ codes "0 6 MAIN leaves object 0 at 5\n0 6 CONS has been served at object 0\n0 6 MAIN is preempted by CONS\n0 6 CONS runs at 10\n"
+    ++ codes "0 1 CONS queues at DOOR\n0 1 MAIN runs at 5\n"
+    ++ codes "0 2 MAIN enters DOOR at 10\n"
+    ++ codes "0 5 CONS is served at DOOR by MAIN\n"
+    ++ codes "0 6 MAIN leaves DOOR at 5\n0 6 CONS has been served at DOOR\n0 6 MAIN is preempted by CONS\n0 6 CONS runs at 10\n"
     ++ codes "0 8 CONS writes 0 CONS got 7\n"
     ++ codes "0 9 CONS ends\n0 9 MAIN runs at 5\n"
     ++ codes "0 10 MAIN ends\nended at 0\n"
@@ -66,14 +71,14 @@ sleepers =
 abbrev until_both_sleep : List ℕ
 until_both_sleep =
     codes "0 0 T is ready\n0 0 MAIN is ready\n0 0 T runs at 9\n"
-    ++ codes "0 2 T is delayed\n0 2 MAIN runs at 5\n"
-    ++ codes "0 4 MAIN is delayed\n1000 4 - the clock moves\n1000 4 T wakes\n1000 4 MAIN wakes\n1000 4 T runs at 9\n"
+    ++ codes "0 2 T waits until 1000\n0 2 MAIN runs at 5\n"
+    ++ codes "0 4 MAIN waits until 1000\n1000 4 - the clock moves\n1000 4 T wakes\n1000 4 MAIN wakes\n1000 4 T runs at 9\n"
 
-sleepers_trace : trace_text sleepers [] 100 ≡ until_both_sleep ++ codes "1000 5 T ends\n1000 5 MAIN runs at 5\n1000 6 MAIN ends\nended at 1000\n"
+sleepers_trace : trace_text sleepers [] nowhere [] 100 ≡ until_both_sleep ++ codes "1000 5 T ends\n1000 5 MAIN runs at 5\n1000 6 MAIN ends\nended at 1000\n"
 unfolding digits
 sleepers_trace = refl
 
-sleepers_cut : trace_text sleepers [] 4 ≡ until_both_sleep ++ codes "step limit at 1000\n"
+sleepers_cut : trace_text sleepers [] nowhere [] 4 ≡ until_both_sleep ++ codes "step limit at 1000\n"
 unfolding digits
 sleepers_cut = refl
 
@@ -84,10 +89,10 @@ alone =
     image_of [] (sub TaskBody 6 2 ∷ []) (task (codes "MAIN") 5 0 ∷ [])
     (delay_until 500 ++ at 0 (op.Push (pos 1)) ∷ at 1 (op.Push (pos 0)) ∷ at 2 op.Divide ∷ at 1 op.Return ∷ [])
 
-alone_trace : trace_text alone [] 100
+alone_trace : trace_text alone [] nowhere [] 100
     ≡ codes "0 0 MAIN is ready\n0 0 MAIN runs at 5\n"
-    ++ codes "0 2 MAIN is delayed\n500 2 - the clock moves\n500 2 MAIN wakes\n500 2 MAIN runs at 5\n"
-    ++ codes "500 5 MAIN is left by CONSTRAINT_ERROR\nunhandled CONSTRAINT_ERROR in MAIN at 500\n"
+    ++ codes "0 2 MAIN waits until 500\n500 2 - the clock moves\n500 2 MAIN wakes\n500 2 MAIN runs at 5\n"
+    ++ codes "500 5 MAIN raises CONSTRAINT_ERROR\n500 5 MAIN is left by CONSTRAINT_ERROR\nunhandled CONSTRAINT_ERROR in MAIN at 500\n"
 unfolding digits
 alone_trace = refl
 
@@ -98,8 +103,72 @@ due =
     image_of [] (sub TaskBody 3 1 ∷ sub TaskBody 4 0 ∷ []) (task (codes "T") 5 0 ∷ task (codes "MAIN") 5 1 ∷ [])
     (delay_until 0 ++ at 0 op.Return ∷ at 0 op.Return ∷ [])
 
-due_trace : trace_text due [] 100
+due_trace : trace_text due [] nowhere [] 100
     ≡ codes "0 0 T is ready\n0 0 MAIN is ready\n0 0 T runs at 5\n"
     ++ codes "0 2 T gives way to MAIN\n0 2 MAIN runs at 5\n0 3 MAIN ends\n0 3 T runs at 5\n0 4 T ends\nended at 0\n"
 unfolding digits
 due_trace = refl
+
+-- An exception is raised in an action, and again at the call once the action is over
+
+-- of two instructions: the division, and the call
+abbrev marked : ℕ → Option Origin
+marked address =
+    if nat_eq address 2 then Some (record { line = 3; column = 7 })
+    else if nat_eq address 4 then Some (record { line = 12; column = 10 })
+    else None
+
+abbrev divides : Sections
+divides =
+    image_of (door ∷ []) (sub (ProtectedProcedure 0) 4 2 ∷ sub TaskBody 6 0 ∷ []) (task (codes "MAIN") 5 1 ∷ [])
+    (at 0 (op.Push (pos 1)) ∷ at 1 (op.Push (pos 0)) ∷ at 2 op.Divide ∷ at 1 op.Return ∷ at 0 (op.ProtectedCall 0) ∷ at 0 op.Return ∷ [])
+
+divides_trace : trace_text divides (codes "DOOR" ∷ []) marked [] 100
+    ≡ codes "0 0 MAIN is ready\n0 0 MAIN runs at 5\n0 1 MAIN enters DOOR at 10\n"
+    ++ codes "0 4 MAIN raises CONSTRAINT_ERROR at 3:7\n0 4 MAIN leaves DOOR at 5\n"
+    ++ codes "0 5 MAIN raises CONSTRAINT_ERROR at its call at 12:10\n0 5 MAIN is left by CONSTRAINT_ERROR\nunhandled CONSTRAINT_ERROR in MAIN at 0\n"
+unfolding digits
+divides_trace = refl
+
+-- One that the entry body raises which is run for a queued call: the caller raises it, and handles it
+
+abbrev fails : Sections
+fails = record
+    (image_of (door ∷ []) (sub (ProtectedProcedure 0) 3 1 ∷ sub (EntryBody 0) 5 1 ∷ sub TaskBody 9 1 ∷ sub TaskBody 11 0 ∷ []) (task (codes "CONS") 10 2 ∷ task (codes "MAIN") 5 3 ∷ [])
+    (at 0 (op.Push (pos 1)) ∷ at 1 (op.StoreObject 0) ∷ at 0 op.Return
+    ∷ at 0 (op.Push (pos 1)) ∷ at 1 op.Raise
+    ∷ at 0 (op.EntryCall 0) ∷ at 0 op.Return ∷ at 1 op.Drop ∷ at 0 op.Return
+    ∷ at 0 (op.ProtectedCall 0) ∷ at 0 op.Return ∷ []))
+    { rows = record { start = 5; end_ = 6; exception = 0; target = 7 } ∷ [] }
+
+fails_trace : trace_text fails (codes "DOOR" ∷ []) nowhere [] 100
+    ≡ codes "0 0 CONS is ready\n0 0 MAIN is ready\n0 0 CONS runs at 10\n"
+    ++ codes "0 1 CONS queues at DOOR\n0 1 MAIN runs at 5\n"
+    ++ codes "0 2 MAIN enters DOOR at 10\n0 5 CONS is served at DOOR by MAIN\n"
+    ++ codes "0 7 MAIN raises CONSTRAINT_ERROR\n0 7 MAIN leaves DOOR at 5\n0 7 CONS has been served at DOOR\n0 7 MAIN is preempted by CONS\n0 7 CONS runs at 10\n"
+    ++ codes "0 8 CONS raises CONSTRAINT_ERROR at its call\n"
+    ++ codes "0 10 CONS ends\n0 10 MAIN runs at 5\n0 11 MAIN ends\nended at 0\n"
+unfolding digits
+fails_trace = refl
+
+-- What is refused: a call above the ceiling, and a delay within an action
+
+abbrev high : Sections
+high = image_of (door ∷ []) (sub (ProtectedProcedure 0) 1 0 ∷ sub TaskBody 3 0 ∷ []) (task (codes "MAIN") 12 1 ∷ []) (at 0 op.Return ∷ at 0 (op.ProtectedCall 0) ∷ at 0 op.Return ∷ [])
+
+high_trace : trace_text high (codes "DOOR" ∷ []) nowhere [] 100
+    ≡ codes "0 0 MAIN is ready\n0 0 MAIN runs at 12\n"
+    ++ codes "0 1 MAIN is refused at DOOR: its priority is above the ceiling\n0 1 MAIN raises PROGRAM_ERROR\n"
+    ++ codes "0 1 MAIN is left by PROGRAM_ERROR\nunhandled PROGRAM_ERROR in MAIN at 0\n"
+unfolding digits
+high_trace = refl
+
+abbrev waits : Sections
+waits = image_of (door ∷ []) (sub (ProtectedProcedure 0) 3 1 ∷ sub TaskBody 5 0 ∷ []) (task (codes "MAIN") 5 1 ∷ []) (delay_until 0 ++ at 0 op.Return ∷ at 0 (op.ProtectedCall 0) ∷ at 0 op.Return ∷ [])
+
+waits_trace : trace_text waits [] nowhere [] 100
+    ≡ codes "0 0 MAIN is ready\n0 0 MAIN runs at 5\n0 1 MAIN enters object 0 at 10\n"
+    ++ codes "0 3 MAIN is refused: it is inside an action\n0 3 MAIN raises PROGRAM_ERROR\n0 3 MAIN leaves object 0 at 5\n"
+    ++ codes "0 4 MAIN raises PROGRAM_ERROR at its call\n0 4 MAIN is left by PROGRAM_ERROR\nunhandled PROGRAM_ERROR in MAIN at 0\n"
+unfolding digits
+waits_trace = refl

@@ -4,7 +4,6 @@ use Rattle.std.proofs.Math.Seq.{drop-append_seam}
 use Rattle.base.specs.declared.schedule.ScheduleLine.{ScheduleLine}
 use Rattle.kernel.specs.State.{Kernel, Line, Outcome}
 use Rattle.kernel.specs.RunLaws.{run_plus}
-use Rattle.kernel.specs.Text.{Names}
 use Rattle.kernel.specs.Laws.{LeftUnmoved}
 use Rattle.kernel.specs.Worlds.{Local, among, step, step_of}
 use Rattle.image.specs.Code.{CodeWorld, code, start}
@@ -12,11 +11,13 @@ use Rattle.image.specs.Sections.{Sections}
 use Rattle.image.specs.Steps.{behaviour}
 use Rattle.image_laws.specs.Laws.{LinesGrowOn, OutcomeStays}
 use Rattle.machine.proofs.Runs.{starts_without_lines}
+use Rattle.execution.specs.Ahead.{next_raising}
+use Rattle.task_steps.specs.declared.foreseeing.Raising.{Raising}
 use Rattle.tracing.specs.Changes.{since_clock, starts, until_clock}
-use Rattle.tracing.specs.Traces.{TraceRow, line_of, lines_told, row_text, rows, rows_of_step, rows_text, shown, wrote}
+use Rattle.tracing.specs.Traces.{RowNames, TraceRow, line_of, lines_told, row_text, rows, rows_of_step, rows_text, shown, wrote}
 use Rattle.tracing.specs.declared.event.Event.{Event}
 
-pub rows_text-append : (names : Names) (xs ys : List TraceRow) → rows_text names (xs ++ ys) ≡ rows_text names xs ++ rows_text names ys
+pub rows_text-append : (names : RowNames) (xs ys : List TraceRow) → rows_text names (xs ++ ys) ≡ rows_text names xs ++ rows_text names ys
 rows_text-append names [] ys = refl
 rows_text-append names (x ∷ xs) ys =
     ap (λ v. row_text names x ++ v) (rows_text-append names xs ys) ∙ sym (append_assoc (row_text names x) (rows_text names xs) (rows_text names ys))
@@ -26,7 +27,7 @@ after_length xs ys = drop-append_seam xs ys
 
 module _ (i : Sections) (schedule : List ScheduleLine) where
   abbrev rows_at : ℕ → List TraceRow
-  rows_at n = let k = (code i schedule n).kernel in rows_of_step k (code i schedule (suc n)).kernel (suc n) k.outcome k.running
+  rows_at n = let w = code i schedule n in rows_of_step (next_raising i schedule w) w.kernel (code i schedule (suc n)).kernel (suc n) w.kernel.outcome w.kernel.running
 
   -- the rows of some steps begin those of more
   pub rows_grow : (n j : ℕ) → (more : List TraceRow) × (rows i schedule (n + j) ≡ rows i schedule n ++ more)
@@ -42,7 +43,7 @@ module _ (i : Sections) (schedule : List ScheduleLine) where
   rows_stay stays n (suc j) o is =
       let e : n + suc j ≡ suc (n + j) = omega arith in
       let over : (code i schedule (n + j)).kernel.outcome ≡ Some o = ap (λ w. w.kernel.outcome) (stays i schedule n j o is) ∙ is in
-      let none : rows_at (n + j) ≡ [] = ap (λ q. rows_of_step (code i schedule (n + j)).kernel (code i schedule (suc (n + j))).kernel (suc (n + j)) q (code i schedule (n + j)).kernel.running) over in
+      let none : rows_at (n + j) ≡ [] = ap (λ q. rows_of_step (next_raising i schedule (code i schedule (n + j))) (code i schedule (n + j)).kernel (code i schedule (suc (n + j))).kernel (suc (n + j)) q (code i schedule (n + j)).kernel.running) over in
       ap (rows i schedule) e ∙ ap (λ v. rows i schedule (n + j) ++ v) none ∙ append-nil (rows i schedule (n + j)) ∙ rows_stay stays n j o is
 
 -- Lines
@@ -60,14 +61,14 @@ told_wrote time n t [] = refl
 told_wrote time n t (l ∷ lines) = ap (λ v. l ∷ v) (told_wrote time n t lines)
 
 -- the lines that a step has added are those that its rows tell
-step_tells : {D : Type 0} (f : Local D) (n : ℕ) (k : Kernel) (d : D) (o : Option Outcome) (r : Option ℕ) → (more : List Line) × ((step_of f k d o r).kernel.lines ≡ k.lines ++ more) →
-    (step_of f k d o r).kernel.lines ≡ k.lines ++ lines_told (rows_of_step k (step_of f k d o r).kernel n o r)
-step_tells f n k d (Some o) r grown = sym (append-nil k.lines)
-step_tells f n k d None None grown = sym (append-nil k.lines)
-step_tells f n k d None (Some t) grown =
+step_tells : {D : Type 0} (f : Local D) (a : Option Raising) (n : ℕ) (k : Kernel) (d : D) (o : Option Outcome) (r : Option ℕ) → (more : List Line) × ((step_of f k d o r).kernel.lines ≡ k.lines ++ more) →
+    (step_of f k d o r).kernel.lines ≡ k.lines ++ lines_told (rows_of_step a k (step_of f k d o r).kernel n o r)
+step_tells f a n k d (Some o) r grown = sym (append-nil k.lines)
+step_tells f a n k d None None grown = sym (append-nil k.lines)
+step_tells f a n k d None (Some t) grown =
     let l = (step_of f k d None (Some t)).kernel in
     let lines = drop (length k.lines) l.lines in
-    let until = shown k.now n (until_clock k l t) in
+    let until = shown k.now n (until_clock a k l t) in
     let since = shown l.now n (since_clock k l t) in
     let none : lines_told since ≡ [] = told_shown l.now n (since_clock k l t) in
     let told : lines_told (wrote k.now n t lines ++ until ++ since) ≡ lines =
@@ -75,7 +76,7 @@ step_tells f n k d None (Some t) grown =
     ∙ ap (λ v. lines_told (wrote k.now n t lines ++ until) ++ v) none
     ∙ append-nil (lines_told (wrote k.now n t lines ++ until))
     ∙ told-append (wrote k.now n t lines) until
-    ∙ ap (λ v. lines_told (wrote k.now n t lines) ++ v) (told_shown k.now n (until_clock k l t))
+    ∙ ap (λ v. lines_told (wrote k.now n t lines) ++ v) (told_shown k.now n (until_clock a k l t))
     ∙ append-nil (lines_told (wrote k.now n t lines))
     ∙ told_wrote k.now n t lines in
     let more : lines ≡ grown.0 = ap (drop (length k.lines)) grown.1 ∙ after_length k.lines grown.0 in
@@ -92,8 +93,8 @@ module _ (i : Sections) (schedule : List ScheduleLine) where
       let e : n + 1 ≡ suc n = omega arith in
       let g = grow i schedule n 1 in
       let grown : (step f w).kernel.lines ≡ w.kernel.lines ++ g.0 = ap (λ (v : CodeWorld). v.kernel.lines) (sym (ap (code i schedule) e ∙ next_code n)) ∙ g.1 in
-      subst (λ (v : CodeWorld). v.kernel.lines ≡ w.kernel.lines ++ lines_told (rows_of_step w.kernel v.kernel (suc n) w.kernel.outcome w.kernel.running)) (sym (next_code n))
-      (step_tells f (suc n) w.kernel w.rest w.kernel.outcome w.kernel.running (g.0, grown))
+      subst (λ (v : CodeWorld). v.kernel.lines ≡ w.kernel.lines ++ lines_told (rows_of_step (next_raising i schedule w) w.kernel v.kernel (suc n) w.kernel.outcome w.kernel.running)) (sym (next_code n))
+      (step_tells f (next_raising i schedule w) (suc n) w.kernel w.rest w.kernel.outcome w.kernel.running (g.0, grown))
 
   pub all_lines : LinesGrowOn → LeftUnmoved → (n : ℕ) → lines_told (rows i schedule n) ≡ (code i schedule n).kernel.lines
   all_lines grow unmoved zero = let k = (code i schedule 0).kernel in told_shown k.now 0 (starts k) ∙ sym (starts_without_lines unmoved i)

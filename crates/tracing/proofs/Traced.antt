@@ -11,7 +11,9 @@ use Rattle.image.specs.Sections.{Sections}
 use Rattle.image.specs.Texts.{names_of}
 use Rattle.image_laws.specs.Laws.{OutcomeStays}
 use Rattle.tasking.specs.Held.{kernel_of}
-use Rattle.execution.specs.Held.{HeldWorld, world_of}
+use Rattle.execution.specs.Ahead.{next_raising}
+use Rattle.execution.specs.Held.{HeldWorld, world_of, world_with}
+use Rattle.task_steps.specs.declared.foreseeing.Raising.{Raising}
 use Rattle.machine.specs.Outcomes.{ending_of, time_of}
 use Rattle.machine.specs.Stands.{EndsBy, HoldsWorld, ShowsText}
 use Rattle.machine.specs.Written.{AppendsBeginning}
@@ -20,60 +22,61 @@ use Rattle.machine.specs.declared.reports.Event.TheVariants as events
 use Rattle.machine.specs.declared.reports.Outcome.{Outcome}
 use Rattle.machine.proofs.Runs.{appends_two, beginning_after, beginning_of_more}
 use Rattle.tracing.specs.Changes.{since_clock, starts, until_clock}
-use Rattle.tracing.specs.Traces.{heading, rows, rows_of_step, rows_text, shown, trace_text, wrote}
+use Rattle.tracing.specs.Traces.{heading, row_names, rows, rows_of_step, rows_text, shown, trace_text, wrote}
 use Rattle.tracing.specs.Writing.{line_text_of, step_text}
 use Rattle.tracing.specs.declared.event.Event as change
+use Rattle.tracing.specs.declared.origin.Origin.{Origin}
 use Rattle.tracing.proofs.Rows.{after_length, rows_grow, rows_stay, rows_text-append}
 
 -- the kernel that is held, beside lines
 abbrev beside : List Line → Kernel → Kernel
 beside lines k = record k { lines = lines }
 
-module _ (i : Sections) (k l : Kernel) (xs ys : List Line) (told : Event) (shows : ShowsText i (beside xs k) (beside ys l) told) (n : ℕ) where
-  no_line : (t : ℕ) → ys ≡ xs → rows_text (names_of i) (wrote k.now n t (drop (length xs) ys)) ≡ []
-  no_line t same = ap (λ v. rows_text (names_of i) (wrote k.now n t v)) (ap (drop (length xs)) same ∙ drop-length xs)
+module _ (i : Sections) (objects : List (List ℕ)) (origin : ℕ → Option Origin) (a : Option Raising) (k l : Kernel) (xs ys : List Line) (told : Event) (shows : ShowsText i (beside xs k) (beside ys l) told) (n : ℕ) where
+  no_line : (t : ℕ) → ys ≡ xs → rows_text (row_names i objects origin) (wrote k.now n t (drop (length xs) ys)) ≡ []
+  no_line t same = ap (λ v. rows_text (row_names i objects origin) (wrote k.now n t v)) (ap (drop (length xs)) same ∙ drop-length xs)
 
   -- the row of a line, by what the machine has told
-  line_is : (t : ℕ) (e : Event) → ShowsText i (beside xs k) (beside ys l) e → rows_text (names_of i) (wrote k.now n t (drop (length xs) ys)) ≡ line_text_of (names_of i) k.now n t e
+  line_is : (t : ℕ) (e : Event) → ShowsText i (beside xs k) (beside ys l) e → rows_text (row_names i objects origin) (wrote k.now n t (drop (length xs) ys)) ≡ line_text_of (row_names i objects origin) k.now n t e
   line_is t events.Quiet s = no_line t s.0
   line_is t (events.Done o) s = no_line t s.0
   line_is t (events.Line text) s =
-      let names = names_of i in
-      let head = heading k.now n (names.task t) in
+      let names = row_names i objects origin in
+      let head = heading k.now n (names.line.task t) in
       let one : drop (length xs) ys ≡ s.0 ∷ [] = ap (drop (length xs)) s.1 ∙ after_length xs (s.0 ∷ []) in
       ap (λ v. rows_text names (wrote k.now n t v)) one
-      ∙ append-nil (head ++ codes "writes " ++ line_text names s.0)
+      ∙ append-nil (head ++ codes "writes " ++ line_text names.line s.0)
       ∙ ap (λ v. (head ++ codes "writes ") ++ v) (sym s.2)
 
   -- the rows of a step without outcome, by what the machine has told and what both hold
-  step_is : (r : Option ℕ) → rows_text (names_of i) (rows_of_step (beside xs k) (beside ys l) n None r) ≡ step_text (names_of i) k l n told r
+  step_is : (r : Option ℕ) → rows_text (row_names i objects origin) (rows_of_step a (beside xs k) (beside ys l) n None r) ≡ step_text (row_names i objects origin) a k l n told r
   step_is None = refl
   step_is (Some t) =
-      let names = names_of i in
+      let names = row_names i objects origin in
       let lines = wrote k.now n t (drop (length xs) ys) in
-      let until = shown k.now n (until_clock k l t) in
+      let until = shown k.now n (until_clock a k l t) in
       let since = shown l.now n (since_clock k l t) in
       rows_text-append names (lines ++ until) since
       ∙ ap (λ v. v ++ rows_text names since) (rows_text-append names lines until)
       ∙ ap (λ v. v ++ rows_text names until ++ rows_text names since) (line_is t told shows)
 
 -- the parts of a step's text, by what is written
-pub step_parts : (i : Sections) (k l : Kernel) (n : ℕ) (told : Event) (ran : ℕ) (running : Option ℕ) (now later : ℤ) (until since : List change.Event) → running ≡ Some ran → now ≡ k.now → later ≡ l.now →
-    until ≡ until_clock k l ran → since ≡ since_clock k l ran →
-    step_text (names_of i) k l n told running ≡ (line_text_of (names_of i) now n ran told ++ rows_text (names_of i) (shown now n until)) ++ rows_text (names_of i) (shown later n since)
-step_parts i k l n told ran running now later until since runs is_now is_later is_until is_since =
-    ap (step_text (names_of i) k l n told) runs
-    ∙ sym (λ j. (line_text_of (names_of i) (is_now j) n ran told ++ rows_text (names_of i) (shown (is_now j) n (is_until j))) ++ rows_text (names_of i) (shown (is_later j) n (is_since j)))
+pub step_parts : (i : Sections) (objects : List (List ℕ)) (origin : ℕ → Option Origin) (a : Option Raising) (k l : Kernel) (n : ℕ) (told : Event) (ran : ℕ) (running : Option ℕ) (now later : ℤ) (until since : List change.Event) → running ≡ Some ran → now ≡ k.now → later ≡ l.now →
+    until ≡ until_clock a k l ran → since ≡ since_clock k l ran →
+    step_text (row_names i objects origin) a k l n told running ≡ (line_text_of (row_names i objects origin) now n ran told ++ rows_text (row_names i objects origin) (shown now n until)) ++ rows_text (row_names i objects origin) (shown later n since)
+step_parts i objects origin a k l n told ran running now later until since runs is_now is_later is_until is_since =
+    ap (step_text (row_names i objects origin) a k l n told) runs
+    ∙ sym (λ j. (line_text_of (row_names i objects origin) (is_now j) n ran told ++ rows_text (row_names i objects origin) (shown (is_now j) n (is_until j))) ++ rows_text (row_names i objects origin) (shown (is_later j) n (is_since j)))
 
 -- after n steps: both machines stand for the world, and its rows are written
-pub record Traced (i : Sections) (schedule : List ScheduleLine) (n : ℕ) (g h : HeldWorld) (old new : Option (List ℕ)) (before after : ℕ) : Type 0 where
+pub record Traced (i : Sections) (objects : List (List ℕ)) (origin : ℕ → Option Origin) (schedule : List ScheduleLine) (n : ℕ) (g h : HeldWorld) (old new : Option (List ℕ)) (before after : ℕ) : Type 0 where
   pub image_before : g.image ≡ i
   pub image : h.image ≡ i
   pub schedule_before : g.schedule ≡ schedule
   pub schedule_after : h.schedule ≡ schedule
   pub stands_before : HoldsWorld g (code i schedule n)
   pub stands : HoldsWorld h (code i schedule n)
-  pub written : Appends old new (rows_text (names_of i) (rows i schedule n))
+  pub written : Appends old new (rows_text (row_names i objects origin) (rows i schedule n))
   pub kept : after ≡ before
 
 -- a machine's step, as its contract has it
@@ -89,12 +92,12 @@ stepped i schedule n h next told image same steps =
     (subst (λ s. HoldsWorld h (code i s n) → HoldsWorld next (code i s (n + 1)) × ShowsText i (code i s n).kernel (code i s (n + 1)).kernel told) same
     (subst (λ j. HoldsWorld h (code j h.schedule n) → HoldsWorld next (code j h.schedule (n + 1)) × ShowsText j (code j h.schedule n).kernel (code j h.schedule (n + 1)).kernel told) image (steps n)))
 
-module _ (i : Sections) (schedule : List ScheduleLine) (n : ℕ) (g h : HeldWorld) (old new : Option (List ℕ)) (before after : ℕ) (r : Traced i schedule n g h old new before after) where
-  module _ (next : HeldWorld) (told : Event) (steps : StepsBy h next told) (going : (kernel_of h.tasking).outcome ≡ None) (later : Option (List ℕ)) where
+module _ (i : Sections) (objects : List (List ℕ)) (origin : ℕ → Option Origin) (schedule : List ScheduleLine) (n : ℕ) (g h : HeldWorld) (old new : Option (List ℕ)) (before after : ℕ) (r : Traced i objects origin schedule n g h old new before after) where
+  module _ (raises : Option Raising) (ahead : (lines : List Line) → raises ≡ next_raising g.image g.schedule (world_with lines g)) (next : HeldWorld) (told : Event) (steps : StepsBy h next told) (going : (kernel_of h.tasking).outcome ≡ None) (later : Option (List ℕ)) where
     abbrev pub text : ℕ → List ℕ
-    text m = step_text (names_of i) (kernel_of g.tasking) (kernel_of next.tasking) m told (kernel_of g.tasking).running
+    text m = step_text (row_names i objects origin) raises (kernel_of g.tasking) (kernel_of next.tasking) m told (kernel_of g.tasking).running
 
-    rows_more : rows_text (names_of i) (rows i schedule (suc n)) ≡ rows_text (names_of i) (rows i schedule n) ++ text (suc n)
+    rows_more : rows_text (row_names i objects origin) (rows i schedule (suc n)) ≡ rows_text (row_names i objects origin) (rows i schedule n) ++ text (suc n)
     rows_more =
         let w = code i schedule n in
         let v = code i schedule (suc n) in
@@ -107,15 +110,18 @@ module _ (i : Sections) (schedule : List ScheduleLine) (n : ℕ) (g h : HeldWorl
         let made : v.kernel ≡ beside ys l = ap (λ (x : CodeWorld). x.kernel) s.0 in
         let none : w.kernel.outcome ≡ None = ap (λ (x : CodeWorld). x.kernel.outcome) r.stands ∙ going in
         let shows : ShowsText i (beside xs k) (beside ys l) told = subst (λ x. ShowsText i (beside xs k) x told) made (subst (λ x. ShowsText i x v.kernel told) held s.1) in
-        let same : rows_of_step w.kernel v.kernel (suc n) w.kernel.outcome w.kernel.running ≡ rows_of_step (beside xs k) (beside ys l) (suc n) None k.running =
-        ap (λ x. rows_of_step w.kernel x (suc n) w.kernel.outcome w.kernel.running) made
-        ∙ ap (λ x. rows_of_step w.kernel (beside ys l) (suc n) x w.kernel.running) none
-        ∙ ap (λ (x : Kernel). rows_of_step x (beside ys l) (suc n) None x.running) held in
-        rows_text-append (names_of i) (rows i schedule n) (rows_of_step w.kernel v.kernel (suc n) w.kernel.outcome w.kernel.running)
-        ∙ ap (λ x. rows_text (names_of i) (rows i schedule n) ++ x) (ap (rows_text (names_of i)) same ∙ step_is i k l xs ys told shows (suc n) k.running)
+        let raised : next_raising i schedule w ≡ raises =
+        ap (next_raising i schedule) r.stands_before ∙ sym (ahead xs ∙ (λ j. next_raising (r.image_before j) (r.schedule_before j) (world_with xs g))) in
+        let same : rows_of_step (next_raising i schedule w) w.kernel v.kernel (suc n) w.kernel.outcome w.kernel.running ≡ rows_of_step raises (beside xs k) (beside ys l) (suc n) None k.running =
+        ap (λ a. rows_of_step a w.kernel v.kernel (suc n) w.kernel.outcome w.kernel.running) raised
+        ∙ ap (λ x. rows_of_step raises w.kernel x (suc n) w.kernel.outcome w.kernel.running) made
+        ∙ ap (λ x. rows_of_step raises w.kernel (beside ys l) (suc n) x w.kernel.running) none
+        ∙ ap (λ (x : Kernel). rows_of_step raises x (beside ys l) (suc n) None x.running) held in
+        rows_text-append (row_names i objects origin) (rows i schedule n) (rows_of_step (next_raising i schedule w) w.kernel v.kernel (suc n) w.kernel.outcome w.kernel.running)
+        ∙ ap (λ x. rows_text (row_names i objects origin) (rows i schedule n) ++ x) (ap (rows_text (row_names i objects origin)) same ∙ step_is i objects origin raises k l xs ys told shows (suc n) k.running)
 
     next_traced : (follow : HeldWorld) (said : Event) → StepsBy g follow said → follow.image ≡ g.image → next.image ≡ h.image → follow.schedule ≡ g.schedule → next.schedule ≡ h.schedule →
-        (count : ℕ) → Appends new later (text (suc n)) → count ≡ after → Traced i schedule (suc n) follow next old later before count
+        (count : ℕ) → Appends new later (text (suc n)) → count ≡ after → Traced i objects origin schedule (suc n) follow next old later before count
     next_traced follow said follows image_g image_h schedule_g schedule_h count app same =
         record {
           image_before = image_g ∙ r.image_before;
@@ -124,43 +130,43 @@ module _ (i : Sections) (schedule : List ScheduleLine) (n : ℕ) (g h : HeldWorl
           schedule_after = schedule_h ∙ r.schedule_after;
           stands_before = (stepped i schedule n g follow said r.image_before r.schedule_before follows r.stands_before).0;
           stands = (stepped i schedule n h next told r.image r.schedule_after steps r.stands).0;
-          written = subst (Appends old later) (sym rows_more) (appends_two old new later (rows_text (names_of i) (rows i schedule n)) (text (suc n)) r.written app);
+          written = subst (Appends old later) (sym rows_more) (appends_two old new later (rows_text (row_names i objects origin) (rows i schedule n)) (text (suc n)) r.written app);
           kept = same ∙ r.kept;
         }
 
     pub traced_on : (follow : HeldWorld) (said : Event) → StepsBy g follow said → follow.image ≡ g.image → next.image ≡ h.image → follow.schedule ≡ g.schedule → next.schedule ≡ h.schedule →
-        (count : ℕ) → Appends new later (text (n + 1)) → count ≡ after → Traced i schedule (n + 1) follow next old later before count
+        (count : ℕ) → Appends new later (text (n + 1)) → count ≡ after → Traced i objects origin schedule (n + 1) follow next old later before count
     traced_on follow said follows image_g image_h schedule_g schedule_h count app same =
         let at : n + 1 ≡ suc n = omega arith in
-        subst (λ x. Traced i schedule x follow next old later before count) (sym at)
+        subst (λ x. Traced i objects origin schedule x follow next old later before count) (sym at)
         (next_traced follow said follows image_g image_h schedule_g schedule_h count (subst (λ x. Appends new later (text x)) at app) same)
 
     -- a step whose rows could not be written: what is written is a beginning of the trace's rows
-    pub broken_step : (limit : ℕ) → n + 1 ≤ limit → AppendsBeginning new later (text (n + 1)) → AppendsBeginning old later (rows_text (names_of i) (rows i schedule limit))
+    pub broken_step : (limit : ℕ) → n + 1 ≤ limit → AppendsBeginning new later (text (n + 1)) → AppendsBeginning old later (rows_text (row_names i objects origin) (rows i schedule limit))
     broken_step limit le begun =
         let rest = rows_grow i schedule (suc n) (limit - suc n) in
         let here : n + 1 ≡ suc n = omega arith in
         let at : suc n + (limit - suc n) ≡ limit = omega (arith, le) in
         let more : rows i schedule limit ≡ rows i schedule (suc n) ++ rest.0 = subst (λ x. rows i schedule x ≡ rows i schedule (suc n) ++ rest.0) at rest.1 in
-        let whole : rows_text (names_of i) (rows i schedule limit) ≡ (rows_text (names_of i) (rows i schedule n) ++ text (suc n)) ++ rows_text (names_of i) rest.0 =
-        ap (rows_text (names_of i)) more ∙ rows_text-append (names_of i) (rows i schedule (suc n)) rest.0 ∙ ap (λ v. v ++ rows_text (names_of i) rest.0) rows_more in
+        let whole : rows_text (row_names i objects origin) (rows i schedule limit) ≡ (rows_text (row_names i objects origin) (rows i schedule n) ++ text (suc n)) ++ rows_text (row_names i objects origin) rest.0 =
+        ap (rows_text (row_names i objects origin)) more ∙ rows_text-append (row_names i objects origin) (rows i schedule (suc n)) rest.0 ∙ ap (λ v. v ++ rows_text (row_names i objects origin) rest.0) rows_more in
         subst (AppendsBeginning old later) (sym whole)
-        (beginning_of_more old later (rows_text (names_of i) (rows i schedule n) ++ text (suc n)) (rows_text (names_of i) rest.0)
-        (beginning_after old new later (rows_text (names_of i) (rows i schedule n)) (text (suc n)) r.written (subst (λ x. AppendsBeginning new later (text x)) here begun)))
+        (beginning_of_more old later (rows_text (row_names i objects origin) (rows i schedule n) ++ text (suc n)) (rows_text (row_names i objects origin) rest.0)
+        (beginning_after old new later (rows_text (row_names i objects origin) (rows i schedule n)) (text (suc n)) r.written (subst (λ x. AppendsBeginning new later (text x)) here begun)))
 
 -- the start
-module _ (i : Sections) (schedule : List ScheduleLine) (h : HeldWorld) (image : h.image ≡ i) (schedule_after : h.schedule ≡ schedule) (stands : HoldsWorld h (code h.image h.schedule 0))
+module _ (i : Sections) (objects : List (List ℕ)) (origin : ℕ → Option Origin) (schedule : List ScheduleLine) (h : HeldWorld) (image : h.image ≡ i) (schedule_after : h.schedule ≡ schedule) (stands : HoldsWorld h (code h.image h.schedule 0))
     (now : ℤ) (events : List change.Event) (is_now : now ≡ (kernel_of h.tasking).now) (are : events ≡ starts (kernel_of h.tasking)) where
   stands_there : (g : HeldWorld) → g.image ≡ i → g.schedule ≡ schedule → HoldsWorld g (code g.image g.schedule 0) → HoldsWorld g (code i schedule 0)
   stands_there g same there s = subst (λ x. HoldsWorld g (code i x 0)) there (subst (λ x. HoldsWorld g (code x g.schedule 0)) same s)
 
-  first_rows : rows_text (names_of i) (rows i schedule 0) ≡ rows_text (names_of i) (shown now 0 events)
+  first_rows : rows_text (row_names i objects origin) (rows i schedule 0) ≡ rows_text (row_names i objects origin) (shown now 0 events)
   first_rows =
-      ap (λ (w : CodeWorld). rows_text (names_of i) (shown w.kernel.now 0 (starts w.kernel))) (stands_there h image schedule_after stands)
-      ∙ sym (λ j. rows_text (names_of i) (shown (is_now j) 0 (are j)))
+      ap (λ (w : CodeWorld). rows_text (row_names i objects origin) (shown w.kernel.now 0 (starts w.kernel))) (stands_there h image schedule_after stands)
+      ∙ sym (λ j. rows_text (row_names i objects origin) (shown (is_now j) 0 (are j)))
 
   pub traced_start : (g : HeldWorld) → g.image ≡ i → g.schedule ≡ schedule → HoldsWorld g (code g.image g.schedule 0) → (old new : Option (List ℕ)) (before after : ℕ) →
-      Appends old new (rows_text (names_of i) (shown now 0 events)) → after ≡ before → Traced i schedule 0 g h old new before after
+      Appends old new (rows_text (row_names i objects origin) (shown now 0 events)) → after ≡ before → Traced i objects origin schedule 0 g h old new before after
   traced_start g same there s old new before after app kept =
       record {
         image_before = same;
@@ -173,24 +179,24 @@ module _ (i : Sections) (schedule : List ScheduleLine) (h : HeldWorld) (image : 
         kept = kept;
       }
 
-  pub broken_start : (limit : ℕ) (old new : Option (List ℕ)) → AppendsBeginning old new (rows_text (names_of i) (shown now 0 events)) → AppendsBeginning old new (rows_text (names_of i) (rows i schedule limit))
+  pub broken_start : (limit : ℕ) (old new : Option (List ℕ)) → AppendsBeginning old new (rows_text (row_names i objects origin) (shown now 0 events)) → AppendsBeginning old new (rows_text (row_names i objects origin) (rows i schedule limit))
   broken_start limit old new begun =
       let rest = rows_grow i schedule 0 limit in
       let at : 0 + limit ≡ limit = omega arith in
       let more : rows i schedule limit ≡ rows i schedule 0 ++ rest.0 = subst (λ x. rows i schedule x ≡ rows i schedule 0 ++ rest.0) at rest.1 in
-      let whole : rows_text (names_of i) (rows i schedule limit) ≡ rows_text (names_of i) (shown now 0 events) ++ rows_text (names_of i) rest.0 =
-      ap (rows_text (names_of i)) more ∙ rows_text-append (names_of i) (rows i schedule 0) rest.0 ∙ ap (λ v. v ++ rows_text (names_of i) rest.0) first_rows in
-      subst (AppendsBeginning old new) (sym whole) (beginning_of_more old new (rows_text (names_of i) (shown now 0 events)) (rows_text (names_of i) rest.0) begun)
+      let whole : rows_text (row_names i objects origin) (rows i schedule limit) ≡ rows_text (row_names i objects origin) (shown now 0 events) ++ rows_text (row_names i objects origin) rest.0 =
+      ap (rows_text (row_names i objects origin)) more ∙ rows_text-append (row_names i objects origin) (rows i schedule 0) rest.0 ∙ ap (λ v. v ++ rows_text (row_names i objects origin) rest.0) first_rows in
+      subst (AppendsBeginning old new) (sym whole) (beginning_of_more old new (rows_text (row_names i objects origin) (shown now 0 events)) (rows_text (row_names i objects origin) rest.0) begun)
 
 -- the rows up to the outcome, or at the limit, are those at the limit
-pub record Over (i : Sections) (schedule : List ScheduleLine) (limit : ℕ) (o : Outcome) (old new : Option (List ℕ)) (before after : ℕ) : Type 0 where
-  pub written : Appends old new (rows_text (names_of i) (rows i schedule limit))
+pub record Over (i : Sections) (objects : List (List ℕ)) (origin : ℕ → Option Origin) (schedule : List ScheduleLine) (limit : ℕ) (o : Outcome) (old new : Option (List ℕ)) (before after : ℕ) : Type 0 where
+  pub written : Appends old new (rows_text (row_names i objects origin) (rows i schedule limit))
   pub ends : EndsBy o (code i schedule limit)
   pub kept : after ≡ before
 
-pub traced_over : OutcomeStays → (i : Sections) (schedule : List ScheduleLine) (n limit : ℕ) (g h : HeldWorld) (old new : Option (List ℕ)) (before after : ℕ) → Traced i schedule n g h old new before after → n ≤ limit →
-    (n ≡ limit) ⊎ ((e : kernel.Outcome) × ((kernel_of h.tasking).outcome ≡ Some e)) → (o : Outcome) → EndsBy o (world_of h) → Over i schedule limit o old new before after
-traced_over stays i schedule n limit g h old new before after r le why o ends =
+pub traced_over : OutcomeStays → (i : Sections) (objects : List (List ℕ)) (origin : ℕ → Option Origin) (schedule : List ScheduleLine) (n limit : ℕ) (g h : HeldWorld) (old new : Option (List ℕ)) (before after : ℕ) → Traced i objects origin schedule n g h old new before after → n ≤ limit →
+    (n ≡ limit) ⊎ ((e : kernel.Outcome) × ((kernel_of h.tasking).outcome ≡ Some e)) → (o : Outcome) → EndsBy o (world_of h) → Over i objects origin schedule limit o old new before after
+traced_over stays i objects origin schedule n limit g h old new before after r le why o ends =
     let at : n + (limit - n) ≡ limit = omega (arith, le) in
     let here : EndsBy o (code i schedule n) = record { outcome = ap (λ (w : CodeWorld). w.kernel.outcome) r.stands ∙ ends.outcome; time = ap (λ (w : CodeWorld). w.kernel.now) r.stands ∙ ends.time } in
     let over : (e : kernel.Outcome) → (kernel_of h.tasking).outcome ≡ Some e → (code i schedule n).kernel.outcome ≡ Some e = λ e is. ap (λ (w : CodeWorld). w.kernel.outcome) r.stands ∙ is in
@@ -203,31 +209,31 @@ traced_over stays i schedule n limit g h old new before after r le why o ends =
     ))
     why in
     record {
-      written = subst (λ x. Appends old new (rows_text (names_of i) x)) (sym same.1) r.written;
+      written = subst (λ x. Appends old new (rows_text (row_names i objects origin) x)) (sym same.1) r.written;
       ends = subst (EndsBy o) (sym same.0) here;
       kept = r.kept;
     }
 
 -- the whole text: the rows, and then the last line
-module _ (i : Sections) (given schedule : List ScheduleLine) (limit : ℕ) (same : given ≡ schedule) (old middle new : Option (List ℕ)) where
-  pub part_of_rows : AppendsBeginning old new (rows_text (names_of i) (rows i given limit)) → AppendsBeginning old new (trace_text i schedule limit)
+module _ (i : Sections) (objects : List (List ℕ)) (origin : ℕ → Option Origin) (given schedule : List ScheduleLine) (limit : ℕ) (same : given ≡ schedule) (old middle new : Option (List ℕ)) where
+  pub part_of_rows : AppendsBeginning old new (rows_text (row_names i objects origin) (rows i given limit)) → AppendsBeginning old new (trace_text i objects origin schedule limit)
   part_of_rows part =
       let k = (code i given limit).kernel in
-      subst (λ s. AppendsBeginning old new (trace_text i s limit)) same
-      (beginning_of_more old new (rows_text (names_of i) (rows i given limit)) (last_line (names_of i) k.outcome k.now) part)
+      subst (λ s. AppendsBeginning old new (trace_text i objects origin s limit)) same
+      (beginning_of_more old new (rows_text (row_names i objects origin) (rows i given limit)) (last_line (names_of i) k.outcome k.now) part)
 
-  module _ (o : Outcome) (last : List ℕ) (ends : EndsBy o (code i given limit)) (is : last ≡ last_line (names_of i) (ending_of o) (time_of o)) (written : Appends old middle (rows_text (names_of i) (rows i given limit))) where
+  module _ (o : Outcome) (last : List ℕ) (ends : EndsBy o (code i given limit)) (is : last ≡ last_line (names_of i) (ending_of o) (time_of o)) (written : Appends old middle (rows_text (row_names i objects origin) (rows i given limit))) where
     last_is : last ≡ last_line (names_of i) (code i given limit).kernel.outcome (code i given limit).kernel.now
     last_is = is ∙ sym (λ j. last_line (names_of i) (ends.outcome j) (ends.time j))
 
-    pub whole_trace : Appends middle new last → Appends old new (trace_text i schedule limit)
+    pub whole_trace : Appends middle new last → Appends old new (trace_text i objects origin schedule limit)
     whole_trace app =
         let k = (code i given limit).kernel in
-        subst (λ s. Appends old new (trace_text i s limit)) same
-        (appends_two old middle new (rows_text (names_of i) (rows i given limit)) (last_line (names_of i) k.outcome k.now) written (subst (Appends middle new) last_is app))
+        subst (λ s. Appends old new (trace_text i objects origin s limit)) same
+        (appends_two old middle new (rows_text (row_names i objects origin) (rows i given limit)) (last_line (names_of i) k.outcome k.now) written (subst (Appends middle new) last_is app))
 
-    pub part_of_trace : AppendsBeginning middle new last → AppendsBeginning old new (trace_text i schedule limit)
+    pub part_of_trace : AppendsBeginning middle new last → AppendsBeginning old new (trace_text i objects origin schedule limit)
     part_of_trace begun =
         let k = (code i given limit).kernel in
-        subst (λ s. AppendsBeginning old new (trace_text i s limit)) same
-        (beginning_after old middle new (rows_text (names_of i) (rows i given limit)) (last_line (names_of i) k.outcome k.now) written (subst (AppendsBeginning middle new) last_is begun))
+        subst (λ s. AppendsBeginning old new (trace_text i objects origin s limit)) same
+        (beginning_after old middle new (rows_text (row_names i objects origin) (rows i given limit)) (last_line (names_of i) k.outcome k.now) written (subst (AppendsBeginning middle new) last_is begun))

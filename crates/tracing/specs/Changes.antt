@@ -1,9 +1,12 @@
 -- What a step changes of who runs, who waits and who is inside an object, told by the kernels before and after it.
-use Rattle.std.specs.Prelude.{ℕ, zero, suc, List, [], ◌∷◌, ◌++◌, Option, Some, None, Bool, true, false, int_lt, nat_eq, nat_lt, if◌then◌else◌}
+use Rattle.std.specs.Prelude.{ℕ, zero, suc, List, [], ◌∷◌, ◌++◌, Option, Some, None, ℤ, Bool, true, false, int_lt, nat_eq, nat_lt, if◌then◌else◌}
 use Rattle.kernel.specs.State as kernel
 use Rattle.kernel.specs.State.{Kernel, TaskPlace, IsRunning, IsReady, IsAsleep, IsQueued, IsServed, IsFinished, active, is_object_open}
+use Rattle.tasking.specs.Waits.{wake_time}
+use Rattle.task_steps.specs.declared.foreseeing.Cause.{Cause}
+use Rattle.task_steps.specs.declared.foreseeing.Raising.{Raising}
 use Rattle.tracing.specs.declared.event.Event.{Event}
-use Rattle.tracing.specs.declared.event.Event.TheVariants.{Ready, Runs, Preempted, GivesWay, Delayed, Wakes, Enters, Leaves, Queues, Served, Returns, Ends, Unhandled, ClockMoves}
+use Rattle.tracing.specs.declared.event.Event.TheVariants.{Ready, Runs, Refused, Raises, RaisesAtCall, Preempted, GivesWay, Waits, Wakes, Enters, Leaves, Queues, Served, Returns, Ends, Unhandled, ClockMoves}
 
 -- Throughout, a step leads from kernel k to kernel l, and t is the task that ran.
 
@@ -19,6 +22,20 @@ each (suc n) told = each n told ++ list_of (told n)
 -- the clock moves only where nobody runs or is ready: then each task that runs or is ready after the step has waited for that time
 abbrev pub is_later : Kernel → Kernel → Bool
 is_later k l = int_lt k.now l.now
+
+-- Exceptions
+
+abbrev pub refusal : ℕ → Option Cause → List Event
+refusal t None = []
+refusal t (Some cause) = Refused t cause ∷ []
+
+abbrev pub raises : ℕ → Raising → Event
+raises t r = if r.is_pending then RaisesAtCall t r.exception r.subprogram r.place else Raises t r.exception r.subprogram r.place
+
+-- by what the step raises, if it raises one; why, where it is refused something, in front of it
+abbrev pub raising : ℕ → Option Raising → List Event
+raising t None = []
+raising t (Some r) = refusal t r.cause ++ raises t r ∷ []
 
 -- Objects
 
@@ -50,21 +67,29 @@ abbrev pub outranked : Kernel → ℕ → Option ℕ → Option Event
 outranked l t None = None
 outranked l t (Some r) = Some (if nat_lt (active l t) (active l r) then Preempted t r else GivesWay t r)
 
+-- the time that it has asked to wait for: where it sleeps no more, that of the clock, which has moved to it
+abbrev pub or_now : ℤ → Option ℤ → ℤ
+or_now now None = now
+or_now now (Some wake) = wake
+
+abbrev pub waits : Kernel → ℕ → Event
+waits l t = Waits t (or_now l.now (wake_time t l.sleepers))
+
 -- how it gave up the processor, if it did: by whether the clock has moved, and where t is
 abbrev pub gave_up : Kernel → ℕ → Bool → TaskPlace → Option Event
-gave_up l t later IsAsleep = Some (Delayed t)
+gave_up l t later IsAsleep = Some (waits l t)
 gave_up l t later (IsQueued o) = Some (Queues t o)
 gave_up l t later (IsServed o) = None
 gave_up l t later IsFinished = Some (Ends t)
-gave_up l t true IsRunning = Some (Delayed t)
+gave_up l t true IsRunning = Some (waits l t)
 gave_up l t false IsRunning = None
-gave_up l t true IsReady = Some (Delayed t)
+gave_up l t true IsReady = Some (waits l t)
 gave_up l t false IsReady = outranked l t l.running
 
--- what has happened when the clock may move: what t did, and what that made of callers
-abbrev pub until_clock : Kernel → Kernel → ℕ → List Event
-until_clock k l t =
-    each l.partition.objects (crossing k l t) ++ each l.partition.tasks (calling k l t) ++ list_of (gave_up l t (is_later k l) (l.place t))
+-- what has happened when the clock may move: what t raised, what it did, and what that made of callers
+abbrev pub until_clock : Option Raising → Kernel → Kernel → ℕ → List Event
+until_clock r k l t =
+    raising t r ++ each l.partition.objects (crossing k l t) ++ each l.partition.tasks (calling k l t) ++ list_of (gave_up l t (is_later k l) (l.place t))
 
 -- The clock
 

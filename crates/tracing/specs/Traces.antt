@@ -1,5 +1,5 @@
 -- The trace of a run, row by row, and its text (docs/FORMATS.md, "Traces").
-use Rattle.std.specs.Prelude.{ℕ, zero, suc, List, [], ◌∷◌, ◌++◌, ℤ, Option, Some, None, codes, decimal, drop, length, map}
+use Rattle.std.specs.Prelude.{ℕ, zero, suc, List, [], ◌∷◌, ◌++◌, ℤ, Option, Some, None, codes, decimal, drop, length, map, slice_get}
 use Rattle.std.specs.Fmt.{signed_decimal}
 use Rattle.base.specs.declared.schedule.ScheduleLine.{ScheduleLine}
 use Rattle.kernel.specs.State.{Kernel, Line, Outcome}
@@ -7,9 +7,14 @@ use Rattle.kernel.specs.Text.{Names, last_line, line_text}
 use Rattle.image.specs.Code.{code}
 use Rattle.image.specs.Sections.{Sections}
 use Rattle.image.specs.Texts.{names_of}
+use Rattle.execution.specs.Ahead.{next_raising}
+use Rattle.task_steps.specs.declared.foreseeing.Cause.{Cause}
+use Rattle.task_steps.specs.declared.foreseeing.Cause.TheVariants as causes
+use Rattle.task_steps.specs.declared.foreseeing.Raising.{Raising}
 use Rattle.tracing.specs.Changes.{since_clock, starts, until_clock}
 use Rattle.tracing.specs.declared.event.Event.{Event}
-use Rattle.tracing.specs.declared.event.Event.TheVariants.{Ready, Runs, Preempted, GivesWay, Delayed, Wakes, Enters, Leaves, Queues, Served, Returns, Ends, Unhandled, ClockMoves}
+use Rattle.tracing.specs.declared.event.Event.TheVariants.{Ready, Runs, Refused, Raises, RaisesAtCall, Preempted, GivesWay, Waits, Wakes, Enters, Leaves, Queues, Served, Returns, Ends, Unhandled, ClockMoves}
+use Rattle.tracing.specs.declared.origin.Origin.{Origin}
 
 -- what a row tells: a line that the task wrote, or an event
 pub data Telling : Type 0 where
@@ -31,20 +36,35 @@ shown time step events = map (λ e. row time step (Shows e)) events
 abbrev pub wrote : ℤ → ℕ → ℕ → List Line → List TraceRow
 wrote time step t lines = map (λ l. row time step (Wrote t l)) lines
 
--- the rows of step n, which leads from kernel k to kernel l: none where there was an outcome, and so nobody ran
-abbrev pub rows_of_step : Kernel → Kernel → ℕ → Option Outcome → Option ℕ → List TraceRow
-rows_of_step k l n (Some o) running = []
-rows_of_step k l n None None = []
-rows_of_step k l n None (Some t) = wrote k.now n t (drop (length k.lines) l.lines) ++ shown k.now n (until_clock k l t) ++ shown l.now n (since_clock k l t)
+-- the rows of step n, which leads from kernel k to kernel l and raises r: none where there was an outcome, and so nobody ran
+abbrev pub rows_of_step : Option Raising → Kernel → Kernel → ℕ → Option Outcome → Option ℕ → List TraceRow
+rows_of_step r k l n (Some o) running = []
+rows_of_step r k l n None None = []
+rows_of_step r k l n None (Some t) = wrote k.now n t (drop (length k.lines) l.lines) ++ shown k.now n (until_clock r k l t) ++ shown l.now n (since_clock k l t)
 
 -- the rows of the start and of the first n steps of an image's code
 abbrev pub rows : Sections → List ScheduleLine → ℕ → List TraceRow
 rows i schedule zero = let k = (code i schedule 0).kernel in shown k.now 0 (starts k)
 rows i schedule (suc n) =
-    let k = (code i schedule n).kernel in
-    rows i schedule n ++ rows_of_step k (code i schedule (suc n)).kernel (suc n) k.outcome k.running
+    let w = code i schedule n in
+    rows i schedule n ++ rows_of_step (next_raising i schedule w) w.kernel (code i schedule (suc n)).kernel (suc n) w.kernel.outcome w.kernel.running
 
 -- Text
+
+-- the names of tasks and exceptions, as lines have them, those of protected objects, and where the instruction of an address comes from, where that is known
+pub record RowNames : Type 0 where
+  pub line : Names
+  pub object : ℕ → List ℕ
+  pub origin : ℕ → Option Origin
+
+-- an image has no names of objects: one for which none is given is told by its number
+abbrev pub named_object : ℕ → Option (List ℕ) → List ℕ
+named_object o (Some name) = name
+named_object o None = codes "object " ++ decimal o
+
+-- objects have these names, in the order of their numbers, and instructions come from there
+abbrev pub row_names : Sections → (objects : List (List ℕ)) → (origin : ℕ → Option Origin) → RowNames
+row_names i objects origin = record { line = names_of i; object = λ o. named_object o (slice_get objects o); origin = origin }
 
 -- whom a row is of: nobody where the clock moves
 abbrev pub task_of : Names → Event → List ℕ
@@ -52,7 +72,10 @@ task_of names (Ready t) = names.task t
 task_of names (Runs t p) = names.task t
 task_of names (Preempted t u) = names.task t
 task_of names (GivesWay t u) = names.task t
-task_of names (Delayed t) = names.task t
+task_of names (Refused t cause) = names.task t
+task_of names (Raises t x s a) = names.task t
+task_of names (RaisesAtCall t x s a) = names.task t
+task_of names (Waits t time) = names.task t
 task_of names (Wakes t) = names.task t
 task_of names (Enters t o p) = names.task t
 task_of names (Leaves t o p) = names.task t
@@ -63,20 +86,36 @@ task_of names (Ends t) = names.task t
 task_of names (Unhandled t x) = names.task t
 task_of names ClockMoves = codes "-"
 
-abbrev pub event_text : Names → Event → List ℕ
+-- why Program_Error is raised, where something is refused (RM 9.5.1, D.3, D.7, H.5)
+abbrev pub cause_text : (object : ℕ → List ℕ) → Cause → List ℕ
+cause_text object (causes.InsideObject o) = (codes "is refused at " ++ object o) ++ codes ": it is inside an action of it"
+cause_text object (causes.AboveCeiling o) = (codes "is refused at " ++ object o) ++ codes ": its priority is above the ceiling"
+cause_text object (causes.InsideAction o) = (codes "is refused at " ++ object o) ++ codes ": it is inside an action"
+cause_text object (causes.QueueFull o) = (codes "is refused at " ++ object o) ++ codes ": a call is queued already"
+cause_text object causes.MayNotBlock = codes "is refused: it is inside an action"
+
+-- where the instruction stands that raises: line and column, or nothing where that isn't known
+abbrev pub origin_text : Option Origin → List ℕ
+origin_text None = []
+origin_text (Some o) = (codes " at " ++ decimal o.line) ++ (codes ":" ++ decimal o.column)
+
+abbrev pub event_text : RowNames → Event → List ℕ
 event_text names (Ready t) = codes "is ready"
 event_text names (Runs t p) = codes "runs at " ++ decimal p
-event_text names (Preempted t u) = codes "is preempted by " ++ names.task u
-event_text names (GivesWay t u) = codes "gives way to " ++ names.task u
-event_text names (Delayed t) = codes "is delayed"
+event_text names (Preempted t u) = codes "is preempted by " ++ names.line.task u
+event_text names (GivesWay t u) = codes "gives way to " ++ names.line.task u
+event_text names (Refused t cause) = cause_text names.object cause
+event_text names (Raises t x s a) = (codes "raises " ++ names.line.exception x) ++ origin_text (names.origin a)
+event_text names (RaisesAtCall t x s a) = ((codes "raises " ++ names.line.exception x) ++ codes " at its call") ++ origin_text (names.origin a)
+event_text names (Waits t time) = codes "waits until " ++ signed_decimal time
 event_text names (Wakes t) = codes "wakes"
-event_text names (Enters t o p) = (codes "enters object " ++ decimal o) ++ (codes " at " ++ decimal p)
-event_text names (Leaves t o p) = (codes "leaves object " ++ decimal o) ++ (codes " at " ++ decimal p)
-event_text names (Queues t o) = codes "queues at object " ++ decimal o
-event_text names (Served t o u) = (codes "is served at object " ++ decimal o) ++ (codes " by " ++ names.task u)
-event_text names (Returns t o) = codes "has been served at object " ++ decimal o
+event_text names (Enters t o p) = (codes "enters " ++ names.object o) ++ (codes " at " ++ decimal p)
+event_text names (Leaves t o p) = (codes "leaves " ++ names.object o) ++ (codes " at " ++ decimal p)
+event_text names (Queues t o) = codes "queues at " ++ names.object o
+event_text names (Served t o u) = (codes "is served at " ++ names.object o) ++ (codes " by " ++ names.line.task u)
+event_text names (Returns t o) = codes "has been served at " ++ names.object o
 event_text names (Ends t) = codes "ends"
-event_text names (Unhandled t x) = codes "is left by " ++ names.exception x
+event_text names (Unhandled t x) = codes "is left by " ++ names.line.exception x
 event_text names ClockMoves = codes "the clock moves"
 
 -- `time step TASK `
@@ -84,22 +123,23 @@ abbrev pub heading : ℤ → ℕ → List ℕ → List ℕ
 heading time step task = signed_decimal time ++ codes " " ++ decimal step ++ codes " " ++ task ++ codes " "
 
 -- a line of the run stands word for word at the end of its row
-abbrev pub telling_text : Names → ℤ → ℕ → Telling → List ℕ
-telling_text names time step (Wrote t line) = heading time step (names.task t) ++ codes "writes " ++ line_text names line
-telling_text names time step (Shows e) = heading time step (task_of names e) ++ event_text names e ++ codes "\n"
+abbrev pub telling_text : RowNames → ℤ → ℕ → Telling → List ℕ
+telling_text names time step (Wrote t line) = heading time step (names.line.task t) ++ codes "writes " ++ line_text names.line line
+telling_text names time step (Shows e) = heading time step (task_of names.line e) ++ event_text names e ++ codes "\n"
 
-abbrev pub row_text : Names → TraceRow → List ℕ
+abbrev pub row_text : RowNames → TraceRow → List ℕ
 row_text names r = telling_text names r.time r.step r.telling
 
-abbrev pub rows_text : Names → List TraceRow → List ℕ
+abbrev pub rows_text : RowNames → List TraceRow → List ℕ
 rows_text names [] = []
 rows_text names (r ∷ rs) = row_text names r ++ rows_text names rs
 
--- all that the trace of a run of at most `limit` steps writes: its rows, and the last line of the run
-abbrev pub trace_text : Sections → List ScheduleLine → ℕ → List ℕ
-trace_text i schedule limit =
+-- all that the trace of a run of at most `limit` steps writes: its rows, where objects have these names and instructions come from there, and the last line
+-- of the run
+abbrev pub trace_text : Sections → (objects : List (List ℕ)) → (origin : ℕ → Option Origin) → List ScheduleLine → ℕ → List ℕ
+trace_text i objects origin schedule limit =
     let k = (code i schedule limit).kernel in
-    rows_text (names_of i) (rows i schedule limit) ++ last_line (names_of i) k.outcome k.now
+    rows_text (row_names i objects origin) (rows i schedule limit) ++ last_line (names_of i) k.outcome k.now
 
 -- Lines
 

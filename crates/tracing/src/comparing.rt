@@ -3,7 +3,7 @@ ghost use Rattle.std.specs.Prelude.{◌≡◌, ◌+◌, ◌<◌, ◌≤◌, ◌+
 ghost use Rattle.arrayvec.specs.ArrayVec.{array_vec_len};
 ghost use Rattle.base.specs.declared.limits.TheConstants.{OBJECTS, TASKS};
 ghost use Rattle.tasking.specs.Held.{kernel_of};
-ghost use Rattle.tracing.specs.Changes.{calling, crossing, dispatched, each, first_runs, gave_up, is_later, list_of, outranked, ready, since_clock, starts, stopped, until_clock, waking};
+ghost use Rattle.tracing.specs.Changes.{calling, crossing, dispatched, each, first_runs, gave_up, is_later, list_of, outranked, raises, raising, ready, refusal, since_clock, starts, stopped, until_clock, waits, waking};
 ghost use Rattle.tracing.specs.declared.comparing.TheConstants.{EVENTS};
 
 use crate::event::Event;
@@ -11,10 +11,10 @@ use arrayvec::ArrayVec;
 use base::limits::{OBJECTS, TASKS};
 use clock::Delays;
 use dispatch::Ready;
-use machine::{Machine, Outcome, Place};
+use machine::{Machine, Outcome, Place, Raising};
 
 /// The most events of one step at one time.
-pub(crate) const EVENTS: usize = OBJECTS + TASKS + 1;
+pub(crate) const EVENTS: usize = OBJECTS + TASKS + 3;
 
 /// Events of one step at one time, in their order.
 pub(crate) type Events = ArrayVec<Event, EVENTS>;
@@ -99,6 +99,17 @@ fn outranked<R: Ready, D: Delays>(after: &Machine<'_, R, D>, task: u8) -> Option
     }
 }
 
+// Until when the task that ran waits, where it gave up the processor to wait.
+fn waits<R: Ready, D: Delays>(after: &Machine<'_, R, D>, task: u8) -> Event
+    ensures { result ≡ waits (kernel_of after.now.tasking) task }
+{
+    let until = match after.wake_time(task) {
+        Some(wake) => wake,
+        None => after.now(),
+    };
+    Event::Waits { task, until }
+}
+
 // How the task that ran gave up the processor, if it did.
 fn gave_up<R: Ready, D: Delays>(
     before: &Machine<'_, R, D>,
@@ -110,7 +121,7 @@ fn gave_up<R: Ready, D: Delays>(
         ((kernel_of after.now.tasking).place task) }
 {
     match (is_later(before, after), after.place(task)) {
-        (_, Place::Asleep) | (true, Place::Running | Place::Ready) => Some(Event::Delayed { task }),
+        (_, Place::Asleep) | (true, Place::Running | Place::Ready) => Some(waits(after, task)),
         (_, Place::Queued(object)) => Some(Event::Queues { task, object }),
         (_, Place::Finished) => Some(Event::Ends { task }),
         (false, Place::Ready) => outranked(after, task),
@@ -171,23 +182,62 @@ fn stopped<R: Ready, D: Delays>(after: &Machine<'_, R, D>) -> Option<Event>
     }
 }
 
+// The exception that a task raises.
+fn raises(task: u8, raising: &Raising) -> Event
+    ensures { result ≡ raises task raising.now }
+{
+    let exception = raising.exception;
+    let subprogram = raising.subprogram;
+    let address = raising.place;
+    if raising.is_pending {
+        Event::RaisesAtCall {
+            task,
+            exception,
+            subprogram,
+            address,
+        }
+    } else {
+        Event::Raises {
+            task,
+            exception,
+            subprogram,
+            address,
+        }
+    }
+}
+
+// What a task raises, and why, where it is refused something.
+fn raising(task: u8, raised: Option<Raising>) -> Events
+    ensures items { result.items ≡ raising task raised }
+    ensures few { array_vec_len result ≤ 2 }
+{
+    let mut events = ArrayVec::new();
+    if let Some(raised) = raised {
+        if let Some(cause) = raised.cause {
+            events.push(Event::Refused { task, cause });
+        }
+        events.push(raises(task, &raised));
+    }
+    events
+}
+
 // The objects that the task that ran has entered or left.
 fn crossings<R: Ready, D: Delays>(
+    events: &mut Events,
     before: &Machine<'_, R, D>,
     after: &Machine<'_, R, D>,
     task: u8,
-) -> Events
+)
     requires image { before.now.image ≡ after.now.image }
     requires task { task < length after.now.image.tasks }
-    ensures items { result.items ≡ each (kernel_of after.now.tasking).partition.objects
+    requires room { array_vec_len events.old ≤ 2 }
+    ensures items { events.new.items ≡ events.old.items ++ each (kernel_of after.now.tasking).partition.objects
         (crossing (kernel_of before.now.tasking) (kernel_of after.now.tasking) task) }
-    ensures few { array_vec_len result ≤ OBJECTS }
+    ensures few { array_vec_len events.new ≤ 2 + OBJECTS }
 {
-    let mut events = ArrayVec::new();
     for object in 0..after.objects() {
-        add(&mut events, crossing(before, after, task, object));
+        add(events, crossing(before, after, task, object));
     }
-    events
 }
 
 /// What has happened when the clock may move.
@@ -195,12 +245,14 @@ pub(crate) fn until_clock<R: Ready, D: Delays>(
     before: &Machine<'_, R, D>,
     after: &Machine<'_, R, D>,
     ran: u8,
+    raised: Option<Raising>,
 ) -> Events
     requires image { before.now.image ≡ after.now.image }
     requires task { ran < length after.now.image.tasks }
-    ensures { result.items ≡ until_clock (kernel_of before.now.tasking) (kernel_of after.now.tasking) ran }
+    ensures { result.items ≡ until_clock raised (kernel_of before.now.tasking) (kernel_of after.now.tasking) ran }
 {
-    let mut events = crossings(before, after, ran);
+    let mut events = raising(ran, raised);
+    crossings(&mut events, before, after, ran);
     for task in 0..after.tasks() {
         add(&mut events, calling(before, after, ran, task));
     }

@@ -4,8 +4,10 @@
 mod comparing;
 mod event;
 pub mod laws;
+mod origin;
 mod text;
 mod tracing_of;
 
 pub use event::Event;
+pub use origin::{Origin, Origins};
 pub use tracing_of::trace;

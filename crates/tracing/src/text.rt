@@ -1,17 +1,18 @@
 //! The text of rows (docs/FORMATS.md, "Traces").
-ghost use Rattle.std.specs.Prelude.{◌≡◌, ◌+◌, ◌≤◌, ◌++◌, length, codes, decimal};
+ghost use Rattle.std.specs.Prelude.{◌≡◌, ◌+◌, ◌≤◌, ◌++◌, length, codes, decimal, slice_get};
 ghost use Rattle.std.specs.Fmt.{signed_decimal};
 ghost use Rattle.arrayvec.specs.ArrayVec.{array_vec_len};
 ghost use Rattle.base.specs.declared.limits.TheConstants.{NAME_LIMIT};
 ghost use Rattle.image.specs.Texts.{names_of};
-ghost use Rattle.tracing.specs.Traces.{event_text, heading, task_of, telling_text, Shows};
+ghost use Rattle.tracing.specs.Traces.{cause_text, event_text, heading, named_object, origin_text, row_names, task_of, telling_text, Shows};
 ghost use Rattle.tracing.specs.declared.text.TheConstants.{ROW_BYTES};
 
 use crate::event::Event;
+use crate::origin::{Origin, Origins};
 use arrayvec::ArrayVec;
-use image::Image;
+use image::{Image, Text};
 use itoa::Buffer;
-use machine::{exception_name, task_name};
+use machine::{Cause, exception_name, task_name};
 
 /// The most bytes of a row, its end included, but for a row that ends with a line of the run: this is how many bytes are in front of that.
 pub(crate) const ROW_BYTES: usize = 192;
@@ -73,7 +74,10 @@ fn task_of<'a>(image: &'a Image, event: &Event) -> &'a [u8]
         | Event::Runs { task, .. }
         | Event::Preempted { task, .. }
         | Event::GivesWay { task, .. }
-        | Event::Delayed { task }
+        | Event::Refused { task, .. }
+        | Event::Raises { task, .. }
+        | Event::RaisesAtCall { task, .. }
+        | Event::Waits { task, .. }
         | Event::Wakes { task }
         | Event::Enters { task, .. }
         | Event::Leaves { task, .. }
@@ -106,11 +110,112 @@ fn put_named(row: &mut RowText, words: &[u8], name: &[u8])
     put(row, name);
 }
 
+// Appends words and a time behind them.
+fn put_until(row: &mut RowText, words: &[u8], time: i64)
+    requires { array_vec_len row.old + length words.now + 20 ≤ ROW_BYTES }
+    ensures items { row.new.items ≡ row.old.items ++ (words.now ++ signed_decimal time) }
+    ensures len { array_vec_len row.new ≤ array_vec_len row.old + length words.now + 20 }
+{
+    put(row, words);
+    put_time(row, time);
+}
+
+// Appends the name of an object, or its number where it has none.
+fn put_object(row: &mut RowText, objects: &[Text], object: u8)
+    requires { array_vec_len row.old + NAME_LIMIT ≤ ROW_BYTES }
+    ensures items { row.new.items ≡ row.old.items ++ named_object object (slice_get objects.now object) }
+    ensures len { array_vec_len row.new ≤ array_vec_len row.old + NAME_LIMIT }
+{
+    match objects.get(usize::from(object)) {
+        Some(name) => put(row, name.as_bytes()),
+        None => put_with(row, b"object ", object),
+    }
+}
+
+// Appends words and an object behind them.
+fn put_at(row: &mut RowText, words: &[u8], objects: &[Text], object: u8)
+    requires { array_vec_len row.old + length words.now + NAME_LIMIT ≤ ROW_BYTES }
+    ensures items { row.new.items ≡ row.old.items ++ (words.now ++ named_object object (slice_get objects.now object)) }
+    ensures len { array_vec_len row.new ≤ array_vec_len row.old + length words.now + NAME_LIMIT }
+{
+    put(row, words);
+    put_object(row, objects, object);
+}
+
+// Appends that a task is refused at an object, and why.
+fn put_refused(row: &mut RowText, objects: &[Text], object: u8, why: &[u8])
+    requires { array_vec_len row.old + 14 + NAME_LIMIT + length why.now ≤ ROW_BYTES }
+    ensures items { row.new.items ≡ row.old.items ++ ((codes "is refused at " ++ named_object object (slice_get objects.now object)) ++ why.now) }
+    ensures len { array_vec_len row.new ≤ array_vec_len row.old + 14 + NAME_LIMIT + length why.now }
+{
+    put_at(row, b"is refused at ", objects, object);
+    put(row, why);
+}
+
+// Appends why Program_Error is raised.
+fn put_cause(row: &mut RowText, objects: &[Text], cause: &Cause)
+    requires { array_vec_len row.old + 100 ≤ ROW_BYTES }
+    ensures items { row.new.items ≡ row.old.items ++ cause_text (λ o. named_object o (slice_get objects.now o)) cause.now }
+    ensures len { array_vec_len row.new ≤ array_vec_len row.old + 100 }
+{
+    match cause {
+        Cause::InsideObject { object } => {
+            put_refused(row, objects, *object, b": it is inside an action of it");
+        }
+        Cause::AboveCeiling { object } => {
+            put_refused(
+                row,
+                objects,
+                *object,
+                b": its priority is above the ceiling",
+            );
+        }
+        Cause::InsideAction { object } => {
+            put_refused(row, objects, *object, b": it is inside an action");
+        }
+        Cause::QueueFull { object } => {
+            put_refused(row, objects, *object, b": a call is queued already");
+        }
+        Cause::MayNotBlock => put(row, b"is refused: it is inside an action"),
+    }
+}
+
+// Appends words and a line or a column behind them.
+fn put_number(row: &mut RowText, words: &[u8], number: usize)
+    requires { array_vec_len row.old + length words.now + 20 ≤ ROW_BYTES }
+    ensures items { row.new.items ≡ row.old.items ++ (words.now ++ decimal number) }
+    ensures len { array_vec_len row.new ≤ array_vec_len row.old + length words.now + 20 }
+{
+    put(row, words);
+    put_count(row, number as u64);
+}
+
+// Appends where an instruction comes from, where that is known.
+fn put_origin(row: &mut RowText, origin: Option<Origin>)
+    requires { array_vec_len row.old + 45 ≤ ROW_BYTES }
+    ensures items { row.new.items ≡ row.old.items ++ origin_text origin }
+    ensures len { array_vec_len row.new ≤ array_vec_len row.old + 45 }
+{
+    match origin {
+        Some(origin) => {
+            put_number(row, b" at ", origin.line);
+            put_number(row, b":", origin.column);
+        }
+        None => {}
+    }
+}
+
 // Appends what is told of an event.
-fn put_event(row: &mut RowText, image: &Image, event: &Event)
+fn put_event<O: Origins>(
+    row: &mut RowText,
+    image: &Image,
+    objects: &[Text],
+    origins: &O,
+    event: &Event,
+)
     requires { array_vec_len row.old ≤ 83 }
-    ensures items { row.new.items ≡ row.old.items ++ event_text (names_of image.now) event.now }
-    ensures len { array_vec_len row.new ≤ array_vec_len row.old + 90 }
+    ensures items { row.new.items ≡ row.old.items ++ event_text (row_names image.now objects.now (O.origin origins.now)) event.now }
+    ensures len { array_vec_len row.new ≤ array_vec_len row.old + 108 }
 {
     let tasks = image.tasks();
     match event {
@@ -118,14 +223,40 @@ fn put_event(row: &mut RowText, image: &Image, event: &Event)
         Event::Runs { priority, .. } => put_with(row, b"runs at ", *priority),
         Event::Preempted { by, .. } => put_named(row, b"is preempted by ", task_name(tasks, *by)),
         Event::GivesWay { to, .. } => put_named(row, b"gives way to ", task_name(tasks, *to)),
-        Event::Delayed { .. } => put(row, b"is delayed"),
+        Event::Refused { cause, .. } => put_cause(row, objects, cause),
+        Event::Raises {
+            exception,
+            address,
+            ..
+        } => {
+            put_named(
+                row,
+                b"raises ",
+                exception_name(image.exceptions(), *exception),
+            );
+            put_origin(row, origins.origin_of(*address));
+        }
+        Event::RaisesAtCall {
+            exception,
+            address,
+            ..
+        } => {
+            put_named(
+                row,
+                b"raises ",
+                exception_name(image.exceptions(), *exception),
+            );
+            put(row, b" at its call");
+            put_origin(row, origins.origin_of(*address));
+        }
+        Event::Waits { until, .. } => put_until(row, b"waits until ", *until),
         Event::Wakes { .. } => put(row, b"wakes"),
         Event::Enters {
             object,
             priority,
             ..
         } => {
-            put_with(row, b"enters object ", *object);
+            put_at(row, b"enters ", objects, *object);
             put_with(row, b" at ", *priority);
         }
         Event::Leaves {
@@ -133,15 +264,15 @@ fn put_event(row: &mut RowText, image: &Image, event: &Event)
             priority,
             ..
         } => {
-            put_with(row, b"leaves object ", *object);
+            put_at(row, b"leaves ", objects, *object);
             put_with(row, b" at ", *priority);
         }
-        Event::Queues { object, .. } => put_with(row, b"queues at object ", *object),
+        Event::Queues { object, .. } => put_at(row, b"queues at ", objects, *object),
         Event::Served { object, by, .. } => {
-            put_with(row, b"is served at object ", *object);
+            put_at(row, b"is served at ", objects, *object);
             put_named(row, b" by ", task_name(tasks, *by));
         }
-        Event::Returns { object, .. } => put_with(row, b"has been served at object ", *object),
+        Event::Returns { object, .. } => put_at(row, b"has been served at ", objects, *object),
         Event::Ends { .. } => put(row, b"ends"),
         Event::Unhandled { exception, .. } => {
             put_named(
@@ -155,11 +286,18 @@ fn put_event(row: &mut RowText, image: &Image, event: &Event)
 }
 
 /// The row of an event.
-pub(crate) fn event_row(image: &Image, time: i64, step: u64, event: &Event) -> RowText
-    ensures { result.items ≡ telling_text (names_of image.now) time step (Shows event.now) }
+pub(crate) fn event_row<O: Origins>(
+    image: &Image,
+    objects: &[Text],
+    origins: &O,
+    time: i64,
+    step: u64,
+    event: &Event,
+) -> RowText
+    ensures { result.items ≡ telling_text (row_names image.now objects.now (O.origin origins.now)) time step (Shows event.now) }
 {
     let mut row = heading(time, step, task_of(image, event));
-    put_event(&mut row, image, event);
+    put_event(&mut row, image, objects, origins, event);
     put(&mut row, b"\n");
     row
 }

@@ -2,39 +2,43 @@
 ghost use Rattle.std.specs.Prelude.{◌≡◌, ◌+◌, ◌-◌, ◌<◌, ◌≤◌, ◌++◌, Err, IfErr, IfOk, None, OnErr, OnOk, Some, ℕ, length};
 ghost use Rattle.std.specs.Io.KnownBytes.{Appends};
 ghost use Rattle.image.specs.Code.{code};
-ghost use Rattle.image.specs.Texts.{names_of};
 ghost use Rattle.machine.specs.Stands.{EndsBy, HoldsWorld};
 ghost use Rattle.machine.specs.Written.{AppendsBeginning};
 ghost use Rattle.tasking.specs.Held.{kernel_of};
 ghost use Rattle.tracing.specs.Changes.{since_clock, starts, until_clock};
-ghost use Rattle.tracing.specs.Traces.{rows, rows_text, shown, trace_text};
+ghost use Rattle.tracing.specs.Traces.{row_names, rows, rows_text, shown, trace_text};
 ghost use Rattle.tracing.specs.Writing.{line_text_of, step_text};
 
 use crate::comparing::{since_clock, starts, until_clock};
 use crate::event::Event;
+use crate::origin::Origins;
 use crate::text::{event_row, line_heading};
 use clock::{Delays, HeapDelays, Schedule};
 use dispatch::{Ready, RingReady};
-use image::Image;
+use image::{Image, Text};
 use image_laws::outcome_stays;
-use machine::{Machine, Outcome, RunFault, Sink, SinkError, last_line, write_all};
+use machine::{Machine, Outcome, Raising, RunFault, Sink, SinkError, last_line, write_all};
 use std::alloc::Global;
 
 // Writes the rows of events.
-fn write_events<S: Sink>(
+fn write_events<O: Origins, S: Sink>(
     image: &Image,
+    objects: &[Text],
+    origins: &O,
     time: i64,
     step: u64,
     events: &[Event],
     sink: &mut S,
 ) -> Result<(), SinkError>
-    ensures whole { OnOk result (Appends (S.bytes sink.old) (S.bytes sink.new) (rows_text (names_of image.now) (shown time step events.now))) }
+    ensures whole { OnOk result (Appends (S.bytes sink.old) (S.bytes sink.new)
+        (rows_text (row_names image.now objects.now (O.origin origins.now)) (shown time step events.now))) }
     ensures kept { OnOk result (S.failures sink.new ≡ S.failures sink.old) }
     ensures failed { OnErr result (S.failures sink.old < S.failures sink.new) }
-    ensures beginning { OnErr result (AppendsBeginning (S.bytes sink.old) (S.bytes sink.new) (rows_text (names_of image.now) (shown time step events.now))) }
+    ensures beginning { OnErr result (AppendsBeginning (S.bytes sink.old) (S.bytes sink.new)
+        (rows_text (row_names image.now objects.now (O.origin origins.now)) (shown time step events.now))) }
 {
     for event in events {
-        let row = event_row(image, time, step, event);
+        let row = event_row(image, objects, origins, time, step, event);
         match write_all(sink, row.as_slice()) {
             Ok(()) => {}
             Err(error) => return Err(error),
@@ -44,18 +48,22 @@ fn write_events<S: Sink>(
 }
 
 // Writes the row of the line that a step has written, if it has.
-fn write_line<S: Sink>(
+fn write_line<O: Origins, S: Sink>(
     image: &Image,
+    objects: &[Text],
+    origins: &O,
     time: i64,
     step: u64,
     task: u8,
     told: &machine::Event,
     sink: &mut S,
 ) -> Result<(), SinkError>
-    ensures whole { OnOk result (Appends (S.bytes sink.old) (S.bytes sink.new) (line_text_of (names_of image.now) time step task told.now)) }
+    ensures whole { OnOk result (Appends (S.bytes sink.old) (S.bytes sink.new)
+        (line_text_of (row_names image.now objects.now (O.origin origins.now)) time step task told.now)) }
     ensures kept { OnOk result (S.failures sink.new ≡ S.failures sink.old) }
     ensures failed { OnErr result (S.failures sink.old < S.failures sink.new) }
-    ensures beginning { OnErr result (AppendsBeginning (S.bytes sink.old) (S.bytes sink.new) (line_text_of (names_of image.now) time step task told.now)) }
+    ensures beginning { OnErr result (AppendsBeginning (S.bytes sink.old) (S.bytes sink.new)
+        (line_text_of (row_names image.now objects.now (O.origin origins.now)) time step task told.now)) }
 {
     let machine::Event::Line(line) = told else {
         return Ok(());
@@ -67,43 +75,57 @@ fn write_line<S: Sink>(
     }
 }
 
-// Writes the rows of a step: the line that it has told, and what has changed from one machine to the other.
-fn write_step<R: Ready, D: Delays, S: Sink>(
+// Writes the rows of a step: the line that it has told, what it has raised, and what has changed from one machine to the other.
+fn write_step<R: Ready, D: Delays, O: Origins, S: Sink>(
     image: &Image,
+    objects: &[Text],
+    origins: &O,
     before: &Machine<'_, R, D>,
     after: &Machine<'_, R, D>,
+    raising: Option<Raising>,
     told: &machine::Event,
     step: u64,
     sink: &mut S,
 ) -> Result<(), SinkError>
     requires { before.now.image ≡ after.now.image }
-    ensures whole { OnOk result (Appends (S.bytes sink.old) (S.bytes sink.new) (step_text (names_of image.now) (kernel_of before.now.tasking)
-        (kernel_of after.now.tasking) step told.now (kernel_of before.now.tasking).running)) }
+    ensures whole { OnOk result (Appends (S.bytes sink.old) (S.bytes sink.new) (step_text (row_names image.now objects.now (O.origin origins.now)) raising
+        (kernel_of before.now.tasking) (kernel_of after.now.tasking) step told.now (kernel_of before.now.tasking).running)) }
     ensures kept { OnOk result (S.failures sink.new ≡ S.failures sink.old) }
     ensures failed { OnErr result (S.failures sink.old < S.failures sink.new) }
     ensures beginning { OnErr result (AppendsBeginning (S.bytes sink.old) (S.bytes sink.new)
-        (step_text (names_of image.now) (kernel_of before.now.tasking) (kernel_of after.now.tasking) step told.now (kernel_of before.now.tasking).running)) }
+        (step_text (row_names image.now objects.now (O.origin origins.now)) raising (kernel_of before.now.tasking) (kernel_of after.now.tasking) step told.now
+        (kernel_of before.now.tasking).running)) }
 {
     let Some(ran) = before.running() else {
         return Ok(());
     };
     let time = before.now();
-    let until = until_clock(before, after, ran);
+    let until = until_clock(before, after, ran, raising);
     let since = since_clock(before, after, ran);
-    match write_line(image, time, step, ran, told, sink) {
+    match write_line(image, objects, origins, time, step, ran, told, sink) {
         Ok(()) => {}
         Err(error) => return Err(error),
     }
-    match write_events(image, time, step, until.as_slice(), sink) {
+    match write_events(image, objects, origins, time, step, until.as_slice(), sink) {
         Ok(()) => {}
         Err(error) => return Err(error),
     }
-    write_events(image, after.now(), step, since.as_slice(), sink)
+    write_events(
+        image,
+        objects,
+        origins,
+        after.now(),
+        step,
+        since.as_slice(),
+        sink,
+    )
 }
 
 // Takes steps up to an outcome, `limit` of them at most, by two machines of which one stays a step behind the other, and writes the rows.
-fn trace_on<R: Ready, D: Delays, S: Sink>(
+fn trace_on<R: Ready, D: Delays, O: Origins, S: Sink>(
     image: &Image,
+    objects: &[Text],
+    origins: &O,
     before: &mut Machine<'_, R, D>,
     after: &mut Machine<'_, R, D>,
     limit: u64,
@@ -114,16 +136,25 @@ fn trace_on<R: Ready, D: Delays, S: Sink>(
     requires schedule { before.old.schedule ≡ after.old.schedule }
     requires stands { HoldsWorld after.old (code after.old.image after.old.schedule 0) }
     requires stands_before { HoldsWorld before.old (code before.old.image before.old.schedule 0) }
-    ensures rows { OnOk result (Appends (S.bytes sink.old) (S.bytes sink.new) (rows_text (names_of image.now) (rows image.now after.old.schedule limit))) }
+    ensures rows { OnOk result (Appends (S.bytes sink.old) (S.bytes sink.new)
+        (rows_text (row_names image.now objects.now (O.origin origins.now)) (rows image.now after.old.schedule limit))) }
     ensures ends { IfOk result (λ outcome. EndsBy outcome (code image.now after.old.schedule limit)) }
     ensures kept { OnOk result (S.failures sink.new ≡ S.failures sink.old) }
     ensures fault { IfErr result (λ fault. fault ≡ RunFault.Write) }
     ensures failed { OnErr result (S.failures sink.old < S.failures sink.new) }
     ensures beginning { OnErr result (AppendsBeginning (S.bytes sink.old) (S.bytes sink.new)
-        (rows_text (names_of image.now) (rows image.now after.old.schedule limit))) }
+        (rows_text (row_names image.now objects.now (O.origin origins.now)) (rows image.now after.old.schedule limit))) }
 {
     outcome_stays();
-    match write_events(image, after.now(), 0, starts(after).as_slice(), sink) {
+    match write_events(
+        image,
+        objects,
+        origins,
+        after.now(),
+        0,
+        starts(after).as_slice(),
+        sink,
+    ) {
         Ok(()) => {}
         Err(_) => return Err(RunFault::Write),
     }
@@ -132,9 +163,12 @@ fn trace_on<R: Ready, D: Delays, S: Sink>(
         if let Some(outcome) = after.outcome() {
             return Ok(outcome);
         }
+        let raising = before.raising_ahead();
         let told = after.step();
         step += 1;
-        match write_step(image, before, after, &told, step, sink) {
+        match write_step(
+            image, objects, origins, before, after, raising, &told, step, sink,
+        ) {
             Ok(()) => {}
             Err(_) => return Err(RunFault::Write),
         }
@@ -144,26 +178,38 @@ fn trace_on<R: Ready, D: Delays, S: Sink>(
 }
 
 /// Runs an image as `machine::run` does, with the same outcome, and writes its trace: the rows of the start and of each step, and the last line of the run.
+/// Its protected objects have these names, in the order of their numbers; one for which there is none is told by its number. Where an exception is raised,
+/// it is told where its instruction comes from, if the origins know that.
 ///
 /// # Errors
 /// `Memory` where memory was refused, before anything is written; `Write` where a write failed, and what was written then is a beginning of the trace.
-pub fn trace<S: Sink>(
+pub fn trace<O: Origins, S: Sink>(
     alloc: Global,
     image: &Image,
+    objects: &[Text],
+    origins: &O,
     schedule: &Schedule,
     limit: u64,
     sink: &mut S,
 ) -> Result<Outcome, RunFault>
-    ensures text { OnOk result (Appends (S.bytes sink.old) (S.bytes sink.new) (trace_text image.now schedule.now limit)) }
+    ensures text { OnOk result (Appends (S.bytes sink.old) (S.bytes sink.new) (trace_text image.now objects.now (O.origin origins.now) schedule.now limit)) }
     ensures ends { IfOk result (λ outcome. EndsBy outcome (code image.now schedule.now limit)) }
     ensures kept { OnOk result (S.failures sink.new ≡ S.failures sink.old) }
     ensures memory { result ≡ Err RunFault.Memory → sink.new ≡ sink.old }
     ensures failed { result ≡ Err RunFault.Write → S.failures sink.old < S.failures sink.new }
-    ensures beginning { AppendsBeginning (S.bytes sink.old) (S.bytes sink.new) (trace_text image.now schedule.now limit) }
+    ensures beginning { AppendsBeginning (S.bytes sink.old) (S.bytes sink.new) (trace_text image.now objects.now (O.origin origins.now) schedule.now limit) }
 {
     let mut before: Machine<'_, RingReady, HeapDelays> = Machine::start(alloc, image, schedule)?;
     let mut after: Machine<'_, RingReady, HeapDelays> = Machine::start(alloc, image, schedule)?;
-    let outcome = trace_on(image, &mut before, &mut after, limit, sink)?;
+    let outcome = trace_on(
+        image,
+        objects,
+        origins,
+        &mut before,
+        &mut after,
+        limit,
+        sink,
+    )?;
     let text = last_line(image, &outcome);
     match write_all(sink, text.as_slice()) {
         Ok(()) => Ok(outcome),

@@ -1,4 +1,4 @@
-use Rattle.std.proofs.Common.{◌≡◌, ◌≤◌}
+use Rattle.std.proofs.Common.{◌≡◌, ◌+◌, ◌≤◌, ◌++◌}
 use Rattle.arrayvec.specs.ArrayVec.{array_vec_len}
 use Rattle.tasking.specs.Held.{kernel_of}
 use Rattle.tracing.specs.Changes.{crossing, each}
@@ -6,5 +6,5 @@ use Rattle.tracing.proofs.comparing.crossings.Given as goal
 
 abbrev pub invariant-loop-object : goal.invariant-loop-object
 invariant-loop-object g l =
-    (l.events.items ≡ each l.object (crossing (kernel_of l.fn.before.tasking) (kernel_of l.fn.after.tasking) l.fn.task))
-    × (array_vec_len l.events ≤ l.object)
+    (l.events.items ≡ l.fn.events.items ++ each l.object (crossing (kernel_of l.fn.before.tasking) (kernel_of l.fn.after.tasking) l.fn.task))
+    × (array_vec_len l.events ≤ 2 + l.object)

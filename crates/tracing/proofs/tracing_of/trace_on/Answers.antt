@@ -5,12 +5,12 @@ use Rattle.tracing.proofs.tracing_of.trace_on.Goals as goal
 pub returns-in-Err-clause-beginning : goal.returns-in-Err-clause-beginning
 returns-in-Err-clause-beginning g c =
     let now : to_z w64 (of_z w64 c.now.result) ≡ c.now.result = search rules in
-    broken_start c.args.image.now c.args.after.now.schedule c.args.after.now c.requires.image refl c.requires.stands _ _ (now ∙ c.now.ensures) (c.as_slice.ensures.value ∙ c.starts.ensures) c.args.limit _ _ c.in-Err.ensures.beginning
+    broken_start c.args.image.now c.args.objects.now (g.O.Origins.origin c.args.origins.now) c.args.after.now.schedule c.args.after.now c.requires.image refl c.requires.stands _ _ (now ∙ c.now.ensures) (c.as_slice.ensures.value ∙ c.starts.ensures) c.args.limit _ _ c.in-Err.ensures.beginning
 
 pub loop-step-init : goal.loop-step-init
 loop-step-init g c =
     let now : to_z w64 (of_z w64 c.now.result) ≡ c.now.result = search rules in (
-      traced_start c.args.image.now c.args.after.now.schedule c.args.after.now c.requires.image refl c.requires.stands _ _ (now ∙ c.now.ensures) (c.as_slice.ensures.value ∙ c.starts.ensures)
+      traced_start c.args.image.now c.args.objects.now (g.O.Origins.origin c.args.origins.now) c.args.after.now.schedule c.args.after.now c.requires.image refl c.requires.stands _ _ (now ∙ c.now.ensures) (c.as_slice.ensures.value ∙ c.starts.ensures)
           c.args.before.now c.requires.image_before c.requires.schedule c.requires.stands_before _ _ _ _ c.in-Ok.ensures.whole c.in-Ok.ensures.kept,
       omega arith,
     )
@@ -18,7 +18,7 @@ loop-step-init g c =
 pub loop-step-preserved : goal.loop-step-preserved
 loop-step-preserved g c =
     let less = c.loop-step-test.true in (
-      traced_on _ _ _ _ _ _ _ _ _ c.loop-step.invariant.0 c.step-told.new.self c.step-told.result c.step-told.ensures.world (sym c.in_default.ensures.outcome) _
+      traced_on _ _ _ _ _ _ _ _ _ _ _ c.loop-step.invariant.0 c.raising_ahead-raising.result c.raising_ahead-raising.ensures c.step-told.new.self c.step-told.result c.step-told.ensures.world (sym c.in_default.ensures.outcome) _
           c.step.new.self c.step.result c.step.ensures.world c.step.ensures.image c.step-told.ensures.image c.step.ensures.schedule c.step-told.ensures.schedule _ c.in-Ok-write_step.ensures.whole c.in-Ok-write_step.ensures.kept,
       omega (arith, less),
     )
@@ -27,18 +27,18 @@ pub returns-in-Err-write_step-clause-beginning : goal.returns-in-Err-write_step-
 returns-in-Err-write_step-clause-beginning g c =
     let less = c.loop-step-test.true in
     let le : c.loop-step.step + 1 ≤ c.args.limit = omega (arith, less) in
-    broken_step _ _ _ _ _ _ _ _ _ c.loop-step.invariant.0 c.step-told.new.self c.step-told.result c.step-told.ensures.world (sym c.in_default.ensures.outcome) _ c.args.limit le c.in-Err-write_step.ensures.beginning
+    broken_step _ _ _ _ _ _ _ _ _ _ _ c.loop-step.invariant.0 c.raising_ahead-raising.result c.raising_ahead-raising.ensures c.step-told.new.self c.step-told.result c.step-told.ensures.world (sym c.in_default.ensures.outcome) _ c.args.limit le c.in-Err-write_step.ensures.beginning
 
 pub returns-in-Some-clause-rows : goal.returns-in-Some-clause-rows
 returns-in-Some-clause-rows g c =
     let last = c.in-Some.ensures.last in
-    (traced_over c.outcome_stays.ensures _ _ _ c.args.limit _ _ _ _ _ _ c.loop-step.invariant.0 c.loop-step.invariant.1 (inr (last.0, sym c.in-Some.ensures.outcome ∙ last.1)) c.in-Some.outcome
+    (traced_over c.outcome_stays.ensures _ _ _ _ _ c.args.limit _ _ _ _ _ _ c.loop-step.invariant.0 c.loop-step.invariant.1 (inr (last.0, sym c.in-Some.ensures.outcome ∙ last.1)) c.in-Some.outcome
     (record { outcome = sym c.in-Some.ensures.outcome; time = sym last.2 })).written
 
 pub returns-in-Some-clause-ends : goal.returns-in-Some-clause-ends
 returns-in-Some-clause-ends g c =
     let last = c.in-Some.ensures.last in
-    (traced_over c.outcome_stays.ensures _ _ _ c.args.limit _ _ _ _ _ _ c.loop-step.invariant.0 c.loop-step.invariant.1 (inr (last.0, sym c.in-Some.ensures.outcome ∙ last.1)) c.in-Some.outcome
+    (traced_over c.outcome_stays.ensures _ _ _ _ _ c.args.limit _ _ _ _ _ _ c.loop-step.invariant.0 c.loop-step.invariant.1 (inr (last.0, sym c.in-Some.ensures.outcome ∙ last.1)) c.in-Some.outcome
     (record { outcome = sym c.in-Some.ensures.outcome; time = sym last.2 })).ends
 
 pub returns-clause-rows : goal.returns-clause-rows
@@ -46,11 +46,11 @@ returns-clause-rows g c =
     let low = c.loop-step.invariant.1 in
     let high = c.loop-step-test.false in
     let at : c.loop-step.step ≡ c.args.limit = omega (arith, low, high) in
-    (traced_over c.outcome_stays.ensures _ _ _ c.args.limit _ _ _ _ _ _ c.loop-step.invariant.0 low (inl at) _ c.outcome_or_limit.ensures).written
+    (traced_over c.outcome_stays.ensures _ _ _ _ _ c.args.limit _ _ _ _ _ _ c.loop-step.invariant.0 low (inl at) _ c.outcome_or_limit.ensures).written
 
 pub returns-clause-ends : goal.returns-clause-ends
 returns-clause-ends g c =
     let low = c.loop-step.invariant.1 in
     let high = c.loop-step-test.false in
     let at : c.loop-step.step ≡ c.args.limit = omega (arith, low, high) in
-    (traced_over c.outcome_stays.ensures _ _ _ c.args.limit _ _ _ _ _ _ c.loop-step.invariant.0 low (inl at) _ c.outcome_or_limit.ensures).ends
+    (traced_over c.outcome_stays.ensures _ _ _ _ _ c.args.limit _ _ _ _ _ _ c.loop-step.invariant.0 low (inl at) _ c.outcome_or_limit.ensures).ends

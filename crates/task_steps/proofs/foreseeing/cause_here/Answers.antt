@@ -1,0 +1,9 @@
+use Rattle.std.proofs.Common.{◌≡◌, None, rules}
+use Rattle.task_steps.proofs.Ready.{is_ready}
+use Rattle.task_steps.proofs.foreseeing.cause_here.Goals as goal
+
+pub operation_cause-requires-clause-here : goal.operation_cause-requires-clause-here
+operation_cause-requires-clause-here g c =
+    let quiet : c.args.state.now.raising ≡ None = search rules in
+    is_ready c.args.program.now c.image-image.ensures.well_formed c.frames_have_room.ensures c.args.state.now c.in-Some.operation c.requires.sound quiet
+    c.in-Some.ensures
