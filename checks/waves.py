@@ -1,0 +1,232 @@
+#!/usr/bin/env python3
+"""Reads the value change dumps of sources in the tables and of the examples, and compares each value at each tick with those of bench/reference.py.
+
+    waves.py PROGRAM FOLDER EXAMPLES SCRATCH
+
+FOLDER has the tables of rows.py, EXAMPLES programs NAME.adb, some with a NAME.schedule. The reader is written from the standard (IEEE 1364-2005, section 18.2) and
+refuses what that doesn't allow. Where GTKWave's vcd2fst and fst2vcd are installed, the examples' dumps go through both, and what comes back has the same values.
+"""
+import os
+import re
+import shutil
+import subprocess
+import sys
+
+from traces import ALL_STEPS, REFUSED, STEPS, examples_of
+import rows
+
+sys.path.insert(0, os.path.join(os.path.dirname(os.path.abspath(__file__)), "..", "bench"))
+from reference import STATUSES, World  # noqa: E402
+
+TABLES = ("delays", "tasks", "protected", "entries", "traces")
+STATES = {"ready": 0, "running": 1, "asleep": 2, "queued": 3, "served": 4, "finished": 5}
+LEFT = 6
+NAME = re.compile(r"[A-Za-z_][A-Za-z0-9_$]*$")
+
+
+class Wrong(Exception):
+    """What the standard doesn't allow, or another value than the reference's."""
+
+
+def need(test, told):
+    if not test:
+        raise Wrong(told)
+
+
+class Dump:
+    """A dump: its signals in the order in which they are declared, (scopes and name, bits), what changes at each tick, and the last tick."""
+
+    def __init__(self, text):
+        self.words, self.signals, self.codes, self.changes, self.end, self.comments = iter(text.split()), [], {}, {}, None, []
+        self.declarations()
+        self.simulation()
+
+    def until_end(self):
+        words = []
+        for word in self.words:
+            if word == "$end":
+                return words
+            words.append(word)
+        raise Wrong("a command has no $end")
+
+    def declarations(self):
+        scopes = []
+        for word in self.words:
+            words = self.until_end()
+            if word == "$scope":
+                need(len(words) == 2 and words[0] in ("module", "task", "function", "begin", "fork") and NAME.match(words[1]), f"scope {words}")
+                scopes.append(words[1])
+            elif word == "$upscope":
+                need(scopes and not words, "$upscope")
+                scopes.pop()
+            elif word == "$var":
+                self.declare(scopes, words)
+            elif word == "$timescale":
+                need(re.match(r"(1|10|100) ?(s|ms|us|ns|ps|fs)$", " ".join(words)), f"timescale {words}")
+            elif word == "$enddefinitions":
+                need(not scopes and not words, "$enddefinitions")
+                return
+            else:
+                need(word in ("$comment", "$date", "$version"), f"declaration {word}")
+        raise Wrong("there is no $enddefinitions")
+
+    def declare(self, scopes, words):
+        kind, size, code, *reference = words
+        need(kind in ("wire", "reg", "integer") and size.isdigit() and int(size) > 0, f"variable {words}")
+        need(all("!" <= c <= "~" for c in code) and code not in self.codes, f"code {code}")
+        need(len(reference) in (1, 2) and NAME.match(reference[0]), f"reference {reference}")
+        self.codes[code] = len(self.signals)
+        self.signals.append(((*scopes, reference[0]), int(size)))
+
+    def simulation(self):
+        time, dumping = None, False
+        for word in self.words:
+            if word.startswith("#"):
+                need(word[1:].isdigit() and not dumping and (time is None or int(word[1:]) > time), f"time {word}")
+                time = int(word[1:])
+                self.changes[time] = {}
+            elif word == "$dumpvars":
+                need(time is not None and not dumping, word)
+                dumping = True
+            elif word == "$end":
+                need(dumping and len(self.changes[time]) == len(self.signals), "$dumpvars without all values")
+                dumping = False
+            elif word == "$comment":
+                self.comments.append(" ".join(self.until_end()))
+            else:
+                need(time is not None, "a value without time")
+                self.change(self.changes[time], word)
+        need(not dumping, "$dumpvars without end")
+        self.end = time
+
+    def change(self, changes, word):
+        if word[0] in "bB":
+            bits, code = word[1:], next(self.words, "")
+        else:
+            bits, code = word[0], word[1:]
+        need(bits and set(bits) <= {"0", "1"} and code in self.codes, f"value {word} {code}")
+        signal = self.codes[code]
+        need(len(bits) <= self.signals[signal][1] and signal not in changes, f"value {word} {code}")
+        changes[signal] = int(bits, 2)
+
+
+def protected_names(source):
+    """The names of the protected objects of a text, in order."""
+    text = re.sub(r'--[^\n]*|"[^"\n]*"', " ", source.decode())
+    return [name.upper() for name in re.findall(r"\bprotected\s+(?!body\b)(\w+)", text, re.IGNORECASE)]
+
+
+def signals_of(world, objects):
+    """The signals that docs/FORMATS.md tells of, with their bits."""
+    signals = [(("run", "time"), 64)]
+    for task in world.tasks:
+        signals += [(("run", task.name, "state"), 3), (("run", task.name, "priority"), 8)]
+    for name in objects:
+        signals += [(("run", name, "inside"), 8), (("run", name, "queued"), 8)]
+    return signals
+
+
+def values_of(world):
+    """Their values."""
+    left = world.running if world.outcome and world.outcome.startswith("unhandled") else None
+    values = [world.now]
+    for number in range(len(world.tasks)):
+        values += [LEFT if number == left else STATES[world.place(number)[0]], world.active(number)]
+    for o, queued in enumerate(world.queued):
+        inside = [number for number in range(len(world.tasks)) if o in world.inside(number)]
+        need(len(inside) <= 1, f"tasks {inside} are inside object {o}")
+        values += [inside[0] + 1 if inside else 0, 0 if queued is None else queued + 1]
+    return values
+
+
+def compare(dump, world, objects, limit):
+    """Each value at each tick is the reference's, nothing else is told to change, and the dump ends behind the last step."""
+    need(dump.signals == signals_of(world, objects), f"signals {dump.signals}")
+    told, steps = [None] * len(dump.signals), 0
+    while True:
+        values = values_of(world)
+        differing = {signal: value for signal, value in enumerate(values) if value != told[signal]}
+        need(dump.changes.pop(steps, {}) == differing, f"at step {steps}: the reference changes {differing}")
+        told = values
+        if steps == limit or world.outcome is not None:
+            break
+        world.step()
+        steps += 1
+    need(dump.changes == {steps + 1: {}} and dump.end == steps + 1, f"the dump ends at {dump.end}, the run behind step {steps}")
+    need(dump.comments == [f"{world.outcome or 'step limit'} at {world.now}"], f"comments {dump.comments}")
+
+
+def sources_of(folder):
+    """Names, sources and schedules of the rows that are compiled and run."""
+    for table in TABLES:
+        with open(os.path.join(folder, f"{table}.txt"), encoding="utf-8") as file:
+            for row in rows.rows_of(table, file.read().split("\n")):
+                if rows.expected_of(row)[2] not in REFUSED:
+                    yield row["name"], rows.framed(row["frame"], row), rows.bytes_of("".join(row.get("schedule", [])))
+
+
+class Checker:
+    """Dumps the runs of sources with the program, and compares them with the reference's runs of their images."""
+
+    def __init__(self, program, folder):
+        self.program, self.folder = os.path.abspath(program), folder
+        self.ticks, self.converted, self.wrong = 0, 0, []
+        os.makedirs(folder)
+
+    def call(self, *words):
+        return subprocess.run(words, cwd=self.folder, capture_output=True, check=False)
+
+    def path(self, name):
+        return os.path.join(self.folder, name)
+
+    def check(self, name, source, schedule, limit):
+        for file, content in (("main.adb", source), ("input", schedule)):
+            with open(self.path(file), "wb") as written:
+                written.write(content)
+        self.call(self.program, "compile", "main.adb", "main.img")
+        with open(self.path("main.img"), "rb") as image:
+            world = World(image.read(), [tuple(map(int, line.split())) for line in schedule.decode().splitlines()])
+        run = self.call(self.program, "trace", "--vcd", "main.adb", "input", str(limit))
+        try:
+            dump = Dump(run.stdout.decode("ascii"))
+            self.ticks += len(dump.changes)
+            compare(dump, world, protected_names(source), limit)
+            status = STATUSES[(world.outcome or "step limit").split()[0]]
+            need((run.stderr, run.returncode) == (b"", status), f"status {run.returncode}, {run.stderr!r}")
+        except (Wrong, ValueError) as wrong:
+            self.wrong.append(f"{name}: {wrong}")
+        return run.stdout
+
+    def convert(self, name, text):
+        """The dump as GTKWave's tools read and write it again has the same signals and the same changes."""
+        with open(self.path("run.vcd"), "wb") as written:
+            written.write(text)
+        self.call("vcd2fst", "run.vcd", "run.fst")
+        again = Dump(self.call("fst2vcd", "run.fst").stdout.decode("ascii"))
+        first = Dump(text.decode("ascii"))
+        self.converted += 1
+        if (again.signals, again.changes, again.end) != (first.signals, first.changes, first.end):
+            self.wrong.append(f"{name}: vcd2fst and fst2vcd make another dump of it")
+
+
+def main():
+    program, folder, examples, scratch = sys.argv[1:]
+    checker, sources = Checker(program, scratch), 0
+    installed = shutil.which("vcd2fst") and shutil.which("fst2vcd")
+    for name, source, schedule in sources_of(folder):
+        checker.check(name, source, schedule, STEPS)
+        sources += 1
+    for name, source, schedule, _ in examples_of(examples):
+        text = checker.check(name, source, schedule, ALL_STEPS)
+        if installed:
+            checker.convert(name, text)
+        sources += 1
+    for told in checker.wrong:
+        print(f"waves: {told}", file=sys.stderr)
+    by_others = f"{checker.converted} of them read by GTKWave too" if installed else "GTKWave is not installed"
+    print(f"waves: {sources} sources, {checker.ticks} ticks with changes, {by_others}, {len(checker.wrong)} wrong")
+    sys.exit(1 if checker.wrong or not checker.ticks else 0)
+
+
+if __name__ == "__main__":
+    main()

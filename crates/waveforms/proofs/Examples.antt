@@ -1,0 +1,86 @@
+-- Dumps of images worked by computation: an entry with queue, service and a preemption; a delay and an exception that ends the run.
+use Rattle.std.proofs.Common.{◌≡◌, ℕ, List, [], ◌∷◌, ◌++◌, pos, Some, refl}
+use Rattle.std.specs.Prelude.{codes}
+use Rattle.std.specs.Fmt.{digits}
+use Rattle.base.specs.Names.{predefined}
+use Rattle.image.specs.ObjectTable.{ObjectRow}
+use Rattle.image.specs.Sections.{Sections}
+use Rattle.image.specs.declared.instruction.Instr.{Instr}
+use Rattle.image.specs.declared.instruction.Operation.{Operation}
+use Rattle.image.specs.declared.instruction.Operation.TheVariants as op
+use Rattle.image.specs.declared.objects.Barrier.TheVariants as barriers
+use Rattle.image.specs.declared.subprograms.Kind.{Kind}
+use Rattle.image.specs.declared.subprograms.Kind.TheVariants.{EntryBody, ProtectedProcedure, TaskBody}
+use Rattle.image.specs.declared.subprograms.Subprogram.{Subprogram}
+use Rattle.image.specs.declared.tasks.Task.{Task}
+use Rattle.waveforms.specs.Waves.{preamble, waves_text}
+
+abbrev at : ℕ → Operation → Instr
+at depth operation = record { depth = depth; operation = operation }
+
+abbrev sub : Kind → ℕ → ℕ → Subprogram
+sub kind end_ stack = record { kind = kind; end_ = end_; parameters = 0; results = 0; locals = 0; stack = stack }
+
+abbrev task : List ℕ → ℕ → ℕ → Task
+task name priority n = record { name = name; priority = priority; subprogram = n }
+
+abbrev image_of : List ObjectRow → List Subprogram → List Task → List Instr → Sections
+image_of objects subprograms tasks instructions =
+    record { exceptions = predefined; labels = codes "got" ∷ []; plain_words = []; objects = objects; subprograms = subprograms; tasks = tasks; rows = []; instructions = instructions }
+
+-- CONS queues at a closed barrier; MAIN opens it, serves the call, and is preempted by the caller
+
+abbrev door : ObjectRow
+door = record { ceiling = 10; entry = Some 1; barrier = barriers.Word 0; words = pos 0 ∷ [] }
+
+abbrev served : Sections
+served =
+    image_of (door ∷ []) (sub (ProtectedProcedure 0) 3 1 ∷ sub (EntryBody 0) 4 0 ∷ sub TaskBody 8 1 ∷ sub TaskBody 10 0 ∷ []) (task (codes "CONS") 10 2 ∷ task (codes "MAIN") 5 3 ∷ [])
+    (at 0 (op.Push (pos 1)) ∷ at 1 (op.StoreObject 0) ∷ at 0 op.Return
+    ∷ at 0 op.Return
+    ∷ at 0 (op.EntryCall 0) ∷ at 0 (op.Push (pos 7)) ∷ at 1 (op.PutLine 0) ∷ at 0 op.Return
+    ∷ at 0 (op.ProtectedCall 0) ∷ at 0 op.Return ∷ [])
+
+served_waves : waves_text served (codes "DOOR" ∷ []) [] 100
+    ≡ preamble
+    ++ codes "$var wire 64 ! time $end\n"
+    ++ codes "$scope module CONS $end\n$var wire 3 \" state $end\n$var wire 8 # priority $end\n$upscope $end\n"
+    ++ codes "$scope module MAIN $end\n$var wire 3 $ state $end\n$var wire 8 % priority $end\n$upscope $end\n"
+    ++ codes "$scope module DOOR $end\n$var wire 8 & inside $end\n$var wire 8 ' queued $end\n$upscope $end\n"
+    ++ codes "$upscope $end\n$enddefinitions $end\n"
+    ++ codes "#0\n$dumpvars\nb0 !\nb1 \"\nb1010 #\nb0 $\nb101 %\nb0 &\nb0 '\n$end\n"
+    ++ codes "#1\nb11 \"\nb1 $\nb1 '\n"
+    ++ codes "#2\nb1010 %\nb10 &\n"
+    ++ codes "#5\nb100 \"\nb0 '\n"
+    ++ codes "#6\nb1 \"\nb0 $\nb101 %\nb0 &\n"
+    ++ codes "#9\nb101 \"\nb1 $\n"
+    ++ codes "#10\nb101 $\n"
+    ++ codes "#11\n$comment ended at 0\n$end\n"
+unfolding digits
+served_waves = refl
+
+-- MAIN sleeps alone, so the clock moves within its step; an exception ends the run, or the limit cuts it before
+
+abbrev alone : Sections
+alone =
+    image_of (door ∷ []) (sub TaskBody 6 2 ∷ sub (EntryBody 0) 7 0 ∷ []) (task (codes "MAIN") 5 0 ∷ [])
+    (at 0 (op.Push (pos 500)) ∷ at 1 op.DelayUntil ∷ at 0 (op.Push (pos 1)) ∷ at 1 (op.Push (pos 0)) ∷ at 2 op.Divide ∷ at 1 op.Return ∷ at 0 op.Return ∷ [])
+
+abbrev until_it_wakes : List ℕ
+until_it_wakes =
+    preamble
+    ++ codes "$var wire 64 ! time $end\n"
+    ++ codes "$scope module MAIN $end\n$var wire 3 \" state $end\n$var wire 8 # priority $end\n$upscope $end\n"
+    ++ codes "$scope module OBJECT_0 $end\n$var wire 8 $ inside $end\n$var wire 8 % queued $end\n$upscope $end\n"
+    ++ codes "$upscope $end\n$enddefinitions $end\n"
+    ++ codes "#0\n$dumpvars\nb0 !\nb1 \"\nb101 #\nb0 $\nb0 %\n$end\n"
+    ++ codes "#2\nb111110100 !\n"
+
+alone_waves : waves_text alone [] [] 100 ≡ until_it_wakes ++ codes "#5\nb110 \"\n#6\n$comment unhandled CONSTRAINT_ERROR in MAIN at 500\n$end\n"
+unfolding digits
+alone_waves = refl
+
+-- a name that isn't one of Ada's gives way to the number
+alone_cut : waves_text alone (codes "a b" ∷ []) [] 3 ≡ until_it_wakes ++ codes "#4\n$comment step limit at 500\n$end\n"
+unfolding digits
+alone_cut = refl

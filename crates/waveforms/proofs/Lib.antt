@@ -1,0 +1,7 @@
+mod Added
+mod Binary
+mod Changes
+mod Dumped
+mod Examples
+mod HeldValues
+mod Whole

@@ -1,0 +1,129 @@
+//! Runs as value change dumps.
+ghost use Rattle.std.specs.Prelude.{◌≡◌, ◌+◌, ◌<◌, ◌++◌, Err, IfErr, IfOk, OnErr, OnOk, length};
+ghost use Rattle.std.specs.Io.KnownBytes.{Appends};
+ghost use Rattle.image.specs.Code.{code};
+ghost use Rattle.machine.specs.Stands.{EndsBy, HoldsWorld};
+ghost use Rattle.machine.specs.Written.{AppendsBeginning};
+ghost use Rattle.tasking.specs.Held.{kernel_of};
+ghost use Rattle.waveforms.specs.Signals.{values};
+ghost use Rattle.waveforms.specs.Waves.{declarations_text, start_text, step_text, steps_taken, steps_text, waves_text};
+
+use crate::declarations::declarations;
+use crate::text::{changed_text, ending_text, start_text};
+use crate::values::{Values, values_of};
+use base::Text;
+use clock::{Delays, HeapDelays, Schedule};
+use dispatch::{Ready, RingReady};
+use image::Image;
+use image_laws::outcome_stays;
+use machine::{Machine, Outcome, RunFault, Sink, SinkError, last_line, write_all};
+use std::alloc::{AllocError, Global};
+
+// How a run ended, and behind how many steps.
+#[derive(Clone, Copy)]
+struct Ending {
+    outcome: Outcome,
+    taken: u64,
+}
+
+// The declarations and the values at the start.
+fn beginning<R: Ready, D: Delays>(
+    alloc: Global,
+    image: &Image,
+    names: &[Text],
+    machine: &Machine<'_, R, D>,
+) -> Result<Vec<u8>, AllocError>
+    requires { machine.now.image ≡ image.now }
+    ensures { IfOk result (λ text. text.items ≡ declarations_text names.now image.now ++ start_text (values (kernel_of machine.now.tasking))) }
+{
+    let mut text = declarations(alloc, image, names, machine.tasks(), machine.objects())?;
+    text.extend_from_slice(start_text(&values_of(machine)).as_slice())?;
+    Ok(text)
+}
+
+// Writes what a step has changed, if it has.
+fn write_step<S: Sink>(
+    step: u64,
+    before: &Values,
+    after: &Values,
+    sink: &mut S,
+) -> Result<(), SinkError>
+    ensures whole { OnOk result (Appends (S.bytes sink.old) (S.bytes sink.new) (step_text step before.now.items after.now.items)) }
+    ensures kept { OnOk result (S.failures sink.new ≡ S.failures sink.old) }
+    ensures failed { OnErr result (S.failures sink.old < S.failures sink.new) }
+    ensures beginning { OnErr result (AppendsBeginning (S.bytes sink.old) (S.bytes sink.new) (step_text step before.now.items after.now.items)) }
+{
+    if before.as_slice() == after.as_slice() {
+        return Ok(());
+    }
+    write_all(sink, changed_text(step, before, after).as_slice())
+}
+
+// Takes steps up to an outcome, `limit` of them at most, and writes what each has changed.
+fn write_steps<R: Ready, D: Delays, S: Sink>(
+    machine: &mut Machine<'_, R, D>,
+    limit: u64,
+    sink: &mut S,
+) -> Result<Ending, RunFault>
+    requires { HoldsWorld machine.old (code machine.old.image machine.old.schedule 0) }
+    ensures changes { OnOk result (Appends (S.bytes sink.old) (S.bytes sink.new) (steps_text machine.old.image machine.old.schedule limit)) }
+    ensures ends { IfOk result (λ ending. EndsBy ending.outcome (code machine.old.image machine.old.schedule limit)) }
+    ensures taken { IfOk result (λ ending. ending.taken ≡ steps_taken machine.old.image machine.old.schedule limit) }
+    ensures kept { OnOk result (S.failures sink.new ≡ S.failures sink.old) }
+    ensures fault { IfErr result (λ fault. fault ≡ RunFault.Write) }
+    ensures failed { OnErr result (S.failures sink.old < S.failures sink.new) }
+    ensures beginning { OnErr result (AppendsBeginning (S.bytes sink.old) (S.bytes sink.new) (steps_text machine.old.image machine.old.schedule limit)) }
+{
+    outcome_stays();
+    let mut before = values_of(machine);
+    let mut taken = 0;
+    while taken < limit {
+        if let Some(outcome) = machine.outcome() {
+            return Ok(Ending { outcome, taken });
+        }
+        machine.step();
+        taken += 1;
+        let after = values_of(machine);
+        match write_step(taken, &before, &after, sink) {
+            Ok(()) => {}
+            Err(_) => return Err(RunFault::Write),
+        }
+        before = after;
+    }
+    let outcome = machine.outcome_or_limit();
+    Ok(Ending { outcome, taken })
+}
+
+/// Runs an image as `machine::run` does, with the same outcome, and writes the run as a value change dump, in which protected objects have
+/// these names; those that have none here, or no name that Ada allows, have their number.
+///
+/// # Errors
+/// `Memory` where memory was refused, before anything is written; `Write` where a write failed, and what was written then is a beginning of the dump.
+pub fn waves<S: Sink>(
+    alloc: Global,
+    image: &Image,
+    names: &[Text],
+    schedule: &Schedule,
+    limit: u64,
+    sink: &mut S,
+) -> Result<Outcome, RunFault>
+    ensures text { OnOk result (Appends (S.bytes sink.old) (S.bytes sink.new) (waves_text image.now names.now schedule.now limit)) }
+    ensures ends { IfOk result (λ outcome. EndsBy outcome (code image.now schedule.now limit)) }
+    ensures kept { OnOk result (S.failures sink.new ≡ S.failures sink.old) }
+    ensures memory { result ≡ Err RunFault.Memory → sink.new ≡ sink.old }
+    ensures failed { result ≡ Err RunFault.Write → S.failures sink.old < S.failures sink.new }
+    ensures beginning { AppendsBeginning (S.bytes sink.old) (S.bytes sink.new) (waves_text image.now names.now schedule.now limit) }
+{
+    let mut machine: Machine<'_, RingReady, HeapDelays> = Machine::start(alloc, image, schedule)?;
+    let start = beginning(alloc, image, names, &machine)?;
+    match write_all(sink, start.as_slice()) {
+        Ok(()) => {}
+        Err(_) => return Err(RunFault::Write),
+    }
+    let ending = write_steps(&mut machine, limit, sink)?;
+    let last = last_line(image, &ending.outcome);
+    match write_all(sink, ending_text(ending.taken, &last).as_slice()) {
+        Ok(()) => Ok(ending.outcome),
+        Err(_) => Err(RunFault::Write),
+    }
+}
