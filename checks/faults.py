@@ -1,5 +1,6 @@
 """Writes the texts of docs/FAULTS.md to a folder, each as N.text, or N.image, with the line that it is refused with as N.fault. Those of first mistakes are K.mistake,
 counted from 1, with K.wrong, and the sentence that ./run shows as K.hint. What `adarun explain N` says of a number is N.explained: the lines of its section.
+What it tells besides of a text with a fault 6, K.mistake or 6.text, is K.mistake.told or 6.text.told.
 
     faults.py FAULTS.md FOLDER
 
@@ -45,6 +46,17 @@ def explanations(lines):
     return {number: "\n".join(section).rstrip("\n") + "\n" for number, section in found.items()}
 
 
+def told(lines):
+    """What is told of each text with a fault 6, in the order of these texts."""
+    found = []
+    for line in lines:
+        if re.match(r"`fault 6 at .*`$", line):
+            found.append("")
+        elif re.match(r"could stand here: |`[a-z]+` is a reserved word, and no identifier$", line):
+            found[-1] += line + "\n"
+    return found
+
+
 def changed(image, changes):
     """The image with these bytes in their places; a place with nothing cuts it there."""
     for change in changes.split("\n"):
@@ -69,6 +81,7 @@ with open(source, encoding="utf-8") as file:
 found = list(examples(lines))
 image = bytes.fromhex(next(text for number, text, fault in found if number is None))
 mistakes = 0
+lines_told = iter(told(lines))
 for number, text, fault in found:
     if number is None:
         continue
@@ -79,6 +92,8 @@ for number, text, fault in found:
     else:
         mistakes += 1
         files = {f"{mistakes}.mistake": text.encode(), f"{mistakes}.wrong": (fault + "\n").encode(), f"{mistakes}.hint": (number + "\n").encode()}
+    if fault.startswith("fault 6 "):
+        files[f"{number}.text.told" if number.isdigit() else f"{mistakes}.mistake.told"] = next(lines_told).encode()
     for name, content in files.items():
         with open(os.path.join(folder, name), "wb") as file:
             file.write(content)

@@ -68,7 +68,8 @@ task.
 
 fault 11 at 7:21
 
-The place is the second of the two. Give it another name, as `Own_Count`.
+The place is the second of the two; `adarun explain 11 SRC` tells where the first one is. Give \
+it another name, as `Own_Count`.
 ";
 
 const NO_MEANING: &str = "\
@@ -238,8 +239,9 @@ a body.
 
 fault 18 at 4:14
 
-The place is the name in the declaration where the body is missing, and else the name of the body. \
-Write the body of `Walk`.
+The place is the name in the declaration where the body is missing, and else the name of the body: \
+then `adarun explain 18 SRC` tells where the declaration is, or the body in front that has the \
+name. Write the body of `Walk`.
 ";
 
 const MISPLACED_STATEMENT: &str = "\

@@ -103,6 +103,14 @@ fault 6 at 2:25
 
 The place is the token, or the end of the last token where the text ends too early. Here a \
 statement is missing: write `begin null; end Main;`.
+
+`adarun explain 6 SRC` tells what could stand at the place in the text SRC, as `./run` does once the \
+program is built: each token that some text of the grammar has there, with at most 40 levels open \
+at once. A reserved word where an identifier could stand is told too. Of the text above:
+
+could stand here: an identifier, `null`
+
+`end` is a reserved word, and no identifier
 ";
 
 const TOO_MANY_LEVELS: &str = "\

@@ -1,5 +1,5 @@
 -- What parsing promises: which lists of tokens a tree derives, and what a fault tells.
-use Rattle.std.specs.Prelude.{◌≡◌, ℕ, ◌≤◌, ◌-◌, true, None, [], ◌∷◌, ◌++◌, length, drop, Result, Ok, Err, ◌⊎◌, if◌then◌else◌}
+use Rattle.std.specs.Prelude.{◌≡◌, ℕ, ◌≤◌, ◌-◌, true, Option, Some, None, [], ◌∷◌, ◌++◌, length, drop, Result, Ok, Err, ◌⊎◌, if◌then◌else◌, ⊤}
 use Rattle.lexer.specs.declared.fault.Fault.{Fault}
 use Rattle.lexer.specs.Fault.{memory_fault}
 use Rattle.ada_tree.specs.declared.program.Program.{Program}
@@ -46,6 +46,20 @@ NoneBegins front (x ∷ rest) = (t : ProgramTree) (more : Tokens) → Derives t 
 abbrev pub SomeBegins : Tokens → Type 0
 SomeBegins front = (t : ProgramTree) × (more : Tokens) × Derives t (front ++ more)
 
+-- No tree derives a list that begins with the front and the first token of what is left, if there is one.
+abbrev pub NoneGoesOn : Tokens → Tokens → Type 0
+NoneGoesOn front [] = ⊤
+NoneGoesOn front (x ∷ rest) = NoneBegins front (x ∷ rest)
+
+-- So many of the tokens, from the first on, begin a list that some tree derives, and no more of them do.
+pub record IsLongestBeginning (ts : Tokens) (count : ℕ) : Type 0 where
+  pub front : Tokens
+  pub back : Tokens
+  pub parts : ts ≡ front ++ back
+  pub counted : count ≡ length front
+  pub some : SomeBegins front
+  pub none : NoneGoesOn front back
+
 -- The next token may open a level, and in front of it stand as many such tokens as levels may be open at once.
 abbrev pub IsTooDeep : Tokens → Tokens → Type 0
 IsTooDeep front back = (is_next opens (first back) ≡ true) × (LEVELS ≤ openers front)
@@ -85,3 +99,9 @@ abbrev pub answer_of : Tokens → Result Program Refusal → Result Program Faul
 answer_of ts (Ok p) = Ok p
 answer_of ts (Err refusals.Memory) = Err memory_fault
 answer_of ts (Err (refusals.Broken broken)) = Err (fault_of ts broken)
+
+-- how many tokens begin a list that some tree derives, unless memory was refused
+abbrev pub count_of : Tokens → Result Program Refusal → Option ℕ
+count_of ts (Ok p) = Some (length ts)
+count_of ts (Err refusals.Memory) = None
+count_of ts (Err (refusals.Broken broken)) = Some (length ts - broken.left)

@@ -10,4 +10,4 @@ mod program;
 mod refusal;
 mod statement;
 
-pub use parsing::{one_tree, parse};
+pub use parsing::{longest_beginning, one_tree, parse};

@@ -3,7 +3,7 @@ ghost use Rattle.std.specs.Prelude.{◌≡◌, IfOk, IfErr, []};
 ghost use Rattle.ada_tree.specs.ProgramTree.{ProgramTree, program_tree};
 ghost use Rattle.parser.specs.Reading.{Gives};
 ghost use Rattle.parser.specs.ProgramReading.{whole_at};
-ghost use Rattle.parser.specs.Parsing.{Derives, GaveTree, IsRefusal, HasOneTree, end_of, place_at, fault_of, answer_of};
+ghost use Rattle.parser.specs.Parsing.{Derives, GaveTree, IsLongestBeginning, IsRefusal, HasOneTree, end_of, place_at, fault_of, answer_of, count_of};
 
 use crate::parser::Parser;
 use crate::refusal::{Broken, Refusal};
@@ -12,7 +12,7 @@ use ada_tree::laws::limit_is_depth;
 use base::faults::{TOO_MANY_LEVELS, UNEXPECTED_TOKEN};
 use base::limits::LEVELS;
 use lexer::{Fault, Token};
-use std::alloc::Global;
+use std::alloc::{AllocError, Global};
 
 /// The place where the last token ends.
 fn end_of(tokens: &[Token]) -> u32
@@ -59,6 +59,17 @@ fn answer_of(tokens: &[Token], read: Result<Program, Refusal>) -> Result<Program
     }
 }
 
+/// How many tokens stand in front of the fault, or all of them; None where memory was refused.
+fn count_of(tokens: &[Token], read: Result<Program, Refusal>) -> Option<usize>
+    ensures { result ≡ count_of tokens.now read }
+{
+    match read {
+        Ok(_) => Some(tokens.len()),
+        Err(Refusal::Memory) => None,
+        Err(Refusal::Broken(broken)) => Some(tokens.len().saturating_sub(broken.left)),
+    }
+}
+
 fn whole(alloc: Global, tokens: &[Token]) -> Result<Program, Refusal>
     ensures { Gives program_tree result [] (whole_at LEVELS tokens.now) }
 {
@@ -86,6 +97,22 @@ pub fn parse(alloc: Global, tokens: &[Token]) -> Result<Program, Fault>
     limit_is_depth();
     let read = whole(alloc, tokens);
     answer_of(tokens, read)
+}
+
+/// How many of the tokens, from the first on, begin a list that has a tree: all of them, or those in front of the first token that no
+/// derivation allows.
+///
+/// # Errors
+/// Where memory was refused.
+pub fn longest_beginning(alloc: Global, tokens: &[Token]) -> Result<usize, AllocError>
+    ensures { IfOk result (λ count. IsLongestBeginning tokens.now count) }
+{
+    limit_is_depth();
+    let read = whole(alloc, tokens);
+    match count_of(tokens, read) {
+        Some(count) => Ok(count),
+        None => Err(AllocError),
+    }
 }
 
 /// The grammar has at most one tree for a list of tokens.

@@ -1,8 +1,9 @@
 -- The laws over whole token lists.
 use Rattle.parser.specs.declared.refusal.Refusal.TheVariants as refusals
-use Rattle.std.proofs.Common.{◌≡◌, ℕ, suc, ◌-◌, ◌≤◌, Bool, true, false, cond, [], ◌∷◌, ◌++◌, length, drop, get_or, Some, Result, Ok, Err, refl, sym, ap, subst}
+use Rattle.std.proofs.Common.{◌≡◌, ℕ, suc, ◌-◌, ◌≤◌, Bool, true, false, cond, [], ◌∷◌, ◌++◌, length, drop, get_or, None, Some, Result, Ok, Err, refl, sym, ap, subst}
 use Rattle.std.proofs.Common.{◌∙◌, arith, append-nil, inl, inr, ◌⊎◌, length-append}
 use Rattle.std.specs.Prelude.{IfOk, IfErr}
+use Rattle.std.proofs.lemmas.List.{append_assoc}
 use Rattle.lexer.specs.declared.token.Token.{Token}
 use Rattle.ada_tree.specs.declared.program.Program.{Program}
 use Rattle.ada_tree.specs.Language.{Tokens}
@@ -14,9 +15,9 @@ use Rattle.parser.specs.declared.refusal.Refusal.{Refusal}
 use Rattle.parser.specs.Levels.{opens, openers}
 use Rattle.parser.specs.Reading.{first, Gives, is_next}
 use Rattle.parser.specs.ProgramReading.{whole_at}
-use Rattle.parser.specs.Parsing.{Derives, GaveTree, end_of, place_behind, SomeBegins, NoneBegins, IsFaulty, IsRefusal, IsTooDeep, HasOneTree, start_or}
+use Rattle.parser.specs.Parsing.{Derives, GaveTree, end_of, place_behind, SomeBegins, NoneBegins, NoneGoesOn, IsFaulty, IsLongestBeginning, IsRefusal, IsTooDeep, HasOneTree, start_or}
 use Rattle.parser.specs.Parsing.{place_at, fault_of}
-use Rattle.parser.specs.Parsing.{answer_of}
+use Rattle.parser.specs.Parsing.{answer_of, count_of}
 use Rattle.parser.proofs.general.Exact.{ok_is, ok_not_err}
 use Rattle.parser.proofs.programs.Programs.{whole_exact}
 use Rattle.parser.proofs.programs.DeepPrograms.{deep_whole}
@@ -112,6 +113,65 @@ first_fault limit ts b e =
       none = none_begins limit l.front l.back (λ g. record { deep = b.deep; left = length g }) l.again;
       number = number_is b.deep 7 6 (IsTooDeep l.front l.back) (λ is. too_deep ts l.front l.back b l.parts l.left is e);
     }
+
+-- ---- how far derivations go
+
+pub none_goes_on : (front back : Tokens) → NoneBegins front back → NoneGoesOn front back
+none_goes_on front [] none = tt
+none_goes_on front (x ∷ rest) none = none
+
+goes_so_far : LimitIsDepth → (ts : Tokens) (b : Broken) → whole_at 40 ts ≡ Err b → IsLongestBeginning ts (length ts - b.left)
+goes_so_far limit ts b e =
+    let l = (whole_exact 40).local ts b e in
+    record {
+      front = l.front;
+      back = l.back;
+      parts = l.parts;
+      counted = omega (arith, ap length l.parts, length-append l.front l.back, l.left);
+      some = some_begins limit ts b l.front l.back e l.parts l.left;
+      none = none_goes_on l.front l.back (none_begins limit l.front l.back (λ g. record { deep = b.deep; left = length g }) l.again);
+    }
+
+goes_to_the_end : LimitIsDepth → (ts : Tokens) (t : ProgramTree) → whole_at 40 ts ≡ Ok (t, []) → IsLongestBeginning ts (length ts)
+goes_to_the_end limit ts t e = record {
+  front = ts;
+  back = [];
+  parts = sym (append-nil ts);
+  counted = refl;
+  some = (t, [], subst (Derives t) (sym (append-nil ts)) (whole_sound limit ts t e));
+  none = tt;
+}
+
+pub is_longest : LimitIsDepth → (ts : Tokens) (r : Result Program Refusal) (n : ℕ) → Gives program_tree r [] (whole_at 40 ts) → Some n ≡ count_of ts r
+    → IsLongestBeginning ts n
+is_longest limit ts (Ok p) n h e = let same : n ≡ length ts = cc in subst (IsLongestBeginning ts) (sym same) (goes_to_the_end limit ts (program_tree p) h)
+is_longest limit ts (Err refusals.Memory) n h e = absurd (let no : Some n ≡ None = e in cc)
+is_longest limit ts (Err (refusals.Broken b)) n h e =
+    let same : n ≡ length ts - b.left = cc in subst (IsLongestBeginning ts) (sym same) (goes_so_far limit ts b h)
+
+-- what two fronts of one list begin is told by the first token that none allows, so they are one
+pub same_fronts : (a b c d : Tokens) → a ++ b ≡ c ++ d → SomeBegins a → NoneGoesOn a b → SomeBegins c → NoneGoesOn c d → (a ≡ c) × (b ≡ d)
+same_fronts a b c d e some none some_too none_too = by [] a c e some none some_too none_too
+  where
+    onward : (front : Tokens) (x : Token) (rest more : Tokens) → SomeBegins (front ++ (x ∷ rest)) → NoneGoesOn front (x ∷ more) → ⊥
+    onward front x rest more some none = none some.0 (rest ++ some.1) (subst (Derives some.0) (append_assoc front (x ∷ rest) some.1) some.2)
+
+    by : (front a c : Tokens) → a ++ b ≡ c ++ d → SomeBegins (front ++ a) → NoneGoesOn (front ++ a) b → SomeBegins (front ++ c) → NoneGoesOn (front ++ c) d
+        → (a ≡ c) × (b ≡ d)
+    by front [] [] e some none some_too none_too = (refl, e)
+    by front [] (y ∷ c) e some none some_too none_too =
+        absurd (onward front y c (c ++ d) some_too (subst (λ (z : Tokens). NoneGoesOn z (y ∷ (c ++ d))) (append-nil front) (subst (NoneGoesOn (front ++ [])) e none)))
+    by front (x ∷ a) [] e some none some_too none_too =
+        absurd (onward front x a (a ++ b) some (subst (λ (z : Tokens). NoneGoesOn z (x ∷ (a ++ b))) (append-nil front) (subst (NoneGoesOn (front ++ [])) (sym e) none_too)))
+    by front (x ∷ a) (y ∷ c) e some none some_too none_too =
+        let heads : x ≡ y = ap (λ (z : Tokens). get_or z 0 x) e in
+        let tails : a ++ b ≡ c ++ d = ap (λ (z : Tokens). drop 1 z) e in
+        let rest = by (front ++ (x ∷ [])) a c tails
+        (subst SomeBegins (sym (append_assoc front (x ∷ []) a)) some)
+        (subst (λ (z : Tokens). NoneGoesOn z b) (sym (append_assoc front (x ∷ []) a)) none)
+        (subst SomeBegins (ap (λ (z : Token). front ++ (z ∷ c)) (sym heads) ∙ sym (append_assoc front (x ∷ []) c)) some_too)
+        (subst (λ (z : Tokens). NoneGoesOn z d) (ap (λ (z : Token). front ++ (z ∷ c)) (sym heads) ∙ sym (append_assoc front (x ∷ []) c)) none_too)
+        in (λ j. heads j ∷ rest.0 j, rest.1)
 
 -- ---- the clauses
 

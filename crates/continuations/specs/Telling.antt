@@ -1,0 +1,57 @@
+-- What is told of a place where a token cannot stand.
+use Rattle.std.specs.Prelude.{◌≡◌, ℕ, Bool, true, false, List, [], ◌∷◌, ◌++◌, flat_map, codes}
+use Rattle.std.specs.List.{list_any}
+use Rattle.std.specs.Str.{str_to_ascii_lowercase}
+use Rattle.lexer.specs.Delimiters.{delimiter_text}
+use Rattle.lexer.specs.Words.{spelling}
+use Rattle.lexer.specs.declared.token.TokenKind.{TokenKind}
+use Rattle.lexer.specs.declared.token.TokenKind.TheVariants as kinds
+use Rattle.ada_tree.specs.Language.{Tokens}
+use Rattle.continuations.specs.Following.{AreTheAllowed}
+use Rattle.continuations.specs.declared.continuation.Continuation.{Continuation}
+use Rattle.continuations.specs.declared.continuation.Continuation.TheVariants.{Identifier, Number, Label, Delimiter, Word, End}
+
+-- as the documents have what is written in a source
+abbrev pub in_quotes : List ℕ → List ℕ
+in_quotes text = codes "`" ++ text ++ codes "`"
+
+abbrev pub name_of : Continuation → List ℕ
+name_of Identifier = codes "an identifier"
+name_of Number = codes "a number"
+name_of Label = codes "a label in quotes"
+name_of (Delimiter d) = in_quotes (delimiter_text d)
+name_of (Word w) = in_quotes (str_to_ascii_lowercase (spelling w))
+name_of End = codes "the end of the text"
+
+abbrev pub more_of : Continuation → List ℕ
+more_of c = codes ", " ++ name_of c
+
+-- their names with commas between them
+abbrev pub listed : List Continuation → List ℕ
+listed [] = []
+listed (c ∷ cs) = name_of c ++ flat_map more_of cs
+
+abbrev pub could_line : List Continuation → List ℕ
+could_line cs = codes "could stand here: " ++ listed cs ++ 10 ∷ []
+
+abbrev pub is_identifier : Continuation → Bool
+is_identifier Identifier = true
+is_identifier c = false
+
+abbrev pub line_of_kind : TokenKind → Bool → List ℕ
+line_of_kind (kinds.Word w) true = in_quotes (str_to_ascii_lowercase (spelling w)) ++ codes " is a reserved word, and no identifier" ++ 10 ∷ []
+line_of_kind kind could = []
+
+-- of a reserved word that stands where an identifier could
+abbrev pub reserved_line : Tokens → List Continuation → List ℕ
+reserved_line [] cs = []
+reserved_line (t ∷ back) cs = line_of_kind t.kind (list_any is_identifier cs)
+
+abbrev pub told_text : Tokens → List Continuation → List ℕ
+told_text back cs = 10 ∷ (could_line cs ++ reserved_line back cs)
+
+-- what is told of the place between these parts of a text's tokens
+pub record IsToldOfPlace (front back : Tokens) (text : List ℕ) : Type 0 where
+  pub continuations : List Continuation
+  pub allowed : AreTheAllowed front continuations
+  pub text_is : text ≡ told_text back continuations

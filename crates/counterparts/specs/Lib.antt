@@ -1,0 +1,4 @@
+pub mod Fronts
+pub mod Nested
+pub mod Twice
+pub mod Unmatched

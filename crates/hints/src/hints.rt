@@ -1,0 +1,99 @@
+//! What is told of one text.
+ghost use Rattle.std.specs.Prelude.{option_map, IfOk};
+ghost use Rattle.hints.specs.Told.{IsExplained, IsToldAt, IsToldOf, TellsAt, TellsOrNot};
+
+use crate::others::{Pair, told_of_other};
+use base::faults::{DECLARED_TWICE, MEMORY_REFUSED, UNEXPECTED_TOKEN, UNMATCHED_BODY};
+use continuations::told;
+use explanations::explanation;
+use lexer::{Token, tokens};
+use parser::{longest_beginning, parse};
+use std::alloc::{AllocError, Global};
+
+// Of tokens without a tree: what could stand at the first place where no derivation goes on.
+fn told_of_tokens(alloc: Global, list: &[Token]) -> Result<Vec<u8>, AllocError>
+    ensures { IfOk result (λ told. TellsAt list.now told.items) }
+{
+    let count = longest_beginning(alloc, list)?;
+    let (front, back) = list.split_at(count);
+    told(alloc, front, back)
+}
+
+// Of a text with a token that cannot stand where it does; nothing of another one.
+fn told_of_text(alloc: Global, text: &[u8]) -> Result<Vec<u8>, AllocError>
+    ensures { IfOk result (λ told. TellsOrNot text.now told.items) }
+{
+    let list = match tokens(alloc, text) {
+        Ok(list) => list,
+        Err(fault) => {
+            if fault.number == MEMORY_REFUSED {
+                return Err(AllocError);
+            }
+            return Ok(Vec::new(alloc));
+        }
+    };
+    match parse(alloc, &list) {
+        Ok(_) => Ok(Vec::new(alloc)),
+        Err(fault) => {
+            if fault.number == MEMORY_REFUSED {
+                Err(AllocError)
+            } else if fault.number == UNEXPECTED_TOKEN {
+                told_of_tokens(alloc, &list)
+            } else {
+                Ok(Vec::new(alloc))
+            }
+        }
+    }
+}
+
+fn told_of(alloc: Global, number: u64, place: u32, text: &[u8]) -> Result<Vec<u8>, AllocError>
+    ensures { IfOk result (λ told. IsToldOf number place text.now told.items) }
+{
+    if number == u64::from(UNEXPECTED_TOKEN) {
+        told_of_text(alloc, text)
+    } else if number == u64::from(DECLARED_TWICE) {
+        told_of_other(alloc, Pair::Declarations, text, place)
+    } else if number == u64::from(UNMATCHED_BODY) {
+        told_of_other(alloc, Pair::Bodies, text, place)
+    } else {
+        Ok(Vec::new(alloc))
+    }
+}
+
+// Without a place the text has another fault, or none.
+fn told_at(
+    alloc: Global,
+    number: u64,
+    place: Option<u32>,
+    text: &[u8],
+) -> Result<Vec<u8>, AllocError>
+    ensures { IfOk result (λ told. IsToldAt number place text.now told.items) }
+{
+    match place {
+        Some(place) => told_of(alloc, number, place, text),
+        None => Ok(Vec::new(alloc)),
+    }
+}
+
+/// The explanation of the fault of this number, and behind it what is told of the text where its fault has the number and this place: of a
+/// token that cannot stand where it does, what could stand there; of a name that is declared twice, and of a body that doesn't belong to its declaration, where
+/// the other one is. None where no fault has the number.
+///
+/// # Errors
+/// Where memory was refused.
+pub fn explained(
+    alloc: Global,
+    number: u64,
+    place: Option<u32>,
+    text: &[u8],
+) -> Result<Option<Vec<u8>>, AllocError>
+    ensures { IfOk result (λ whole. IsExplained number place text.now (option_map (λ bytes. bytes.items) whole)) }
+{
+    let Some(explanation) = explanation(number) else {
+        return Ok(None);
+    };
+    let mut whole = explanation.as_bytes().to_vec(alloc)?;
+    let told = told_at(alloc, number, place, text)?;
+    whole.extend_from_slice(&told)?;
+    Ok(Some(whole))
+}
