@@ -19,31 +19,40 @@ use Rattle.checking.specs.ProgramRules.{IsLegal, RefusesProgram, program_faults}
 use Rattle.ravenscar.specs.ProgramRules.{IsRestricted, RefusesUnrestricted, restriction_faults}
 use Rattle.fault_numbers.specs.Numbers.{AreNumberedWithin, GrammarNumbers, IsNumbered, LegalityNumbers, RestrictionNumbers, SpellingNumbers}
 use Rattle.ada_link.specs.meaning.specs.SameMeaning.{KeepsCount, SameMeaning}
+use Rattle.ada_link.specs.package_code.specs.Places.{PlacesTell}
 use Rattle.ada_link.specs.expr_code.specs.Coming.{most_steps}
 use Rattle.ada_link.specs.Compiled.{IsBounded}
 use Rattle.source_laws.specs.Limits.{SmallIsUnlimited}
-use Rattle.adarun.specs.Accepted.{Compiles, CompilesAccepted, IsJudged, IsTextFault, IsTreeOf, RefusesAccepted, RefusesText, RefusesTree}
+use Rattle.adarun.specs.Naming.{CompilesNamed, object_names}
+use Rattle.adarun.specs.declared.compilation.Named.{Named}
+use Rattle.adarun.specs.Accepted.{CompilesAccepted, IsJudged, IsTextFault, IsTreeOf, RefusesAccepted, RefusesText, RefusesTree}
 
 -- the program that was read is the one that was checked
-pub compiles : {E : Type 0} (r : Result Sections E) (text : List ℕ) (tokens list : List Token) (read : Program)
+pub compiles : {E : Type 0} (r : Result Named E) (text : List ℕ) (tokens list : List Token) (read : Program)
     → Spells text tokens → list ≡ tokens → Derives (program_tree read) list
     → (checked : Program) → checked ≡ read → IsLegal (program_tree checked) → IsRestricted (program_tree checked)
-    → IfOk r (λ i. SameMeaning (program_tree checked) i)
-    → IfOk r (λ i. KeepsCount (program_tree checked) i (most_steps i))
-    → IfOk r (λ i. IsBounded (program_tree checked) i)
-    → IfOk r (λ i. IsWellFormed i)
-    → IfOk r (λ i. Compiles text i)
-compiles (Ok i) text tokens list read spells same derives checked is legal restricted means counted bounded well_formed =
+    → IfOk r (λ n. SameMeaning (program_tree checked) n.image)
+    → IfOk r (λ n. KeepsCount (program_tree checked) n.image (most_steps n.image))
+    → IfOk r (λ n. IsBounded (program_tree checked) n.image)
+    → IfOk r (λ n. IsWellFormed n.image)
+    → IfOk r (λ n. n.objects.items ≡ object_names (program_tree checked))
+    → IfOk r (λ n. PlacesTell (program_tree checked) n.image n.places)
+    → IfOk r (λ n. CompilesNamed text n.image n.objects.items n.places)
+compiles (Ok n) text tokens list read spells same derives checked is legal restricted means counted bounded well_formed names placed =
     let derived = subst (λ p. Derives (program_tree p) tokens) (sym is) (subst (Derives (program_tree read)) same derives) in
     record {
-      tree = program_tree checked;
-      accepted = record { is_tree = record { tokens = tokens; spells = spells; derives = derived }; legal = legal; restricted = restricted };
-      means = means;
-      counted = counted;
-      bounded = bounded;
-      well_formed = well_formed;
+      compiles = record {
+        tree = program_tree checked;
+        accepted = record { is_tree = record { tokens = tokens; spells = spells; derives = derived }; legal = legal; restricted = restricted };
+        means = means;
+        counted = counted;
+        bounded = bounded;
+        well_formed = well_formed;
+      };
+      names = names;
+      placed = placed;
     }
-compiles (Err e) text tokens list read spells same derives checked is legal restricted means counted bounded well_formed = tt
+compiles (Err e) text tokens list read spells same derives checked is legal restricted means counted bounded well_formed names placed = tt
 
 -- what is told of an accepted text where its tree is refused, by the laws of source texts
 abbrev Tells : List ℕ → ProgramTree → Type 0

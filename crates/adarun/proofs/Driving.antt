@@ -1,7 +1,10 @@
 -- What the work over files leaves.
 use Rattle.std.proofs.Common.{◌≡◌, ◌<◌, ℕ, List, Option, Bool, true, false, cond, inr, refl, sym, ap, subst, Ok, Err}
 use Rattle.std.specs.Prelude.{nat_eq}
+use Rattle.ada_link.specs.stmt_code.specs.declared.tables.PlaceRow.{PlaceRow}
 use Rattle.base.specs.declared.faults.TheConstants.{MEMORY_REFUSED}
+use Rattle.base.specs.declared.schedule.ScheduleLine.{ScheduleLine}
+use Rattle.image.specs.Sections.{Sections}
 use Rattle.lexer.specs.declared.fault.Fault.{Fault}
 use Rattle.machine.specs.declared.reports.Outcome.{Outcome}
 use Rattle.machine.specs.declared.reports.Outcome.TheVariants as outcomes
@@ -13,10 +16,12 @@ use Rattle.command_line.specs.declared.WordsError.TheVariants.{Usage}
 use Rattle.adarun.specs.Accepted.{RefusesText}
 use Rattle.adarun.specs.Headline.{Runs}
 use Rattle.adarun.specs.Stopping.{RefusesRunning}
-use Rattle.adarun.specs.Driving.{Contents, HasRun, HasRunImage, HasTraced, IsContentRead, KeepsSink, LeavesGo, LeavesRun, LeavesTrace, status_of}
+use Rattle.adarun.specs.Driving.{Contents, HasRun, HasRunImage, HasTraced, IsContentRead, KeepsSink, LeavesGo, LeavesRun, LeavesTrace, status_of, text_of}
+use Rattle.adarun.specs.Origins.{origin_in}
 use Rattle.adarun.specs.declared.going.GoFault.{GoFault}
 use Rattle.adarun.specs.declared.going.GoFault.TheVariants as faults
 use Rattle.adarun.specs.declared.program.Status.{Status}
+use Rattle.adarun.specs.declared.program.TraceForm.{TraceForm}
 use Rattle.adarun.specs.declared.program.Status.TheVariants.{Failed, SourceRefused, ScheduleRefused, NoMemory}
 
 module _ (contents : Contents) (source schedule : List ℕ) (limit : ℕ) (old new : Option (List ℕ)) where
@@ -108,19 +113,28 @@ asked_as command read request is answers = subst (λ r. command_of r ≡ command
 pub asked_nothing : (command : Command) (error : WordsError) → error ≡ Usage → AnswersWords command (Err error) → Nothing ≡ command
 asked_nothing command error is answers = sym (subst (λ e. AnswersWords command (Err e)) is answers)
 
--- ---- `trace`: a schedule that is refused leaves what it leaves to `go`
+-- ---- `trace`: what is told of equal names and texts is the same
 
-module _ (contents : Contents) (source schedule : List ℕ) (limit : ℕ) (old new : Option (List ℕ)) where
-  pub unscheduled_trace : (b : Bool) (status : Status) → status ≡ cond b NoMemory ScheduleRefused → LeavesGo contents source schedule limit status old new → LeavesTrace contents source schedule limit status old new
-  unscheduled_trace true status e h = subst (λ s. LeavesTrace contents source schedule limit s old new) (sym e) (subst (λ s. LeavesGo contents source schedule limit s old new) e h)
-  unscheduled_trace false status e h = subst (λ s. LeavesTrace contents source schedule limit s old new) (sym e) (subst (λ s. LeavesGo contents source schedule limit s old new) e h)
+pub told_alike : (form : TraceForm) (W : List ℕ → Type 0) (image : Sections) (places : List PlaceRow) (lines : List ScheduleLine) (limit : ℕ)
+    → (lent names : List (List ℕ)) (shown text : List ℕ) → lent ≡ names → shown ≡ text
+    → W (text_of form image lent (origin_in shown places) lines limit) → W (text_of form image names (origin_in text places) lines limit)
+told_alike form W image places lines limit lent names shown text same_names same_text told =
+    subst (λ n. W (text_of form image n (origin_in text places) lines limit)) same_names
+    (subst (λ t. W (text_of form image lent (origin_in t places) lines limit)) same_text told)
 
-  has_traced : (outcome : Outcome) → HasTraced contents source schedule limit (status_of outcome) old new → LeavesTrace contents source schedule limit (status_of outcome) old new
+-- a schedule that is refused leaves what it leaves to `go`
+
+module _ (form : TraceForm) (contents : Contents) (source schedule : List ℕ) (limit : ℕ) (old new : Option (List ℕ)) where
+  pub unscheduled_trace : (b : Bool) (status : Status) → status ≡ cond b NoMemory ScheduleRefused → LeavesGo contents source schedule limit status old new → LeavesTrace form contents source schedule limit status old new
+  unscheduled_trace true status e h = subst (λ s. LeavesTrace form contents source schedule limit s old new) (sym e) (subst (λ s. LeavesGo contents source schedule limit s old new) e h)
+  unscheduled_trace false status e h = subst (λ s. LeavesTrace form contents source schedule limit s old new) (sym e) (subst (λ s. LeavesGo contents source schedule limit s old new) e h)
+
+  has_traced : (outcome : Outcome) → HasTraced form contents source schedule limit (status_of outcome) old new → LeavesTrace form contents source schedule limit (status_of outcome) old new
   has_traced (outcomes.Ended time) h = h
   has_traced (outcomes.Unhandled exception task time) h = h
   has_traced (outcomes.WaitsForever time) h = h
   has_traced (outcomes.StepLimit time) h = h
   has_traced (outcomes.ImageFault time) h = h
 
-  pub trace_leaves : (status : Status) (outcome : Outcome) → status ≡ status_of outcome → HasTraced contents source schedule limit (status_of outcome) old new → LeavesTrace contents source schedule limit status old new
-  trace_leaves status outcome e h = subst (λ s. LeavesTrace contents source schedule limit s old new) (sym e) (has_traced outcome h)
+  pub trace_leaves : (status : Status) (outcome : Outcome) → status ≡ status_of outcome → HasTraced form contents source schedule limit (status_of outcome) old new → LeavesTrace form contents source schedule limit status old new
+  trace_leaves status outcome e h = subst (λ s. LeavesTrace form contents source schedule limit s old new) (sym e) (has_traced outcome h)

@@ -1,4 +1,5 @@
 mod Compiling
+mod Named
 mod Running
 mod Driving
 mod Explaining

@@ -1,12 +1,14 @@
 -- What the program's work over files leaves, by what is asked for and by its exit status.
 use Rattle.std.specs.Prelude.{◌≡◌, ◌≢◌, ◌<◌, ◌⊎◌, ℕ, List, Option, Some, None, true, ⊤}
-use Rattle.std.specs.List.{list_all}
 use Rattle.std.specs.Io.KnownBytes.{Appends}
 use Rattle.base.specs.declared.faults.TheConstants.{MEMORY_REFUSED}
 use Rattle.base.specs.declared.schedule.ScheduleLine.{ScheduleLine}
 use Rattle.clock.specs.Schedules as schedules
 use Rattle.clock.specs.declared.schedule.ScheduleFault.{ScheduleFault}
 use Rattle.explanations.specs.Explained.{explanation_of}
+use Rattle.ada_link.specs.package_code.specs.Places.{PlacesTell}
+use Rattle.ada_link.specs.stmt_code.specs.declared.tables.PlaceRow.{PlaceRow}
+use Rattle.hints.specs.Told.{IsExplained}
 use Rattle.lexer.specs.declared.fault.Fault.{Fault}
 use Rattle.image_format.specs.Bytes.{bytes_of}
 use Rattle.image.specs.Code.{code, code_text}
@@ -20,13 +22,19 @@ use Rattle.machine.specs.Written.{AppendsBeginning}
 use Rattle.machine.specs.declared.reports.Outcome.{Outcome}
 use Rattle.machine.specs.declared.reports.Outcome.TheVariants as outcomes
 use Rattle.tracing.specs.Traces.{trace_text}
-use Rattle.command_line.specs.Words.{Command, CompileText, ExplainFault, GoText, ListImage, Nothing, RunImage, TraceText, asked, is_plain}
+use Rattle.tracing.specs.declared.origin.Origin.{Origin}
+use Rattle.waveforms.specs.Waves.{waves_text}
+use Rattle.command_line.specs.Words.{Command, CompileText, DumpText, ExplainFault, ExplainText, GoText, ListImage, Nothing, RunImage, TraceText, asked, is_told}
 use Rattle.adarun.specs.Accepted.{Compiles, RefusesText}
 use Rattle.adarun.specs.Headline.{Runs, WritesBeginning}
+use Rattle.adarun.specs.Naming.{object_names}
+use Rattle.adarun.specs.Origins.{origin_in}
 use Rattle.adarun.specs.Stopping.{HasImage}
 use Rattle.adarun.specs.declared.files.ReadError.{ReadError}
 use Rattle.adarun.specs.declared.files.ReadError.TheVariants as errors
 use Rattle.adarun.specs.declared.program.Status.{Status}
+use Rattle.adarun.specs.declared.program.TraceForm.{TraceForm}
+use Rattle.adarun.specs.declared.program.TraceForm.TheVariants as forms
 use Rattle.adarun.specs.declared.program.Status.TheVariants.{Done, Failed, SourceRefused, Unhandled, WaitsForever, StepLimit, ImageFault, ScheduleRefused, NoMemory}
 
 -- contents of files by their names, where they are known
@@ -108,6 +116,12 @@ LeavesGo contents source schedule limit status old new = HasRun contents source 
 
 -- ---- `trace`
 
+-- in which form a run is told, by its image, the names of its objects, where its instructions come from, its schedule and its limit: rows, or a value change
+-- dump
+abbrev pub text_of : TraceForm → Sections → List (List ℕ) → (origin : ℕ → Option Origin) → List ScheduleLine → ℕ → List ℕ
+text_of forms.Rows = trace_text
+text_of forms.Dump = λ i objects origin. waves_text i objects
+
 -- the file was read, and its lines are a schedule
 pub record HasSchedule (contents : Contents) (name : List ℕ) : Type 0 where
   pub input : List ℕ
@@ -115,34 +129,40 @@ pub record HasSchedule (contents : Contents) (name : List ℕ) : Type 0 where
   pub lines : List ScheduleLine
   pub is_schedule : schedules.IsScheduleText input lines
 
--- the source was read and compiled, the second file is a schedule, and the trace of the image's run was written, with an outcome of this status
-pub record HasTraced (contents : Contents) (source schedule : List ℕ) (limit : ℕ) (status : Status) (old new : Option (List ℕ)) : Type 0 where
+-- The source was read and compiled, the second file is a schedule, and the trace of the image's run was written in this form, with an outcome of this status.
+-- Objects have their names in the source, and an instruction comes from the line and the column of the innermost statement whose code it is.
+pub record HasTraced (form : TraceForm) (contents : Contents) (source schedule : List ℕ) (limit : ℕ) (status : Status)
+    (old new : Option (List ℕ)) : Type 0 where
   pub text : List ℕ
   pub source_read : IsContentRead (contents source) text
   pub image : Sections
   pub compiles : Compiles text image
   pub given : HasSchedule contents schedule
+  pub places : List PlaceRow
+  pub placed : PlacesTell compiles.tree image places
   pub outcome : Outcome
   pub status_is : status ≡ status_of outcome
-  pub written : Appends old new (trace_text image given.lines limit)
+  pub written : Appends old new (text_of form image (object_names compiles.tree) (origin_in text places) given.lines limit)
   pub ends : EndsBy outcome (code image given.lines limit)
 
 -- a beginning of that trace was written
-pub record HasBegunTrace (contents : Contents) (source schedule : List ℕ) (limit : ℕ) (old new : Option (List ℕ)) : Type 0 where
+pub record HasBegunTrace (form : TraceForm) (contents : Contents) (source schedule : List ℕ) (limit : ℕ) (old new : Option (List ℕ)) : Type 0 where
   pub text : List ℕ
   pub source_read : IsContentRead (contents source) text
   pub image : Sections
   pub compiles : Compiles text image
   pub given : HasSchedule contents schedule
-  pub begins : AppendsBeginning old new (trace_text image given.lines limit)
+  pub places : List PlaceRow
+  pub placed : PlacesTell compiles.tree image places
+  pub begins : AppendsBeginning old new (text_of form image (object_names compiles.tree) (origin_in text places) given.lines limit)
 
 -- what `trace` wrote to standard output, by the exit status
-abbrev pub LeavesTrace : Contents → List ℕ → List ℕ → ℕ → Status → Option (List ℕ) → Option (List ℕ) → Type 0
-LeavesTrace contents source schedule limit SourceRefused old new = HasRefusedSource contents source old new
-LeavesTrace contents source schedule limit ScheduleRefused old new = HasRefusedSchedule contents source schedule old new
-LeavesTrace contents source schedule limit NoMemory old new = new ≡ old
-LeavesTrace contents source schedule limit Failed old new = (new ≡ old) ⊎ HasBegunTrace contents source schedule limit old new
-LeavesTrace contents source schedule limit status old new = HasTraced contents source schedule limit status old new
+abbrev pub LeavesTrace : TraceForm → Contents → List ℕ → List ℕ → ℕ → Status → Option (List ℕ) → Option (List ℕ) → Type 0
+LeavesTrace form contents source schedule limit SourceRefused old new = HasRefusedSource contents source old new
+LeavesTrace form contents source schedule limit ScheduleRefused old new = HasRefusedSchedule contents source schedule old new
+LeavesTrace form contents source schedule limit NoMemory old new = new ≡ old
+LeavesTrace form contents source schedule limit Failed old new = (new ≡ old) ⊎ HasBegunTrace form contents source schedule limit old new
+LeavesTrace form contents source schedule limit status old new = HasTraced form contents source schedule limit status old new
 
 -- ---- images
 
@@ -198,6 +218,50 @@ abbrev pub LeavesExplain : ℕ → Status → Option (List ℕ) → Option (List
 LeavesExplain number Done old new = HasExplained number old new
 LeavesExplain number Failed old new = ((explanation_of number ≡ None) × (new ≡ old)) ⊎ HasBegunExplaining number old new
 LeavesExplain number status old new = ⊥
+
+-- the text is refused by this number at this place
+pub record HasFaultAt (number place : ℕ) (text : List ℕ) : Type 0 where
+  pub fault : Fault
+  pub refused : RefusesText text fault
+  pub number_is : fault.number ≡ number
+  pub place_is : fault.place ≡ place
+
+-- the text is refused, but not by this number
+pub record HasAnotherFault (number : ℕ) (text : List ℕ) : Type 0 where
+  pub fault : Fault
+  pub refused : RefusesText text fault
+  pub another : fault.number ≢ number
+
+-- the place of the text's fault, where that has this number; None where the text compiles, or has another fault
+abbrev pub IsFaultPlace : ℕ → List ℕ → Option ℕ → Type 0
+IsFaultPlace number text (Some place) = HasFaultAt number place text
+IsFaultPlace number text None = HasImage text ⊎ HasAnotherFault number text
+
+-- the source was read, and the explanation was written with what is told of this source behind it
+pub record HasExplainedText (contents : Contents) (source : List ℕ) (number : ℕ) (old new : Option (List ℕ)) : Type 0 where
+  pub text : List ℕ
+  pub source_read : IsContentRead (contents source) text
+  pub place : Option ℕ
+  pub is_place : IsFaultPlace number text place
+  pub whole : List ℕ
+  pub explained : IsExplained number place text (Some whole)
+  pub written : Appends old new whole
+
+-- a beginning of that was written
+pub record HasBegunExplainingText (contents : Contents) (source : List ℕ) (number : ℕ) (old new : Option (List ℕ)) : Type 0 where
+  pub text : List ℕ
+  pub source_read : IsContentRead (contents source) text
+  pub place : Option ℕ
+  pub is_place : IsFaultPlace number text place
+  pub whole : List ℕ
+  pub explained : IsExplained number place text (Some whole)
+  pub begins : AppendsBeginning old new whole
+
+abbrev pub LeavesExplainText : Contents → List ℕ → ℕ → Status → Option (List ℕ) → Option (List ℕ) → Type 0
+LeavesExplainText contents source number Done old new = HasExplainedText contents source number old new
+LeavesExplainText contents source number NoMemory old new = new ≡ old
+LeavesExplainText contents source number Failed old new = (new ≡ old) ⊎ HasBegunExplainingText contents source number old new
+LeavesExplainText contents source number status old new = ⊥
 
 -- ---- `run`
 
@@ -283,8 +347,12 @@ LeavesWritten (ListImage image) before after status old new = AreFilesKept befor
 LeavesWritten (RunImage image schedule limit) before after status old new = AreFilesKept before after × LeavesRun before image schedule limit status old new
 LeavesWritten (GoText source schedule limit) before after status old new = AreFilesKept before after × LeavesGo before source schedule limit status old new
 LeavesWritten (TraceText source schedule limit) before after status old new = AreFilesKept before after
-    × LeavesTrace before source schedule limit status old new
+    × LeavesTrace forms.Rows before source schedule limit status old new
+LeavesWritten (DumpText source schedule limit) before after status old new = AreFilesKept before after
+    × LeavesTrace forms.Dump before source schedule limit status old new
 LeavesWritten (ExplainFault number) before after status old new = AreFilesKept before after × LeavesExplain number status old new
+LeavesWritten (ExplainText number source) before after status old new = AreFilesKept before after
+    × LeavesExplainText before source number status old new
 LeavesWritten Nothing before after status old new = AreFilesKept before after × ((new ≡ old) × ((status ≡ Failed) ⊎ (status ≡ NoMemory)))
 
 -- the number of an exit status
@@ -299,9 +367,10 @@ number_of ImageFault = 6
 number_of ScheduleRefused = 7
 number_of NoMemory = 8
 
--- Words of which none begins with `-` ask for what the table of commands says, or memory was refused as they were read. What other words ask for is tested.
+-- Words behind `trace --vcd`, and words of which none begins with `-`, ask for what the table of commands says, or memory was refused as they were read.
+-- What other words ask for is tested.
 abbrev pub IsAskedFor : List (List ℕ) → Command → Status → Type 0
-IsAskedFor words work status = list_all is_plain words ≡ true → (work ≡ asked words) ⊎ ((work ≡ Nothing) × (status ≡ NoMemory))
+IsAskedFor words work status = is_told words ≡ true → (work ≡ asked words) ⊎ ((work ≡ Nothing) × (status ≡ NoMemory))
 
 -- the answer is the number of a status, with what it leaves for what was asked for
 pub record AnswersStatus (words : List (List ℕ)) (before after : Contents) (answer : ℕ) (old new : Option (List ℕ)) : Type 0 where

@@ -1,4 +1,6 @@
 pub mod Accepted
+pub mod Naming
+pub mod Origins
 pub mod Headline
 pub mod Stopping
 pub mod Joined

@@ -1,45 +1,103 @@
 //! From a source text to an image.
-ghost use Rattle.std.specs.Prelude.{IfErr, IfOk};
+ghost use Rattle.std.specs.Prelude.{◌≡◌, IfErr, IfOk};
 ghost use Rattle.ada_link.specs.Compiled.{IsBounded};
 ghost use Rattle.ada_link.specs.ada_tree.specs.ProgramTree.{ProgramTree, program_tree};
 ghost use Rattle.ada_link.specs.expr_code.specs.Coming.{most_steps};
 ghost use Rattle.ada_link.specs.meaning.specs.SameMeaning.{KeepsCount, SameMeaning};
+ghost use Rattle.ada_link.specs.package_code.specs.Places.{PlacesTell};
 ghost use Rattle.adarun.specs.Accepted.{Compiles, IsAccepted, CompilesAccepted, IsJudged, IsTextFault, IsTreeOf, RefusesText, RefusesTree};
+ghost use Rattle.adarun.specs.Naming.{CompilesNamed, imaged, object_names};
 ghost use Rattle.checking.specs.ProgramRules.{IsLegal};
 ghost use Rattle.image.specs.Rules.{IsWellFormed};
 ghost use Rattle.ravenscar.specs.ProgramRules.{IsRestricted};
 
-use ada_link::{Refusal, compile_tree};
+use crate::naming::object_names;
+use ada_link::{Compiled, Places, Refusal, compile_with_places};
 use ada_tree::Parsed;
 use base::faults::LIMIT_PASSED;
 use checking::check;
 use fault_numbers::{grammar_numbers, legality_numbers, restriction_numbers, spelling_numbers};
 use image::Image;
-use lexer::{Fault, tokens};
+use lexer::{Fault, Text, tokens};
 use parser::parse;
 use ravenscar::{Accepted, restrict};
 use source_laws::laws::small_is_unlimited;
 use std::alloc::Global;
 
-// The image of an accepted program, or the fault that it is refused with.
-fn image_of(alloc: Global, accepted: &Accepted) -> Result<Image, Fault>
-    ensures means { IfOk result (λ image. SameMeaning (program_tree accepted.now) image) }
-    ensures counted { IfOk result (λ image. KeepsCount (program_tree accepted.now) image (most_steps image)) }
-    ensures bounded { IfOk result (λ image. IsBounded (program_tree accepted.now) image) }
-    ensures well_formed { IfOk result (λ image. IsWellFormed image) }
+/// The image of a program, the names of its protected objects, in the order of their numbers, and the places of its statements.
+#[derive(Drop)]
+pub(crate) struct Named {
+    pub(crate) image: Image,
+    pub(crate) objects: Vec<Text>,
+    pub(crate) places: Places,
+}
+
+// The image of an accepted program and the places of its statements, or the fault that it is refused with.
+fn compiled_of(alloc: Global, accepted: &Accepted) -> Result<Compiled, Fault>
+    ensures means { IfOk result (λ made. SameMeaning (program_tree accepted.now) made.image) }
+    ensures counted { IfOk result (λ made. KeepsCount (program_tree accepted.now) made.image (most_steps made.image)) }
+    ensures bounded { IfOk result (λ made. IsBounded (program_tree accepted.now) made.image) }
+    ensures places { IfOk result (λ made. PlacesTell (program_tree accepted.now) made.image made.places) }
+    ensures well_formed { IfOk result (λ made. IsWellFormed made.image) }
     ensures refused { IfErr result (λ fault. RefusesTree (program_tree accepted.now) fault) }
     ensures legal { IsLegal (program_tree accepted.now) }
     ensures restricted { IsRestricted (program_tree accepted.now) }
 {
     let program = accepted.program();
-    match compile_tree(alloc, accepted) {
-        Ok(image) => Ok(image),
+    match compile_with_places(alloc, accepted) {
+        Ok(made) => Ok(made),
         Err(Refusal::Memory) => Err(Fault::memory()),
         Err(Refusal::Limit) => Err(Fault {
             number: LIMIT_PASSED,
             place: program.main.place,
         }),
     }
+}
+
+// The same with the names of its protected objects.
+fn named_of(alloc: Global, accepted: &Accepted) -> Result<Named, Fault>
+    ensures means { IfOk result (λ named. SameMeaning (program_tree accepted.now) named.image) }
+    ensures counted { IfOk result (λ named. KeepsCount (program_tree accepted.now) named.image (most_steps named.image)) }
+    ensures bounded { IfOk result (λ named. IsBounded (program_tree accepted.now) named.image) }
+    ensures well_formed { IfOk result (λ named. IsWellFormed named.image) }
+    ensures names { IfOk result (λ named. named.objects.items ≡ object_names (program_tree accepted.now)) }
+    ensures places { IfOk result (λ named. PlacesTell (program_tree accepted.now) named.image named.places) }
+    ensures refused { IfErr result (λ fault. RefusesTree (program_tree accepted.now) fault) }
+    ensures legal { IsLegal (program_tree accepted.now) }
+    ensures restricted { IsRestricted (program_tree accepted.now) }
+{
+    let Compiled { image, places } = compiled_of(alloc, accepted)?;
+    match object_names(alloc, accepted.program()) {
+        Ok(objects) => Ok(Named {
+            image,
+            objects,
+            places,
+        }),
+        Err(_) => Err(Fault::memory()),
+    }
+}
+
+/// Compiles a source text as `compile` does, and tells the names of its protected objects and the places of its statements.
+///
+/// # Errors
+/// Those of `compile`.
+pub(crate) fn compile_named(alloc: Global, source: &[u8]) -> Result<Named, Fault>
+    ensures means { IfOk result (λ named. CompilesNamed source.now named.image named.objects.items named.places) }
+    ensures accepted { (tree : ProgramTree) → IsAccepted tree source.now → CompilesAccepted source.now tree (imaged result) }
+    ensures judged { (tree : ProgramTree) → IsTreeOf tree source.now → IsJudged source.now tree (imaged result) }
+    ensures refused { IfErr result (λ fault. RefusesText source.now fault) }
+    ensures numbered { IfErr result (λ fault. IsTextFault fault.number) }
+{
+    spelling_numbers();
+    grammar_numbers();
+    legality_numbers();
+    restriction_numbers();
+    small_is_unlimited();
+    let list = tokens(alloc, source)?;
+    let program = parse(alloc, &list)?;
+    let checked = check(alloc, Parsed::new(program))?;
+    let accepted = restrict(alloc, checked)?;
+    named_of(alloc, &accepted)
 }
 
 /// Compiles a source text (docs/LANGUAGE.md) to an image that means the same.
@@ -55,14 +113,8 @@ pub fn compile(alloc: Global, source: &[u8]) -> Result<Image, Fault>
     ensures refused { IfErr result (λ fault. RefusesText source.now fault) }
     ensures numbered { IfErr result (λ fault. IsTextFault fault.number) }
 {
-    spelling_numbers();
-    grammar_numbers();
-    legality_numbers();
-    restriction_numbers();
-    small_is_unlimited();
-    let list = tokens(alloc, source)?;
-    let program = parse(alloc, &list)?;
-    let checked = check(alloc, Parsed::new(program))?;
-    let accepted = restrict(alloc, checked)?;
-    image_of(alloc, &accepted)
+    match compile_named(alloc, source) {
+        Ok(named) => Ok(named.image),
+        Err(fault) => Err(fault),
+    }
 }

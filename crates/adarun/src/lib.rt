@@ -5,6 +5,8 @@ mod compilation;
 mod files;
 mod going;
 pub mod laws;
+mod naming;
+mod origins;
 mod program;
 
 pub use compilation::compile;

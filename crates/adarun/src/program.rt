@@ -1,24 +1,31 @@
 //! The program's work over any files and streams.
-ghost use Rattle.std.specs.Prelude.{◌≡◌, ◌≢◌, ◌<◌, ◌⊎◌, ℕ, List, Option, map, nat_eq, if◌then◌else◌};
+ghost use Rattle.std.specs.Prelude.{◌≡◌, ◌≢◌, ◌<◌, ◌⊎◌, ℕ, Err, IfOk, List, OnOk, Option, map, nat_eq, if◌then◌else◌};
 ghost use Rattle.base.specs.declared.faults.TheConstants.{MEMORY_REFUSED};
 ghost use Rattle.adarun.specs.Driving as driving;
-ghost use Rattle.adarun.specs.Driving.{AnswersStatus, KeepsSink, LeavesCompile, LeavesExplain, LeavesGo, LeavesList, LeavesRun, LeavesTrace};
+ghost use Rattle.adarun.specs.Driving.{AnswersStatus, IsFaultPlace, KeepsSink, LeavesCompile, LeavesExplain, LeavesExplainText, LeavesGo, LeavesList, LeavesRun, LeavesTrace, text_of};
+ghost use Rattle.image.specs.Code.{code};
+ghost use Rattle.machine.specs.Stands.{EndsBy};
+ghost use Rattle.machine.specs.Written.{AppendsBeginning};
+ghost use Rattle.std.specs.Io.KnownBytes.{Appends};
 
-use crate::compilation::compile;
+use crate::compilation::{compile, compile_named};
 use crate::files::{FileStore, ReadError, WriteError};
 use crate::going::{GoFault, go};
+use crate::origins::{Statements, position};
 use base::faults::MEMORY_REFUSED;
 use clock::{Schedule, ScheduleFault};
 use command_line::{Request, WordsError, request_of};
 use explanations::explanation;
-use image::ImageFault;
+use hints::explained;
+use image::{Image, ImageFault};
 use image_format::{encode, list};
 use image_loading::load;
 use itoa::Buffer;
-use lexer::Fault;
+use lexer::{Fault, Text};
 use machine::{Outcome, RunFault, Sink, run, write_all};
-use std::alloc::Global;
-use tracing::trace;
+use std::alloc::{AllocError, Global};
+use tracing::{Origins, trace};
+use waveforms::waves;
 
 /// The program's exit statuses (docs/FORMATS.md, "Exit statuses").
 #[derive(Clone, Copy, PartialEq, Eq, Debug)]
@@ -34,11 +41,21 @@ pub enum Status {
     NoMemory = 8,
 }
 
+/// The form in which a run is told.
+#[derive(Clone, Copy, PartialEq, Eq, Debug)]
+pub(crate) enum TraceForm {
+    /// Row by row (docs/FORMATS.md, "Traces").
+    Rows,
+    /// As a value change dump (docs/FORMATS.md, "Value change dumps").
+    Dump,
+}
+
 /// Does what the words, without the program's name, ask for: reads files, writes one of them or to `out`, and where it stops early one line to `err`. It
-/// answers the exit status. Where a run came to an outcome, `out` was given its text (`go`, `run`) or its trace (`trace`); where an image was listed, its
-/// listing; where a fault was explained, its explanation; and no write to `out` failed under any status but 1. Where a text, an image or a schedule was
-/// refused or memory was wanting, nothing was written; where a write to `out` failed, a beginning of what was to be written. `compile` writes the image's
-/// file, and nothing to `out`: that file stays as it was unless the bytes of the source's image were there to be written, and no other file changes.
+/// answers the exit status. Where a run came to an outcome, `out` was given its text (`go`, `run`), or its trace in the form that was asked for (`trace`);
+/// where an image was listed, its listing; where a fault was explained, its explanation; and no write to `out` failed under any status but 1. Where a text,
+/// an image or a schedule was refused or memory was wanting, nothing was written; where a write to `out` failed, a beginning of what was to be written.
+/// `compile` writes the image's file, and nothing to `out`: that file stays as it was unless the bytes of the source's image were there to be written, and
+/// no other file changes.
 pub fn drive<F: FileStore, O: Sink, E: Sink>(
     alloc: Global,
     words: &[&str],
@@ -76,8 +93,36 @@ pub fn drive<F: FileStore, O: Sink, E: Sink>(
                 schedule,
                 limit,
             },
-        ) => drive_trace(alloc, files, source, schedule, limit, out, err),
+        ) => drive_trace(
+            alloc,
+            files,
+            TraceForm::Rows,
+            source,
+            schedule,
+            limit,
+            out,
+            err,
+        ),
+        Ok(
+            Request::Dump {
+                source,
+                schedule,
+                limit,
+            },
+        ) => drive_trace(
+            alloc,
+            files,
+            TraceForm::Dump,
+            source,
+            schedule,
+            limit,
+            out,
+            err,
+        ),
         Ok(Request::Explain { number }) => drive_explain(number, out, err),
+        Ok(Request::ExplainText { number, source }) => {
+            drive_explain_text(alloc, files, number, source, out, err)
+        }
         Err(WordsError::Usage) => usage(err),
         Err(WordsError::Memory) => no_memory(err),
     };
@@ -224,13 +269,14 @@ fn drive_go<F: FileStore, O: Sink, E: Sink>(
 fn drive_trace<F: FileStore, O: Sink, E: Sink>(
     alloc: Global,
     files: &F,
+    form: TraceForm,
     source: &str,
     schedule: &str,
     limit: u64,
     out: &mut O,
     err: &mut E,
 ) -> Status
-    ensures leaves { LeavesTrace (F.contents files.now) source.now schedule.now limit result (O.bytes out.old) (O.bytes out.new) }
+    ensures leaves { LeavesTrace form (F.contents files.now) source.now schedule.now limit result (O.bytes out.old) (O.bytes out.new) }
     ensures sink { KeepsSink result (out.new ≡ out.old) (O.failures out.old) (O.failures out.new) }
 {
     let text = match files.read(alloc, source) {
@@ -241,18 +287,55 @@ fn drive_trace<F: FileStore, O: Sink, E: Sink>(
         Ok(lines) => lines,
         Err(error) => return unread(err, error, schedule),
     };
-    let image = match compile(alloc, &text) {
-        Ok(image) => image,
+    let named = match compile_named(alloc, &text) {
+        Ok(named) => named,
         Err(fault) => return refuse_source(err, &text, &fault),
     };
     let schedule = match Schedule::read(alloc, &lines) {
         Ok(schedule) => schedule,
         Err(fault) => return refuse_schedule(err, &fault),
     };
-    match trace(alloc, &image, &schedule, limit, out) {
+    let origins = Statements {
+        text: &text,
+        places: &named.places,
+    };
+    match write_trace(
+        alloc,
+        form,
+        &named.image,
+        &named.objects,
+        &origins,
+        &schedule,
+        limit,
+        out,
+    ) {
         Ok(outcome) => status_of(&outcome),
         Err(RunFault::Memory) => no_memory(err),
         Err(RunFault::Write) => cannot_write(err),
+    }
+}
+
+// Writes a run in this form.
+fn write_trace<P: Origins, O: Sink>(
+    alloc: Global,
+    form: TraceForm,
+    image: &Image,
+    objects: &[Text],
+    origins: &P,
+    schedule: &Schedule,
+    limit: u64,
+    out: &mut O,
+) -> Result<Outcome, RunFault>
+    ensures text { OnOk result (Appends (O.bytes out.old) (O.bytes out.new) (text_of form image.now objects.now (P.origin origins.now) schedule.now limit)) }
+    ensures ends { IfOk result (λ outcome. EndsBy outcome (code image.now schedule.now limit)) }
+    ensures kept { OnOk result (O.failures out.new ≡ O.failures out.old) }
+    ensures memory { result ≡ Err RunFault.Memory → out.new ≡ out.old }
+    ensures failed { result ≡ Err RunFault.Write → O.failures out.old < O.failures out.new }
+    ensures beginning { AppendsBeginning (O.bytes out.old) (O.bytes out.new) (text_of form image.now objects.now (P.origin origins.now) schedule.now limit) }
+{
+    match form {
+        TraceForm::Rows => trace(alloc, image, objects, origins, schedule, limit, out),
+        TraceForm::Dump => waves(alloc, image, objects, schedule, limit, out),
     }
 }
 
@@ -265,6 +348,58 @@ fn drive_explain<O: Sink, E: Sink>(number: u64, out: &mut O, err: &mut E) -> Sta
         return usage(err);
     };
     match write_all(out, text.as_bytes()) {
+        Ok(()) => Status::Done,
+        Err(_) => cannot_write(err),
+    }
+}
+
+// The place of the text's fault, where that has this number.
+fn fault_place(alloc: Global, number: u64, text: &[u8]) -> Result<Option<u32>, AllocError>
+    ensures { IfOk result (λ place. IsFaultPlace number text.now place) }
+{
+    match compile(alloc, text) {
+        Ok(_) => Ok(None),
+        Err(fault) => {
+            if fault.number == MEMORY_REFUSED {
+                Err(AllocError)
+            } else if u64::from(fault.number) == number {
+                Ok(Some(fault.place))
+            } else {
+                Ok(None)
+            }
+        }
+    }
+}
+
+// With what is told of the source behind the explanation.
+fn drive_explain_text<F: FileStore, O: Sink, E: Sink>(
+    alloc: Global,
+    files: &F,
+    number: u64,
+    source: &str,
+    out: &mut O,
+    err: &mut E,
+) -> Status
+    ensures leaves { LeavesExplainText (F.contents files.now) source.now number result (O.bytes out.old) (O.bytes out.new) }
+    ensures sink { KeepsSink result (out.new ≡ out.old) (O.failures out.old) (O.failures out.new) }
+{
+    if explanation(number).is_none() {
+        return usage(err);
+    }
+    let text = match files.read(alloc, source) {
+        Ok(text) => text,
+        Err(error) => return unread(err, error, source),
+    };
+    let place = match fault_place(alloc, number, &text) {
+        Ok(place) => place,
+        Err(_) => return no_memory(err),
+    };
+    let whole = match explained(alloc, number, place, &text) {
+        Ok(Some(whole)) => whole,
+        Ok(None) => return usage(err),
+        Err(_) => return no_memory(err),
+    };
+    match write_all(out, &whole) {
         Ok(()) => Status::Done,
         Err(_) => cannot_write(err),
     }
@@ -330,7 +465,7 @@ fn refuse_source<E: Sink>(err: &mut E, text: &[u8], fault: &Fault) -> Status
     if fault.number == MEMORY_REFUSED {
         return no_memory(err);
     }
-    let (line, column) = position(text, fault.place);
+    let place = position(text, fault.place);
     let mut number = Buffer::new();
     let mut lines = Buffer::new();
     let mut columns = Buffer::new();
@@ -338,9 +473,9 @@ fn refuse_source<E: Sink>(err: &mut E, text: &[u8], fault: &Fault) -> Status
         b"fault ",
         number.format(fault.number).as_bytes(),
         b" at ",
-        lines.format(line).as_bytes(),
+        lines.format(place.line).as_bytes(),
         b":",
-        columns.format(column).as_bytes(),
+        columns.format(place.column).as_bytes(),
     ];
     tell(err, Status::SourceRefused, &pieces)
 }
@@ -377,22 +512,4 @@ fn refuse_schedule<E: Sink>(err: &mut E, fault: &ScheduleFault) -> Status
         line.format(fault.line).as_bytes(),
     ];
     tell(err, Status::ScheduleRefused, &pieces)
-}
-
-// The line and the column of a place, both from 1 and in bytes.
-fn position(text: &[u8], place: u32) -> (usize, usize) {
-    let mut line = 1usize;
-    let mut column = 1usize;
-    for (at, c) in text.iter().enumerate() {
-        if u64::from(place) <= at as u64 {
-            break;
-        }
-        if *c == b'\n' {
-            line = line.saturating_add(1);
-            column = 1;
-        } else {
-            column = column.saturating_add(1);
-        }
-    }
-    (line, column)
 }

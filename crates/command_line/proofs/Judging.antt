@@ -21,9 +21,9 @@ use Rattle.clap.proofs.WalkLemmas.{first_value-rows}
 use Rattle.command_line.specs.declared.Request.{Request}
 use Rattle.command_line.specs.declared.WordsError.{WordsError}
 use Rattle.command_line.specs.declared.WordsError.TheVariants as errors
-use Rattle.command_line.specs.Words.{AnswersWords, Nothing, asked, is_plain}
+use Rattle.command_line.specs.Words.{AnswersWords, Nothing, asked_plainly, is_plain}
 use Rattle.command_line.specs.Finding.{asked_by, asked_in, program_app}
-use Rattle.command_line.proofs.Reading.{IsNoFlag, IsRefusal, Refuses, at, fault_plain, go_refused_more, go_refused_none, go_refused_one, go_refused_two, go_rows, go_taken, level_by, no_flag, number_refused_more, number_refused_none, number_rows, number_taken, one_refused_more, one_refused_none, one_rows, one_taken, run_refused_more, run_refused_none, run_refused_one, run_refused_two, run_rows, run_taken, two_refused_more, two_refused_none, two_refused_one, two_rows, two_taken}
+use Rattle.command_line.proofs.Reading.{IsNoFlag, IsRefusal, Refuses, at, fault_plain, go_refused_more, go_refused_none, go_refused_one, go_refused_two, go_rows, go_taken, level_by, no_flag, number_refused_none, number_rows, number_taken, one_refused_more, one_refused_none, one_rows, one_taken, run_refused_more, run_refused_none, run_refused_one, run_refused_two, run_rows, run_taken, source_refused_more, source_rows, source_taken, two_refused_more, two_refused_none, two_refused_one, two_rows, two_taken}
 
 -- ---- the command that the first word names
 
@@ -86,8 +86,8 @@ module _ (name : Text) (rest : List Text) (begins : walked whole.top.rules names
 -- the words are a command's, and what is found for its arguments is what it asks for; or an error comes, and they ask for nothing
 pub data Judged (words : List Text) : Type 0 where
   Taken : (name : Text) (rows : List Row) → fault_of program_app words ≡ [] → subcommand_of program_app words ≡ Some (name, rows)
-      → asked_in name (λ id. first_of id rows) ≡ asked words → Judged words
-  Refused : IsRefusal (fault_of program_app words) → asked words ≡ Nothing → Judged words
+      → asked_in name (λ id. first_of id rows) ≡ asked_plainly words → Judged words
+  Refused : IsRefusal (fault_of program_app words) → asked_plainly words ≡ Nothing → Judged words
 
 both : (a b : Bool) → (a && b) ≡ true → (a ≡ true) × (b ≡ true)
 both true b h = (refl, h)
@@ -177,18 +177,21 @@ trace_judged (a ∷ b ∷ c ∷ d ∷ more) (na, (nb, (nc, (nd, others)))) =
 
 explain_judged : (rest : List Text) → AreNoFlags rest → Judged (codes "explain" ∷ rest)
 unfolding walked
-explain_judged [] none = Refused (refused_whole (codes "explain") [] refl refl refl (number_refused_none (codes "explain"))) refl
+explain_judged [] none = Refused (refused_whole (codes "explain") [] refl refl refl number_refused_none) refl
 explain_judged (a ∷ []) (na, none) =
     Taken (codes "explain") _
-    (taken_whole (codes "explain") (a ∷ []) refl refl refl (number_taken (codes "explain") a na))
-    (found_is (codes "explain") (a ∷ []) refl refl _ (ap (λ rows. Some (codes "explain", rows)) (number_rows (codes "explain") a na)))
+    (taken_whole (codes "explain") (a ∷ []) refl refl refl (number_taken a na))
+    (found_is (codes "explain") (a ∷ []) refl refl _ (ap (λ rows. Some (codes "explain", rows)) (number_rows a na)))
     refl
 explain_judged (a ∷ b ∷ []) (na, (nb, none)) =
-    Refused (refused_whole (codes "explain") (a ∷ b ∷ []) refl refl refl (number_refused_more (codes "explain") a b [] na nb)) refl
-explain_judged (a ∷ b ∷ c ∷ []) (na, (nb, others)) =
-    Refused (refused_whole (codes "explain") (a ∷ b ∷ c ∷ []) refl refl refl (number_refused_more (codes "explain") a b (c ∷ []) na nb)) refl
-explain_judged (a ∷ b ∷ c ∷ d ∷ more) (na, (nb, others)) =
-    Refused (refused_whole (codes "explain") (a ∷ b ∷ c ∷ d ∷ more) refl refl refl (number_refused_more (codes "explain") a b (c ∷ d ∷ more) na nb)) refl
+    Taken (codes "explain") _
+    (taken_whole (codes "explain") (a ∷ b ∷ []) refl refl refl (source_taken a b na nb))
+    (found_is (codes "explain") (a ∷ b ∷ []) refl refl _ (ap (λ rows. Some (codes "explain", rows)) (source_rows a b na nb)))
+    refl
+explain_judged (a ∷ b ∷ c ∷ []) (na, (nb, (nc, none))) =
+    Refused (refused_whole (codes "explain") (a ∷ b ∷ c ∷ []) refl refl refl (source_refused_more a b c [] na nb nc)) refl
+explain_judged (a ∷ b ∷ c ∷ d ∷ more) (na, (nb, (nc, others))) =
+    Refused (refused_whole (codes "explain") (a ∷ b ∷ c ∷ d ∷ more) refl refl refl (source_refused_more a b c (d ∷ more) na nb nc)) refl
 
 flip : (x y : Text) → bytes_eq x y ≡ false → bytes_eq y x ≡ false
 flip x y e = by (bytes_eq y x) refl
@@ -215,10 +218,10 @@ module _ (name : Text) (plain : IsNoFlag name) (compile : bytes_eq (codes "compi
       let stop = (walk whole.top.rules names nothing_held (name ∷ rest)).stopped in
       subst IsRefusal (sym (level_by whole.top names (name ∷ rest) (is_some (entered whole stop)) (entered_fault whole stop) _ _ (fault_plain whole.top names 1 name nothing_held rest plain unmet) refl)) Refuses
 
-  stray_asked : (rest : List Text) → asked (name ∷ rest) ≡ Nothing
+  stray_asked : (rest : List Text) → asked_plainly (name ∷ rest) ≡ Nothing
   stray_asked [] = refl
   stray_asked (a ∷ []) = rw (flip (codes "list") name list, flip (codes "explain") name explain) refl
-  stray_asked (a ∷ b ∷ []) = rw (flip (codes "compile") name compile) refl
+  stray_asked (a ∷ b ∷ []) = rw (flip (codes "compile") name compile, flip (codes "explain") name explain) refl
   stray_asked (a ∷ b ∷ c ∷ []) = rw (flip (codes "run") name run_too, flip (codes "go") name go_too, flip (codes "trace") name trace) refl
   stray_asked (a ∷ b ∷ c ∷ d ∷ more) = refl
 
@@ -249,7 +252,7 @@ judged (name ∷ rest) h = by _ _ _ _ _ _ _ refl refl refl refl refl refl refl
 -- ---- what clap answers
 
 pub accepted : (words : List Text) (app : App) (m : ArgMatches) (r : Result Request WordsError) → app ≡ program_app → HasMatchesOf app words m
-    → (is_simple_and_free app ≡ true → fault_of app words ≡ []) → AnswersWords (asked_by (subcommand_rows_of m)) r → ArePlain words → AnswersWords (asked words) r
+    → (is_simple_and_free app ≡ true → fault_of app words ≡ []) → AnswersWords (asked_by (subcommand_rows_of m)) r → ArePlain words → AnswersWords (asked_plainly words) r
 unfolding clap_on_literals
 accepted words app m r is has right answers plain = by (judged words plain)
   where
@@ -259,7 +262,7 @@ accepted words app m r is has right answers plain = by (judged words plain)
     found : subcommand_rows_of m ≡ subcommand_of program_app words
     found = (has (ap is_simple is)).1 ∙ ap (λ a. subcommand_of a words) is
 
-    by : Judged words → AnswersWords (asked words) r
+    by : Judged words → AnswersWords (asked_plainly words) r
     by (Taken name rows none given same) = subst (λ c. AnswersWords c r) (ap asked_by (found ∙ given) ∙ same) answers
     by (Refused wrong nothing) = absurd (none_of (subst IsRefusal whole_right wrong))
       where
@@ -271,7 +274,7 @@ accepted words app m r is has right answers plain = by (judged words plain)
             by_kinds (k ∷ ks) e Refuses = cc
 
 pub refused : (words : List Text) (app : App) (e : Error) (w : WordsError) → app ≡ program_app → (is_simple_and_free app ≡ true → HasKind (fault_of app words) e)
-    → (kind_of e ≡ kinds.OutOfMemory → w ≡ errors.Memory) → ArePlain words → AnswersWords (asked words) (Err w)
+    → (kind_of e ≡ kinds.OutOfMemory → w ≡ errors.Memory) → ArePlain words → AnswersWords (asked_plainly words) (Err w)
 unfolding clap_on_literals
 refused words app e w is kind memory plain = by (judged words plain)
   where
@@ -286,8 +289,8 @@ refused words app e w is kind memory plain = by (judged words plain)
     nothing_asked errors.Usage = refl
     nothing_asked errors.Memory = tt
 
-    by : Judged words → AnswersWords (asked words) (Err w)
-    by (Taken name rows none given same) = subst (λ v. AnswersWords (asked words) (Err v)) (sym (by_memory (subst (λ ks. HasKind ks e) none has))) tt
+    by : Judged words → AnswersWords (asked_plainly words) (Err w)
+    by (Taken name rows none given same) = subst (λ v. AnswersWords (asked_plainly words) (Err v)) (sym (by_memory (subst (λ ks. HasKind ks e) none has))) tt
     by (Refused wrong nothing) = subst (λ c. AnswersWords c (Err w)) (sym nothing) (nothing_asked w)
 
 joined : {B : Type 0} (o : Option B) (f : B → Text) (g : B → List Row) (name : Text) (rows : List Row) → Some name ≡ option_map f o

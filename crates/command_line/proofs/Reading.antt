@@ -9,7 +9,7 @@ use Rattle.clap.specs.Faults.{bundle_fault, check_fault, defaults_fault, flag_wo
 use Rattle.clap.specs.declared.error.kind.ErrorKind.{ErrorKind}
 use Rattle.clap.proofs.OnLiterals.{clap_on_literals}
 use Rattle.command_line.specs.Words.{CompileText, is_plain}
-use Rattle.command_line.specs.Finding.{asked_in, command_app, program_shape}
+use Rattle.command_line.specs.Finding.{asked_in, command_app, explain_app, program_shape}
 
 -- ---- one word
 
@@ -93,15 +93,16 @@ leaf name ids = built_leaf (inherited (with_leaf_noted (marked_built program_sha
 abbrev pub one_id : List Text
 one_id = codes "IMG" ∷ []
 
-abbrev pub number_id : List Text
-number_id = codes "NUMBER" ∷ []
-
 abbrev pub two_ids : List Text
 two_ids = codes "SRC" ∷ codes "IMG" ∷ []
 
 -- `run` and `go`, by the name of the first
 abbrev pub three_ids : Text → List Text
 three_ids first = first ∷ codes "SCHED" ∷ codes "LIMIT" ∷ []
+
+-- the command that explains, as clap builds it
+abbrev pub explain_leaf : Shape
+explain_leaf = built_leaf (inherited (with_leaf_noted (marked_built program_shape)) explain_app.top)
 
 -- these words were read, the last of them for this argument
 abbrev pub reading : List Row → Text → Text → Held
@@ -179,31 +180,51 @@ module _ (name : Text) where
   pub one_rows : (a : Text) → IsNoFlag a → rows_after l.rules [] (a ∷ []) ≡ finished l.rules (reading [] (codes "IMG") a)
   one_rows a na = ap (λ w. finished l.rules w.held) (end_one a na)
 
-module _ (name : Text) where
-  abbrev pub x : Shape
-  x = leaf name number_id
+abbrev pub x : Shape
+x = explain_leaf
 
-  pub end_number : (a : Text) → IsNoFlag a → walk x.rules [] nothing_held (a ∷ []) ≡ at (reading [] (codes "NUMBER") a) 2
-  end_number a na = walked_plain x.rules [] 1 a nothing_held na refl
+abbrev pub number_held : Text → Held
+number_held a = reading [] (codes "NUMBER") a
 
-  pub wrong_number : (a : Text) (more : List Text) → IsNoFlag a
-      → walk_fault x [] (at nothing_held 1) (a ∷ more) ≡ walk_fault x [] (at (reading [] (codes "NUMBER") a) 2) more
-  wrong_number a more na = fault_plain x [] 1 a nothing_held more na refl
+abbrev pub source_held : Text → Text → Held
+source_held a b = reading (settled x.rules (number_held a)).rows (codes "SRC") b
 
-  pub number_refused_none : IsRefusal (level_fault x [] nothing_held [] false [])
-  unfolding clap_on_literals
-  number_refused_none = Refuses
+pub end_number : (a : Text) → IsNoFlag a → walk x.rules [] nothing_held (a ∷ []) ≡ at (number_held a) 2
+end_number a na = walked_plain x.rules [] 1 a nothing_held na refl
 
-  pub number_taken : (a : Text) → IsNoFlag a → level_fault x [] nothing_held (a ∷ []) false [] ≡ []
-  unfolding clap_on_literals
-  number_taken a na = level_by x [] (a ∷ []) false [] [] _ (wrong_number a [] na) (ap (λ w. w.held) (end_number a na))
+pub end_source : (a b : Text) → IsNoFlag a → IsNoFlag b → walk x.rules [] nothing_held (a ∷ b ∷ []) ≡ at (source_held a b) 3
+end_source a b na nb = ap (λ w. walked x.rules [] w b) (end_number a na) ∙ walked_plain x.rules [] 2 b (number_held a) nb refl
 
-  pub number_refused_more : (a b : Text) (more : List Text) → IsNoFlag a → IsNoFlag b → IsRefusal (level_fault x [] nothing_held (a ∷ b ∷ more) false [])
-  number_refused_more a b more na nb =
-      subst IsRefusal (sym (level_by x [] (a ∷ b ∷ more) false [] _ _ (wrong_number a (b ∷ more) na ∙ fault_plain x [] 2 b _ more nb refl) refl)) Refuses
+pub wrong_number : (a : Text) (more : List Text) → IsNoFlag a
+    → walk_fault x [] (at nothing_held 1) (a ∷ more) ≡ walk_fault x [] (at (number_held a) 2) more
+wrong_number a more na = fault_plain x [] 1 a nothing_held more na refl
 
-  pub number_rows : (a : Text) → IsNoFlag a → rows_after x.rules [] (a ∷ []) ≡ finished x.rules (reading [] (codes "NUMBER") a)
-  number_rows a na = ap (λ w. finished x.rules w.held) (end_number a na)
+pub wrong_source : (a b : Text) (more : List Text) → IsNoFlag a → IsNoFlag b
+    → walk_fault x [] (at nothing_held 1) (a ∷ b ∷ more) ≡ walk_fault x [] (at (source_held a b) 3) more
+wrong_source a b more na nb = wrong_number a (b ∷ more) na ∙ fault_plain x [] 2 b (number_held a) more nb refl
+
+pub number_refused_none : IsRefusal (level_fault x [] nothing_held [] false [])
+unfolding clap_on_literals
+number_refused_none = Refuses
+
+pub number_taken : (a : Text) → IsNoFlag a → level_fault x [] nothing_held (a ∷ []) false [] ≡ []
+unfolding clap_on_literals
+number_taken a na = level_by x [] (a ∷ []) false [] [] _ (wrong_number a [] na) (ap (λ w. w.held) (end_number a na))
+
+pub source_taken : (a b : Text) → IsNoFlag a → IsNoFlag b → level_fault x [] nothing_held (a ∷ b ∷ []) false [] ≡ []
+unfolding clap_on_literals
+source_taken a b na nb = level_by x [] (a ∷ b ∷ []) false [] [] _ (wrong_source a b [] na nb) (ap (λ w. w.held) (end_source a b na nb))
+
+pub source_refused_more : (a b c : Text) (more : List Text) → IsNoFlag a → IsNoFlag b → IsNoFlag c
+    → IsRefusal (level_fault x [] nothing_held (a ∷ b ∷ c ∷ more) false [])
+source_refused_more a b c more na nb nc =
+    subst IsRefusal (sym (level_by x [] (a ∷ b ∷ c ∷ more) false [] _ _ (wrong_source a b (c ∷ more) na nb ∙ fault_plain x [] 3 c _ more nc refl) refl)) Refuses
+
+pub number_rows : (a : Text) → IsNoFlag a → rows_after x.rules [] (a ∷ []) ≡ finished x.rules (number_held a)
+number_rows a na = ap (λ w. finished x.rules w.held) (end_number a na)
+
+pub source_rows : (a b : Text) → IsNoFlag a → IsNoFlag b → rows_after x.rules [] (a ∷ b ∷ []) ≡ finished x.rules (source_held a b)
+source_rows a b na nb = ap (λ w. finished x.rules w.held) (end_source a b na nb)
 
 module _ (name : Text) where
   abbrev pub run : Shape

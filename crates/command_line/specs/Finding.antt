@@ -2,7 +2,7 @@
 use Rattle.std.specs.Prelude.{ℕ, true, false, List, [], ◌∷◌, map, Option, Some, None, if◌then◌else◌, bytes_eq, codes}
 use Rattle.clap.specs.Words.{App, Row, Rule, Shape, Text, first_of, new_rule}
 use Rattle.clap.specs.Simple.{new_shape}
-use Rattle.command_line.specs.Words.{Command, CompileText, ExplainFault, GoText, ListImage, Nothing, RunImage, TraceText, numeral_of, within}
+use Rattle.command_line.specs.Words.{Command, CompileText, ExplainFault, ExplainText, GoText, ListImage, Nothing, RunImage, TraceText, numeral_of, within}
 
 -- an argument that has to be given
 abbrev pub required_rule : Text → Rule
@@ -11,6 +11,11 @@ required_rule id = record (new_rule id) { required = true }
 -- a command with these arguments in their order
 abbrev pub command_app : Text → List Text → App
 command_app name ids = record { top = record (new_shape name) { rules = map required_rule ids }; subs = [] }
+
+-- the command that explains: a source may stand behind the number
+abbrev pub explain_app : App
+explain_app =
+    record { top = record (new_shape (codes "explain")) { rules = required_rule (codes "NUMBER") ∷ new_rule (codes "SRC") ∷ [] }; subs = [] }
 
 -- the program before it has any command
 abbrev pub bare_app : App
@@ -28,7 +33,7 @@ program_app = record {
       ∷ (command_app (codes "run") (codes "IMG" ∷ codes "SCHED" ∷ codes "LIMIT" ∷ [])).top
       ∷ (command_app (codes "go") (codes "SRC" ∷ codes "SCHED" ∷ codes "LIMIT" ∷ [])).top
       ∷ (command_app (codes "trace") (codes "SRC" ∷ codes "SCHED" ∷ codes "LIMIT" ∷ [])).top
-      ∷ (command_app (codes "explain") (codes "NUMBER" ∷ [])).top
+      ∷ explain_app.top
       ∷ [];
 }
 
@@ -48,6 +53,11 @@ abbrev pub of_three : (Text → Text → ℕ → Command) → Option Text → Op
 of_three command (Some first) (Some second) limit = by_numeral (command first second) limit
 of_three command first second limit = Nothing
 
+-- a number, and a source or none
+abbrev pub of_explain : Option Text → Option Text → Command
+of_explain number (Some source) = by_numeral (λ n. ExplainText n source) number
+of_explain number None = by_numeral ExplainFault number
+
 -- what the command of this name asks for, where these are the words for its arguments
 abbrev pub asked_in : Text → (Text → Option Text) → Command
 asked_in name value =
@@ -56,7 +66,7 @@ asked_in name value =
     else (if bytes_eq name (codes "run") then of_three RunImage (value (codes "IMG")) (value (codes "SCHED")) (value (codes "LIMIT"))
     else (if bytes_eq name (codes "go") then of_three GoText (value (codes "SRC")) (value (codes "SCHED")) (value (codes "LIMIT"))
     else (if bytes_eq name (codes "trace") then of_three TraceText (value (codes "SRC")) (value (codes "SCHED")) (value (codes "LIMIT"))
-    else (if bytes_eq name (codes "explain") then by_numeral ExplainFault (value (codes "NUMBER"))
+    else (if bytes_eq name (codes "explain") then of_explain (value (codes "NUMBER")) (value (codes "SRC"))
     else Nothing)))))
 
 -- what the command that clap found asks for, by its name and its matches

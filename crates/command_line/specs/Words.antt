@@ -1,5 +1,5 @@
 -- Which words ask for what (docs/FORMATS.md, "Commands").
-use Rattle.std.specs.Prelude.{◌≡◌, ◌&&◌, ◌^◌, ℕ, Bool, true, not, List, [], ◌∷◌, length, Option, Some, None, Result, Ok, Err, if◌then◌else◌, bytes_eq, codes, nat_eq, nat_le, nat_lt, ⊤}
+use Rattle.std.specs.Prelude.{◌≡◌, ◌&&◌, ◌||◌, ◌^◌, ℕ, Bool, true, not, List, [], ◌∷◌, length, Option, Some, None, Result, Ok, Err, if◌then◌else◌, bytes_eq, codes, is_some, nat_eq, nat_le, nat_lt, ⊤}
 use Rattle.std.specs.List.{list_all}
 use Rattle.std.specs.Str.Parse.{digits_value}
 use Rattle.command_line.specs.declared.Request.{Request}
@@ -12,8 +12,9 @@ pub data Command : Type 0 where
   CompileText : (source image : List ℕ) → Command
   ListImage : (image : List ℕ) → Command
   RunImage : (image schedule : List ℕ) (limit : ℕ) → Command
-  GoText TraceText : (source schedule : List ℕ) (limit : ℕ) → Command
+  GoText TraceText DumpText : (source schedule : List ℕ) (limit : ℕ) → Command
   ExplainFault : (number : ℕ) → Command
+  ExplainText : (number : ℕ) (source : List ℕ) → Command
   Nothing : Command
 
 abbrev pub is_digit : ℕ → Bool
@@ -29,22 +30,48 @@ abbrev pub within : (ℕ → Command) → Option ℕ → Command
 within command (Some value) = command value
 within command None = Nothing
 
--- the six commands
-abbrev pub asked : List (List ℕ) → Command
-asked (name ∷ word ∷ []) =
+-- the commands
+abbrev pub asked_plainly : List (List ℕ) → Command
+asked_plainly (name ∷ word ∷ []) =
     if bytes_eq name (codes "list") then ListImage word
     else (if bytes_eq name (codes "explain") then within ExplainFault (numeral_of word) else Nothing)
-asked (name ∷ source ∷ image ∷ []) = if bytes_eq name (codes "compile") then CompileText source image else Nothing
-asked (name ∷ file ∷ schedule ∷ limit ∷ []) =
+asked_plainly (name ∷ first ∷ second ∷ []) =
+    if bytes_eq name (codes "compile") then CompileText first second
+    else (if bytes_eq name (codes "explain") then within (λ number. ExplainText number second) (numeral_of first) else Nothing)
+asked_plainly (name ∷ file ∷ schedule ∷ limit ∷ []) =
     if bytes_eq name (codes "run") then within (RunImage file schedule) (numeral_of limit)
     else (if bytes_eq name (codes "go") then within (GoText file schedule) (numeral_of limit)
     else (if bytes_eq name (codes "trace") then within (TraceText file schedule) (numeral_of limit) else Nothing))
-asked words = Nothing
+asked_plainly words = Nothing
 
 -- a word that can be no option: it doesn't begin with `-`
 abbrev pub is_plain : List ℕ → Bool
 is_plain [] = true
 is_plain (c ∷ rest) = not (nat_eq c 45)
+
+-- the words behind `trace --vcd`
+abbrev pub behind_option : List (List ℕ) → Option (List (List ℕ))
+behind_option (name ∷ option ∷ rest) = if bytes_eq name (codes "trace") && bytes_eq option (codes "--vcd") then Some rest else None
+behind_option words = None
+
+-- what these ask for: a word `--` in front of them lets names begin with `-`
+abbrev pub dump_asked : List (List ℕ) → Command
+dump_asked (source ∷ schedule ∷ limit ∷ []) =
+    if is_plain source && is_plain schedule then within (DumpText source schedule) (numeral_of limit) else Nothing
+dump_asked (mark ∷ source ∷ schedule ∷ limit ∷ []) =
+    if bytes_eq mark (codes "--") then within (DumpText source schedule) (numeral_of limit) else Nothing
+dump_asked words = Nothing
+
+abbrev pub asked_among : List (List ℕ) → Option (List (List ℕ)) → Command
+asked_among words (Some rest) = dump_asked rest
+asked_among words None = asked_plainly words
+
+abbrev pub asked : List (List ℕ) → Command
+asked words = asked_among words (behind_option words)
+
+-- words of which `asked` tells what they ask for
+abbrev pub is_told : List (List ℕ) → Bool
+is_told words = is_some (behind_option words) || list_all is_plain words
 
 abbrev pub command_of : Request → Command
 command_of (requests.Compile source image) = CompileText source.now image.now
@@ -52,7 +79,9 @@ command_of (requests.List image) = ListImage image.now
 command_of (requests.Run image schedule limit) = RunImage image.now schedule.now limit
 command_of (requests.Go source schedule limit) = GoText source.now schedule.now limit
 command_of (requests.Trace source schedule limit) = TraceText source.now schedule.now limit
+command_of (requests.Dump source schedule limit) = DumpText source.now schedule.now limit
 command_of (requests.Explain number) = ExplainFault number
+command_of (requests.ExplainText number source) = ExplainText number source.now
 
 -- the request is that for the command; the words are refused where there is none; or memory was refused
 abbrev pub AnswersWords : Command → Result Request WordsError → Type 0

@@ -5,8 +5,8 @@ ghost use Rattle.std.specs.Prelude.{◌≡◌, true, false, map, Some, None, IfO
 ghost use Rattle.std.specs.List.{list_all};
 ghost use Rattle.clap.specs.Words.{App, app_of, first_value, found_of, kind_of, subcommand_rows_of};
 ghost use Rattle.clap.specs.declared.builder.command.Command.TheViews.{out-Command};
-ghost use Rattle.command_line.specs.Words.{AnswersWords, asked, is_digit, is_plain};
-ghost use Rattle.command_line.specs.Finding.{asked_by, asked_in, bare_app, command_app, program_app};
+ghost use Rattle.command_line.specs.Words.{AnswersWords, DumpText, asked, asked_plainly, dump_asked, is_digit, is_told, within};
+ghost use Rattle.command_line.specs.Finding.{asked_by, asked_in, bare_app, command_app, explain_app, program_app};
 ghost use Rattle.command_line.specs.Words as words_of;
 
 use clap::error::ErrorKind;
@@ -43,9 +43,20 @@ pub enum Request<'a> {
         schedule: &'a str,
         limit: u64,
     },
+    /// Compile a source and write its run on a schedule, for at most this many steps, as a value change dump.
+    Dump {
+        source: &'a str,
+        schedule: &'a str,
+        limit: u64,
+    },
     /// Explain the fault of this number, which may be that of none.
     Explain {
         number: u64,
+    },
+    /// Explain the fault of this number, which may be that of none, and what a source that has it tells of it.
+    ExplainText {
+        number: u64,
+        source: &'a str,
     },
 }
 
@@ -64,8 +75,72 @@ pub enum WordsError {
 /// Usage for other words than a request's, those that ask for help among them, and for a limit or a number that isn't one or more decimal
 /// digits of a value below 2**64; Memory where memory was refused.
 pub fn request_of<'a>(alloc: Global, words: &'a [&'a str]) -> Result<Request<'a>, WordsError>
-    // Words of which none begins with `-` ask for just what the table of commands says.
-    ensures { list_all is_plain (map (λ w. w.now) words.now) ≡ true → AnswersWords (asked (map (λ w. w.now) words.now)) result }
+    // Words behind `trace --vcd`, and words of which none begins with `-`, ask for just what the table of commands says.
+    ensures { is_told (map (λ w. w.now) words.now) ≡ true → AnswersWords (asked (map (λ w. w.now) words.now)) result }
+{
+    match behind_option(words) {
+        Some(rest) => dump_request(rest),
+        None => plain_request(alloc, words),
+    }
+}
+
+// The words behind `trace --vcd`.
+fn behind_option<'a>(words: &'a [&'a str]) -> Option<&'a [&'a str]>
+    ensures { option_map (λ rest. map (λ w. w.now) rest.now) result ≡ words_of.behind_option (map (λ w. w.now) words.now) }
+{
+    match words {
+        [name, option, rest @ ..] if *name == "trace" && *option == "--vcd" => Some(rest),
+        _ => None,
+    }
+}
+
+// What the words behind `trace --vcd` ask for.
+fn dump_request<'a>(words: &'a [&'a str]) -> Result<Request<'a>, WordsError>
+    ensures { AnswersWords (dump_asked (map (λ w. w.now) words.now)) result }
+{
+    match words {
+        [source, schedule, limit] => {
+            if is_plain(source) && is_plain(schedule) {
+                dump_of(source, schedule, limit)
+            } else {
+                Err(WordsError::Usage)
+            }
+        }
+        [mark, source, schedule, limit] => {
+            if *mark == "--" {
+                dump_of(source, schedule, limit)
+            } else {
+                Err(WordsError::Usage)
+            }
+        }
+        _ => Err(WordsError::Usage),
+    }
+}
+
+// The request for the dump of this source and schedule, where the limit is one.
+fn dump_of<'a>(source: &'a str, schedule: &'a str, limit: &str) -> Result<Request<'a>, WordsError>
+    ensures { AnswersWords (within (DumpText source.now schedule.now) (words_of.numeral_of limit.now)) result }
+{
+    Ok(Request::Dump {
+        source,
+        schedule,
+        limit: numeral_of(limit).ok_or(WordsError::Usage)?,
+    })
+}
+
+// Whether a word can be no option: it doesn't begin with `-`.
+fn is_plain(word: &str) -> bool
+    ensures { result ≡ words_of.is_plain word.now }
+{
+    match word.as_bytes() {
+        [] => true,
+        [first, ..] => *first != b'-',
+    }
+}
+
+// What words without that option ask for.
+fn plain_request<'a>(alloc: Global, words: &'a [&'a str]) -> Result<Request<'a>, WordsError>
+    ensures { list_all words_of.is_plain (map (λ w. w.now) words.now) ≡ true → AnswersWords (asked_plainly (map (λ w. w.now) words.now)) result }
 {
     let Ok(command) = command(alloc) else {
         return Err(WordsError::Memory);
@@ -113,9 +188,13 @@ fn request_in<'a>(name: &str, found: &ArgMatches<'a>) -> Result<Request<'a>, Wor
             schedule: word(found, "SCHED")?,
             limit: numeral_of(word(found, "LIMIT")?).ok_or(WordsError::Usage)?,
         }),
-        "explain" => Ok(Request::Explain {
-            number: numeral_of(word(found, "NUMBER")?).ok_or(WordsError::Usage)?,
-        }),
+        "explain" => {
+            let number = numeral_of(word(found, "NUMBER")?).ok_or(WordsError::Usage)?;
+            match found.get_str("SRC") {
+                Some(source) => Ok(Request::ExplainText { number, source }),
+                None => Ok(Request::Explain { number }),
+            }
+        }
         _ => Err(WordsError::Usage),
     }
 }
@@ -144,6 +223,14 @@ fn command_with<'a>(
     Ok(command)
 }
 
+// The command that explains: a source may stand behind the number.
+fn explain_command<'a>(alloc: Global) -> Result<Command<'a>, AllocError>
+    ensures app { IfOk result (λ command. app_of command ≡ explain_app) }
+    ensures local { IfOk result (λ command. (out-Command command).has_globals ≡ false) }
+{
+    command_with(alloc, "explain", &["NUMBER"])?.arg(Arg::new(alloc, "SRC"))
+}
+
 // The program before it has any command.
 fn program<'a>(alloc: Global) -> Command<'a>
     ensures { app_of result ≡ bare_app }
@@ -162,7 +249,7 @@ fn command<'a>(alloc: Global) -> Result<Command<'a>, AllocError>
         .subcommand(command_with(alloc, "run", &["IMG", "SCHED", "LIMIT"])?)?
         .subcommand(command_with(alloc, "go", &["SRC", "SCHED", "LIMIT"])?)?
         .subcommand(command_with(alloc, "trace", &["SRC", "SCHED", "LIMIT"])?)?
-        .subcommand(command_with(alloc, "explain", &["NUMBER"])?)
+        .subcommand(explain_command(alloc)?)
 }
 
 fn error_of(error: &Error) -> WordsError

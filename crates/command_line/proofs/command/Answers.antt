@@ -2,7 +2,7 @@ use Rattle.std.proofs.Common.{◌≡◌, ◌∙◌, [], ◌∷◌, ap, ap₂, co
 use Rattle.std.proofs.lemmas.Result.{IfOk-weaker}
 use Rattle.clap.specs.Words.{App, Shape, app_of, with_subcommand}
 use Rattle.clap.specs.declared.builder.command.Command.TheViews.{out-Command}
-use Rattle.command_line.specs.Finding.{bare_app, command_app}
+use Rattle.command_line.specs.Finding.{bare_app, command_app, explain_app}
 use Rattle.command_line.proofs.command.Goals as goal
 
 abbrev compile : App
@@ -20,9 +20,6 @@ go = command_app (codes "go") (codes "SRC" ∷ codes "SCHED" ∷ codes "LIMIT" �
 abbrev trace : App
 trace = command_app (codes "trace") (codes "SRC" ∷ codes "SCHED" ∷ codes "LIMIT" ∷ [])
 
-abbrev explain : App
-explain = command_app (codes "explain") (codes "NUMBER" ∷ [])
-
 abbrev shape : App → Shape
 shape a = a.top
 
@@ -34,13 +31,13 @@ returns c =
     let third : app_of c.in_ok-command_with-3.field-0 ≡ run = c.in_ok-command_with-3.ensures.app in
     let fourth : app_of c.in_ok-command_with-4.field-0 ≡ go = c.in_ok-command_with-4.ensures.app in
     let fifth : app_of c.in_ok-command_with-5.field-0 ≡ trace = c.in_ok-command_with-5.ensures.app in
-    let sixth : app_of c.in_ok-command_with-6.field-0 ≡ explain = c.in_ok-command_with-6.ensures.app in
+    let sixth : app_of c.in_ok-explain_command.field-0 ≡ explain_app = c.in_ok-explain_command.ensures.app in
     let local : (out-Command c.in_ok-command_with.field-0).has_globals ≡ false = c.in_ok-command_with.ensures.local in
     let local_2 : (out-Command c.in_ok-command_with-2.field-0).has_globals ≡ false = c.in_ok-command_with-2.ensures.local in
     let local_3 : (out-Command c.in_ok-command_with-3.field-0).has_globals ≡ false = c.in_ok-command_with-3.ensures.local in
     let local_4 : (out-Command c.in_ok-command_with-4.field-0).has_globals ≡ false = c.in_ok-command_with-4.ensures.local in
     let local_5 : (out-Command c.in_ok-command_with-5.field-0).has_globals ≡ false = c.in_ok-command_with-5.ensures.local in
-    let local_6 : (out-Command c.in_ok-command_with-6.field-0).has_globals ≡ false = c.in_ok-command_with-6.ensures.local in
+    let local_6 : (out-Command c.in_ok-explain_command.field-0).has_globals ≡ false = c.in_ok-explain_command.ensures.local in
     let one = c.in_ok-subcommand.ensures.shape local ∙ ap₂ with_subcommand top (ap shape first) in
     let two = c.in_ok-subcommand-2.ensures.shape local_2 ∙ ap₂ with_subcommand one (ap shape second) in
     let three = c.in_ok-subcommand-3.ensures.shape local_3 ∙ ap₂ with_subcommand two (ap shape third) in

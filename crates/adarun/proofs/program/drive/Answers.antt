@@ -1,5 +1,5 @@
 use Rattle.std.proofs.Common.{inl, inr, refl, rules}
-use Rattle.command_line.specs.Words.{CompileText, ExplainFault, GoText, ListImage, Nothing, RunImage, TraceText}
+use Rattle.command_line.specs.Words.{CompileText, DumpText, ExplainFault, ExplainText, GoText, ListImage, Nothing, RunImage, TraceText}
 use Rattle.adarun.specs.declared.program.Status.TheVariants.{Failed, NoMemory}
 use Rattle.adarun.proofs.Driving.{asked_as, asked_nothing}
 use Rattle.adarun.proofs.program.drive.Goals as goal
@@ -53,6 +53,15 @@ returns-in-Ok-Trace-clause-answers g c = record {
   leaves = (λ name. refl, c.drive_trace-status.ensures.leaves);
 }
 
+pub returns-in-Ok-Dump-clause-answers : goal.returns-in-Ok-Dump-clause-answers
+returns-in-Ok-Dump-clause-answers g c = record {
+  work = DumpText c.in-Ok-Dump.source.now c.in-Ok-Dump.schedule.now c.in-Ok-Dump.limit;
+  status = c.drive_trace-status-in-Ok-Dump.result;
+  answer_is = search rules;
+  asked_for = λ plain. inl (asked_as _ _ _ c.in-Ok-Dump.field-0-is (c.in-Ok-Dump.ensures plain));
+  leaves = (λ name. refl, c.drive_trace-status-in-Ok-Dump.ensures.leaves);
+}
+
 pub returns-in-Ok-Explain-clause-answers : goal.returns-in-Ok-Explain-clause-answers
 returns-in-Ok-Explain-clause-answers g c = record {
   work = ExplainFault c.in-Ok-Explain.number;
@@ -60,6 +69,15 @@ returns-in-Ok-Explain-clause-answers g c = record {
   answer_is = search rules;
   asked_for = λ plain. inl (asked_as _ _ _ c.in-Ok-Explain.field-0-is (c.in-Ok-Explain.ensures plain));
   leaves = (λ name. refl, c.drive_explain-status.ensures.leaves);
+}
+
+pub returns-in-Ok-ExplainText-clause-answers : goal.returns-in-Ok-ExplainText-clause-answers
+returns-in-Ok-ExplainText-clause-answers g c = record {
+  work = ExplainText c.in-Ok-ExplainText.number c.in-Ok-ExplainText.source.now;
+  status = c.drive_explain_text-status.result;
+  answer_is = search rules;
+  asked_for = λ plain. inl (asked_as _ _ _ c.in-Ok-ExplainText.field-0-is (c.in-Ok-ExplainText.ensures plain));
+  leaves = (λ name. refl, c.drive_explain_text-status.ensures.leaves);
 }
 
 pub returns-in-Err-Usage-clause-answers : goal.returns-in-Err-Usage-clause-answers

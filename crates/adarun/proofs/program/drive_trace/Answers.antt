@@ -1,30 +1,36 @@
-use Rattle.std.proofs.Common.{Err, ap, inr, refl, subst, sym}
+use Rattle.std.proofs.Common.{Err, ap, inr, refl, subst, sym, ◌∙◌}
+use Rattle.std.specs.Io.KnownBytes.{Appends}
+use Rattle.machine.specs.Written.{AppendsBeginning}
 use Rattle.clock.specs.Schedules.{IsScheduleText}
 use Rattle.adarun.specs.Driving.{IsContentRead}
 use Rattle.adarun.specs.declared.going.GoFault.TheVariants as faults
-use Rattle.adarun.proofs.Driving.{failed_keeps, schedule_leaves, trace_leaves, unscheduled_trace}
+use Rattle.adarun.proofs.Driving.{failed_keeps, schedule_leaves, told_alike, trace_leaves, unscheduled_trace}
 use Rattle.adarun.proofs.program.drive_trace.Goals as goal
 
-pub returns-in-Ok-trace-clause-leaves : goal.returns-in-Ok-trace-clause-leaves
-returns-in-Ok-trace-clause-leaves g c =
-    trace_leaves _ _ _ _ _ _ _ _ c.status_of.ensures.is
+pub returns-in-Ok-write_trace-clause-leaves : goal.returns-in-Ok-write_trace-clause-leaves
+returns-in-Ok-write_trace-clause-leaves g c =
+    trace_leaves _ _ _ _ _ _ _ _ _ c.status_of.ensures.is
     (record {
       text = c.deref.result.now;
       source_read = subst (IsContentRead (g.F.FileStore.contents c.args.files.now c.args.source.now)) (sym c.deref.ensures.value) c.in-Ok.ensures;
-      image = c.in-Ok-compile.image;
-      compiles = c.in-Ok-compile.ensures.means;
+      image = c.in-Ok-compile_named.named.image;
+      compiles = c.in-Ok-compile_named.ensures.means.compiles;
       given = record { input = c.in-Ok-read.lines.items; read = c.in-Ok-read.ensures; lines = c.in-Ok-read-2.schedule; is_schedule = subst (λ input. IsScheduleText input c.in-Ok-read-2.schedule) c.deref-2.ensures.value c.in-Ok-read-2.ensures.read };
-      outcome = c.in-Ok-trace.outcome;
+      places = c.in-Ok-compile_named.named.places;
+      placed = c.in-Ok-compile_named.ensures.means.placed;
+      outcome = c.in-Ok-write_trace.outcome;
       status_is = refl;
-      written = c.in-Ok-trace.ensures.text;
-      ends = c.in-Ok-trace.ensures.ends;
+      written = told_alike c.args.form (Appends (g.O.Sink.bytes c.args.out.now) (g.O.Sink.bytes c.write_trace.new.out)) c.in-Ok-compile_named.named.image
+          c.in-Ok-compile_named.named.places c.in-Ok-read-2.schedule c.args.limit _ _ _ _
+          (c.deref-4.ensures.value ∙ c.in-Ok-compile_named.ensures.means.names) (c.deref-3.ensures.value ∙ sym c.deref.ensures.value) c.in-Ok-write_trace.ensures.text;
+      ends = c.in-Ok-write_trace.ensures.ends;
     })
 
 pub returns-in-Err-read-2-clause-leaves : goal.returns-in-Err-read-2-clause-leaves
 returns-in-Err-read-2-clause-leaves g c =
-    unscheduled_trace _ _ _ _ _ _ _ _ c.refuse_schedule.ensures
+    unscheduled_trace _ _ _ _ _ _ _ _ _ c.refuse_schedule.ensures
     (schedule_leaves _ _ _ c.args.limit _ _ _ (faults.Schedule c.in-Err-read-2.fault) c.in-Err-read-2.fault _ _ _ _ c.refuse_schedule.ensures c.in-Ok.ensures c.deref.ensures.value c.in-Ok-read.ensures c.deref-2.ensures.value refl
-    (record { image = c.in-Ok-compile.image; compiles = c.in-Ok-compile.ensures.means }, c.in-Err-read-2.ensures.refused) refl)
+    (record { image = c.in-Ok-compile_named.named.image; compiles = c.in-Ok-compile_named.ensures.means.compiles }, c.in-Err-read-2.ensures.refused) refl)
 
 pub returns-clause-leaves : goal.returns-clause-leaves
 returns-clause-leaves g c =
@@ -32,10 +38,14 @@ returns-clause-leaves g c =
     (inr (record {
       text = c.deref.result.now;
       source_read = subst (IsContentRead (g.F.FileStore.contents c.args.files.now c.args.source.now)) (sym c.deref.ensures.value) c.in-Ok.ensures;
-      image = c.in-Ok-compile.image;
-      compiles = c.in-Ok-compile.ensures.means;
+      image = c.in-Ok-compile_named.named.image;
+      compiles = c.in-Ok-compile_named.ensures.means.compiles;
       given = record { input = c.in-Ok-read.lines.items; read = c.in-Ok-read.ensures; lines = c.in-Ok-read-2.schedule; is_schedule = subst (λ input. IsScheduleText input c.in-Ok-read-2.schedule) c.deref-2.ensures.value c.in-Ok-read-2.ensures.read };
-      begins = c.in-Err-Write.ensures.beginning;
+      places = c.in-Ok-compile_named.named.places;
+      placed = c.in-Ok-compile_named.ensures.means.placed;
+      begins = told_alike c.args.form (AppendsBeginning (g.O.Sink.bytes c.args.out.now) (g.O.Sink.bytes c.write_trace.new.out)) c.in-Ok-compile_named.named.image
+          c.in-Ok-compile_named.named.places c.in-Ok-read-2.schedule c.args.limit _ _ _ _
+          (c.deref-4.ensures.value ∙ c.in-Ok-compile_named.ensures.means.names) (c.deref-3.ensures.value ∙ sym c.deref.ensures.value) c.in-Err-Write.ensures.beginning;
     }))
 
 pub returns-clause-sink : goal.returns-clause-sink

@@ -1,5 +1,5 @@
 use Rattle.command_line.proofs.Judging.{accepted, refused}
-use Rattle.command_line.proofs.request_of.Goals as goal
+use Rattle.command_line.proofs.plain_request.Goals as goal
 
 pub returns-in-Ok-try_get_matches_from : goal.returns-in-Ok-try_get_matches_from
 returns-in-Ok-try_get_matches_from c =

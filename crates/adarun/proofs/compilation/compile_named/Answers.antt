@@ -1,11 +1,14 @@
 use Rattle.std.proofs.Common.{◌≡◌, Err, ap, inl, rules, subst, sym, ◌∙◌}
 use Rattle.std.specs.Prelude.{IfErr}
 use Rattle.ada_link.specs.ada_tree.specs.ProgramTree.{program_tree}
+use Rattle.ada_link.specs.meaning.specs.SameMeaning.{SameMeaning}
 use Rattle.checking.specs.ProgramRules.{IsLegal}
 use Rattle.parser.specs.Parsing.{Derives}
-use Rattle.adarun.specs.Accepted.{CompilesAccepted, IsJudged, RefusesText}
+use Rattle.adarun.specs.Accepted.{CompilesAccepted, IsJudged, RefusesText, RefusesTree}
+use Rattle.adarun.specs.Naming.{imaged}
+use Rattle.adarun.proofs.Named.{of_fault, of_image}
 use Rattle.adarun.proofs.Compiling.{compiles, given, judged, judged_accepted, judged_legal, legal_given, misspelled, no_tree, numbered, parsed, refused_text, restricted_given, tells, unrestricted_text}
-use Rattle.adarun.proofs.compilation.compile.Goals as goal
+use Rattle.adarun.proofs.compilation.compile_named.Goals as goal
 
 pub returns-in_err-list-clause-refused : goal.returns-in_err-list-clause-refused
 returns-in_err-list-clause-refused c =
@@ -24,14 +27,14 @@ returns-in_err-program-clause-judged c = λ tree is_tree.
     let same = c.deref.ensures.value ∙ c.in_ok-list.ensures.complete is_tree.tokens is_tree.spells in
     let memory = c.in_err-program.ensures.only tree (subst (Derives tree) (sym same) is_tree.derives) in
     let is : c.from_residual-in_err-program.result ≡ Err c.in_err-program.field-0.0 = search rules in
-    subst (IsJudged c.args.source.now tree) (sym is) (inl memory)
+    subst (λ r. IsJudged c.args.source.now tree (imaged r)) (sym is) (inl memory)
 
 pub returns-in_err-checked-clause-judged : goal.returns-in_err-checked-clause-judged
 returns-in_err-checked-clause-judged c = λ tree is_tree.
     let same = c.deref.ensures.value ∙ c.in_ok-list.ensures.complete is_tree.tokens is_tree.spells in
     let only = c.in_ok-program.ensures.only tree (subst (Derives tree) (sym same) is_tree.derives) in
     let is : c.from_residual-in_err-checked.result ≡ Err c.in_err-checked.field-0.0 = search rules in
-    subst (IsJudged c.args.source.now tree) (sym is) (judged _ _ _ _ (ap program_tree c.new.ensures.same ∙ only) c.in_err-checked.ensures.refused)
+    subst (λ r. IsJudged c.args.source.now tree (imaged r)) (sym is) (judged _ _ _ _ (ap program_tree c.new.ensures.same ∙ only) c.in_err-checked.ensures.refused)
 
 pub returns-in_err-accepted-clause-judged : goal.returns-in_err-accepted-clause-judged
 returns-in_err-accepted-clause-judged c = λ tree is_tree.
@@ -39,7 +42,7 @@ returns-in_err-accepted-clause-judged c = λ tree is_tree.
     let only = c.in_ok-program.ensures.only tree (subst (Derives tree) (sym same) is_tree.derives) in
     let checked = c.in_ok-checked.ensures.same in
     let is : c.from_residual-in_err-accepted.result ≡ Err c.in_err-accepted.field-0.0 = search rules in
-    subst (IsJudged c.args.source.now tree) (sym is)
+    subst (λ r. IsJudged c.args.source.now tree (imaged r)) (sym is)
     (judged_legal _ _ _ _ (ap program_tree (checked ∙ c.new.ensures.same) ∙ only) (subst (λ p. IsLegal (program_tree p)) (sym checked) c.in_ok-checked.ensures.legal)
     c.in_err-accepted.ensures.refused)
 
@@ -47,21 +50,23 @@ pub returns-clause-judged : goal.returns-clause-judged
 returns-clause-judged c = λ tree is_tree.
     let same = c.deref.ensures.value ∙ c.in_ok-list.ensures.complete is_tree.tokens is_tree.spells in
     let lent = ap program_tree (c.in_ok-accepted.ensures.same ∙ c.in_ok-checked.ensures.same ∙ c.new.ensures.same) in
-    judged_accepted c.small_is_unlimited.ensures _ _ _ _ is_tree (lent ∙ c.in_ok-program.ensures.only tree (subst (Derives tree) (sym same) is_tree.derives))
-    c.image_of.ensures.legal
-    c.image_of.ensures.restricted
-    c.image_of.ensures.refused
+    judged_accepted c.small_is_unlimited.ensures (imaged c.named_of.result) _ _ _ is_tree (lent ∙ c.in_ok-program.ensures.only tree (subst (Derives tree) (sym same) is_tree.derives))
+    c.named_of.ensures.legal
+    c.named_of.ensures.restricted
+    (of_fault _ (RefusesTree (program_tree c.in_ok-accepted.accepted)) c.named_of.ensures.refused)
 
 pub returns-clause-means : goal.returns-clause-means
 returns-clause-means c =
     compiles _ _ _ _ _ c.in_ok-list.ensures.sound c.deref.ensures.value c.in_ok-program.ensures.found _
     (c.in_ok-accepted.ensures.same ∙ c.in_ok-checked.ensures.same ∙ c.new.ensures.same)
-    c.image_of.ensures.legal
-    c.image_of.ensures.restricted
-    c.image_of.ensures.means
-    c.image_of.ensures.counted
-    c.image_of.ensures.bounded
-    c.image_of.ensures.well_formed
+    c.named_of.ensures.legal
+    c.named_of.ensures.restricted
+    c.named_of.ensures.means
+    c.named_of.ensures.counted
+    c.named_of.ensures.bounded
+    c.named_of.ensures.well_formed
+    c.named_of.ensures.names
+    c.named_of.ensures.places
 
 pub returns-in_err-checked-clause-accepted : goal.returns-in_err-checked-clause-accepted
 returns-in_err-checked-clause-accepted c = λ tree given_tree.
@@ -69,7 +74,7 @@ returns-in_err-checked-clause-accepted c = λ tree given_tree.
     let same = c.deref.ensures.value ∙ c.in_ok-list.ensures.complete is_tree.tokens is_tree.spells in
     let only = c.in_ok-program.ensures.only tree (subst (Derives tree) (sym same) is_tree.derives) in
     let is : c.from_residual-in_err-checked.result ≡ Err c.in_err-checked.field-0.0 = search rules in
-    subst (CompilesAccepted c.args.source.now tree) (sym is) (legal_given _ _ _ _ (ap program_tree c.new.ensures.same ∙ only) given_tree.legal c.in_err-checked.ensures.refused)
+    subst (λ r. CompilesAccepted c.args.source.now tree (imaged r)) (sym is) (legal_given _ _ _ _ (ap program_tree c.new.ensures.same ∙ only) given_tree.legal c.in_err-checked.ensures.refused)
 
 pub returns-in_err-accepted-clause-accepted : goal.returns-in_err-accepted-clause-accepted
 returns-in_err-accepted-clause-accepted c = λ tree given_tree.
@@ -77,7 +82,7 @@ returns-in_err-accepted-clause-accepted c = λ tree given_tree.
     let same = c.deref.ensures.value ∙ c.in_ok-list.ensures.complete is_tree.tokens is_tree.spells in
     let only = c.in_ok-program.ensures.only tree (subst (Derives tree) (sym same) is_tree.derives) in
     let is : c.from_residual-in_err-accepted.result ≡ Err c.in_err-accepted.field-0.0 = search rules in
-    subst (CompilesAccepted c.args.source.now tree) (sym is)
+    subst (λ r. CompilesAccepted c.args.source.now tree (imaged r)) (sym is)
     (restricted_given _ _ _ _ (ap program_tree (c.in_ok-checked.ensures.same ∙ c.new.ensures.same) ∙ only) given_tree.restricted c.in_err-accepted.ensures.refused)
 
 pub returns-clause-accepted : goal.returns-clause-accepted
@@ -86,9 +91,9 @@ returns-clause-accepted c = λ tree given_tree.
     let same = c.deref.ensures.value ∙ c.in_ok-list.ensures.complete is_tree.tokens is_tree.spells in
     let lent = ap program_tree (c.in_ok-accepted.ensures.same ∙ c.in_ok-checked.ensures.same ∙ c.new.ensures.same) in
     let told = tells c.small_is_unlimited.ensures c.args.source.now tree is_tree given_tree.legal given_tree.restricted in
-    given _ _ _ _ told (lent ∙ c.in_ok-program.ensures.only tree (subst (Derives tree) (sym same) is_tree.derives))
-    c.image_of.ensures.means
-    c.image_of.ensures.refused
+    given (imaged c.named_of.result) _ _ _ told (lent ∙ c.in_ok-program.ensures.only tree (subst (Derives tree) (sym same) is_tree.derives))
+    (of_image _ (SameMeaning (program_tree c.in_ok-accepted.accepted)) c.named_of.ensures.means)
+    (of_fault _ (RefusesTree (program_tree c.in_ok-accepted.accepted)) c.named_of.ensures.refused)
 
 pub returns-in_err-accepted-clause-refused : goal.returns-in_err-accepted-clause-refused
 returns-in_err-accepted-clause-refused c =
@@ -102,9 +107,9 @@ pub returns-clause-refused : goal.returns-clause-refused
 returns-clause-refused c =
     refused_text c.small_is_unlimited.ensures _ _ _ _ _ _ c.in_ok-list.ensures.sound c.deref.ensures.value c.in_ok-program.ensures.found
     (c.in_ok-accepted.ensures.same ∙ c.in_ok-checked.ensures.same ∙ c.new.ensures.same)
-    c.image_of.ensures.legal
-    c.image_of.ensures.restricted
-    c.image_of.ensures.refused
+    c.named_of.ensures.legal
+    c.named_of.ensures.restricted
+    c.named_of.ensures.refused
 
 pub returns-in_err-checked-clause-numbered : goal.returns-in_err-checked-clause-numbered
 returns-in_err-checked-clause-numbered c =

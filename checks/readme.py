@@ -1,0 +1,135 @@
+#!/usr/bin/env python3
+"""Runs the commands of README.md as they stand there, and compares what they write with what it shows.
+
+    readme.py PROGRAM SCRATCH
+
+`./build` and `./test` are named there too: the one proves anew what the other has proved, so they are not called from here.
+"""
+import os
+import re
+import subprocess
+import sys
+
+SOURCE, SCHEDULE = "examples/tank.adb", "examples/tank.schedule"
+PROFILE = "pragma Profile (Ravenscar);\n"
+# Sources whose runs end as the table of statuses says.
+STOPPED = PROFILE + "package App is procedure Run; end App;\npackage body App is procedure Run is begin raise Program_Error; end Run; end App;\nwith App; procedure Main is begin App.Run; end Main;\n"
+WAITS = (
+    PROFILE
+    + "package App is procedure Run; protected Box is entry Take; private Full : Boolean := False; end Box; end App;\npackage body App is\n"
+    + "protected body Box is entry Take when Full is begin null; end Take; end Box;\nprocedure Run is begin Box.Take; end Run;\nend App;\nwith App; procedure Main is begin App.Run; end Main;\n"
+)
+
+
+def blocks_of(text):
+    """Each run of indented lines, with the text of the paragraph in front of it."""
+    before, found = "", []
+    for part in re.split(r"\n\n", text):
+        lines = part.strip("\n").split("\n")
+        if all(line.startswith("    ") for line in lines):
+            found.append((before, [line[4:] for line in lines]))
+        before = part
+    return found
+
+
+class Checker:
+    def __init__(self, program, scratch):
+        self.program, self.scratch, self.right, self.many = program, scratch, 0, 0
+
+    def is_so(self, name, holds, told=""):
+        self.many += 1
+        self.right += bool(holds)
+        if not holds:
+            print(f"readme: {name}: {told}", file=sys.stderr)
+
+    def called(self, words):
+        ran = subprocess.run(words, capture_output=True, text=True, check=False)
+        return ran.returncode, ran.stdout, ran.stderr
+
+    def file(self, name, text):
+        path = os.path.join(self.scratch, name)
+        with open(path, "w", encoding="utf-8") as file:
+            file.write(text)
+        return path
+
+    def example(self, blocks):
+        """The program, its schedule, its lines and the piece of its trace."""
+        with open(SOURCE, encoding="utf-8") as file:
+            source = [line.strip() for line in file]
+        shown, schedule, lines, trace = blocks[:4]
+        for column in (slice(0, 46), slice(46, None)):
+            part = [line[column].strip() for line in shown[1] if line[column].strip()]
+            where = [number for number, line in enumerate(source) if line == part[0]]
+            self.is_so(f"the piece of {SOURCE} that begins with `{part[0]}`", any(source[at : at + len(part)] == part for at in where), part)
+        with open(SCHEDULE, encoding="utf-8") as file:
+            self.is_so(SCHEDULE, file.read().split("\n") == [*schedule[1], ""], schedule[1])
+        command = re.search(r"`(\./run [^`]*)`", lines[0])[1]
+        self.is_so(command, self.called(command.split()) == (0, "\n".join(lines[1]) + "\n", ""), lines[1])
+        told = self.called([self.program, "trace", SOURCE, SCHEDULE, "1000000"])[1]
+        self.is_so("the piece of its trace", "\n".join(trace[1]) + "\n" in told, trace[1])
+        return "\n".join(lines[1]) + "\n"
+
+    def commands(self, lines, written):
+        """Each command of the program, with names in the place of the words in capitals."""
+        image = os.path.join(self.scratch, "tank.img")
+        names = {"SRC": SOURCE, "SCHED": SCHEDULE, "LIMIT": "1000000", "IMG": image, "NUMBER": "6", "[SRC]": SOURCE}
+        for line in lines:
+            words = re.split(r"  +", line)[0].split()
+            status, out, err = self.called([self.program, *(names.get(word, word) for word in words[1:])])
+            self.is_so(" ".join(words), status == 0 and err == "" and (out == written or words[1] not in ("go", "run")) and (out == "") == (words[1] == "compile"), (status, out, err))
+
+    def run_of(self, words):
+        """`./run` with as few words as it takes, and with all."""
+        most = [{"SOURCE": SOURCE, "SCHEDULE": SCHEDULE, "LIMIT": "0"}[word] for word in re.findall(r"[A-Z]+", words)]
+        for number in range(1, len(most) + 1):
+            status, _, _ = self.called(["./run", *most[:number]])
+            self.is_so(f"{words} with {number}", status == (5 if number == len(most) else 0), status)
+
+    def statuses(self, text):
+        """Each status of the table, with what stands on standard error."""
+        nothing = self.file("nothing", "")
+        stopped, waits = self.file("stopped.adb", STOPPED), self.file("waits.adb", WAITS)
+        calls = {
+            "0": [["go", SOURCE, SCHEDULE, "1000000"]],
+            "1": [[], ["go", os.path.join(self.scratch, "none.adb"), SCHEDULE, "1"], ["compile", SOURCE, os.path.join(self.scratch, "none", "to.img")]],
+            "2": [["go", nothing, SCHEDULE, "1"]],
+            "3": [["go", stopped, SCHEDULE, "1000000"]],
+            "4": [["go", waits, SCHEDULE, "1000000"]],
+            "5": [["go", SOURCE, SCHEDULE, "0"]],
+            "6": [["run", nothing, SCHEDULE, "1"]],
+            "7": [["go", SOURCE, self.file("bad.schedule", "x\n"), "1"]],
+        }
+        for status, told in re.findall(r"^\| (\d) \|[^|]*\|([^|]*)\|$", text, re.M):
+            for words in calls.get(status, []):
+                gave, _, err = self.called([self.program, *words])
+                forms = [re.escape(form).replace("FILE", ".*") for form in re.findall(r"`((?:fault|image fault|schedule fault|usage|cannot)[^`]*)`", told)]
+                forms = [re.sub(r"\b(N|B|L|LINE|COLUMN)\b", r"\\d+", form) for form in forms]
+                says = any(re.match(form, err) for form in forms) if forms else err == ""
+                self.is_so(f"status {status} of {words}", str(gave) == status and says, (gave, err))
+
+    def paths(self, text):
+        """The files and folders that it names."""
+        for path in sorted(set(re.findall(r"\b(?:docs|examples|crates)/[\w./]*\w", text))):
+            self.is_so(path, os.path.exists(path), "isn't there")
+
+
+def main():
+    program, scratch = sys.argv[1:]
+    with open("README.md", encoding="utf-8") as file:
+        text = file.read()
+    blocks = blocks_of(text)
+    checker = Checker(program, scratch)
+    written = checker.example([block for block in blocks if "->" not in "".join(block[1])])
+    for _, lines in blocks:
+        if lines[0].startswith("adarun "):
+            checker.commands(lines, written)
+        for line in lines:
+            if line.startswith("./run "):
+                checker.run_of(re.split(r"  +", line)[0])
+    checker.statuses(text)
+    checker.paths(text)
+    print(f"readme: {checker.right} of {checker.many} of what README.md shows is so")
+    return 0 if checker.right == checker.many else 1
+
+
+sys.exit(main())

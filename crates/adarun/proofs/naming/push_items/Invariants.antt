@@ -1,0 +1,7 @@
+use Rattle.std.proofs.Common.{map, take}
+use Rattle.ada_link.specs.ada_tree.specs.ProgramTree.{item_tree}
+use Rattle.adarun.proofs.Named.{Adds}
+use Rattle.adarun.proofs.naming.push_items.Given as goal
+
+abbrev pub invariant-loop-item : goal.invariant-loop-item
+invariant-loop-item l = Adds l.fn.names.items (map item_tree (take l.item-index l.items)) l.names.items

@@ -1,0 +1,14 @@
+-- Where in a source the instructions of its image come from.
+use Rattle.std.specs.Prelude.{ℕ, List, Option, option_map, take}
+use Rattle.ada_link.specs.stmt_code.specs.Placing.{place_at}
+use Rattle.ada_link.specs.stmt_code.specs.declared.tables.PlaceRow.{PlaceRow}
+use Rattle.hints.specs.Places.{column_from, line_from}
+use Rattle.tracing.specs.declared.origin.Origin.{Origin}
+
+-- the line and the column of a byte of the text, both from 1
+abbrev pub position_in : List ℕ → ℕ → Origin
+position_in text place = record { line = line_from 1 (take place text); column = column_from 1 (take place text) }
+
+-- of the innermost statement of whose code the instruction at this address is, by the places of the text's statements
+abbrev pub origin_in : List ℕ → List PlaceRow → ℕ → Option Origin
+origin_in text places address = option_map (position_in text) (place_at places address)
