@@ -1,6 +1,6 @@
 -- Declarations in order, and what bodies and loops see, worked by computation. Places are those in the text above each.
 use Rattle.std.proofs.Common.{◌≡◌, [], ◌∷◌, Some, None, true, false, refl}
-use Rattle.std.specs.Prelude.{codes, take}
+use Rattle.std.specs.Prelude.{codes, take, pos}
 use Rattle.ada_tree.specs.declared.declaration.Mode.TheVariants as mode
 use Rattle.ada_tree.specs.StatementTree.{OfSubprogram, LocalObject, LocalTask, LocalProtected}
 use Rattle.ada_tree.specs.ProgramTree.{Integer, OfType as TypeItem, OfObject, OfException, OfSubprogram as OfDeclared, OfTask, OfProtected}
@@ -262,17 +262,17 @@ hidden_bound = refl
 
 -- `for I in 1 .. 2`
 parameter_of_integer : entity_at (loop_scope package_scope (identifier 4 (codes "I")) (range_of (num 9 1) (num 14 2))) next ≡ Some (Object
-    role.LoopParameter integer)
+    role.LoopParameter (record integer { first = pos 1; last = pos 2 }))
 parameter_of_integer = refl
 
 -- `for I in S .. 9`
 parameter_of_the_first_type : entity_at (loop_scope package_scope (identifier 4 (codes "I")) (range_of (name 9 (codes "S") []) (num 14 9))) next ≡
-    Some (Object role.LoopParameter (base_range_of 17))
+    Some (Object role.LoopParameter (record (base_range_of 17) { first = pos 0; last = pos 9 }))
 parameter_of_the_first_type = refl
 
 -- `for I in 1 .. S`
 parameter_of_the_second_type : entity_at (loop_scope package_scope (identifier 4 (codes "I")) (range_of (num 9 1) (name 14 (codes "S") []))) next ≡
-    Some (Object role.LoopParameter (base_range_of 17))
+    Some (Object role.LoopParameter (record (base_range_of 17) { first = pos 1; last = pos 9 }))
 parameter_of_the_second_type = refl
 
 -- `for I in B .. B`

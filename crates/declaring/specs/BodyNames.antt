@@ -1,17 +1,19 @@
 -- What is visible in bodies and loops (RM 6.1, 5.5, 8.2, 9.5.1; docs/LANGUAGE.md, "Rules of declarations"): formal parameters, loop parameters, the operations
 -- and components of
 -- a protected object.
-use Rattle.std.specs.Prelude.{ℕ, Bool, true, false, List, [], ◌∷◌, ◌++◌, Option, Some, None}
+use Rattle.std.specs.Prelude.{ℕ, Bool, true, false, List, [], ◌∷◌, ◌++◌, Option, Some, None, option_map}
 use Rattle.ada_tree.specs.declared.expression.Identifier.{Identifier}
 use Rattle.ada_tree.specs.declared.declaration.Formal.{Formal}
 use Rattle.ada_tree.specs.declared.declaration.Mode.{Mode}
 use Rattle.ada_tree.specs.declared.declaration.Mode.TheVariants as mode
 use Rattle.ada_tree.specs.StatementTree.{RangeTree}
 use Rattle.types.specs.declared.entity.RecordComponent.{RecordComponent}
+use Rattle.types.specs.declared.entity.Subtype.{Subtype}
+use Rattle.types.specs.Bounds.{bounds_of}
 use Rattle.types.specs.declared.entity.Role.{Role}
 use Rattle.types.specs.declared.entity.Role.TheVariants as role
 use Rattle.types.specs.Entities.{Operation, Entity, Object, Subprogram, Entry, Doubtful}
-use Rattle.types.specs.Scopes.{Scope, base_range_of, form_at, integer_type, operations_or, protected_at, with_name, with_operations}
+use Rattle.types.specs.Scopes.{Scope, form_at, integer_type, operations_or, protected_at, with_name, with_operations}
 use Rattle.types.specs.Statics.{start_of}
 use Rattle.expr_rules.specs.declared.own.Own.{Own}
 use Rattle.expr_rules.specs.declared.own.Own.TheVariants.{Unknown, Universal, Typed}
@@ -66,12 +68,19 @@ loop_faults s parameter r =
     faults_of s wanted.AnyInteger r.first ++ faults_of s wanted.AnyInteger r.last ++ last_rule s (loop_type s r) (own_of s r.last) (start_of r.last)
     ++ declared_twice s parameter
 
-abbrev pub parameter_entity : Option ℕ → Entity
-parameter_entity (Some n) = Object role.LoopParameter (base_range_of n)
+-- the parameter's subtype: from the least number that the first bound may have to the greatest one that the last bound may have
+abbrev pub turns_subtype : Scope → RangeTree → (type_number : ℕ) → Subtype
+turns_subtype s r type_number = record { type_number = type_number; first = (bounds_of s r.first).0; last = (bounds_of s r.last).1 }
+
+abbrev pub loop_subtype : Scope → RangeTree → Option Subtype
+loop_subtype s r = option_map (turns_subtype s r) (loop_type s r)
+
+abbrev pub parameter_entity : Option Subtype → Entity
+parameter_entity (Some t) = Object role.LoopParameter t
 parameter_entity None = Doubtful
 
 abbrev pub loop_scope : Scope → Identifier → RangeTree → Scope
-loop_scope s parameter r = with_name s parameter.name (parameter_entity (loop_type s r))
+loop_scope s parameter r = with_name s parameter.name (parameter_entity (loop_subtype s r))
 
 -- ---- the body of a protected object: its operations are visible, and none behind its own name; its components, in the bodies of functions as constants
 

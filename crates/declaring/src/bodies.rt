@@ -4,7 +4,7 @@ ghost use Rattle.ada_tree.specs.StatementTree.{range_tree};
 ghost use Rattle.types.specs.Entities.{entity_value, operation_value, profile_value};
 ghost use Rattle.types.specs.Scopes.{operations_or, protected_at, with_name, with_operations};
 ghost use Rattle.expr_rules.specs.Faults.{least};
-ghost use Rattle.declaring.specs.BodyNames.{bounds_type, component_role, components_scope, formal_role, formal_scope, formals_scope, if_integers, last_rule, loop_faults, loop_scope, loop_type, object_body_scope, operation_entity, operations_scope, parameter_entity};
+ghost use Rattle.declaring.specs.BodyNames.{bounds_type, component_role, components_scope, formal_role, formal_scope, formals_scope, if_integers, last_rule, loop_faults, loop_scope, loop_subtype, loop_type, object_body_scope, operation_entity, operations_scope, parameter_entity};
 
 use ada_tree::{Expr, Formal, Identifier, Mode, Range};
 use expr_rules::laws::least_by_parts;
@@ -13,7 +13,7 @@ use lexer::Fault;
 use std::alloc::{AllocError, Global};
 use type_rules::{declare, declared_twice, object_entity, subtype_of};
 use types::{
-    Entity, Operation, Operations, Profile, RecordComponent, Role, Scope, Subtype, start_of,
+    Entity, Operation, Operations, Profile, RecordComponent, Role, Scope, Subtype, bounds, start_of,
 };
 
 fn formal_role(mode: Mode) -> Role
@@ -107,18 +107,25 @@ pub fn loop_fault(scope: &Scope, parameter: &Identifier, range: &Range) -> Optio
     sooner(sooner(bounds, last), declared_twice(scope, parameter))
 }
 
-fn parameter_entity(number: Option<usize>) -> Entity
-    ensures { entity_value result ≡ parameter_entity number }
+// The subtype of a loop parameter: of the type of its range, between the numbers that its bounds may have.
+fn loop_subtype(scope: &Scope, range: &Range) -> Option<Subtype>
+    ensures { result ≡ loop_subtype scope.now (range_tree range.now) }
 {
-    match number {
-        Some(type_number) => Entity::Object(
-            Role::LoopParameter,
-            Subtype {
-                type_number,
-                first: i64::MIN,
-                last: i64::MAX,
-            },
-        ),
+    match loop_type(scope, range) {
+        Some(type_number) => Some(Subtype {
+            type_number,
+            first: bounds(scope, &range.first).0,
+            last: bounds(scope, &range.last).1,
+        }),
+        None => None,
+    }
+}
+
+fn parameter_entity(subtype: Option<Subtype>) -> Entity
+    ensures { entity_value result ≡ parameter_entity subtype }
+{
+    match subtype {
+        Some(subtype) => Entity::Object(Role::LoopParameter, subtype),
         None => Entity::Doubtful,
     }
 }
@@ -132,7 +139,7 @@ pub fn declare_loop_parameter(
     ensures ok { OnOk result (scope.new ≡ loop_scope scope.old parameter.now (range_tree range.now)) }
     ensures err { OnErr result (scope.new ≡ scope.old) }
 {
-    let entity = parameter_entity(loop_type(scope, range));
+    let entity = parameter_entity(loop_subtype(scope, range));
     declare(scope, parameter, entity)
 }
 

@@ -9,9 +9,10 @@ use Rattle.meaning.specs.types.specs.declared.entity.Role.{Role}
 use Rattle.meaning.specs.types.specs.declared.entity.Role.TheVariants as role
 use Rattle.meaning.specs.types.specs.declared.standing.Standing.{Standing}
 use Rattle.meaning.specs.types.specs.declared.standing.Standing.TheVariants as standing
-use Rattle.meaning.specs.types.specs.Entities.{TypeForm, Integers, Profile, ProtectedObject, Entity, OfType, OfSubtype, Constant, Literal, Exception, Subprogram, Entry, Predefined, Put, Task, Protected, LibraryUnit, Doubtful}
+use Rattle.meaning.specs.types.specs.Entities.{TypeForm, Integers, Profile, Entity, OfType, OfSubtype, Constant, Literal, Exception, Subprogram, Entry, Predefined, Put, Task, Protected, LibraryUnit, Doubtful}
 use Rattle.meaning.specs.types.specs.Entities as entity
-use Rattle.meaning.specs.types.specs.Scopes.{Scope, Named, base_range_of, entity_at, entity_of, form_at, integer, integer_type, is_visible, number_of, with_name}
+use Rattle.meaning.specs.types.specs.Scopes.{Scope, Named, entity_at, entity_of, form_at, integer_type, is_visible, number_of, with_name}
+use Rattle.meaning.specs.Works.{turn_subtype}
 use Rattle.meaning.specs.types.specs.Values.{Value, Number}
 use Rattle.meaning.specs.types.specs.Shapes.{has_shape, shape_of}
 use Rattle.meaning.specs.types.specs.Standings.{stands_first}
@@ -424,12 +425,12 @@ module _ (s : Scope) (p : Place) (name : List ℕ) (agrees : Agrees s p) (hidden
       → Agrees (with_name s name (entity.Object r t)) (record p { locals = (let x : Object = record { name = name; subtype = t; value = v } in x) ∷ p.locals })
   object_declared r t v sound suited = declared_agrees s p name r t t v agrees hidden sound (new_object r t v sound suited)
 
-  parameter_declared : (n : ℕ) (z : ℤ) → is_integers (form_at s n) ≡ true
-      → Agrees (with_name s name (entity.Object role.LoopParameter (base_range_of n)))
-      (record p { locals = (let x : Object = record { name = name; subtype = integer; value = Number z } in x) ∷ p.locals })
-  parameter_declared n z integers =
-      declared_agrees s p name role.LoopParameter (base_range_of n) integer (Number z) agrees hidden integers
-      (λ m h. record { subtype = integer; value = z; is = h; integers = ap is_integers (agrees.forms integer_type Integers agrees.sound.integer) })
+  parameter_declared : (t : Subtype) (z : ℤ) → is_integers (form_at s t.type_number) ≡ true
+      → Agrees (with_name s name (entity.Object role.LoopParameter t))
+      (record p { locals = (let x : Object = record { name = name; subtype = turn_subtype z; value = Number z } in x) ∷ p.locals })
+  parameter_declared t z integers =
+      declared_agrees s p name role.LoopParameter t (turn_subtype z) (Number z) agrees hidden integers
+      (λ m h. record { subtype = turn_subtype z; value = z; is = h; integers = ap is_integers (agrees.forms integer_type Integers agrees.sound.integer) })
 
 pub agreement_is_kept : AgreementIsKept
 agreement_is_kept =
@@ -437,7 +438,7 @@ agreement_is_kept =
       narrowed = narrowed;
       hidden = hidden;
       declared = λ s p name r t v agrees unseen sound suited. object_declared s p name agrees unseen r t v sound suited;
-      parameter = λ s p name n z agrees unseen integers. parameter_declared s p name agrees unseen n z integers;
+      parameter = λ s p name t z agrees unseen integers. parameter_declared s p name agrees unseen t z integers;
       local = local_kept;
       variable = variable_kept;
       component = component_kept;

@@ -41,7 +41,7 @@ control_io s sound put read =
     let operation = from_integer predefined.Read integer in
     let form : form_at (one ++ entry (codes "READ") operation ∷ []) integer_type ≡ Some Integers = form_kept one (entry (codes "READ") operation ∷ []) integer_type Integers first.integer in
     let second =
-    wider_sound one (entry (codes "READ") operation) first (record { subtype = integer; result = refl; form = ap is_integers form; takes = refl }) refl in
+    wider_sound one (entry (codes "READ") operation) first (record { subtype = integer; result = refl; base = refl; form = ap is_integers form; takes = refl }) refl in
     subst (λ u. SoundScope (with_name u (codes "READ") operation)) (sym (added s (codes "PUT") Put put))
     (subst SoundScope (sym (added one (codes "READ") operation unseen)) second)
 
@@ -137,7 +137,7 @@ module _ (s : Scope) (sound : SoundScope s) where
 
   three_sound : SoundScope three
   three_sound =
-      wider_sound two clock two_sound (record { subtype = base_range_of (length s); result = refl; form = ap is_times (form_kept two (clock ∷ []) (length s) Times time_in_two); takes = refl }) refl
+      wider_sound two clock two_sound (record { subtype = base_range_of (length s); result = refl; base = refl; form = ap is_times (form_kept two (clock ∷ []) (length s) Times time_in_two); takes = refl }) refl
 
   span_in_three : form_at three (suc (length s)) ≡ Some Spans
   span_in_three = form_kept two (clock ∷ []) (suc (length s)) Spans span_at
@@ -146,12 +146,12 @@ module _ (s : Scope) (sound : SoundScope s) where
   span_in_four = form_kept three (milliseconds ∷ []) (suc (length s)) Spans span_in_three
 
   four_sound : SoundScope four
-  four_sound = wider_sound three milliseconds three_sound (record { subtype = base_range_of (suc (length s)); result = refl; form = ap is_spans span_in_four; takes = refl }) refl
+  four_sound = wider_sound three milliseconds three_sound (record { subtype = base_range_of (suc (length s)); result = refl; base = refl; form = ap is_spans span_in_four; takes = refl }) refl
 
   five_sound : SoundScope five
   five_sound =
       wider_sound four microseconds four_sound
-      (record { subtype = base_range_of (suc (length s)); result = refl; form = ap is_spans (form_kept four (microseconds ∷ []) (suc (length s)) Spans span_in_four); takes = refl }) refl
+      (record { subtype = base_range_of (suc (length s)); result = refl; base = refl; form = ap is_spans (form_kept four (microseconds ∷ []) (suc (length s)) Spans span_in_four); takes = refl }) refl
 
   step : (t u : Scope) (x : Named) → t ≡ u → is_visible u x.name ≡ false → with_name t x.name x.entity ≡ u ++ x ∷ []
   step t u x same unseen = ap (λ k. with_name k x.name x.entity) same ∙ added u x.name x.entity unseen

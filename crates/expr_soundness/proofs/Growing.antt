@@ -112,7 +112,7 @@ module _ (s u : Scope) (has : HasTypes s u) where
 
   language_kept : (formals : List FormalParameter) (test : Option TypeForm → Bool) (p : Profile) → test None ≡ false → HasOperation s formals test p
       → HasOperation u formals test p
-  language_kept formals test p none h = record { subtype = h.subtype; result = h.result; form = test_kept test none h.subtype.type_number h.form; takes = h.takes }
+  language_kept formals test p none h = record { subtype = h.subtype; result = h.result; base = h.base; form = test_kept test none h.subtype.type_number h.form; takes = h.takes }
 
   predefined_kept : (o : PredefinedOperation) (p : Profile) → IsSoundPredefined s o p → IsSoundPredefined u o p
   predefined_kept predefined.Clock p h = language_kept _ is_times p refl h

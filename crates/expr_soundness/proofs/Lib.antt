@@ -21,6 +21,7 @@ mod LoopExample
 pub mod Numbers
 pub mod Lies
 mod LanguageValues
+pub mod SeenValues
 mod InitialValues
 mod StoredParts
 mod NamesLie

@@ -5,17 +5,19 @@ use Rattle.std.proofs.lemmas.Slice.Eq.{bytes_eq-Decides}
 use Rattle.meaning.specs.base.specs.declared.exceptions.PredefinedException.TheVariants.{ConstraintError}
 use Rattle.expr_soundness.proofs.Elements.{both_left, both_right}
 use Rattle.expr_soundness.proofs.Positions.{same_some}
+use Rattle.meaning.specs.ada_tree.specs.ExpressionTree as tree
+use Rattle.meaning.specs.ada_tree.specs.ExpressionTree.{ArgumentTree, ArgumentTrees, MoreArguments, NoArguments}
 use Rattle.meaning.specs.types.specs.declared.entity.Subtype.{Subtype}
 use Rattle.meaning.specs.types.specs.declared.entity.RecordComponent.{RecordComponent}
 use Rattle.meaning.specs.types.specs.Entities.{Arrays}
-use Rattle.meaning.specs.types.specs.Evaluating.{call, entered, passed, value_with}
+use Rattle.meaning.specs.types.specs.Evaluating.{Calls, actual_with, actuals_with, call, entered, passed, value_with}
 use Rattle.meaning.specs.types.specs.Evaluations.{Val, Gives, Raises, Meaningless, and_then, raise}
-use Rattle.meaning.specs.types.specs.Places.{Function, Place}
+use Rattle.meaning.specs.types.specs.Places.{Place}
 use Rattle.meaning.specs.types.specs.Scopes.{Scope}
 use Rattle.meaning.specs.types.specs.Standings.{component_of}
 use Rattle.meaning.specs.types.specs.Values.{Value, Number, Truth, Array, Record, Values, NoValues, MoreValues, Fields, NoFields, MoreFields, element_at, field_of, fits}
 use Rattle.meaning.specs.types.specs.Bounds.{subtype_bounds}
-use Rattle.expr_soundness.specs.Lying.{OnGives, comes_between, elements_lie, fields_lie, is_between, lies, lies_inside}
+use Rattle.expr_soundness.specs.Lying.{OnGives, ReturnWithin, are_between, comes_between, elements_lie, fields_lie, is_between, lies, lies_inside}
 
 -- what lies in a subtype lies between its bounds
 pub lies_between : (s : Scope) (t : Subtype) (v : Value) → lies s t v ≡ true → is_between (subtype_bounds t) v ≡ true
@@ -91,7 +93,33 @@ passed_between t (Gives x) = by_test (fits t x) refl
 passed_between t (Raises n) = refl
 passed_between t Meaningless = refl
 
+-- ---- actual parameters
+
+module _ (calls : Calls) (p : Place) where
+  actual_between : (t : Subtype) (x : ArgumentTree) → comes_between (subtype_bounds t) (actual_with calls p t x) ≡ true
+  actual_between t (tree.Value e) = passed_between t (value_with calls p e)
+  actual_between t (tree.Text label place) = refl
+
+  next_between : (t : Subtype) (ts : List Subtype) (v : Val Value) (vs : Val (List Value)) → comes_between (subtype_bounds t) v ≡ true
+      → OnGives (λ xs. are_between ts xs ≡ true) vs
+      → OnGives (λ xs. are_between (t ∷ ts) xs ≡ true) (and_then v (λ x. and_then vs (λ xs. Gives (x ∷ xs))))
+  next_between t ts (Gives y) (Gives ys) h k = ap (λ b. b && are_between ts ys) h ∙ k
+  next_between t ts (Gives y) (Raises n) h k = tt
+  next_between t ts (Gives y) Meaningless h k = tt
+  next_between t ts (Raises n) vs h k = tt
+  next_between t ts Meaningless vs h k = tt
+
+  -- each was checked against its subtype
+  pub actuals_between : (a : ArgumentTrees) (ts : List Subtype) → OnGives (λ xs. are_between ts xs ≡ true) (actuals_with calls p a ts)
+  actuals_between NoArguments [] = refl
+  actuals_between NoArguments (t ∷ ts) = tt
+  actuals_between (MoreArguments x rest) [] = tt
+  actuals_between (MoreArguments x rest) (t ∷ ts) =
+      next_between t ts (actual_with calls p t x) (actuals_with calls p rest ts) (actual_between t x) (actuals_between rest ts)
+
+-- ---- what is called
+
 -- with any number of frames left
-pub results_lie : (p : Place) (left : ℕ) (f : Function) (vs : List Value) → comes_between (subtype_bounds f.result) (call left p f vs) ≡ true
-results_lie p zero f vs = refl
-results_lie p (suc left) f vs = passed_between f.result (value_with (call left) (entered p f vs left) f.value)
+pub results_lie : (left : ℕ) → ReturnWithin (call left)
+results_lie zero p f vs = refl
+results_lie (suc left) p f vs = passed_between f.result (value_with (call left) (entered p f vs left) f.value)

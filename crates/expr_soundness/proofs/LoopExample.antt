@@ -1,4 +1,4 @@
--- A loop over an integer type of the package, worked: its parameter is an object of subtype Integer in a run, and expressions are of the type of its range.
+-- A loop over an integer type of the package, worked: its parameter is an object of type Integer in a run, and expressions are of the type of its range.
 use Rattle.std.proofs.Common.{◌≡◌, ℕ, [], ◌∷◌, true, inl, inr, Some, refl, sym, ap}
 use Rattle.std.specs.Prelude.{codes, pos}
 use Rattle.meaning.specs.ada_tree.specs.declared.expression.BinaryOperator.TheVariants as binary
@@ -6,7 +6,8 @@ use Rattle.meaning.specs.ada_tree.specs.ExpressionTree as tree
 use Rattle.meaning.specs.ada_tree.specs.ExpressionTree.{ExprTree, NoSelectors}
 use Rattle.meaning.specs.types.specs.declared.entity.Role.TheVariants as role
 use Rattle.meaning.specs.types.specs.Entities.{Integers, Entity, OfType, Object}
-use Rattle.meaning.specs.types.specs.Scopes.{Scope, base_range_of, entity_at, integer, standard, with_name}
+use Rattle.meaning.specs.types.specs.Scopes.{Scope, base_range_of, entity_at, standard, with_name}
+use Rattle.meaning.specs.Works.{turn_subtype}
 use Rattle.meaning.specs.types.specs.Values.{Value, Number}
 use Rattle.meaning.specs.types.specs.Evaluations.{Gives}
 use Rattle.meaning.specs.types.specs.Places.{Place, Meaning, IsObject, meaning_of}
@@ -42,12 +43,12 @@ abbrev inside : Scope
 inside = with_name scope (codes "I") (Object role.LoopParameter (base_range_of 10))
 
 abbrev place : Place
-place = record (static_place scope) { locals = record { name = codes "I"; subtype = integer; value = Number (pos 3) } ∷ [] }
+place = record (static_place scope) { locals = record { name = codes "I"; subtype = turn_subtype (pos 3); value = Number (pos 3) } ∷ [] }
 
 turn_agrees : Agrees inside place
-turn_agrees = agreement_is_kept.parameter scope (static_place scope) (codes "I") 10 (pos 3) (simple_agrees scope scope_sound scope_simple) refl refl
+turn_agrees = agreement_is_kept.parameter scope (static_place scope) (codes "I") (base_range_of 10) (pos 3) (simple_agrees scope scope_sound scope_simple) refl refl
 
-parameter_means : meaning_of place (codes "I") ≡ IsObject integer (Number (pos 3))
+parameter_means : meaning_of place (codes "I") ≡ IsObject (turn_subtype (pos 3)) (Number (pos 3))
 parameter_means = refl
 
 -- no object of its own subtype

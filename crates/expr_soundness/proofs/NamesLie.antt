@@ -1,10 +1,9 @@
 -- What is known of what names mean, part by part: of objects and their parts, of conversions, and of what is called.
 use Rattle.std.proofs.Common.{◌≡◌, ℕ, zero, List, [], ◌∷◌, Bool, true, false, inl, inr, Option, Some, None, refl, sym, ap, ◌∙◌, subst}
-use Rattle.std.specs.Prelude.{map, ◌&&◌, ℤ, cond, nat_le, unsigned_abs, ◌-ℤ◌, ⊤, bytes_eq, position}
+use Rattle.std.specs.Prelude.{map, ℤ, cond, nat_le, unsigned_abs, ◌-ℤ◌, ⊤, bytes_eq, position}
 use Rattle.meaning.specs.base.specs.declared.exceptions.PredefinedException.TheVariants.{ProgramError}
 use Rattle.meaning.specs.ada_tree.specs.declared.expression.Identifier.{Identifier}
-use Rattle.meaning.specs.ada_tree.specs.ExpressionTree as tree
-use Rattle.meaning.specs.ada_tree.specs.ExpressionTree.{SelectorTrees, NoSelectors, MoreSelectors, SelectorTree, Component, Arguments, Attribute, ArgumentTrees, NoArguments, MoreArguments, ArgumentTree}
+use Rattle.meaning.specs.ada_tree.specs.ExpressionTree.{SelectorTrees, NoSelectors, MoreSelectors, SelectorTree, Component, Arguments, Attribute, ArgumentTrees}
 use Rattle.meaning.specs.types.specs.declared.entity.Subtype.{Subtype}
 use Rattle.meaning.specs.types.specs.declared.entity.RecordComponent.{RecordComponent}
 use Rattle.meaning.specs.types.specs.declared.entity.Role.{Role}
@@ -13,7 +12,7 @@ use Rattle.meaning.specs.types.specs.declared.standing.Callee.TheVariants as cal
 use Rattle.meaning.specs.types.specs.declared.standing.Standing.{Standing}
 use Rattle.meaning.specs.types.specs.declared.standing.Standing.TheVariants as standing
 use Rattle.meaning.specs.types.specs.Entities.{TypeForm, Integers, Arrays, Records, Profile, ProtectedObject, Object, Predefined}
-use Rattle.meaning.specs.types.specs.Evaluating.{Calls, actual_with, actuals_with, applied, as_value, called, chosen, element_meaning, ended, external_call, field_meaning, fixed_value, formal_subtype, function_through, name_with, object_or_nothing, part_with, predefined_value, value_with, wanted, wanted_by_conversion, wanted_by_index, wanted_by_operation}
+use Rattle.meaning.specs.types.specs.Evaluating.{Calls, actuals_with, applied, as_value, called, chosen, element_meaning, ended, external_call, field_meaning, fixed_value, formal_subtype, function_through, name_with, object_or_nothing, part_with, predefined_value, wanted, wanted_by_conversion, wanted_by_index, wanted_by_operation}
 use Rattle.meaning.specs.types.specs.Evaluations.{Val, Gives, Raises, Meaningless, and_then, raise}
 use Rattle.meaning.specs.types.specs.Places.{Function, Place, meaning_of, Meaning, IsFunction, IsObject, IsPredefined, IsSubtype, IsValue, active_priority, function_of, is_among}
 use Rattle.meaning.specs.types.specs.Scopes.{Scope, entity_at, form_at, number_of, protected_at}
@@ -32,9 +31,9 @@ use Rattle.expr_soundness.proofs.Denoting.{CanBeCalled, Denotes, DenotesCallee, 
 use Rattle.expr_soundness.proofs.Applying.{component_comes}
 use Rattle.expr_soundness.proofs.Expressions.{part_comes}
 use Rattle.meaning.specs.types.specs.Bounds.{subtype_bounds}
-use Rattle.expr_soundness.specs.Lying.{OnGives, are_between, comes_between, components_of, elements_lie, fields_lie, is_between, lies, lies_inside}
+use Rattle.expr_soundness.specs.Lying.{OnGives, are_between, components_of, elements_lie, fields_lie, is_between, lies, lies_inside}
 use Rattle.expr_soundness.proofs.Elements.{both_left}
-use Rattle.expr_soundness.proofs.Lies.{element_lies, field_lies, passed_between}
+use Rattle.expr_soundness.proofs.Lies.{actuals_between, element_lies, field_lies}
 
 -- ---- what is known of what is meant
 
@@ -276,27 +275,6 @@ module _ (s : Scope) (p : Place) (agrees : Agrees s p) (calls : Calls) (answers 
 
   -- ---- what stands in parentheses
 
-  actual_between : (t : Subtype) (x : ArgumentTree) → comes_between (subtype_bounds t) (actual_with calls p t x) ≡ true
-  actual_between t (tree.Value e) = passed_between t (value_with calls p e)
-  actual_between t (tree.Text label place) = refl
-
-  next_between : (t : Subtype) (ts : List Subtype) (v : Val Value) (vs : Val (List Value)) → comes_between (subtype_bounds t) v ≡ true
-      → OnGives (λ xs. are_between ts xs ≡ true) vs
-      → OnGives (λ xs. are_between (t ∷ ts) xs ≡ true) (and_then v (λ x. and_then vs (λ xs. Gives (x ∷ xs))))
-  next_between t ts (Gives y) (Gives ys) h k = ap (λ b. b && are_between ts ys) h ∙ k
-  next_between t ts (Gives y) (Raises n) h k = tt
-  next_between t ts (Gives y) Meaningless h k = tt
-  next_between t ts (Raises n) vs h k = tt
-  next_between t ts Meaningless vs h k = tt
-
-  -- each actual was checked against its subtype
-  actuals_between : (a : ArgumentTrees) (ts : List Subtype) → OnGives (λ xs. are_between ts xs ≡ true) (actuals_with calls p a ts)
-  actuals_between NoArguments [] = refl
-  actuals_between NoArguments (t ∷ ts) = tt
-  actuals_between (MoreArguments x rest) [] = tt
-  actuals_between (MoreArguments x rest) (t ∷ ts) =
-      next_between t ts (actual_with calls p t x) (actuals_with calls p rest ts) (actual_between t x) (actuals_between rest ts)
-
   with_actuals : (knows : Meaning → Type 0) (ts : List Subtype) (vs : Val (List Value)) (go : List Value → Val Meaning)
       → OnGives (λ xs. are_between ts xs ≡ true) vs
       → ((xs : List Value) → are_between ts xs ≡ true → OnGives knows (go xs)) → OnGives knows (and_then vs go)
@@ -310,7 +288,7 @@ module _ (s : Scope) (p : Place) (agrees : Agrees s p) (calls : Calls) (answers 
       → OnGives knows (part_with calls p m (Arguments a))
   behind_actuals knows m a ts e h =
       subst (λ o. OnGives knows (elim o [ Some us ↦ and_then (actuals_with calls p a us) (applied calls p m) | None ↦ Meaningless ])) (sym e)
-      (with_actuals knows ts (actuals_with calls p a ts) (applied calls p m) (actuals_between a ts) h)
+      (with_actuals knows ts (actuals_with calls p a ts) (applied calls p m) (actuals_between calls p a ts) h)
 
   element_known : (index : Subtype) (size : ℕ) (element : Subtype) (v : Value) (z : ℤ)
       → ((vs : Values) → v ≡ Array vs → elements_lie p.scope (Some (Arrays index size element)) vs ≡ true)

@@ -10,11 +10,11 @@ use Rattle.meaning.specs.ada_tree.specs.declared.expression.UnaryOperator.TheVar
 use Rattle.meaning.specs.ada_tree.specs.declared.expression.BinaryOperator.{BinaryOperator}
 use Rattle.meaning.specs.ada_tree.specs.declared.expression.BinaryOperator.TheVariants as binary
 use Rattle.meaning.specs.types.specs.declared.entity.Subtype.{Subtype}
-use Rattle.meaning.specs.types.specs.Evaluations.{Val, Gives, Raises, Meaningless, computed}
+use Rattle.meaning.specs.types.specs.Evaluations.{computed}
 use Rattle.meaning.specs.types.specs.Operators.{binary_value, unary_value}
 use Rattle.meaning.specs.types.specs.Scopes.{greatest_number, least_number}
 use Rattle.meaning.specs.types.specs.Values.{Value, Number, Truth, Array, Record, fits, is_within}
-use Rattle.meaning.specs.types.specs.Bounds.{base_bounds, spanned, is_of_base_range}
+use Rattle.meaning.specs.types.specs.Bounds.{base_bounds, spanned, unary_bounds}
 use Rattle.expr_soundness.specs.BoundsLaw.{is_inside}
 use Rattle.expr_soundness.specs.Lying.{comes_between, is_between}
 
@@ -31,9 +31,6 @@ within_left a b c d z h = grind (arith, h)
 within_right : (a b c d z : ℤ) → is_within c d z ≡ true → is_within (int_min a c) (int_max b d) z ≡ true
 within_right a b c d z h = grind (arith, h)
 
-within_base : (a b z : ℤ) → is_of_base_range (a, b) ≡ true → is_within a b z ≡ true → is_within least_number greatest_number z ≡ true
-within_base a b z h k = grind (arith, h, k)
-
 -- ---- what operators give
 
 pub range_checked : (x : ℤ) → comes_between base_bounds (computed (in_range x)) ≡ true
@@ -48,12 +45,13 @@ divided f x (pos zero) = refl
 divided f x (pos (suc n)) = range_checked (f x (pos (suc n)))
 divided f x (negsuc n) = range_checked (f x (negsuc n))
 
-pub unary_base : (operator : UnaryOperator) (v : Value) → is_between base_bounds v ≡ true → comes_between base_bounds (unary_value operator v) ≡ true
-unary_base unary.Plus (Number z) h = h
-unary_base unary.Minus (Number z) h = range_checked (neg_ℤ z)
-unary_base unary.Abs (Number z) h = range_checked (pos (unsigned_abs z))
-unary_base unary.Not (Truth b) h = refl
-unary_base operator v h = refl
+pub unary_between : (operator : UnaryOperator) (bounds : ℤ × ℤ) (v : Value) → is_between bounds v ≡ true
+    → comes_between (unary_bounds operator bounds) (unary_value operator v) ≡ true
+unary_between unary.Plus bounds (Number z) h = h
+unary_between unary.Minus bounds (Number z) h = range_checked (neg_ℤ z)
+unary_between unary.Abs bounds (Number z) h = range_checked (pos (unsigned_abs z))
+unary_between unary.Not bounds (Truth b) h = refl
+unary_between operator bounds v h = refl
 
 pub binary_base : (operator : BinaryOperator) (v w : Value) → comes_between base_bounds (binary_value operator v w) ≡ true
 binary_base binary.Add (Number x) (Number y) = range_checked (x +ℤ y)
@@ -104,14 +102,6 @@ spanned_right a b (Number z) h = within_right a.0 a.1 b.0 b.1 z h
 spanned_right a b (Truth x) h = refl
 spanned_right a b (Array vs) h = refl
 spanned_right a b (Record fs) h = refl
-
-pub base_holds : (a : ℤ × ℤ) (v : Val Value) → is_of_base_range a ≡ true → comes_between a v ≡ true → comes_between base_bounds v ≡ true
-base_holds a (Gives (Number z)) h k = within_base a.0 a.1 z h k
-base_holds a (Gives (Truth b)) h k = refl
-base_holds a (Gives (Array vs)) h k = refl
-base_holds a (Gives (Record fs)) h k = refl
-base_holds a (Raises x) h k = refl
-base_holds a Meaningless h k = refl
 
 -- ---- bounds inside of a subtype
 

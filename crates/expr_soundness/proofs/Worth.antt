@@ -1,6 +1,6 @@
 -- Legal expressions come to values between their bounds: by recursion on the expression.
 use Rattle.std.proofs.Common.{◌≡◌, ◌++◌, ℕ, suc, pos, [], Bool, true, false, ◌⊎◌, inl, inr, Option, Some, None, refl, sym, ap, ◌∙◌, subst}
-use Rattle.std.specs.Prelude.{ℤ, ◌&&◌, cond, ⊤}
+use Rattle.std.specs.Prelude.{ℤ, cond, ⊤}
 use Rattle.meaning.specs.base.specs.declared.exceptions.PredefinedException.TheVariants.{ConstraintError}
 use Rattle.meaning.specs.ada_tree.specs.declared.expression.UnaryOperator.{UnaryOperator}
 use Rattle.meaning.specs.ada_tree.specs.declared.expression.BinaryOperator.{BinaryOperator}
@@ -22,21 +22,20 @@ use Rattle.meaning.specs.expr_rules.proofs.TypedLaw.{back_empty, front_empty}
 use Rattle.expr_soundness.specs.Agreeing.{Agrees}
 use Rattle.expr_soundness.specs.Answers.{CallsAnswer}
 use Rattle.expr_soundness.specs.Laws.{CallsAreTyped}
-use Rattle.meaning.specs.types.specs.Bounds.{base_bounds, bounds_of, elsif_bounds, operation_bounds, spanned, static_number, elsif_numbers_fit, numbers_fit}
+use Rattle.meaning.specs.types.specs.Bounds.{base_bounds, bounds_of, elsif_bounds, operation_bounds, spanned, static_number, unary_bounds}
 use Rattle.expr_soundness.specs.BoundsLaw.{ChecksAreSpared, ExpressionsLie, ValuesAreBounded}
 use Rattle.expr_soundness.specs.Lying.{ValuesLie, comes_between, is_between}
-use Rattle.expr_soundness.proofs.Elements.{both_left, both_right}
 use Rattle.expr_soundness.proofs.Lies.{results_lie}
 use Rattle.expr_soundness.proofs.Between.{known_between, name_lies, static_worth}
-use Rattle.expr_soundness.proofs.Numbers.{base_holds, binary_base, inside_passes, modulus_between, spanned_left, spanned_right, unary_base, within_itself}
+use Rattle.expr_soundness.proofs.Numbers.{binary_base, inside_passes, modulus_between, spanned_left, spanned_right, unary_between, within_itself}
 
 -- ---- operations
 
-unary_fits : (operator : UnaryOperator) (v : Val Value) → comes_between base_bounds v ≡ true
-    → comes_between base_bounds (and_then v (unary_value operator)) ≡ true
-unary_fits operator (Gives x) h = unary_base operator x h
-unary_fits operator (Raises n) h = refl
-unary_fits operator Meaningless h = refl
+unary_lies : (operator : UnaryOperator) (bounds : ℤ × ℤ) (v : Val Value) → comes_between bounds v ≡ true
+    → comes_between (unary_bounds operator bounds) (and_then v (unary_value operator)) ≡ true
+unary_lies operator bounds (Gives x) h = unary_between operator bounds x h
+unary_lies operator bounds (Raises n) h = refl
+unary_lies operator bounds Meaningless h = refl
 
 decided_fits : (operator : BinaryOperator) (v : Value) → is_decided operator v ≡ true → is_between base_bounds v ≡ true
 decided_fits operator (Truth b) h = refl
@@ -182,36 +181,6 @@ unbroken_elsif s w condition value rest h =
 
 module _ (static : StaticIsValue) (s : Scope) (p : Place) (agrees : Agrees s p) (calls : Calls) (answers : CallsAnswer calls p)
     (values : ValuesLie s p calls) where
-  mutual
-    -- the number is one of the base range
-    value_fits : (e : ExprTree) (w : Wanted) → numbers_fit s e ≡ true → faults_in s w e ≡ [] → comes_between base_bounds (value_with calls p e) ≡ true
-    value_fits (tree.Number z place) w fit h = base_holds (z, z) (Gives (Number z)) fit (within_itself z)
-    value_fits (Named first selectors) w fit h =
-        base_holds (bounds_of s (Named first selectors)) (value_with calls p (Named first selectors)) fit
-        (name_lies s p agrees calls answers values w first selectors h)
-    value_fits (Parenthesized place e) w fit h = value_fits e w fit h
-    value_fits (Unary operator place e) w fit h =
-        unary_fits operator (value_with calls p e) (value_fits e (below operator w) fit
-        (front_empty (faults_in s (below operator w) e) (unary_rule s operator place (own_of s e)) h))
-    value_fits (Binary operator a b) w fit h = binary_fits operator (value_with calls p a) (value_with calls p b)
-    value_fits (Conditional place condition value elsifs last) w fit h =
-        let inner = conditional_wanted s w value elsifs last in
-        let parts = unbroken_parts s w place condition value last elsifs h in
-        let more = both_right (numbers_fit s value) (elsif_numbers_fit s elsifs && numbers_fit s last) fit in
-        chosen_between base_bounds (value_with calls p condition) (value_with calls p value) (elsif_with calls p elsifs) (value_with calls p last)
-        (value_fits value inner (both_left (numbers_fit s value) (elsif_numbers_fit s elsifs && numbers_fit s last) fit) parts.first)
-        (elsif_fits elsifs inner (both_left (elsif_numbers_fit s elsifs) (numbers_fit s last) more) parts.middle)
-        (value_fits last inner (both_right (elsif_numbers_fit s elsifs) (numbers_fit s last) more) parts.end)
-
-    elsif_fits : (elsifs : ElsifValueTrees) (w : Wanted) → elsif_numbers_fit s elsifs ≡ true → elsif_faults s w elsifs ≡ []
-        → FoundBetween base_bounds (elsif_with calls p elsifs)
-    elsif_fits NoElsifValues w fit h = tt
-    elsif_fits (MoreElsifValues condition value rest) w fit h =
-        let two = unbroken_elsif s w condition value rest h in
-        found_more base_bounds (value_with calls p condition) (value_with calls p value) (elsif_with calls p rest)
-        (value_fits value w (both_left (numbers_fit s value) (elsif_numbers_fit s rest) fit) two.0)
-        (elsif_fits rest w (both_right (numbers_fit s value) (elsif_numbers_fit s rest) fit) two.1)
-
   operation_lies : (operator : BinaryOperator) (a b : ExprTree)
       → comes_between (operation_bounds operator (static_number s b)) (value_with calls p (Binary operator a b)) ≡ true
   operation_lies operator a b = by_form (is_modulus operator (static_number s b))
@@ -229,52 +198,49 @@ module _ (static : StaticIsValue) (s : Scope) (p : Place) (agrees : Agrees s p) 
           (modulus_lies m.0 (value_with calls p a))))
 
   mutual
-    expression_lies : (e : ExprTree) (w : Wanted) → numbers_fit s e ≡ true → faults_in s w e ≡ [] → comes_between (bounds_of s e) (value_with calls p e) ≡ true
-    expression_lies (tree.Number z place) w fit h = within_itself z
-    expression_lies (Named first selectors) w fit h = name_lies s p agrees calls answers values w first selectors h
-    expression_lies (Parenthesized place e) w fit h = expression_lies e w fit h
-    expression_lies (Unary operator place e) w fit h =
-        known_between s p agrees calls answers values static (Unary operator place e) base_bounds (λ none. value_fits (Unary operator place e) w fit h)
-    expression_lies (Binary operator a b) w fit h =
+    expression_lies : (e : ExprTree) (w : Wanted) → faults_in s w e ≡ [] → comes_between (bounds_of s e) (value_with calls p e) ≡ true
+    expression_lies (tree.Number z place) w h = within_itself z
+    expression_lies (Named first selectors) w h = name_lies s p agrees calls answers values w first selectors h
+    expression_lies (Parenthesized place e) w h = expression_lies e w h
+    expression_lies (Unary operator place e) w h =
+        known_between s p agrees calls answers values static (Unary operator place e) (unary_bounds operator (bounds_of s e))
+        (λ none. unary_lies operator (bounds_of s e) (value_with calls p e) (expression_lies e (below operator w)
+        (front_empty (faults_in s (below operator w) e) (unary_rule s operator place (own_of s e)) h)))
+    expression_lies (Binary operator a b) w h =
         known_between s p agrees calls answers values static (Binary operator a b) (operation_bounds operator (static_number s b))
         (λ none. operation_lies operator a b)
-    expression_lies (Conditional place condition value elsifs last) w fit h =
+    expression_lies (Conditional place condition value elsifs last) w h =
         let inner = conditional_wanted s w value elsifs last in
         let parts = unbroken_parts s w place condition value last elsifs h in
-        let more = both_right (numbers_fit s value) (elsif_numbers_fit s elsifs && numbers_fit s last) fit in
         let front = elsif_bounds s (bounds_of s value) elsifs in
         chosen_between (spanned front (bounds_of s last)) (value_with calls p condition) (value_with calls p value) (elsif_with calls p elsifs)
         (value_with calls p last)
         (comes_left front (bounds_of s last) (value_with calls p value)
-        (elsif_grows s elsifs (bounds_of s value) (value_with calls p value)
-        (expression_lies value inner (both_left (numbers_fit s value) (elsif_numbers_fit s elsifs && numbers_fit s last) fit) parts.first)))
-        (found_left front (bounds_of s last) (elsif_with calls p elsifs)
-        (elsif_lies elsifs (bounds_of s value) inner (both_left (elsif_numbers_fit s elsifs) (numbers_fit s last) more) parts.middle))
-        (comes_right front (bounds_of s last) (value_with calls p last)
-        (expression_lies last inner (both_right (elsif_numbers_fit s elsifs) (numbers_fit s last) more) parts.end))
+        (elsif_grows s elsifs (bounds_of s value) (value_with calls p value) (expression_lies value inner parts.first)))
+        (found_left front (bounds_of s last) (elsif_with calls p elsifs) (elsif_lies elsifs (bounds_of s value) inner parts.middle))
+        (comes_right front (bounds_of s last) (value_with calls p last) (expression_lies last inner parts.end))
 
-    elsif_lies : (elsifs : ElsifValueTrees) (before : ℤ × ℤ) (w : Wanted) → elsif_numbers_fit s elsifs ≡ true → elsif_faults s w elsifs ≡ []
+    elsif_lies : (elsifs : ElsifValueTrees) (before : ℤ × ℤ) (w : Wanted) → elsif_faults s w elsifs ≡ []
         → FoundBetween (elsif_bounds s before elsifs) (elsif_with calls p elsifs)
-    elsif_lies NoElsifValues before w fit h = tt
-    elsif_lies (MoreElsifValues condition value rest) before w fit h =
+    elsif_lies NoElsifValues before w h = tt
+    elsif_lies (MoreElsifValues condition value rest) before w h =
         let two = unbroken_elsif s w condition value rest h in
         let here = spanned before (bounds_of s value) in
         found_more (elsif_bounds s here rest) (value_with calls p condition) (value_with calls p value) (elsif_with calls p rest)
         (elsif_grows s rest here (value_with calls p value)
-        (comes_right before (bounds_of s value) (value_with calls p value)
-        (expression_lies value w (both_left (numbers_fit s value) (elsif_numbers_fit s rest) fit) two.0)))
-        (elsif_lies rest here w (both_right (numbers_fit s value) (elsif_numbers_fit s rest) fit) two.1)
+        (comes_right before (bounds_of s value) (value_with calls p value) (expression_lies value w two.0)))
+        (elsif_lies rest here w two.1)
 
 pub expressions_lie : StaticIsValue → ExpressionsLie
-expressions_lie static s p calls agrees answers values e w fit h = expression_lies static s p agrees calls answers values e w fit h
+expressions_lie static s p calls agrees answers values e w h = expression_lies static s p agrees calls answers values e w h
 
 pub values_are_bounded : StaticIsValue → CallsAreTyped → ValuesAreBounded
-values_are_bounded static typed s p agrees sound visible e w fit h =
+values_are_bounded static typed s p agrees sound visible e w h =
     expressions_lie static s p (call p.frames_left) agrees (typed.answered p sound p.frames_left)
-    (record { visible = visible; results = λ actions owner name f vs found. results_lie (record p { actions = actions }) p.frames_left f vs }) e w fit h
+    (record { visible = visible; results = λ actions owner name f vs found. results_lie p.frames_left (record p { actions = actions }) f vs }) e w h
 
 pub checks_are_spared : StaticIsValue → ChecksAreSpared
-checks_are_spared static s p calls agrees answers values e w t fit h inside v is =
+checks_are_spared static s p calls agrees answers values e w t h inside v is =
     let between : is_between (bounds_of s e) v ≡ true =
-    ap (comes_between (bounds_of s e)) (sym is) ∙ expressions_lie static s p calls agrees answers values e w fit h in
+    ap (comes_between (bounds_of s e)) (sym is) ∙ expressions_lie static s p calls agrees answers values e w h in
     ap (λ b. cond b (Gives v) (raise ConstraintError)) (inside_passes (bounds_of s e) t v inside between)

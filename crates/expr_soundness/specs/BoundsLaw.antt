@@ -14,21 +14,21 @@ use Rattle.meaning.specs.expr_rules.specs.declared.own.Wanted.{Wanted}
 use Rattle.meaning.specs.expr_rules.specs.ExpressionRules.{faults_in}
 use Rattle.expr_soundness.specs.Agreeing.{Agrees}
 use Rattle.expr_soundness.specs.Answers.{CallsAnswer, FunctionsAreSound}
-use Rattle.meaning.specs.types.specs.Bounds.{base_bounds, bounds_of, numbers_fit}
-use Rattle.expr_soundness.specs.Lying.{ValuesLie, VisibleLies, are_between, comes_between}
+use Rattle.meaning.specs.types.specs.Bounds.{base_bounds, bounds_of}
+use Rattle.expr_soundness.specs.Lying.{LoopsLie, PlaceLies, ReturnWithin, ValuesLie, VisibleLies, are_between, comes_between}
 
 -- At a place that agrees with the visible names, and where what these stand for has values in its subtypes, a legal expression comes to a value between its
 -- bounds, or raises an exception.
 abbrev pub ExpressionsLie : Type 0
 ExpressionsLie = (s : Scope) (p : Place) (calls : Calls) → Agrees s p → CallsAnswer calls p → ValuesLie s p calls
-    → (e : ExprTree) (w : Wanted) → numbers_fit s e ≡ true → faults_in s w e ≡ []
+    → (e : ExprTree) (w : Wanted) → faults_in s w e ≡ []
     → comes_between (bounds_of s e) (value_with calls p e) ≡ true
 
 -- The same of the value at a place whose functions are sound, with the frames that are left. What a call returns is checked (RM 6.5), so nothing is asked of
 -- functions.
 abbrev pub ValuesAreBounded : Type 0
 ValuesAreBounded = (s : Scope) (p : Place) → Agrees s p → FunctionsAreSound p → VisibleLies s p
-    → (e : ExprTree) (w : Wanted) → numbers_fit s e ≡ true → faults_in s w e ≡ []
+    → (e : ExprTree) (w : Wanted) → faults_in s w e ≡ []
     → comes_between (bounds_of s e) (val p e) ≡ true
 
 -- every number between the bounds is one of the subtype
@@ -38,11 +38,18 @@ is_inside bounds t = int_le t.first bounds.0 && int_le bounds.1 t.last
 -- So an expression whose bounds lie inside a subtype passes the check against it, whatever its value: the check may be left out (RM 4.6, 5.2, 6.4.1, 6.5).
 abbrev pub ChecksAreSpared : Type 0
 ChecksAreSpared = (s : Scope) (p : Place) (calls : Calls) → Agrees s p → CallsAnswer calls p → ValuesLie s p calls
-    → (e : ExprTree) (w : Wanted) (t : Subtype) → numbers_fit s e ≡ true → faults_in s w e ≡ [] → is_inside (bounds_of s e) t ≡ true
+    → (e : ExprTree) (w : Wanted) (t : Subtype) → faults_in s w e ≡ [] → is_inside (bounds_of s e) t ≡ true
     → (v : Value) → value_with calls p e ≡ Gives v → passed t v ≡ Gives v
 
--- Where the inputs and the time are of the base range, what Ada.Real_Time and Control_IO give is (docs/LANGUAGE.md): so `VisibleLies` asks nothing of them
--- where the subtypes of their results are the base range, as in all scopes that the language makes.
+-- What a place has lies in its subtypes; so all that is visible does, wherever names agree with it, and loop parameters have numbers of their ranges.
+abbrev pub VisibleValuesLie : Type 0
+VisibleValuesLie = (s : Scope) (p : Place) → Agrees s p → PlaceLies p → LoopsLie s p → VisibleLies s p
+
+-- ... and with what functions return all that has a value
+abbrev pub AllValuesLie : Type 0
+AllValuesLie = (s : Scope) (p : Place) (calls : Calls) → Agrees s p → PlaceLies p → LoopsLie s p → ReturnWithin calls → ValuesLie s p calls
+
+-- Where the inputs and the time are of the base range, what Ada.Real_Time and Control_IO give is (docs/LANGUAGE.md).
 abbrev pub LanguageLies : Type 0
 LanguageLies = (p : Place) → are_lines p.schedule ≡ true → is_in_base_range p.now ≡ true → (o : PredefinedOperation) (vs : List Value)
     → are_between (wanted_by_operation o) vs ≡ true

@@ -8,7 +8,7 @@ use Rattle.meaning.specs.types.specs.declared.entity.Role.{Role}
 use Rattle.meaning.specs.types.specs.declared.entity.Role.TheVariants as role
 use Rattle.meaning.specs.types.specs.Entities as entity
 use Rattle.meaning.specs.types.specs.Entities.{Entity}
-use Rattle.meaning.specs.types.specs.Scopes.{Scope, base_range_of, form_at, form_of, integer, is_visible, standard, with_control_io, with_name, with_operations, with_real_time}
+use Rattle.meaning.specs.types.specs.Scopes.{Scope, form_at, form_of, is_visible, standard, with_control_io, with_name, with_operations, with_real_time}
 use Rattle.meaning.specs.types.specs.Values.{Value, Number}
 use Rattle.meaning.specs.types.specs.Shapes.{has_shape, shape_of}
 use Rattle.meaning.specs.types.specs.Places.{Object, Place, object_of}
@@ -21,6 +21,7 @@ use Rattle.meaning.specs.expr_rules.specs.ExpressionRules.{faults_in, faults_of}
 use Rattle.meaning.specs.expr_rules.specs.Laws.{IsTyped, suits}
 use Rattle.meaning.specs.type_rules.specs.SubtypeNames.{subtype_of}
 use Rattle.meaning.specs.declaring.specs.Laws.{StandsFirst}
+use Rattle.meaning.specs.Works.{turn_subtype}
 use Rattle.expr_soundness.specs.SoundScopes.{IsKnown, IsSoundEntity, IsSoundObject, SoundScope}
 use Rattle.expr_soundness.specs.Agreeing.{Agrees}
 use Rattle.expr_soundness.specs.Answers.{CallsAnswer, FunctionsAreSound}
@@ -84,10 +85,11 @@ pub record AgreementIsKept : Type 0 where
   pub declared : (s : Scope) (p : Place) (name : List ℕ) (r : Role) (t : Subtype) (v : Value) → Agrees s p → is_visible s name ≡ false
       → IsSoundObject s r t → has_shape (shape_of s t) v ≡ true
       → Agrees (with_name s name (entity.Object r t)) (record p { locals = (let x : Object = record { name = name; subtype = t; value = v } in x) ∷ p.locals })
-  -- in a run a loop parameter is an object of subtype Integer, whatever the type of its range: it is a constant, of which only the value matters (RM 5.5)
-  pub parameter : (s : Scope) (p : Place) (name : List ℕ) (n : ℕ) (z : ℤ) → Agrees s p → is_visible s name ≡ false → is_integers (form_at s n) ≡ true
-      → Agrees (with_name s name (entity.Object role.LoopParameter (base_range_of n)))
-      (record p { locals = (let x : Object = record { name = name; subtype = integer; value = Number z } in x) ∷ p.locals })
+  -- in a run a loop parameter is an object of type Integer, whatever the type of its range: it is a constant, of which only the value matters (RM 5.5)
+  pub parameter : (s : Scope) (p : Place) (name : List ℕ) (t : Subtype) (z : ℤ) → Agrees s p → is_visible s name ≡ false
+      → is_integers (form_at s t.type_number) ≡ true
+      → Agrees (with_name s name (entity.Object role.LoopParameter t))
+      (record p { locals = (let x : Object = record { name = name; subtype = turn_subtype z; value = Number z } in x) ∷ p.locals })
   -- a new value
   pub local : (s : Scope) (p : Place) (x : Object) → Agrees s p → Replaces p x p.locals → Agrees s (record p { locals = x ∷ p.locals })
   pub variable : (s : Scope) (p : Place) (x : Object) → Agrees s p → Replaces p x p.variables → Agrees s (record p { variables = x ∷ p.variables })

@@ -1,12 +1,16 @@
 -- When values lie in their subtypes, part by part, and when all do that an expression can see at a place (RM 3.2).
 use Rattle.std.specs.Prelude.{◌≡◌, ℕ, ℤ, Bool, true, false, List, [], ◌∷◌, Option, Some, bytes_eq, ◌&&◌, ⊤}
+use Rattle.meaning.specs.base.specs.Arithmetic.{is_in_base_range}
+use Rattle.meaning.specs.base.specs.Schedule.{are_lines}
 use Rattle.meaning.specs.types.specs.declared.entity.Subtype.{Subtype}
 use Rattle.meaning.specs.types.specs.declared.entity.RecordComponent.{RecordComponent}
 use Rattle.meaning.specs.types.specs.declared.entity.Role.{Role}
+use Rattle.meaning.specs.types.specs.declared.entity.Role.TheVariants as role
 use Rattle.meaning.specs.types.specs.declared.entity.PredefinedOperation.{PredefinedOperation}
 use Rattle.meaning.specs.types.specs.Entities.{TypeForm, Arrays, Records, Profile, Object, Predefined}
 use Rattle.meaning.specs.types.specs.Evaluating.{Calls, predefined_value, wanted_by_operation}
 use Rattle.meaning.specs.types.specs.Evaluations.{Val, Gives, Raises, Meaningless}
+use Rattle.meaning.specs.types.specs.Places as places
 use Rattle.meaning.specs.types.specs.Places.{Function, Place, IsObject, function_of, meaning_of}
 use Rattle.meaning.specs.types.specs.Scopes.{Scope, entity_at, form_at, number_of}
 use Rattle.meaning.specs.types.specs.Values.{Value, Number, Truth, Array, Record, Values, NoValues, MoreValues, Fields, NoFields, MoreFields, is_within}
@@ -61,7 +65,39 @@ lies_inside s n (Truth b) = true
 lies_inside s n (Array vs) = elements_lie s (form_at s n) vs
 lies_inside s n (Record fs) = fields_lie s (components_of (form_at s n)) fs
 
+-- ---- objects
+
+abbrev pub EachObject : (places.Object → Type 0) → List places.Object → Type 0
+EachObject P [] = ⊤
+EachObject P (x ∷ xs) = P x × EachObject P xs
+
+-- the value of the object lies in its subtype, and each part of it in its own
+abbrev pub ObjectLies : Scope → places.Object → Type 0
+ObjectLies s x = lies s x.subtype x.value ≡ true
+
+abbrev pub ObjectsLie : Scope → List places.Object → Type 0
+ObjectsLie s xs = EachObject (ObjectLies s) xs
+
 -- ---- at a place
+
+-- All that a place has lies in its own subtype, part by part, whatever is seen of it; and the time and the inputs are numbers of 64 bits.
+pub record PlaceLies (p : Place) : Type 0 where
+  pub variables : ObjectsLie p.scope p.variables
+  pub components : (o : ℕ) → ObjectsLie p.scope (p.components o)
+  pub locals : ObjectsLie p.scope p.locals
+  pub time : is_in_base_range p.now ≡ true
+  pub inputs : are_lines p.schedule ≡ true
+
+-- Each loop parameter that a scope knows has a number of the subtype that it knows of it, whose bounds are those of its range (RM 5.5): its object in a run has
+-- the subtype of its turn.
+abbrev pub LoopsLie : Scope → Place → Type 0
+LoopsLie s p = (name : List ℕ) (number : ℕ) (t u : Subtype) (z : ℤ) → number_of s name ≡ Some number
+    → entity_at s number ≡ Some (Object role.LoopParameter t)
+    → meaning_of p name ≡ IsObject u (Number z) → is_within t.first t.last z ≡ true
+
+-- What each function returns lies in the subtype of its result, wherever it is called and with whatever actuals: it is checked (RM 6.5).
+abbrev pub ReturnWithin : Calls → Type 0
+ReturnWithin calls = (p : Place) (f : Function) (vs : List Value) → comes_between (subtype_bounds f.result) (calls p f vs) ≡ true
 
 -- of what gives a value this is known; of what raises an exception, or has no meaning, nothing is asked
 abbrev pub OnGives : {A : Type 0} → (A → Type 0) → Val A → Type 0

@@ -10,6 +10,7 @@ use Rattle.meaning.specs.types.specs.declared.entity.FormalParameter.{FormalPara
 use Rattle.meaning.specs.types.specs.declared.entity.PredefinedOperation.{PredefinedOperation}
 use Rattle.meaning.specs.types.specs.declared.entity.PredefinedOperation.TheVariants as predefined
 use Rattle.meaning.specs.types.specs.Entities.{TypeForm, Integers, Booleans, Arrays, Records, Profile, Operation, Entity, OfType, OfSubtype, Object, Constant, Subprogram, Entry, Predefined, Protected, Doubtful}
+use Rattle.meaning.specs.types.specs.Bounds.{base_bounds, subtype_bounds}
 use Rattle.meaning.specs.types.specs.Scopes.{Scope, entity_at, form_at, boolean_type, integer_type, integer}
 use Rattle.meaning.specs.types.specs.Shapes.{has_shape, shape_of}
 use Rattle.meaning.specs.types.specs.Values.{value_of}
@@ -100,6 +101,8 @@ integer_formal = record { mode = mode.In; subtype = integer }
 pub record HasOperation (s : Scope) (formals : List FormalParameter) (is_result : Option TypeForm → Bool) (p : Profile) : Type 0 where
   pub subtype : Subtype
   pub result : p.result ≡ Some subtype
+  -- whose values are all that 64 bits hold
+  pub base : subtype_bounds subtype ≡ base_bounds
   pub form : is_result (form_at s subtype.type_number) ≡ true
   pub takes : p.formals ≡ formals
 

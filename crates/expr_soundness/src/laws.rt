@@ -1,5 +1,5 @@
 //! The laws of values, types and bounds, each what a function without work ensures.
-ghost use Rattle.expr_soundness.specs.BoundsLaw.{ChecksAreSpared, ExpressionsLie, LanguageLies, ValuesAreBounded};
+ghost use Rattle.expr_soundness.specs.BoundsLaw.{AllValuesLie, ChecksAreSpared, ExpressionsLie, LanguageLies, ValuesAreBounded, VisibleValuesLie};
 ghost use Rattle.expr_soundness.specs.CompositesLaw.{CompositesLie};
 ghost use Rattle.expr_soundness.specs.InitialLaw.{InitialValuesLie};
 ghost use Rattle.expr_soundness.specs.Laws.{AgreementIsKept, CallsAreTyped, ExpressionsAreTyped, ScopesAreSound};
@@ -57,6 +57,20 @@ pub fn checks_are_spared()
     ensures { ChecksAreSpared }
 {
     static_is_value();
+}
+
+/// What is visible lies in its subtypes where all does that a place has, and loop parameters have numbers of their ranges (RM 3.2, 5.5).
+pub fn visible_values_lie()
+    ensures { VisibleValuesLie }
+{
+    language_lies();
+}
+
+/// So does all that has a value, where what functions return lies in the subtypes of their results (RM 6.5).
+pub fn all_values_lie()
+    ensures { AllValuesLie }
+{
+    visible_values_lie();
 }
 
 /// What Ada.Real_Time and Control_IO give for actuals in their subtypes is of the base range, where the time and the inputs are (RM D.8).

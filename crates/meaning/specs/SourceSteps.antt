@@ -16,9 +16,8 @@ use Rattle.ada_tree.specs.declared.program.MainStatement.TheVariants as main
 use Rattle.ada_tree.specs.ExpressionTree as tree
 use Rattle.ada_tree.specs.ExpressionTree.{ExprTree, NameTree, SelectorTrees, NoSelectors, MoreSelectors, Arguments, MoreArguments, NoArguments, Text}
 use Rattle.ada_tree.specs.StatementTree as statements
-use Rattle.ada_tree.specs.StatementTree.{ObjectTree, DeclarationTree, LocalObject, RangeTree, IterationTree, Forever, While, For, ChoicesTree, OtherValues, StmtTree, Null, Assignment, Call, Exit, Return, Raise, DelayUntil, If, Case, Loop, Block, StmtTrees, NoStmts, MoreStmts, ElsifTrees, NoElsifs, MoreElsifs, AlternativeTrees, NoAlternatives, MoreAlternatives, HandlerTrees, NoHandlers, MoreHandlers}
+use Rattle.ada_tree.specs.StatementTree.{ObjectTree, DeclarationTree, LocalObject, IterationTree, Forever, While, For, ChoicesTree, OtherValues, StmtTree, Null, Assignment, Call, Exit, Return, Raise, DelayUntil, If, Case, Loop, Block, StmtTrees, NoStmts, MoreStmts, ElsifTrees, NoElsifs, MoreElsifs, AlternativeTrees, NoAlternatives, MoreAlternatives, HandlerTrees, NoHandlers, MoreHandlers}
 use Rattle.types.specs.Entities.{Entity, Put}
-use Rattle.types.specs.Scopes.{integer}
 use Rattle.types.specs.Shapes.{initial}
 use Rattle.types.specs.Values as values
 use Rattle.types.specs.Values.{Value}
@@ -28,7 +27,7 @@ use Rattle.types.specs.Places.{Object, Place}
 use Rattle.types.specs.Evaluating.{passed, truth_of, val}
 use Rattle.type_rules.specs.SubtypeNames.{named_entity}
 use Rattle.meaning.specs.Programs.{Parameter, Procedure, Program, exception_name, exception_number, subtype_named}
-use Rattle.meaning.specs.Works.{Target, Completion, Completed, Pending, Item, Declares, DeclaresParameter, Sequence, Does, DoesMain, Repeats, RepeatsWhile, RepeatsFor, Handles, EndsHandler, EndsCall, EndsAction, EndsServed, Queued, Work, Goes, Copies, Raising, Activation, TaskWork, Store, GivenToCaller, Results, Raised, frames_left}
+use Rattle.meaning.specs.Works.{Target, Completion, Completed, Pending, Item, Declares, DeclaresParameter, Sequence, Does, DoesMain, Repeats, RepeatsWhile, RepeatsFor, Handles, EndsHandler, EndsCall, EndsAction, EndsServed, Queued, Work, Goes, Copies, Raising, Activation, TaskWork, Store, GivenToCaller, Results, Raised, frames_left, turn_subtype}
 use Rattle.meaning.specs.Targets.{target, store_with, activation_with}
 use Rattle.meaning.specs.Calls.{Callee, callee_by, Actuals, actuals, activation_of, body_items, is_open, procedure_here, results, results_in}
 
@@ -258,7 +257,7 @@ module _ (h : Here) where
   -- a turn of a loop over a range; the parameter is a constant, of which only the value matters in a run
   abbrev pub for_turn : List ℕ → Bool → (now last : ℤ) → StmtTrees → List Item → SourceStepped
   for_turn parameter reversed now last body items =
-      with_object (record { name = parameter; subtype = integer; value = values.Number now })
+      with_object (record { name = parameter; subtype = turn_subtype now; value = values.Number now })
       (before body (RepeatsFor parameter reversed now last body ∷ items))
 
   abbrev pub for_range : Identifier → Bool → StmtTrees → List Item → Value → Value → SourceStepped

@@ -5,6 +5,7 @@ use Rattle.ada_tree.specs.declared.program.MainStatement.{MainStatement}
 use Rattle.ada_tree.specs.ExpressionTree.{ExprTree}
 use Rattle.ada_tree.specs.StatementTree.{StmtTree, StmtTrees, HandlerTrees, DeclarationTree}
 use Rattle.types.specs.declared.entity.Subtype.{Subtype}
+use Rattle.types.specs.Scopes.{integer_type}
 use Rattle.types.specs.Values as values
 use Rattle.types.specs.Places.{Object}
 use Rattle.meaning.specs.Programs.{Parameter, Procedure}
@@ -29,6 +30,10 @@ pub record Target : Type 0 where
   pub subtype : Subtype
 
 -- ---- items
+
+-- the subtype of a loop's parameter in a turn: it is a constant, of which only the value matters, and has that value alone (RM 5.5)
+abbrev pub turn_subtype : ℤ → Subtype
+turn_subtype now = record { type_number = integer_type; first = now; last = now }
 
 -- how a call has ended that opened an action: with results that are to be copied back, or with an exception that is pending (RM 9.5.1, 11.4)
 pub data Completion : Type 0 where

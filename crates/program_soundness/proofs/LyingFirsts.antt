@@ -28,13 +28,13 @@ use Rattle.expr_soundness.specs.expr_rules.proofs.TypedLaw.{front_empty}
 use Rattle.expr_soundness.specs.type_rules.specs.ObjectRules.{called_faults, computed_faults, fixed_faults, is_clock, span_call, span_faults}
 use Rattle.expr_soundness.specs.type_rules.specs.SubtypeNames.{subtype_of, wanted_by}
 use Rattle.expr_soundness.specs.InitialLaw.{InitialValuesLie}
-use Rattle.expr_soundness.specs.Lying.{OnGives, lies, lies_inside}
+use Rattle.expr_soundness.specs.Lying.{OnGives, lies, lies_inside, ObjectsLie}
 use Rattle.expr_soundness.specs.SoundScopes.{IsKnown, SoundScope}
 use Rattle.expr_soundness.proofs.Growing.{test_kept}
 use Rattle.expr_soundness.proofs.Lies.{fitting_lies}
 use Rattle.expr_soundness.proofs.Numbers.{in_base}
 use Rattle.expr_soundness.specs.meaning.specs.Programs.{given_or, initial_value, program_of, subtype_named, subtype_or_integer}
-use Rattle.step_soundness.specs.InSubtypes.{BeginsIn, ObjectsLie, StoreLies}
+use Rattle.step_soundness.specs.InSubtypes.{BeginsIn, StoreLies}
 use Rattle.step_soundness.specs.Objects.{first_store}
 use Rattle.program_soundness.proofs.BegunScopes.{Fits, form_fits, named_fits, subtype_begins, subtype_fits}
 use Rattle.program_soundness.proofs.Extending.{Extends, has_types, subtype_stays}

@@ -24,7 +24,6 @@ use Rattle.step_soundness.specs.Laws.{Matches, Premises}
 use Rattle.step_soundness.specs.Starting.{IsSoundStart}
 use Rattle.step_soundness.specs.InSubtypes.{CompletionLies, GivenLies, ItemsLie, PartsLie, StepLies, StepsKeepSubtypes, TaskLies, WorkLies}
 use Rattle.step_soundness.proofs.Lookups.{same_some}
-use Rattle.step_soundness.proofs.LyingLists.{locals_of}
 use Rattle.step_soundness.proofs.LyingSteps.{body_lies, copying_lies, types_of_targets}
 use Rattle.program_soundness.specs.SoundWorlds.{IsSoundWorld, awaited}
 use Rattle.program_soundness.specs.RunLaws.{RunsAreSound}
@@ -51,7 +50,7 @@ module _ (s : Scope) where
       record {
         work = body_lies s q (EndsServed o (results q.parameters) (completion_of t.work)) (items_of t.work) l.0.1 (completion_lies t.work k.work)
             (items_lie t.work k.work);
-        own = locals_of s _ l.0.0;
+        own = l.0.0;
         callers = (k.own, k.callers);
       }
   serves_lies o (Goes []) t l k = k

@@ -1,53 +1,36 @@
 -- Lists of objects whose values lie in their subtypes: what is found in them, what is stored, what a body is given.
-use Rattle.std.proofs.Common.{◌≡◌, inl, inr, ℕ, List, [], ◌∷◌, drop, Bool, true, false, cond, Option, Some, None, refl, sym, ap, ◌∙◌, subst}
-use Rattle.std.specs.Prelude.{bytes_eq}
+use Rattle.std.proofs.Common.{◌≡◌, ℕ, List, [], ◌∷◌, drop, Bool, true, false, cond, Option, Some, None, refl, sym, ap, ◌∙◌, subst}
 use Rattle.expr_soundness.specs.kernel.specs.PutLaws.{by_put}
 use Rattle.expr_soundness.specs.base.specs.declared.exceptions.PredefinedException.TheVariants.{ConstraintError}
 use Rattle.expr_soundness.specs.types.specs.declared.entity.Subtype.{Subtype}
-use Rattle.expr_soundness.specs.types.specs.Entities.{Integers, Arrays}
-use Rattle.expr_soundness.specs.types.specs.Scopes.{Scope, form_at, integer, integer_type}
+use Rattle.expr_soundness.specs.types.specs.Entities.{Arrays}
+use Rattle.expr_soundness.specs.types.specs.Scopes.{Scope}
 use Rattle.expr_soundness.specs.types.specs.Values.{Value, Number, Truth, Array, Record, element_at, field_of, fits}
 use Rattle.expr_soundness.specs.types.specs.Evaluations.{Val, Gives, Raises, Meaningless, and_then, raise}
 use Rattle.expr_soundness.specs.types.specs.Evaluating.{passed}
-use Rattle.expr_soundness.specs.types.specs.Places.{Function, Meaning, Object, IsObject, function_meaning, meaning_in_scope, meaning_of_entity, meaning_or, object_meaning, object_of, or_else}
-use Rattle.expr_soundness.specs.types.specs.Entities as entity
-use Rattle.expr_soundness.specs.types.specs.Entities.{Entity}
-use Rattle.expr_soundness.specs.types.specs.Scopes.{entity_at}
-use Rattle.expr_soundness.specs.SoundScopes.{SoundScope}
-use Rattle.expr_soundness.specs.Lying.{OnGives, components_of, elements_lie, fields_lie, lies, lies_inside}
+use Rattle.expr_soundness.specs.types.specs.Places.{Object, object_of}
+use Rattle.expr_soundness.specs.Lying.{ObjectLies, ObjectsLie, OnGives, components_of, elements_lie, fields_lie, lies, lies_inside}
 use Rattle.expr_soundness.specs.StoringLaw.{StoredValuesLie}
-use Rattle.expr_soundness.specs.Variables.{part_in, part_subtype}
+use Rattle.expr_soundness.specs.Variables.{part_subtype}
+use Rattle.expr_soundness.proofs.SeenValues.{found_each}
 use Rattle.expr_soundness.proofs.Lies.{element_lies, field_lies, fitting_lies, lying_inside}
 use Rattle.expr_soundness.specs.meaning.specs.Programs.{Parameter}
 use Rattle.expr_soundness.specs.meaning.specs.Works.{Element, Field, Home, InActivation, InPackage, InObject, Part, Target}
-use Rattle.expr_soundness.specs.meaning.specs.Targets.{activation_with, part_value, store_with, stored_to, value_in, with_part}
+use Rattle.expr_soundness.specs.meaning.specs.Targets.{activation_with, part_value, store_with, stored_to, value_in}
 use Rattle.expr_soundness.specs.meaning.specs.Calls.{bound, is_out, with_first}
 use Rattle.expr_soundness.specs.meaning.specs.SourceSteps.{Here}
 use Rattle.step_soundness.specs.Objects.{IsTarget, PartOf, subtype_in}
 use Rattle.step_soundness.specs.Holding.{IsSoundStore}
-use Rattle.step_soundness.specs.InSubtypes.{EachObject, LocalLies, LocalsLie, ObjectLies, ObjectsLie, StoreLies}
+use Rattle.step_soundness.specs.InSubtypes.{StoreLies}
 use Rattle.step_soundness.proofs.Aiming.{parts_there}
 use Rattle.step_soundness.proofs.Lookups.{same_some}
 use Rattle.step_soundness.proofs.Passing.{AllWorth, taken_subtypes}
 use Rattle.step_soundness.proofs.Storing.{object_there}
 
--- ---- what is found
+-- ---- what lies in its subtype
 
-pub found_each : (P : Object → Type 0) (objects : List Object) (name : List ℕ) (x : Object) → EachObject P objects → object_of objects name ≡ Some x → P x
-found_each P [] name x all h = cc
-found_each P (y ∷ rest) name x all h = by_test (bytes_eq y.name name) h (λ k. found_each P rest name x all.1 k)
-  where
-    by_test : (b : Bool) → cond b (Some y) (object_of rest name) ≡ Some x → (object_of rest name ≡ Some x → P x) → P x
-    by_test true k later = subst P (same_some y x k) all.0
-    by_test false k later = later k
-
-pub object_inside : (s : Scope) (x : Object) → LocalLies s x → lies_inside s x.subtype.type_number x.value ≡ true
-object_inside s x (inl i) = subst (λ v. lies_inside s x.subtype.type_number v ≡ true) (sym i.1.1) refl
-object_inside s x (inr h) = lying_inside s x.subtype x.value h
-
-pub locals_of : (s : Scope) (xs : List Object) → ObjectsLie s xs → LocalsLie s xs
-locals_of s [] h = tt
-locals_of s (x ∷ xs) h = (inr h.0, locals_of s xs h.1)
+pub object_inside : (s : Scope) (x : Object) → ObjectLies s x → lies_inside s x.subtype.type_number x.value ≡ true
+object_inside s x h = lying_inside s x.subtype x.value h
 
 -- ---- what is checked
 
@@ -64,108 +47,34 @@ then_passed s t (Gives x) h = passed_lies s t x h
 then_passed s t (Raises x) h = tt
 then_passed s t Meaningless h = tt
 
--- ---- what a name means is an object of the place
-
-same_subtype : (t u : Subtype) (v w : Value) → IsObject t v ≡ IsObject u w → t ≡ u
-same_subtype t u v w e = let f : Meaning → Subtype = λ m. elim m [
-  | IsObject x y ↦ x
-  | m ↦ t
-] in ap f e
-
-pub same_object : (t u : Subtype) (v w : Value) → IsObject t v ≡ IsObject u w → (t ≡ u) × (v ≡ w)
-same_object t u v w e = (same_subtype t u v w e, cc)
-
-no_object : (o : Option Entity) (u : Subtype) (v : Value) → meaning_of_entity o ≡ IsObject u v → ⊥
-no_object (Some (entity.OfType form t)) u v h = cc
-no_object (Some (entity.OfSubtype t)) u v h = cc
-no_object (Some (entity.Predefined o p)) u v h = cc
-no_object (Some (entity.Protected p)) u v h = cc
-no_object (Some (entity.Object r t)) u v h = cc
-no_object (Some (entity.Constant t c)) u v h = cc
-no_object (Some (entity.Literal b)) u v h = cc
-no_object (Some entity.Exception) u v h = cc
-no_object (Some (entity.Subprogram p)) u v h = cc
-no_object (Some (entity.Entry p)) u v h = cc
-no_object (Some entity.Put) u v h = cc
-no_object (Some (entity.Task n)) u v h = cc
-no_object (Some entity.LibraryUnit) u v h = cc
-no_object (Some entity.Doubtful) u v h = cc
-no_object None u v h = cc
-
-pub no_object_named : (s : Scope) (n : Option ℕ) (u : Subtype) (v : Value) → meaning_in_scope s n ≡ IsObject u v → ⊥
-no_object_named s (Some n) u v h = no_object (entity_at s n) u v h
-no_object_named s None u v h = cc
-
--- the object that the name means, of two lists of which the first goes before the second
-pub meant_object : (P : Object → Type 0) (a : Option Object) (f : Option Function) (b : Option Object) (g : Option Function) (m : Meaning) (u : Subtype)
-    (v : Value)
-    → meaning_or (or_else (object_meaning a) (function_meaning f)) (meaning_or (or_else (object_meaning b) (function_meaning g)) m) ≡ IsObject u v
-    → (m ≡ IsObject u v → ⊥) → ((x : Object) → a ≡ Some x → P x) → ((x : Object) → b ≡ Some x → P x)
-    → (x : Object) × P x × (x.subtype ≡ u) × (x.value ≡ v)
-meant_object P (Some x) f b g m u v h never first second = let same = same_object x.subtype u x.value v h in (x, first x refl, same.0, same.1)
-meant_object P None (Some f) b g m u v h never first second = cc
-meant_object P None None (Some x) g m u v h never first second = let same = same_object x.subtype u x.value v h in (x, second x refl, same.0, same.1)
-meant_object P None None None (Some g) m u v h never first second = cc
-meant_object P None None None None m u v h never first second = absurd (never h)
-
-pub meant_inside : (s : Scope) (x : Object) (u : Subtype) (v : Value) → LocalLies s x → x.subtype ≡ u → x.value ≡ v → lies_inside s u.type_number v ≡ true
+pub meant_inside : (s : Scope) (x : Object) (u : Subtype) (v : Value) → ObjectLies s x → x.subtype ≡ u → x.value ≡ v → lies_inside s u.type_number v ≡ true
 meant_inside s x u v h same is =
     subst (λ t. lies_inside s t.type_number v ≡ true) same (subst (λ w. lies_inside s x.subtype.type_number w ≡ true) is (object_inside s x h))
 
 -- ---- what is stored
 
-module _ (stored : StoredValuesLie) (s : Scope) (sound : SoundScope s) where
-  no_part : (p : Part) → part_in (Some Integers) p ≡ None
-  no_part (Element n) = refl
-  no_part (Field name) = refl
-
-  no_parts : (p : Part) (parts : List Part) (u : Subtype) → part_subtype s integer (p ∷ parts) ≡ Some u → ⊥
-  no_parts p parts u h = by_part (part_in (form_at s integer_type) p) (ap (λ o. part_in o p) sound.integer ∙ no_part p) h
-    where
-      by_part : (o : Option Subtype) → o ≡ None → elim o [ Some w ↦ part_subtype s w parts | None ↦ None ] ≡ Some u → ⊥
-      by_part (Some w) e k = cc
-      by_part None e k = cc
-
-  stored_local : (x : Object) (parts : List Part) (u : Subtype) (v : Value) → LocalLies s x → part_subtype s x.subtype parts ≡ Some u → lies s u v ≡ true
-      → LocalLies s (record x { value = with_part parts v x.value })
-  stored_local x parts u v (inr h) part l = inr (stored s x.subtype u parts x.value v part h l)
-  stored_local x [] u v (inl i) part l = inr (subst (λ k. lies s k v ≡ true) (sym (same_some x.subtype u part)) l)
-  stored_local x (p ∷ parts) u v (inl i) part l = absurd (no_parts p parts u (subst (λ t. part_subtype s t (p ∷ parts) ≡ Some u) i.0 part))
-
+module _ (stored : StoredValuesLie) (s : Scope) where
   -- with a value in front that is stored in a part of an object there
-  stored_each : (P : Object → Type 0) (objects : List Object) (name : List ℕ) (parts : List Part) (t u : Subtype) (v : Value)
-      → ((x : Object) → P x → part_subtype s x.subtype parts ≡ Some u → P (record x { value = with_part parts v x.value }))
-      → EachObject P objects
-      → subtype_in objects name ≡ Some t
-      → PartOf s t parts u → EachObject P (stored_to (object_of objects name) parts v objects)
-  stored_each P objects name parts t u v keeps all there part =
-      let x = object_there objects name t there in
-      let at : part_subtype s x.0.subtype parts ≡ Some u = parts_there s parts x.0.subtype u (subst (λ k. PartOf s k parts u) (sym x.2) part) in
-      subst (λ o. EachObject P (stored_to o parts v objects)) (sym x.1) (keeps x.0 (found_each P objects name x.0 all x.1) at, all)
-
-  stored_locals : (objects : List Object) (name : List ℕ) (parts : List Part) (t u : Subtype) (v : Value) → LocalsLie s objects
-      → subtype_in objects name ≡ Some t
-      → PartOf s t parts u → lies s u v ≡ true → LocalsLie s (stored_to (object_of objects name) parts v objects)
-  stored_locals objects name parts t u v all there part l =
-      stored_each (LocalLies s) objects name parts t u v (λ x h at. stored_local x parts u v h at l) all there part
-
   stored_lies : (objects : List Object) (name : List ℕ) (parts : List Part) (t u : Subtype) (v : Value) → ObjectsLie s objects
       → subtype_in objects name ≡ Some t
       → PartOf s t parts u → lies s u v ≡ true → ObjectsLie s (stored_to (object_of objects name) parts v objects)
   stored_lies objects name parts t u v all there part l =
-      stored_each (ObjectLies s) objects name parts t u v (λ x h at. stored s x.subtype u parts x.value v at h l) all there part
+      let x = object_there objects name t there in
+      let at : part_subtype s x.0.subtype parts ≡ Some u = parts_there s parts x.0.subtype u (subst (λ k. PartOf s k parts u) (sym x.2) part) in
+      subst (λ o. ObjectsLie s (stored_to o parts v objects)) (sym x.1)
+      (stored s x.0.subtype u parts x.0.value v at (found_each (ObjectLies s) objects name x.0 all x.1) l, all)
 
-module _ (stored : StoredValuesLie) (h : Here) (sound : SoundScope h.program.scope) (holds : IsSoundStore h.program h.memory)
-    (store : StoreLies h.program.scope h.memory) (own : LocalsLie h.program.scope h.own.locals) where
+module _ (stored : StoredValuesLie) (h : Here) (holds : IsSoundStore h.program h.memory)
+    (store : StoreLies h.program.scope h.memory) (own : ObjectsLie h.program.scope h.own.locals) where
   pub stored_at : (home : Home) (name : List ℕ) (parts : List Part) (u : Subtype) (v : Value)
       → IsTarget h.program h.own (let x : Target = record { home = home; name = name; parts = parts; subtype = u } in x) → lies h.program.scope u v ≡ true
       → StoreLies h.program.scope (store_with (record { home = home; name = name; parts = parts; subtype = u }) v h.memory)
-      × LocalsLie h.program.scope (activation_with (record { home = home; name = name; parts = parts; subtype = u }) v h.own).locals
+      × ObjectsLie h.program.scope (activation_with (record { home = home; name = name; parts = parts; subtype = u }) v h.own).locals
   stored_at InActivation name parts u v target l =
-      (store, stored_locals stored h.program.scope sound h.own.locals name parts target.part.whole u v own target.part.found target.part.part l)
+      (store, stored_lies stored h.program.scope h.own.locals name parts target.part.whole u v own target.part.found target.part.part l)
   stored_at InPackage name parts u v target l = (
     record {
-      variables = stored_lies stored h.program.scope sound h.memory.variables name parts target.part.whole u v store.variables
+      variables = stored_lies stored h.program.scope h.memory.variables name parts target.part.whole u v store.variables
           (holds.same.variables name ∙ target.part.found) target.part.part l;
       components = store.components;
     },
@@ -174,7 +83,7 @@ module _ (stored : StoredValuesLie) (h : Here) (sound : SoundScope h.program.sco
   stored_at (InObject o) name parts u v target l =
       let after = stored_to (object_of (h.memory.components o) name) parts v (h.memory.components o) in
       let lying : ObjectsLie h.program.scope after =
-      stored_lies stored h.program.scope sound (h.memory.components o) name parts target.part.whole u v (store.components o)
+      stored_lies stored h.program.scope (h.memory.components o) name parts target.part.whole u v (store.components o)
       (holds.same.components o name ∙ target.part.found) target.part.part l
       in (
         record {
@@ -238,11 +147,11 @@ part_inside s (Field name ∷ parts) t u (Truth b) w part h is = cc
 part_inside s (Field name ∷ parts) t u (Array vs) w part h is = cc
 
 -- the value of a part of what is found there
-pub found_inside : (s : Scope) (objects : List Object) (name : List ℕ) (parts : List Part) (t u : Subtype) (w : Value) → LocalsLie s objects
+pub found_inside : (s : Scope) (objects : List Object) (name : List ℕ) (parts : List Part) (t u : Subtype) (w : Value) → ObjectsLie s objects
     → subtype_in objects name ≡ Some t
     → PartOf s t parts u → value_in (object_of objects name) parts ≡ Some w → lies_inside s u.type_number w ≡ true
 found_inside s objects name parts t u w all there part is =
     let x = object_there objects name t there in
     part_inside s parts x.0.subtype u x.0.value w (subst (λ k. PartOf s k parts u) (sym x.2) part)
-    (object_inside s x.0 (found_each (LocalLies s) objects name x.0 all x.1))
+    (object_inside s x.0 (found_each (ObjectLies s) objects name x.0 all x.1))
     (ap (λ o. value_in o parts) (sym x.1) ∙ is)

@@ -1,5 +1,5 @@
 -- Each step of a task keeps all values in their subtypes: what is declared, stored, passed and copied back lies there.
-use Rattle.std.proofs.Common.{◌≡◌, inl, inr, ℕ, zero, suc, List, [], ◌∷◌, ◌++◌, map, Bool, true, false, cond, Option, Some, None, refl, sym, ap, ◌∙◌, subst}
+use Rattle.std.proofs.Common.{◌≡◌, ℕ, zero, suc, List, [], ◌∷◌, ◌++◌, map, Bool, true, false, cond, Option, Some, None, refl, sym, ap, ◌∙◌, subst}
 use Rattle.std.specs.Prelude.{ℤ, int_lt, is_some}
 use Rattle.expr_soundness.specs.kernel.specs.Effects.{Dies, Effect, Ends, Finishes, Opens, Queues, Quiet, Refusal, Says, call_refusal, is_above_ceiling, is_full, is_inside_any}
 use Rattle.expr_soundness.specs.ada_tree.specs.declared.expression.Identifier.{Identifier}
@@ -27,7 +27,9 @@ use Rattle.stmt_rules.specs.declared.around.Around.{Around}
 use Rattle.stmt_rules.specs.SimpleRules.{assigned_wanted}
 use Rattle.stmt_rules.specs.StatementRules.{stmt_faults}
 use Rattle.expr_soundness.specs.CompositesLaw.{CompositesLie, PartsLieHere}
-use Rattle.expr_soundness.specs.Lying.{OnGives, lies, lies_inside}
+use Rattle.expr_soundness.specs.Lying.{ObjectLies, ObjectsLie, OnGives, lies, lies_inside}
+use Rattle.expr_soundness.proofs.Numbers.{within_itself}
+use Rattle.expr_soundness.proofs.SeenValues.{found_each}
 use Rattle.expr_soundness.specs.StoringLaw.{StoredValuesLie}
 use Rattle.expr_soundness.specs.meaning.specs.Programs.{Parameter, Procedure, Program, subtype_named}
 use Rattle.expr_soundness.specs.meaning.specs.Works.{Activation, Completion, Completed, Pending, GivenToCaller, Raised, Results, Home, InActivation, InPackage, InObject, Item, Declares, DeclaresParameter, Sequence, Does, DoesMain, Repeats, RepeatsWhile, RepeatsFor, Handles, EndsHandler, EndsCall, EndsAction, EndsServed, Queued, Part, Target, Work, Goes, Copies, Raising, frames_left}
@@ -39,7 +41,7 @@ use Rattle.step_soundness.specs.Fitting.{result_types}
 use Rattle.step_soundness.specs.Opened.{ForCall, ForCaller, IsHeld, Opened, opened_in}
 use Rattle.step_soundness.specs.Judged.{AreResults, IsLegalLocal, IsMainStatement, IsReady, IsWork, Judged, Waiting}
 use Rattle.step_soundness.specs.Laws.{Premises}
-use Rattle.step_soundness.specs.InSubtypes.{CallersLie, CompletionLies, GivenLies, IsBegun, ItemLies, ItemsLie, LocalLies, LocalsLie, ParametersBegin, PartsLie, StepLies, StepsKeepSubtypes, StoreLies, WorkLies, target_type}
+use Rattle.step_soundness.specs.InSubtypes.{CallersLie, CompletionLies, GivenLies, IsBegun, ItemLies, ItemsLie, ParametersBegin, PartsLie, StepLies, StepsKeepSubtypes, StoreLies, WorkLies, target_type}
 use Rattle.step_soundness.proofs.Aiming.{IsNamedTarget, NamesTarget, names_target, objects_at}
 use Rattle.step_soundness.proofs.Raising.{target_predefined}
 use Rattle.step_soundness.proofs.Reaching.{target_reached}
@@ -51,7 +53,7 @@ use Rattle.step_soundness.proofs.Calling.{found_here}
 use Rattle.step_soundness.proofs.Callees.{CallArms, call_met}
 use Rattle.step_soundness.proofs.Elaborating.{IsDeclared, declared_subtype}
 use Rattle.step_soundness.proofs.LyingPlaces.{parts_seen}
-use Rattle.step_soundness.proofs.LyingLists.{bound_lies, found_each, found_inside, locals_of, object_inside, passed_lies, stored_at, then_passed}
+use Rattle.step_soundness.proofs.LyingLists.{bound_lies, found_inside, object_inside, passed_lies, stored_at, then_passed}
 
 -- ---- items
 
@@ -159,7 +161,7 @@ raised_given program x (ForCaller o ∷ outer) = tt
 -- ---- a step
 
 module _ (composites : CompositesLie) (stored : StoredValuesLie) (h : Here) (s : Scope) (outer : List Waiting) (laws : Premises h.program)
-    (begun : IsBegun h.program) (c : Current h s outer) (store : StoreLies h.program.scope h.memory) (own : LocalsLie h.program.scope h.own.locals)
+    (begun : IsBegun h.program) (c : Current h s outer) (store : StoreLies h.program.scope h.memory) (own : ObjectsLie h.program.scope h.own.locals)
     (callers : CallersLie h.program.scope h.callers) (opened : List Opened) where
   abbrev Lie : SourceStepped → Type 0
   Lie x = StepLies h.program opened x
@@ -179,7 +181,7 @@ module _ (composites : CompositesLie) (stored : StoredValuesLie) (h : Here) (s :
   nothing_lies : (items : List Item) → Items items → Lie (means_nothing h items)
   nothing_lies items l = works_lie (Dies 0) (Goes items) l
 
-  added_lies : (x : Object) (items : List Item) → LocalLies h.program.scope x → Items items → Lie (with_object h x items)
+  added_lies : (x : Object) (items : List Item) → ObjectLies h.program.scope x → Items items → Lie (with_object h x items)
   added_lies x items k l = record { store = store; task = record { work = l; own = (k, own); callers = callers }; given = none_given h.program opened }
 
   value_lies : {A : Type 0} (P : A → Type 0) (v : Val A) (items : List Item) (go : A → SourceStepped) → Items items → OnGives P v → ((x : A) → P x → Lie (go x))
@@ -212,7 +214,7 @@ module _ (composites : CompositesLie) (stored : StoredValuesLie) (h : Here) (s :
   object_lies : (d : ObjectTree) (items : List Item) → local_object_faults s d ≡ [] → Items items → Lie (declare h (LocalObject d) items)
   object_lies d items legal l =
       value_lies (λ v. lies h.program.scope t v ≡ true) (declared_value h items d d.value) items _ l (comes d.value initial_legal)
-      (λ v k. added_lies _ items (inr k) l)
+      (λ v k. added_lies _ items k l)
     where
       two : subtype_faults s d.subtype ++ local_initial_faults s d ≡ []
       two = front_empty (subtype_faults s d.subtype ++ local_initial_faults s d) (declared_twice s d.name) legal
@@ -245,7 +247,7 @@ module _ (composites : CompositesLie) (stored : StoredValuesLie) (h : Here) (s :
   stores_lie : (x : Target) (v : Value) (w : Work) → IsTarget h.program h.own x → lies h.program.scope x.subtype v ≡ true → WorkLies h.program.scope w
       → Lie (stores h x v w)
   stores_lie x v w target k l =
-      let after = stored_at stored h laws.sound c.store store own x.home x.name x.parts x.subtype v target k in
+      let after = stored_at stored h c.store store own x.home x.name x.parts x.subtype v target k in
       record { store = after.0; task = record { work = l; own = after.1; callers = callers }; given = none_given h.program opened }
 
   assign_lies : (a : Around) (name : NameTree) (e : ExprTree) (items : List Item) → At h s outer a items
@@ -292,7 +294,7 @@ module _ (composites : CompositesLie) (stored : StoredValuesLie) (h : Here) (s :
   turn_lies : (parameter : List ℕ) (reversed : Bool) (now last : ℤ) (body : StmtTrees) (items : List Item) → Items items
       → Lie (for_turn h parameter reversed now last body items)
   turn_lies parameter reversed now last body items l =
-      added_lies _ (before body (RepeatsFor parameter reversed now last body ∷ items)) (inl (refl, (now, refl)))
+      added_lies _ (before body (RepeatsFor parameter reversed now last body ∷ items)) (within_itself now)
       (before_lies h.program.scope body (RepeatsFor parameter reversed now last body ∷ items) (tt, l))
 
   while_lies : (e : ExprTree) (body : StmtTrees) (items : List Item) → Items items → Lie (while_turn h e body items)
@@ -343,7 +345,7 @@ module _ (composites : CompositesLie) (stored : StoredValuesLie) (h : Here) (s :
         store = store;
         task = record {
           work = body_lies h.program.scope q (EndsCall (results q.parameters) o x.targets) items known tt l;
-          own = locals_of h.program.scope _ (bound_lies h.program.scope q.parameters x.values fit.2);
+          own = bound_lies h.program.scope q.parameters x.values fit.2;
           callers = (own, callers);
         };
         given = none_given h.program opened;
@@ -387,10 +389,10 @@ module _ (composites : CompositesLie) (stored : StoredValuesLie) (h : Here) (s :
   same_objects InPackage name parts u items = refl
   same_objects (InObject o) name parts u items = refl
 
-  objects_lie : (home : Home) (items : List Item) → LocalsLie h.program.scope (objects_at (place_of h items) home)
+  objects_lie : (home : Home) (items : List Item) → ObjectsLie h.program.scope (objects_at (place_of h items) home)
   objects_lie InActivation items = own
-  objects_lie InPackage items = locals_of h.program.scope h.memory.variables store.variables
-  objects_lie (InObject o) items = locals_of h.program.scope (h.memory.components o) (store.components o)
+  objects_lie InPackage items = store.variables
+  objects_lie (InObject o) items = store.components o
 
   passes : (items : List Item) → Passes h s items Lies
   passes items =
@@ -491,7 +493,7 @@ module _ (composites : CompositesLie) (stored : StoredValuesLie) (h : Here) (s :
       let one = are.0 in
       let there = (c.own.fits (place_of h [])).results name one.0 one.1 one.2 one.3 in
       let x = object_there h.own.locals name one.1 there in
-      let inside = object_inside h.program.scope x.0 (found_each (LocalLies h.program.scope) h.own.locals name x.0 own x.1) in
+      let inside = object_inside h.program.scope x.0 (found_each (ObjectLies h.program.scope) h.own.locals name x.0 own x.1) in
       let same : x.0.subtype.type_number ≡ n = ap (λ (u : Subtype). u.type_number) x.2 ∙ one.4 in
       subst (λ o. PartsLie h.program.scope (n ∷ types) (with_value_of o (results_in h.own.locals names))) (sym x.1)
       (subst (λ k. lies_inside h.program.scope k x.0.value ≡ true) same inside, results_lie types names are.1)
@@ -500,7 +502,7 @@ module _ (composites : CompositesLie) (stored : StoredValuesLie) (h : Here) (s :
 -- ---- items
 
 module _ (composites : CompositesLie) (stored : StoredValuesLie) (h : Here) (laws : Premises h.program) (begun : IsBegun h.program)
-    (store : StoreLies h.program.scope h.memory) (own : LocalsLie h.program.scope h.own.locals) (callers : CallersLie h.program.scope h.callers)
+    (store : StoreLies h.program.scope h.memory) (own : ObjectsLie h.program.scope h.own.locals) (callers : CallersLie h.program.scope h.callers)
     (opened : List Opened) where
   abbrev Met : SourceStepped → Type 0
   Met x = StepLies h.program opened x
@@ -519,7 +521,7 @@ module _ (composites : CompositesLie) (stored : StoredValuesLie) (h : Here) (law
       (none_given h.program opened)
 
 served_ends : (composites : CompositesLie) (stored : StoredValuesLie) (h : Here) (laws : Premises h.program) (begun : IsBegun h.program)
-    (store : StoreLies h.program.scope h.memory) (own : LocalsLie h.program.scope h.own.locals) (callers : CallersLie h.program.scope h.callers)
+    (store : StoreLies h.program.scope h.memory) (own : ObjectsLie h.program.scope h.own.locals) (callers : CallersLie h.program.scope h.callers)
     (s : Scope) (outer : List Waiting) (c : Current h s outer) (a : Around) (o : ℕ) (names : List (List ℕ)) (completion : Completion) (items : List Item)
     → Judged h.program s outer a (EndsServed o names completion ∷ items) → CompletionLies h.program.scope completion → ItemsLie h.program.scope items
     → StepLies h.program (ForCaller o ∷ opened_in items)
@@ -535,7 +537,7 @@ served_ends composites stored h laws begun store own callers s (w ∷ outer) c a
     )
 
 module _ (composites : CompositesLie) (stored : StoredValuesLie) (h : Here) (s : Scope) (outer : List Waiting) (laws : Premises h.program)
-    (begun : IsBegun h.program) (c : Current h s outer) (store : StoreLies h.program.scope h.memory) (own : LocalsLie h.program.scope h.own.locals)
+    (begun : IsBegun h.program) (c : Current h s outer) (store : StoreLies h.program.scope h.memory) (own : ObjectsLie h.program.scope h.own.locals)
     (callers : CallersLie h.program.scope h.callers) (a : Around) where
   abbrev Step : List Opened → SourceStepped → Type 0
   Step opened x = StepLies h.program opened x
@@ -548,7 +550,7 @@ module _ (composites : CompositesLie) (stored : StoredValuesLie) (h : Here) (s :
       → ItemsLie h.program.scope items → Step (opened_in (i ∷ items)) (item_step h i items)
   item_lies (Declares d) items held r k l = declares_lie composites stored h s outer laws begun c store own callers (opened_in items) d items r.0 l
   item_lies (DeclaresParameter f) items held r k l =
-      added_lies composites stored h s outer laws begun c store own callers (opened_in items) _ items (inr k) l
+      added_lies composites stored h s outer laws begun c store own callers (opened_in items) _ items k l
   item_lies (Sequence body all) items held r k l =
       goes_on (opened_in items) (before body (Handles all ∷ items)) (before_lies h.program.scope body (Handles all ∷ items) (tt, l))
   item_lies (Does x) items held r k l =

@@ -4,9 +4,10 @@ use Rattle.std.specs.Prelude.{bytes_eq, is_some, option_map, slice_get}
 use Rattle.expr_soundness.specs.types.specs.declared.entity.Subtype.{Subtype}
 use Rattle.expr_soundness.specs.types.specs.declared.entity.Role.{Role}
 use Rattle.expr_soundness.specs.types.specs.declared.entity.Role.TheVariants as role
-use Rattle.expr_soundness.specs.types.specs.Entities.{Entity, TypeForm}
+use Rattle.expr_soundness.specs.types.specs.Entities.{Entity}
 use Rattle.expr_soundness.specs.types.specs.Entities as entity
-use Rattle.expr_soundness.specs.types.specs.Scopes.{Scope, base_range_of, form_at, integer, is_visible, with_name}
+use Rattle.expr_soundness.specs.types.specs.Scopes.{Scope, base_range_of, form_at, is_visible, with_name}
+use Rattle.expr_soundness.specs.meaning.specs.Works.{turn_subtype}
 use Rattle.expr_soundness.specs.types.specs.Shapes.{Shape, Ranged, Logical, Timed, Repeated, Grouped, Shapeless, has_shape, initial, narrowed, shape_of, shape_or_none, shapes}
 use Rattle.expr_soundness.specs.types.specs.Values.{Value, Number, Truth, Array, Record}
 use Rattle.expr_soundness.specs.types.specs.Places.{Object, Place, object_of}
@@ -95,11 +96,11 @@ module _ (program : Program) where
       let x : Object = record { name = name; subtype = t; value = v } in
       fits_with s p x r t fits unseen (laws.kept.declared s p name r t v fits.agrees unseen object (subtype_values s t v ∙ value_there s p fits.agrees t.type_number known v suited)) (λ h. refl)
 
-  pub fits_turn : Premises program → (s : Scope) (p : Place) (name : List ℕ) (n : ℕ) (z : ℤ) → FitsScope program s p → is_visible s name ≡ false → is_integers (form_at s n) ≡ true
-      → FitsScope program (turn_scope s name n) (record p { locals = (let x : Object = record { name = name; subtype = integer; value = Number z } in x) ∷ p.locals })
-  fits_turn laws s p name n z fits unseen integers =
-      let x : Object = record { name = name; subtype = integer; value = Number z } in
-      fits_with s p x role.LoopParameter (base_range_of n) fits unseen (laws.kept.parameter s p name n z fits.agrees unseen integers) (λ h. cc)
+  pub fits_turn : Premises program → (s : Scope) (p : Place) (name : List ℕ) (t : Subtype) (z : ℤ) → FitsScope program s p → is_visible s name ≡ false → is_integers (form_at s t.type_number) ≡ true
+      → FitsScope program (turn_scope s name t) (record p { locals = (let x : Object = record { name = name; subtype = turn_subtype z; value = Number z } in x) ∷ p.locals })
+  fits_turn laws s p name t z fits unseen integers =
+      let x : Object = record { name = name; subtype = turn_subtype z; value = Number z } in
+      fits_with s p x role.LoopParameter t fits unseen (laws.kept.parameter s p name t z fits.agrees unseen integers) (λ h. cc)
 
   -- ---- fewer names
 

@@ -1,12 +1,13 @@
 -- Loops: their first turn, their further turns, their ends (RM 5.5).
 use Rattle.std.proofs.Common.{◌≡◌, ℕ, ℤ, pos, List, [], ◌∷◌, ◌++◌, Bool, true, false, not, Option, Some, None, Ok, Err, cond, refl, sym, ap, subst}
-use Rattle.std.specs.Prelude.{int_lt}
+use Rattle.std.specs.Prelude.{int_lt, option_map}
 use Rattle.expr_soundness.specs.base.specs.Arithmetic.{Checked, difference_of, sum_of}
 use Rattle.expr_soundness.specs.ada_tree.specs.declared.expression.Identifier.{Identifier}
 use Rattle.expr_soundness.specs.ada_tree.specs.ExpressionTree.{ExprTree}
 use Rattle.expr_soundness.specs.ada_tree.specs.StatementTree.{IterationTree, Forever, While, For, RangeTree, StmtTrees}
 use Rattle.expr_soundness.specs.types.specs.Operators.{are_same}
-use Rattle.expr_soundness.specs.types.specs.Scopes.{Scope, form_at, integer, integer_type, is_visible, with_name}
+use Rattle.expr_soundness.specs.types.specs.declared.entity.Subtype.{Subtype}
+use Rattle.expr_soundness.specs.types.specs.Scopes.{Scope, form_at, integer_type, is_visible, with_name}
 use Rattle.expr_soundness.specs.types.specs.Statics.{start_of}
 use Rattle.expr_soundness.specs.types.specs.Values.{Value, Number}
 use Rattle.expr_soundness.specs.types.specs.Places.{Object, Place}
@@ -19,13 +20,13 @@ use Rattle.expr_soundness.specs.expr_rules.specs.ExpressionRules.{faults_in, fau
 use Rattle.expr_soundness.specs.expr_rules.proofs.TypedLaw.{back_empty, front_empty, integral_numeric, suits_number, unbroken}
 use Rattle.expr_soundness.specs.type_rules.specs.SubtypeNames.{declared_twice}
 use Rattle.expr_soundness.specs.declaring.specs.Laws.{StandsFirst}
-use Rattle.expr_soundness.specs.declaring.specs.BodyNames.{bounds_type, if_integers, last_rule, loop_faults, loop_scope, loop_type, parameter_entity}
+use Rattle.expr_soundness.specs.declaring.specs.BodyNames.{bounds_type, if_integers, last_rule, loop_faults, loop_scope, loop_type, parameter_entity, turns_subtype}
 use Rattle.stmt_rules.specs.declared.around.Around.{Around}
 use Rattle.stmt_rules.specs.SimpleRules.{condition_faults}
 use Rattle.stmt_rules.specs.StatementRules.{in_loop, iteration_faults, iteration_scope, stmts_faults}
 use Rattle.body_restrictions.specs.BodyRules as profile
 use Rattle.expr_soundness.specs.meaning.specs.Programs.{Program}
-use Rattle.expr_soundness.specs.meaning.specs.Works.{Item, EndsAction, Repeats, RepeatsWhile, RepeatsFor, Activation}
+use Rattle.expr_soundness.specs.meaning.specs.Works.{turn_subtype, Item, EndsAction, Repeats, RepeatsWhile, RepeatsFor, Activation}
 use Rattle.expr_soundness.specs.meaning.specs.SourceSteps.{Here, before, begin_loop, condition, evaluate, for_range, for_turn, goes, next_number, next_turn, number_computed, while_turn, with_object, with_value}
 use Rattle.step_soundness.specs.Objects.{GivesOrRaises, IsOf}
 use Rattle.step_soundness.specs.Fitting.{FitsScope, Narrows}
@@ -72,18 +73,18 @@ module _ (h : Here) (s : Scope) (outer : List Waiting) (laws : Premises h.progra
   integers_here = ap is_integers laws.sound.integer
 
   -- a turn of a loop over a range
-  pub turn_sound : (a : Around) (items : List Item) (parameter : List ℕ) (reversed : Bool) (now last : ℤ) (body : StmtTrees) (outside : Scope) (n : ℕ) (b : Bool)
-      → IsHeld h.own.within (opened_in items) → Narrows h.program s outside → IsLoopParameter outside parameter n → AreFaultless (turn_scope outside parameter n) (in_loop a) body
-      → Narrows h.program (turn_scope outside parameter n) outside → Behind h.program outside outer (record a { in_loop = b }) items
+  pub turn_sound : (a : Around) (items : List Item) (parameter : List ℕ) (reversed : Bool) (now last : ℤ) (body : StmtTrees) (outside : Scope) (t : Subtype) (b : Bool)
+      → IsHeld h.own.within (opened_in items) → Narrows h.program s outside → IsLoopParameter outside parameter t → AreFaultless (turn_scope outside parameter t) (in_loop a) body
+      → Narrows h.program (turn_scope outside parameter t) outside → Behind h.program outside outer (record a { in_loop = b }) items
       → IsSoundStep h (opened_in items) (for_turn h parameter reversed now last body items)
-  turn_sound a items parameter reversed now last body outside n b held narrows new legal back rest =
+  turn_sound a items parameter reversed now last body outside t b held narrows new legal back rest =
       let loop = RepeatsFor parameter reversed now last body ∷ items in
-      let inner = turn_scope outside parameter n in
-      let behind : Behind h.program inner outer (in_loop a) loop = (inner, narrows_same h.program inner, (outside, n, back, new, legal, back, rest.0, b, rest.1, rest.2)) in
+      let inner = turn_scope outside parameter t in
+      let behind : Behind h.program inner outer (in_loop a) loop = (inner, narrows_same h.program inner, (outside, t, back, new, legal, back, rest.0, b, rest.1, rest.2)) in
       let whole = before_judged h.program inner outer (in_loop a) body loop legal behind in
-      let x : Object = record { name = parameter; subtype = integer; value = Number now } in
+      let x : Object = record { name = parameter; subtype = turn_subtype now; value = Number now } in
       added (in_loop a) items (before body loop) x whole.0 held (suits_number h.program.scope (Typed integer_type) (integral_numeric h.program.scope (Typed integer_type) integers_here) now)
-      (λ p fits. whole.1 _ (fits_turn h.program laws outside (inside h.program h.memory h.own p) parameter n now (narrows _ fits) new.unseen new.integers))
+      (λ p fits. whole.1 _ (fits_turn h.program laws outside (inside h.program h.memory h.own p) parameter t now (narrows _ fits) new.unseen new.integers))
       (ready_of h.program _ whole.0 outer (in_loop a) (before body loop) whole.2)
       (opened_before body loop)
 
@@ -144,11 +145,11 @@ module _ (h : Here) (s : Scope) (outer : List Waiting) (laws : Premises h.progra
   bounds_known (Typed n) y i j k = (n, ap (λ b. some_if b n) i, i)
 
   module _ (a : Around) (items : List Item) (at : At h s outer a items) where
-    range_sound : (parameter : Identifier) (reversed : Bool) (body : StmtTrees) (n : ℕ) → IsLoopParameter s parameter.name n → AreFaultless (turn_scope s parameter.name n) (in_loop a) body
-        → Narrows h.program (turn_scope s parameter.name n) s → (v w : Value) → IsNumber v → IsNumber w → IsSoundStep h (opened_in items) (for_range h parameter reversed body items v w)
-    range_sound parameter reversed body n new legal back v w one two =
+    range_sound : (parameter : Identifier) (reversed : Bool) (body : StmtTrees) (t : Subtype) → IsLoopParameter s parameter.name t → AreFaultless (turn_scope s parameter.name t) (in_loop a) body
+        → Narrows h.program (turn_scope s parameter.name t) s → (v w : Value) → IsNumber v → IsNumber w → IsSoundStep h (opened_in items) (for_range h parameter reversed body items v w)
+    range_sound parameter reversed body t new legal back v w one two =
         let turn : (r : Bool) (now last : ℤ) → IsSoundStep h (opened_in items) (for_turn h parameter.name r now last body items) =
-        λ r now last. turn_sound a items parameter.name r now last body s n a.in_loop at.held (narrows_same h.program s) new legal back at.behind
+        λ r now last. turn_sound a items parameter.name r now last body s t a.in_loop at.held (narrows_same h.program s) new legal back at.behind
         in
         let down = for_turn h parameter.name true two.0 one.0 body items in
         let up = for_turn h parameter.name false one.0 two.0 body items in
@@ -173,21 +174,22 @@ module _ (h : Here) (s : Scope) (outer : List Waiting) (laws : Premises h.progra
         let integral_last = fitting_own h s outer laws c items range.last AnyInteger of_last in
         let sound = (agrees_here h s outer c items).sound in
         let found = bounds_known (own_of s range.first) (own_of s range.last) integral_first integral_last (ap is_integers sound.integer) in
-        let n = found.0 in
-        let same : loop_scope s parameter range ≡ turn_scope s parameter.name n = ap (λ o. with_name s parameter.name (parameter_entity o)) found.1 in
-        let new : IsLoopParameter s parameter.name n =
+        let t = turns_subtype s range found.0 in
+        let same : loop_scope s parameter range ≡ turn_scope s parameter.name t =
+        ap (λ o. with_name s parameter.name (parameter_entity (option_map (turns_subtype s range) o))) found.1 in
+        let new : IsLoopParameter s parameter.name t =
         record { unseen = unbroken _ parameter.place (is_visible s parameter.name) (back_empty (first ++ last ++ rule) (declared_twice s parameter) legal); integers = found.2 }
         in
-        let body_legal : AreFaultless (turn_scope s parameter.name n) (in_loop a) body = (subst (λ t. stmts_faults t (in_loop a) body ≡ []) same inner, plain) in
-        let back : Narrows h.program (turn_scope s parameter.name n) s =
-        λ p fits. fits_fewer h.program laws s (turn_scope s parameter.name n) p (subst (λ t. StandsFirst s t) same (laws.added.parameter s parameter range)) sound fits
+        let body_legal : AreFaultless (turn_scope s parameter.name t) (in_loop a) body = (subst (λ t. stmts_faults t (in_loop a) body ≡ []) same inner, plain) in
+        let back : Narrows h.program (turn_scope s parameter.name t) s =
+        λ p fits. fits_fewer h.program laws s (turn_scope s parameter.name t) p (subst (λ t. StandsFirst s t) same (laws.added.parameter s parameter range)) sound fits
         in
         at_value h s outer a items IsNumber at (evaluate h items range.first) (λ v. with_value h (evaluate h items range.last) items (λ w. for_range h parameter reversed body items v w))
         (number_comes h s outer laws c items range.first AnyInteger in_first (integral_numeric s (own_of s range.first) integral_first))
         (λ v one.
         at_value h s outer a items IsNumber at (evaluate h items range.last) (λ w. for_range h parameter reversed body items v w)
         (number_comes h s outer laws c items range.last AnyInteger in_last (integral_numeric s (own_of s range.last) integral_last))
-        (λ w two. range_sound parameter reversed body n new body_legal back v w one two))
+        (λ w two. range_sound parameter reversed body t new body_legal back v w one two))
 
     pub loop_sound : (iteration : IterationTree) (body : StmtTrees) → iteration_faults s iteration ≡ [] → stmts_faults (iteration_scope s iteration) (in_loop a) body ≡ []
         → profile.stmts_faults body ≡ [] → IsSoundStep h (opened_in items) (begin_loop h iteration body items)

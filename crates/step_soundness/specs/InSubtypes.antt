@@ -1,51 +1,26 @@
 -- When the values of the store and of tasks lie in their subtypes, part by part, and the statement that steps keep it (RM 3.2, 5.2, 6.4.1).
-use Rattle.std.specs.Prelude.{◌≡◌, ◌⊎◌, ℕ, ℤ, true, List, [], ◌∷◌, map, Option, Some, None, ⊤}
+use Rattle.std.specs.Prelude.{◌≡◌, ℕ, true, List, [], ◌∷◌, map, Option, Some, None, ⊤}
 use Rattle.expr_soundness.specs.base.specs.declared.schedule.ScheduleLine.{ScheduleLine}
 use Rattle.expr_soundness.specs.kernel.specs.State.{Kernel}
 use Rattle.expr_soundness.specs.kernel.specs.Worlds.{Solo}
 use Rattle.expr_soundness.specs.ada_tree.specs.declared.expression.Identifier.{Identifier}
 use Rattle.expr_soundness.specs.types.specs.declared.entity.Subtype.{Subtype}
-use Rattle.expr_soundness.specs.types.specs.declared.entity.Role.TheVariants as role
-use Rattle.expr_soundness.specs.types.specs.Entities as entity
-use Rattle.expr_soundness.specs.types.specs.Scopes.{Scope, entity_at, form_at, greatest_number, integer, least_number, number_of}
+use Rattle.expr_soundness.specs.types.specs.Scopes.{Scope, form_at}
 use Rattle.expr_soundness.specs.types.specs.Shapes.{initial}
-use Rattle.expr_soundness.specs.types.specs.Values.{Value, Number, is_within}
-use Rattle.expr_soundness.specs.types.specs.Places.{Function, Object, Place, IsObject, function_of, meaning_of}
-use Rattle.expr_soundness.specs.Agreeing.{Agrees}
+use Rattle.expr_soundness.specs.types.specs.Values.{Value}
+use Rattle.expr_soundness.specs.types.specs.Places.{Function, function_of}
 use Rattle.expr_soundness.specs.CompositesLaw.{is_simple}
-use Rattle.expr_soundness.specs.Lying.{ObjectsLieHere, lies, lies_inside}
+use Rattle.expr_soundness.specs.Lying.{ObjectsLie, lies, lies_inside}
 use Rattle.expr_soundness.specs.meaning.specs.Programs.{Parameter, Procedure, Program, subtype_named}
 use Rattle.expr_soundness.specs.meaning.specs.Works.{Activation, Completion, Completed, Pending, GivenToCaller, Results, Item, DeclaresParameter, EndsAction, EndsServed, Queued, Store, Target, TaskWork, Work, Goes, Copies, Raising}
 use Rattle.expr_soundness.specs.meaning.specs.Calls.{bound, procedure_among}
 use Rattle.expr_soundness.specs.meaning.specs.SourceSteps.{SourceStepped, here_of, items_of, work_step}
 use Rattle.step_soundness.specs.Fitting.{entry_of, result_types}
 use Rattle.step_soundness.specs.Opened.{ForCaller, Opened, opened_in}
-use Rattle.step_soundness.specs.Holding.{IsSoundStore, IsSoundTask, inside}
+use Rattle.step_soundness.specs.Holding.{IsSoundStore, IsSoundTask}
 use Rattle.step_soundness.specs.Laws.{Premises}
 
 -- ---- objects
-
-abbrev pub EachObject : (Object → Type 0) → List Object → Type 0
-EachObject P [] = ⊤
-EachObject P (x ∷ xs) = P x × EachObject P xs
-
--- the value of the object lies in its subtype, and each part of it in its own
-abbrev pub ObjectLies : Scope → Object → Type 0
-ObjectLies s x = lies s x.subtype x.value ≡ true
-
-abbrev pub ObjectsLie : Scope → List Object → Type 0
-ObjectsLie s xs = EachObject (ObjectLies s) xs
-
--- A number of subtype Integer, of which nothing more is said where it is a local object. In a run each loop parameter is one, whatever its range, and a tree
--- may have a literal beyond the numbers that 64 bits hold; a text has none.
-abbrev pub IsInteger : Object → Type 0
-IsInteger x = (x.subtype ≡ integer) × ((z : ℤ) × (x.value ≡ Number z))
-
-abbrev pub LocalLies : Scope → Object → Type 0
-LocalLies s x = IsInteger x ⊎ ObjectLies s x
-
-abbrev pub LocalsLie : Scope → List Object → Type 0
-LocalsLie s xs = EachObject (LocalLies s) xs
 
 -- an object of the subtype that is given no value begins in it (RM 3.3.1)
 abbrev pub BeginsIn : Scope → Subtype → Type 0
@@ -90,12 +65,12 @@ WorkLies s (Raising x items) = ItemsLie s items
 -- the objects of each activation that waits
 abbrev pub CallersLie : Scope → List Activation → Type 0
 CallersLie s [] = ⊤
-CallersLie s (a ∷ callers) = (LocalsLie s a.locals) × (CallersLie s callers)
+CallersLie s (a ∷ callers) = (ObjectsLie s a.locals) × (CallersLie s callers)
 
 -- every object of the task's activations, and what is on its way
 pub record TaskLies (s : Scope) (t : TaskWork) : Type 0 where
   pub work : WorkLies s t.work
-  pub own : LocalsLie s t.own.locals
+  pub own : ObjectsLie s t.own.locals
   pub callers : CallersLie s t.callers
 
 -- every variable of the package, and every component of a protected object
@@ -134,17 +109,3 @@ StepsKeepSubtypes = (program : Program) (schedule : List ScheduleLine) (k : Kern
     → IsSoundTask program s.memory None s.task
     → StoreLies program.scope s.memory → TaskLies program.scope s.task
     → StepLies program (opened_in (items_of s.task.work)) (work_step (here_of program schedule k t s) s.task.work)
-
--- ---- what an expression sees
-
--- Of numbers of subtype Integer and of loop parameters, whose subtype a scope knows: what `LocalLies` leaves out. Code has them in words of 64 bits.
-pub record IntegersHold (s : Scope) (p : Place) : Type 0 where
-  pub integers : (name : List ℕ) (z : ℤ) → meaning_of p name ≡ IsObject integer (Number z) → is_within least_number greatest_number z ≡ true
-  pub loops : (name : List ℕ) (number : ℕ) (t u : Subtype) (z : ℤ) → number_of s name ≡ Some number
-      → entity_at s number ≡ Some (entity.Object role.LoopParameter t)
-      → meaning_of p name ≡ IsObject u (Number z) → is_within t.first t.last z ≡ true
-
--- So each visible object lies in the subtype that a scope knows of it, wherever a task of such a world evaluates: what the laws of bounds ask of objects.
-abbrev pub PlacesLie : Type 0
-PlacesLie = (program : Program) (m : Store) (a : Activation) (s : Scope) (p : Place) → Agrees s (inside program m a p) → StoreLies program.scope m
-    → LocalsLie program.scope a.locals → IntegersHold s (inside program m a p) → ObjectsLieHere s (inside program m a p)

@@ -7,7 +7,7 @@ use Rattle.expr_soundness.specs.types.specs.declared.entity.Role.{Role}
 use Rattle.expr_soundness.specs.types.specs.declared.entity.Role.TheVariants as role
 use Rattle.expr_soundness.specs.types.specs.declared.entity.Subtype.{Subtype}
 use Rattle.expr_soundness.specs.types.specs.Entities as entity
-use Rattle.expr_soundness.specs.types.specs.Scopes.{Scope, base_range_of, form_at, is_visible, with_name}
+use Rattle.expr_soundness.specs.types.specs.Scopes.{Scope, form_at, is_visible, with_name}
 use Rattle.expr_soundness.specs.types.specs.Values.{Value}
 use Rattle.expr_soundness.specs.expr_rules.specs.Typing.{is_integers}
 use Rattle.expr_soundness.specs.declaring.specs.LocalRules.{local_faults, local_scope}
@@ -52,13 +52,13 @@ pub record IsNewParameter (s : Scope) (f : Parameter) : Type 0 where
 abbrev pub parameter_scope : Scope → Parameter → Scope
 parameter_scope s f = with_name s f.name (entity.Object role.Out f.subtype)
 
--- a loop parameter of the integer type with this number
-pub record IsLoopParameter (s : Scope) (name : List ℕ) (type_number : ℕ) : Type 0 where
+-- a loop parameter of this subtype, of an integer type
+pub record IsLoopParameter (s : Scope) (name : List ℕ) (t : Subtype) : Type 0 where
   pub unseen : is_visible s name ≡ false
-  pub integers : is_integers (form_at s type_number) ≡ true
+  pub integers : is_integers (form_at s t.type_number) ≡ true
 
-abbrev pub turn_scope : Scope → (parameter : List ℕ) → (type_number : ℕ) → Scope
-turn_scope s parameter type_number = with_name s parameter (entity.Object role.LoopParameter (base_range_of type_number))
+abbrev pub turn_scope : Scope → (parameter : List ℕ) → Subtype → Scope
+turn_scope s parameter t = with_name s parameter (entity.Object role.LoopParameter t)
 
 -- ---- ends of bodies
 
@@ -102,9 +102,9 @@ module _ (program : Program) where
       (condition_faults s e ≡ []) × AreFaultless s (in_loop a) body × (later : Scope) × (b : Bool) × Narrows program s later
       × Judged later outer (record a { in_loop = b }) items
   Judged s outer a (RepeatsFor parameter reversed now last body ∷ items) =
-      (outside : Scope) × (n : ℕ) × Narrows program s outside × IsLoopParameter outside parameter n
-      × AreFaultless (turn_scope outside parameter n) (in_loop a) body
-      × Narrows program (turn_scope outside parameter n) outside × (later : Scope) × (b : Bool) × Narrows program outside later
+      (outside : Scope) × (t : Subtype) × Narrows program s outside × IsLoopParameter outside parameter t
+      × AreFaultless (turn_scope outside parameter t) (in_loop a) body
+      × Narrows program (turn_scope outside parameter t) outside × (later : Scope) × (b : Bool) × Narrows program outside later
       × Judged later outer (record a { in_loop = b }) items
   Judged s outer a (Handles all ∷ items) = AreFaultlessHandlers s a all × (later : Scope) × Narrows program s later × Judged later outer a items
   Judged s outer a (EndsHandler x ∷ items) = IsException program x × (later : Scope) × (b : Bool) × Narrows program s later

@@ -1,5 +1,5 @@
 //! The laws of the steps of an accepted program, each what a function without work ensures.
-ghost use Rattle.step_soundness.specs.InSubtypes.{PlacesLie, StepsKeepSubtypes};
+ghost use Rattle.step_soundness.specs.InSubtypes.{StepsKeepSubtypes};
 ghost use Rattle.step_soundness.specs.Laws.{CallersGoOn, EffectsPass, OthersStaySound, ServersAreSound, StepsAreSound, StoresAreAlike};
 
 use expr_soundness::laws::{composites_lie, stored_values_lie};
@@ -40,10 +40,4 @@ pub fn callers_go_on()
 /// The refusals before the effect of such a step were passed, and barriers change only under an action that may write their object (RM 9.5.1, 9.5.3).
 pub fn effects_pass()
     ensures { EffectsPass }
-{}
-
-/// Where all values of the store and of an activation lie in their subtypes, and its numbers of subtype Integer are of 64 bits, each visible object lies in the
-/// subtype that a scope knows of it: what the laws of bounds ask of objects (RM 3.2).
-pub fn places_lie()
-    ensures { PlacesLie }
 {}

@@ -16,7 +16,7 @@ use Rattle.types.specs.Scopes.{Scope, Named, standard, with_name, with_real_time
 use Rattle.types.specs.Shapes.{initial}
 use Rattle.types.specs.Statics.{static_place}
 use Rattle.types.specs.Values.{Number, is_within}
-use Rattle.types.specs.Bounds.{base_bounds, bounds_of, numbers_fit}
+use Rattle.types.specs.Bounds.{base_bounds, bounds_of}
 use Rattle.types.proofs.Trees.{num, name, name_of, at, dot, tick}
 
 -- ---- a scope: the units, `type Small is range 0 .. 9; subtype Odd is Small range 1 .. 7; type Vec is array (1 .. 3) of Odd;
@@ -173,8 +173,11 @@ modulus_at_last = refl
 modulus_before : bounds_of here (Binary binary.Multiply (Binary binary.Mod (name (codes "X")) (num 4)) (num 2)) ≡ base_bounds
 modulus_before = refl
 
-signed : bounds_of here (Unary unary.Plus 0 (name (codes "X"))) ≡ base_bounds
+signed : bounds_of here (Unary unary.Plus 0 (name (codes "X"))) ≡ (pos 0, pos 9)
 signed = refl
+
+negated_variable : bounds_of here (Unary unary.Minus 0 (name (codes "X"))) ≡ base_bounds
+negated_variable = refl
 
 -- ---- parentheses and if expressions
 
@@ -223,20 +226,14 @@ outside_the_initial_value = refl
 inside_the_bounds : is_within (pos 0) (pos 9) (pos 5) ≡ true
 inside_the_bounds = refl
 
--- ---- literals of the base range
+-- ---- literals beyond the base range, which the lexer refuses
 
-literal_fits : numbers_fit here (num 5) ≡ true
-literal_fits = refl
-
--- beyond it `+ (if True then 2 ** 63 else 0)` would be worth more than the base range holds; the lexer refuses such a literal
+-- what `+` gives isn't checked, so its bounds are those of its operand
 abbrev beyond : ExprTree
 beyond = Unary unary.Plus 0 (chosen (num 9223372036854775808) (num 0))
 
-beyond_its_bounds : bounds_of here beyond ≡ base_bounds
+beyond_its_bounds : bounds_of here beyond ≡ (pos 0, pos 9223372036854775808)
 beyond_its_bounds = refl
 
 beyond_is_worth : val (static_place here) beyond ≡ Gives (Number (pos 9223372036854775808))
 beyond_is_worth = refl
-
-beyond_does_not_fit : numbers_fit here beyond ≡ false
-beyond_does_not_fit = refl

@@ -1,6 +1,5 @@
 -- The bounds of names, parentheses and chains of operators, by their parts.
 use Rattle.std.proofs.Common.{◌≡◌, ℕ, ℤ, List, [], ◌∷◌, Option, Some, None, refl, sym, ap, ◌∙◌}
-use Rattle.std.specs.Prelude.{true, ◌&&◌}
 use Rattle.ada_tree.specs.declared.expression.BinaryOperator.{BinaryOperator}
 use Rattle.ada_tree.specs.declared.expression.Identifier.{Identifier}
 use Rattle.ada_tree.specs.declared.expression.Operand.{Operand}
@@ -15,7 +14,7 @@ use Rattle.types.specs.Scopes.{Scope}
 use Rattle.types.specs.Standings.{standing_of}
 use Rattle.types.specs.Statics.{name_form}
 use Rattle.types.specs.Values.{Value, value_of}
-use Rattle.types.specs.Bounds.{StaticBounds, bounds_of, elsif_bounds, known_or, name_bounds, number_found, operation_bounds, spanned, static_number, elsif_numbers_fit, numbers_fit}
+use Rattle.types.specs.Bounds.{StaticBounds, bounds_of, elsif_bounds, known_or, name_bounds, number_found, operation_bounds, spanned, static_number}
 use Rattle.types.specs.Walking.{bounds_after, standing_bounds}
 
 known_is : (number : Option ℤ) (others : ℤ × ℤ) (z : ℤ) → number ≡ Some z → known_or number others ≡ (z, z)
@@ -77,16 +76,3 @@ pub conditional_found : (s : Scope) (whole : ExprTree) (place : ℕ) (condition 
 conditional_found s whole place condition value last parts a b d result is one some end h =
     h ∙ ap (λ x. spanned x d) (some ∙ ap (λ x. elsif_bounds s x parts) one) ∙ ap (spanned (elsif_bounds s (bounds_of s value) parts)) end
     ∙ sym (ap (bounds_of s) is)
-
--- ---- that all numbers are of the base range
-
-pub chain_numbers : (s : Scope) (operator : BinaryOperator) (a b : ExprTree) (more : List Operand)
-    → numbers_fit s (chain_tree (Binary operator a b) more) ≡ true
-chain_numbers s operator a b [] = refl
-chain_numbers s operator a b (o ∷ rest) = chain_numbers s o.operator (Binary operator a b) (expr_tree o.value) rest
-
-pub conditional_numbers : (s : Scope) (whole : ExprTree) (place : ℕ) (condition value last : ExprTree) (parts : ElsifValueTrees)
-    → whole ≡ Conditional place condition value parts last → numbers_fit s value ≡ true → elsif_numbers_fit s parts ≡ true → numbers_fit s last ≡ true
-    → numbers_fit s whole ≡ true
-conditional_numbers s whole place condition value last parts is one some end =
-    ap (numbers_fit s) is ∙ ap (λ x. x && (elsif_numbers_fit s parts && numbers_fit s last)) one ∙ ap (λ x. x && numbers_fit s last) some ∙ end

@@ -1,6 +1,8 @@
 -- Between which two numbers the values of an integer expression lie, told by types and constants alone (RM 3.5, 4.9).
-use Rattle.std.specs.Prelude.{◌≡◌, suc, ℤ, pos, Bool, true, ◌&&◌, Option, Some, None}
+use Rattle.std.specs.Prelude.{◌≡◌, suc, ℤ, pos, Option, Some, None}
 use Rattle.std.specs.Int.{int_max, int_min}
+use Rattle.ada_tree.specs.declared.expression.UnaryOperator.{UnaryOperator}
+use Rattle.ada_tree.specs.declared.expression.UnaryOperator.TheVariants as unary
 use Rattle.ada_tree.specs.declared.expression.BinaryOperator.{BinaryOperator}
 use Rattle.ada_tree.specs.declared.expression.BinaryOperator.TheVariants as binary
 use Rattle.ada_tree.specs.ExpressionTree as tree
@@ -14,7 +16,7 @@ use Rattle.types.specs.Evaluations.{Val, Gives}
 use Rattle.types.specs.Scopes.{Scope, greatest_number, least_number}
 use Rattle.types.specs.Standings.{standing_of}
 use Rattle.types.specs.Statics.{static_form, static_value}
-use Rattle.types.specs.Values.{Value, Number, is_within}
+use Rattle.types.specs.Values.{Value, Number}
 
 -- the least and the greatest number of the base range (RM 3.5.4)
 abbrev pub base_bounds : ℤ × ℤ
@@ -51,6 +53,11 @@ name_bounds (standing.Fixed t v) = subtype_bounds t
 name_bounds (standing.Given t v) = subtype_bounds t
 name_bounds w = base_bounds
 
+-- `+ E` is worth what E is; what the other operators give is checked, whatever the operand (RM 4.5.4, 4.5.6)
+abbrev pub unary_bounds : UnaryOperator → (operand : ℤ × ℤ) → ℤ × ℤ
+unary_bounds unary.Plus operand = operand
+unary_bounds operator operand = base_bounds
+
 -- `E mod k` for a static k above 0 is at least 0 and below k (RM 4.5.5)
 abbrev pub modulus_bounds : Option ℤ → ℤ × ℤ
 modulus_bounds (Some (pos (suc n))) = (pos 0, pos n)
@@ -68,33 +75,13 @@ abbrev mutual
   bounds_of s (Named first selectors) = known_or (static_number s (Named first selectors)) (name_bounds (standing_of s first selectors))
   bounds_of s (Parenthesized place e) = bounds_of s e
   bounds_of s (Conditional place condition value elsifs else_value) = spanned (elsif_bounds s (bounds_of s value) elsifs) (bounds_of s else_value)
-  bounds_of s (Unary operator place e) = known_or (static_number s (Unary operator place e)) base_bounds
+  bounds_of s (Unary operator place e) = known_or (static_number s (Unary operator place e)) (unary_bounds operator (bounds_of s e))
   bounds_of s (Binary operator a b) = known_or (static_number s (Binary operator a b)) (operation_bounds operator (static_number s b))
 
   -- of the parts of an if expression up to here
   pub elsif_bounds : Scope → (before : ℤ × ℤ) → ElsifValueTrees → ℤ × ℤ
   elsif_bounds s before NoElsifValues = before
   elsif_bounds s before (MoreElsifValues condition value rest) = elsif_bounds s (spanned before (bounds_of s value)) rest
-
--- ---- numbers that are held in 64 bits
-
-abbrev pub is_of_base_range : ℤ × ℤ → Bool
-is_of_base_range bounds = is_within least_number greatest_number bounds.0 && is_within least_number greatest_number bounds.1
-
-abbrev mutual
-  -- Literals, and the bounds of the subtypes that names are of, are numbers of the base range. All that is held in 64 bits are; of operations nothing is
-  -- asked, since their values are checked.
-  pub numbers_fit : Scope → ExprTree → Bool
-  numbers_fit s (tree.Number z place) = is_of_base_range (z, z)
-  numbers_fit s (Named first selectors) = is_of_base_range (bounds_of s (Named first selectors))
-  numbers_fit s (Parenthesized place e) = numbers_fit s e
-  numbers_fit s (Conditional place condition value elsifs else_value) = numbers_fit s value && (elsif_numbers_fit s elsifs && numbers_fit s else_value)
-  numbers_fit s (Unary operator place e) = numbers_fit s e
-  numbers_fit s (Binary operator a b) = true
-
-  pub elsif_numbers_fit : Scope → ElsifValueTrees → Bool
-  elsif_numbers_fit s NoElsifValues = true
-  elsif_numbers_fit s (MoreElsifValues condition value rest) = numbers_fit s value && elsif_numbers_fit s rest
 
 -- ---- the law of static expressions
 

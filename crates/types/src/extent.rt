@@ -1,7 +1,7 @@
 //! Between which two numbers the values of an integer expression lie (RM 3.5, 4.9).
-ghost use Rattle.std.specs.Prelude.{◌≡◌, true};
+ghost use Rattle.std.specs.Prelude.{◌≡◌};
 ghost use Rattle.ada_tree.specs.ExpressionTree.{elsif_value_trees, expr_tree};
-ghost use Rattle.types.specs.Bounds.{base_bounds, bounds_of, elsif_bounds, known_or, modulus_bounds, name_bounds, operation_bounds, spanned, static_number, subtype_bounds, elsif_numbers_fit, is_of_base_range, numbers_fit};
+ghost use Rattle.types.specs.Bounds.{base_bounds, bounds_of, elsif_bounds, known_or, modulus_bounds, name_bounds, operation_bounds, spanned, static_number, subtype_bounds, unary_bounds};
 ghost use Rattle.types.specs.Walking.{bounds_after, standing_bounds};
 
 use crate::entity::{Subtype, Value};
@@ -9,7 +9,7 @@ use crate::scope::Scope;
 use crate::standing::Standing;
 use crate::statics::static_value;
 use ada_tree::laws::{chains_by_parts, conditional_by_parts, names_by_parts};
-use ada_tree::{BinaryOperator, ElsifValue, Expr, Operand};
+use ada_tree::{BinaryOperator, ElsifValue, Expr, Operand, UnaryOperator};
 
 const BASE_RANGE: (i64, i64) = (i64::MIN, i64::MAX);
 
@@ -45,6 +45,16 @@ fn name_bounds(standing: Standing) -> (i64, i64)
         Standing::Part(_, subtype) => subtype_bounds(subtype),
         Standing::Fixed(subtype, _) => subtype_bounds(subtype),
         Standing::Given(subtype, _) => subtype_bounds(subtype),
+        _ => BASE_RANGE,
+    }
+}
+
+// Of an operator with one operand, which has these bounds (RM 4.5.4, 4.5.6).
+fn unary_bounds(operator: UnaryOperator, operand: (i64, i64)) -> (i64, i64)
+    ensures { result ≡ unary_bounds operator operand }
+{
+    match operator {
+        UnaryOperator::Plus => operand,
         _ => BASE_RANGE,
     }
 }
@@ -110,8 +120,7 @@ fn standing_bounds(standing: Standing) -> (i64, i64)
 // Of the parts of an if expression up to here, of which the first ones have these bounds.
 #[cycle(bounds)]
 fn elsif_bounds(scope: &Scope, first: (i64, i64), parts: &[ElsifValue]) -> (i64, i64)
-    ensures bounds { result ≡ elsif_bounds scope.now first (elsif_value_trees parts.now) }
-    ensures numbers { elsif_numbers_fit scope.now (elsif_value_trees parts.now) ≡ true }
+    ensures { result ≡ elsif_bounds scope.now first (elsif_value_trees parts.now) }
 {
     let mut both = first;
     for part in parts {
@@ -122,13 +131,11 @@ fn elsif_bounds(scope: &Scope, first: (i64, i64), parts: &[ElsifValue]) -> (i64,
 
 /// Two numbers between which every value of a legal integer expression lies, these among them: for a static expression whose evaluation doesn't
 /// raise its value twice; for an object, a loop parameter, a component, a call or a conversion the bounds of its subtype; for an if expression the
-/// least and the greatest over its parts; for `E mod k` with a static k above 0 those from 0 to k - 1; in parentheses those of what stands there; else
-/// the base range. No memory is asked for.
+/// least and the greatest over its parts; for `E mod k` with a static k above 0 those from 0 to k - 1; for `+ E`, and in parentheses, those of what
+/// stands there; else the base range. No memory is asked for.
 #[cycle(bounds)]
 pub fn bounds(scope: &Scope, e: &Expr) -> (i64, i64)
-    ensures bounds { result ≡ bounds_of scope.now (expr_tree e.now) }
-    ensures fit { is_of_base_range (bounds_of scope.now (expr_tree e.now)) ≡ true }
-    ensures numbers { numbers_fit scope.now (expr_tree e.now) ≡ true }
+    ensures { result ≡ bounds_of scope.now (expr_tree e.now) }
 {
     names_by_parts();
     conditional_by_parts();
@@ -137,10 +144,9 @@ pub fn bounds(scope: &Scope, e: &Expr) -> (i64, i64)
         Expr::Number(number, _) => (*number, *number),
         Expr::Name(name) => standing_bounds(scope.standing(name)),
         Expr::Parenthesized(_, inner) => bounds(scope, inner),
-        Expr::Unary(_, _, operand) => {
-            // (nothing is read of these: that the operand's numbers fit is part of the promise)
-            bounds(scope, operand);
-            known_or(static_number(scope, e), BASE_RANGE)
+        Expr::Unary(operator, _, operand) => {
+            let others = unary_bounds(*operator, bounds(scope, operand));
+            known_or(static_number(scope, e), others)
         }
         Expr::Chain(_, second, more) => {
             let first = operation_bounds(scope, second.operator, &second.value);
