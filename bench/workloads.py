@@ -143,7 +143,7 @@ def hand_over(values=500_000):
 
 
 def compiled_turns(rounds=50_000):
-    """16 tasks of three priorities that wait for the same times, from their source, with the code of docs/CODEGEN.md: a turn takes 31 steps, the last one 5 fewer."""
+    """16 tasks of three priorities that wait for the same times, from their source, with the code of docs/CODEGEN.md: a turn takes 22 steps, the last one 5 fewer."""
     order = sorted(range(16), key=lambda number: -(number % 3))
     tasks = "".join(f"   task T{number} with Priority => {10 + number % 3};\n" for number in range(16))
     bodies = "".join(
@@ -175,7 +175,7 @@ begin
 end Main;
 """
     lines = [f"{1000 * rounds} T{number} x {16 * (rounds - 1) + place + 1}" for place, number in enumerate(order)]
-    return source, lines, 16 * (15 + 31 * rounds - 5 + 3) + 1
+    return source, lines, 16 * (12 + 22 * rounds - 5 + 3) + 1
 
 
 WORKLOADS = {

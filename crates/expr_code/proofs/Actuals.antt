@@ -51,6 +51,8 @@ use Rattle.expr_code.proofs.Flowing.{Changes, flows_same, flows_then, instructio
 use Rattle.expr_code.proofs.Growing.{added_at, added_extends, added_here, extends_self, extends_trans, holds_before, holds_later}
 use Rattle.expr_code.proofs.Names.{legal_here}
 use Rattle.expr_code.proofs.Passing.{computes_call, computes_call_alone, computes_more, computes_none, named_value}
+use Rattle.expr_soundness.specs.Lying.{OnGives, are_between}
+use Rattle.expr_soundness.proofs.Lies.{actuals_between}
 
 -- ---- lists
 
@@ -117,7 +119,7 @@ module _ (words : ValuesHaveWords) (v : Visible) where
   takes_one old new depth t e h g calls p view us rest shapes sound sees others vs is =
       let two = both_given (and_then (value_with calls p e) (passed t)) (actuals_with calls p rest us) vs is in
       let x = two.0 in
-      let shaped = h.typed calls p sees.names.agrees (sound p sees.unit.sound) x (passed_same t (value_with calls p e) x two.2) in
+      let shaped = h.typed calls p sees.names.agrees (sound.0 p sees.unit.sound) x (passed_same t (value_with calls p e) x two.2) in
       let there = sym (same_values v.scope p.scope t x (sym (sees.names.agrees.shapes t.type_number h.known.0 h.known.1))) ∙ shaped in
       let fit = subst (λ s. has_shape (shape_of s t) x ≡ true) sees.unit.scope there in
       subst (λ l. ArePassed (shape_of g.scope t ∷ shapes) l) two.4 (fit, others two.1 two.3)
@@ -283,7 +285,10 @@ module _ (quiet : QuietStays) (v : Visible) (first : Identifier) (selectors : Se
     passed_well g i calls place view function vs sound sees formals is =
         let shapes = all.takes g calls place view [] NoArguments [] sound sees (λ ws e. no_values ws e) vs
         ((λ j. actuals_with calls place (trees_are arguments j) (nothing_behind parameters_are j)) ∙ is) in
-        subst (λ l. ArePassed l vs) (nothing_behind (map (shape_of g.scope) parameters_are) ∙ ap (map (shape_of g.scope)) (sym formals)) shapes
+        let between = actuals_between calls place (argument_trees arguments) parameters_are in (
+          subst (λ l. ArePassed l vs) (nothing_behind (map (shape_of g.scope) parameters_are) ∙ ap (map (shape_of g.scope)) (sym formals)) shapes,
+          subst (λ ts. are_between ts vs ≡ true) (sym formals) (subst (OnGives (λ xs. are_between parameters_are xs ≡ true)) is between),
+        )
 
     pub with_emits : EmitsExpression v old depth 1 (tree.Named first selectors) new
     with_emits =
@@ -320,7 +325,10 @@ module _ (quiet : QuietStays) (v : Visible) (first : Identifier) (selectors : Se
               subst (λ n. Computes i (library_of g) (Sees g v) (here old) n (tree.Named first selectors)) (sym next)
               (computes_call_alone quiet i (library_of g) (Sees g v) (here old) operation first selectors
               (subst (λ l. AlwaysNames i (library_of g) (Sees g v) first selectors NoSelectors operation (map parameter_subtype l)) none (named g i))
-              (λ calls place view function vs sound sees formals is. subst (λ l. ArePassed (map (shape_of g.scope) l) vs) (sym formals) (no_values vs is))
+              (λ calls place view function vs sound sees formals is. (
+                subst (λ l. ArePassed (map (shape_of g.scope) l) vs) (sym formals) (no_values vs is),
+                subst (λ l. are_between l vs ≡ true) (sym formals) refl,
+              ))
               (added_at old new depth operation adds i (here old) (omega arith) h));
           flows = instruction_flows (Suits v) old new depth (depth + 1) operation adds (changes high);
         }

@@ -31,7 +31,7 @@ use Rattle.expr_soundness.specs.meaning.specs.MeetingLaws.{quiet_spends, call_sp
 use Rattle.expr_soundness.specs.meaning.specs.SameMeaning.{frames_of}
 use Rattle.expr_code.specs.Views.{At, IsSameTask, View, frames_above, in_frame, placed, view_of}
 use Rattle.expr_code.specs.Coming.{all_on, all_words, Comes, most_steps, on, size_of}
-use Rattle.expr_code.specs.Computing.{Answers, ArePassed, IsCalledThrough, IsFunctionCode, Library, call_operation, function_kind}
+use Rattle.expr_code.specs.Computing.{Answers, ArePassedTo, IsCalledThrough, IsFunctionCode, Library, call_operation, function_kind}
 use Rattle.expr_code.proofs.Coming.{acts}
 use Rattle.expr_code.proofs.CallFrames.{at_call, at_external, below, enters, enters_object, full_object, inner, length_reverse, opened_frame, refused, refused_object, replicated, take_front}
 use Rattle.expr_code.proofs.CallRefusals.{called_above, called_same, called_within, refusal_above, refusal_none, refusal_same, refusal_stays}
@@ -203,7 +203,7 @@ module _ (quiet : QuietStays) (views : ViewsOn) (back : ViewsBack) (i : Sections
     → library.shared (record p { actions = o ∷ p.actions }) (record view { actions = o ∷ view.actions })) where
   module _ (schedule : List ScheduleLine) (k : Kernel) (t : ℕ) (m : Words) (f : Frame) (fs : List Frame) (p : Place) (place : ℕ) (base : List ℤ)
       (function : Function) (g : ℕ) (args : List Value) (calm : Calm k t) (shared : library.shared p (view_of i schedule k t m f fs))
-      (coded : library.coded function g) (passes : ArePassed (library.shapes function) args) where
+      (coded : library.coded function g) (passes : ArePassedTo library function args) where
     abbrev is : IsFunctionCode i library function g
     is = codes function g coded
 
@@ -224,7 +224,7 @@ module _ (quiet : QuietStays) (views : ViewsOn) (back : ViewsBack) (i : Sections
     Arrives v = Comes i schedule k t m start fs 1 (suc place) (on base) v
 
     many : length words ≡ is.s.parameters
-    many = is.parameters args passes
+    many = is.parameters args passes.0
 
     raises_at_once : (x : PredefinedException)
         → ((schedule : List ScheduleLine) (l : Kernel) (m : Words) → l.actions t ≡ k.actions t → l.partition ≡ k.partition

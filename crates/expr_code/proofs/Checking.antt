@@ -6,6 +6,7 @@ use Rattle.ada_tree.specs.ExpressionTree.{ExprTree}
 use Rattle.image.specs.Sections.{Sections}
 use Rattle.image.specs.declared.instruction.Operation.TheVariants as op
 use Rattle.types.specs.declared.entity.Subtype.{Subtype}
+use Rattle.types.specs.Bounds.{bounds_of}
 use Rattle.types.specs.Entities.{Booleans, Integers, TypeForm}
 use Rattle.types.specs.Evaluations.{Gives}
 use Rattle.types.specs.Evaluating.{Calls, passed, value_with}
@@ -28,6 +29,7 @@ use Rattle.expr_soundness.specs.expr_rules.proofs.TypeShapes.{boolean_value, num
 use Rattle.expr_soundness.specs.expr_rules.proofs.TypedLaw.{as_number, as_truth, back_empty, front_empty}
 use Rattle.expr_soundness.specs.Agreeing.{Agrees}
 use Rattle.expr_soundness.specs.Answers.{CallsAnswer}
+use Rattle.expr_soundness.specs.BoundsLaw.{AllValuesLie, ChecksAreSpared, is_inside}
 use Rattle.expr_soundness.specs.Laws.{ExpressionsAreTyped}
 use Rattle.expr_soundness.proofs.Arguments as arguments
 use Rattle.expr_soundness.proofs.Arguments.{slot_suits}
@@ -62,7 +64,7 @@ suited laws v t e h calls p agrees answers =
     same_fits Anything f = absurd f
 
 of_type : ExpressionsAreTyped → (v : Visible) (unit : Package) (t : Subtype) (e : ExprTree) → IsFit v.scope t e → (calls : _) (p : _) (view : _) → (library_of unit).sound calls → Sees unit v p view → suits v.scope (Typed t.type_number) (value_with calls p e) ≡ true
-of_type laws v unit t e h calls p view sound sees = suited laws v t e h calls p sees.names.agrees (sound p sees.unit.sound)
+of_type laws v unit t e h calls p view sound sees = suited laws v t e h calls p sees.names.agrees (sound.0 p sees.unit.sound)
 
 pub shaped : ExpressionsAreTyped → (v : Visible) (t : Subtype) (e : ExprTree) → IsFit v.scope t e → (calls : Calls) (p : Place) → Agrees v.scope p → CallsAnswer calls p → (x : Value) → value_with calls p e ≡ Gives x
     → has_shape (shape_of v.scope t) x ≡ true
@@ -104,6 +106,14 @@ module _ (laws : ExpressionsAreTyped) (i : Sections) (v : Visible) (unit : Packa
       let b = as_truth v.scope (Typed t.type_number) x (ap is_booleans form) (ap (suits v.scope (Typed t.type_number)) (sym is) ∙ of_type laws v unit t e h calls p view sound sees) in
       subst (λ y. passed t y ≡ Gives y) (sym b.1) refl
 
+-- where the bounds of the value lie inside the subtype it passes the check, wherever the frame stands
+module _ (spared : ChecksAreSpared) (all : AllValuesLie) (i : Sections) (v : Visible) (unit : Package) (t : Subtype) (e : ExprTree)
+    (legal : IsLegalExpression v.scope e) (inside : is_inside (bounds_of v.scope e) t ≡ true) where
+  pub passes_inside : AlwaysPasses i (library_of unit) (Sees unit v) t e
+  passes_inside calls p view x sound sees is =
+      spared v.scope p calls sees.names.agrees (sound.0 p sees.unit.sound) (all v.scope p calls sees.names.agrees sees.unit.values sees.loops sound.1) e
+      legal.wanted t legal.unbroken inside x is
+
 module _ (quiet : QuietStays) (laws : ExpressionsAreTyped) (words : ValuesHaveWords) (v : Visible) (old mid : Code) (depth : ℕ) (t : Subtype) (e : ExprTree) (h : IsFit v.scope t e) (inner : EmitsExpression v old depth 1 e mid) where
   pub unchecked_emits : form_at v.scope t.type_number ≡ Some Booleans → EmitsChecked v old depth t e mid
   unchecked_emits form = record {
@@ -113,6 +123,20 @@ module _ (quiet : QuietStays) (laws : ExpressionsAreTyped) (words : ValuesHaveWo
     flows = inner.flows;
     known = (Booleans, form);
     single = single_truth words v.scope t form;
+    typed = shaped laws v t e h;
+  }
+
+  pub spared_emits : ChecksAreSpared → AllValuesLie → is_inside (bounds_of v.scope e) t ≡ true → has_numbers (form_at v.scope t.type_number) ≡ true
+      → EmitsChecked v old depth t e mid
+  spared_emits spared all inside numbers = record {
+    extends = inner.extends;
+    sized = omega (arith, inner.sized);
+    computes = λ i g unit.
+        computes_unchecked quiet i (library_of unit) (Sees unit v) (here old) (here mid) t e (inner.computes i g unit)
+        (passes_inside spared all i v unit t e (fit_legal v.scope t e h) inside);
+    flows = inner.flows;
+    known = numbers_known (form_at v.scope t.type_number) numbers;
+    single = one_number words v.scope t numbers;
     typed = shaped laws v t e h;
   }
 

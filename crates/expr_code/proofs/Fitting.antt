@@ -114,4 +114,4 @@ module _ (v : Visible) (old new : Code) (depth : ℕ) (t : Subtype) (e : ExprTre
     where
       passes : (i : Sections) (g : Package) → AlwaysPasses i (library_of g) (Sees g v) t e
       passes i g calls p view x good sees is =
-          composite_passes v.scope sound t composite x (shaped laws v t e h calls p sees.names.agrees (good p sees.unit.sound) x is)
+          composite_passes v.scope sound t composite x (shaped laws v t e h calls p sees.names.agrees (good.0 p sees.unit.sound) x is)

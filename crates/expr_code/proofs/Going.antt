@@ -16,6 +16,7 @@ use Rattle.ada_tree.specs.ExpressionTree.{argument_trees, Arguments, bare_name, 
 use Rattle.ada_tree.specs.Size.{selectors_size}
 use Rattle.image.specs.Rules.{is_block}
 use Rattle.image.specs.Sections.{Sections}
+use Rattle.image.specs.declared.instruction.Operation.{Operation}
 use Rattle.image.specs.declared.instruction.Operation.TheVariants as op
 use Rattle.types.specs.declared.entity.RecordComponent.{RecordComponent}
 use Rattle.types.specs.declared.entity.Role.{Role}
@@ -49,8 +50,8 @@ use Rattle.expr_code.specs.Code.{Adds, Extends, here, Holds}
 use Rattle.expr_code.specs.Computing.{Computes}
 use Rattle.expr_code.specs.Emitting.{EmitsChecked, EmitsExpression, IsFit, IsLegalExpression}
 use Rattle.expr_code.specs.Flows.{Flows}
-use Rattle.expr_code.specs.Going.{AddsOffset, are_components, EmitsPath, is_component, IsLegalPart, IsLegalPath, path_size, selected, Selects}
-use Rattle.expr_code.specs.Locating.{IsPath, shape_in}
+use Rattle.expr_code.specs.Going.{AddsByWords, AddsLessFirst, AddsOffset, AddsTwo, are_components, EmitsPath, is_component, IsLegalPart, IsLegalPath, path_size, selected, Selects}
+use Rattle.expr_code.specs.Locating.{AreTwo, IsByWords, IsLessFirst, IsOffset, IsPath, shape_in}
 use Rattle.expr_code.specs.Naming.{Lies}
 use Rattle.expr_code.specs.Seeing.{library_of, Package, Sees, slot_of, Suits}
 use Rattle.expr_code.specs.declared.code.Code.{Code}
@@ -264,53 +265,98 @@ subtracts v depth = record { operands = refl; names = λ i s h. refl; takes = λ
 multiplies : (v : Visible) (depth : ℕ) → Changes (Suits v) op.Multiply (depth + 1 + 1) (depth + 1)
 multiplies v depth = record { operands = refl; names = λ i s h. refl; takes = λ i s h. omega arith; leaves = λ i s h. omega arith; stays = refl; is_none = refl }
 
--- where the five instructions stand
+-- two instructions that find a number on top, and leave one there
+record ByTwo (v : Visible) (depth : ℕ) (a b : Operation) (old new : Code) : Type 0 where
+  extends : Extends old new
+  long : here new ≡ here old + 2
+  at : (i : Sections) (from : ℕ) → from ≤ here old → Holds i from new → AreTwo i (here old) (here new) a b
+  flows : Flows (Suits v) old (depth + 1 + 1) new (depth + 1 + 1)
+
+by_two : (v : Visible) (depth : ℕ) (a b : Operation) (old new : Code) → Changes (Suits v) a (depth + 1 + 1) (depth + 1 + 1 + 1)
+    → Changes (Suits v) b (depth + 1 + 1 + 1) (depth + 1 + 1) → AddsTwo old (depth + 1 + 1) a b new → ByTwo v depth a b old new
+by_two v depth a b old new first second x =
+    let one = added_here old x.pushed (depth + 1 + 1) a x.push in
+    let two = added_here x.pushed new (depth + 1 + 1 + 1) b x.then in
+    let up = added_extends old x.pushed (depth + 1 + 1) a x.push in
+    let on = added_extends x.pushed new (depth + 1 + 1 + 1) b x.then in
+    let next : here x.pushed ≡ here old + 1 = omega (arith, one) in
+    record {
+      extends = extends_trans old x.pushed new up on;
+      long = omega (arith, one, two);
+      at = λ i from le h. (
+        added_at old x.pushed (depth + 1 + 1) a x.push i from le (holds_before i from x.pushed new on h),
+        subst (λ n. At i n b) next (added_at x.pushed new (depth + 1 + 1 + 1) b x.then i from (omega (arith, le, next)) h),
+        omega (arith, one, two),
+      );
+      flows =
+          flows_then (Suits v) old x.pushed new (depth + 1 + 1) (depth + 1 + 1 + 1) (depth + 1 + 1) up on
+          (instruction_flows (Suits v) old x.pushed (depth + 1 + 1) (depth + 1 + 1 + 1) a x.push first)
+          (instruction_flows (Suits v) x.pushed new (depth + 1 + 1 + 1) (depth + 1 + 1) b x.then second);
+    }
+
+-- an index less the first one
+record IsLess (v : Visible) (depth : ℕ) (first : ℤ) (old new : Code) : Type 0 where
+  extends : Extends old new
+  few : here new ≤ here old + 2
+  at : (i : Sections) (from : ℕ) → from ≤ here old → Holds i from new → IsLessFirst i (here old) (here new) first
+  flows : Flows (Suits v) old (depth + 1 + 1) new (depth + 1 + 1)
+
+is_less : (v : Visible) (depth : ℕ) (first : ℤ) (old new : Code) → AddsLessFirst old (depth + 1 + 1) first new → IsLess v depth first old new
+is_less v depth first old new (inl x) =
+    let two = by_two v depth (op.Push first) op.Subtract old new (pushes_word v (depth + 1 + 1) first) (subtracts v (depth + 1)) x in
+    let long = two.long in
+    record { extends = two.extends; few = omega (arith, long); at = λ i from le h. inl (two.at i from le h); flows = two.flows }
+is_less v depth first old new (inr x) = subst (λ c. IsLess v depth first old c) (sym x.1)
+    (record { extends = extends_self old; few = omega arith; at = λ i from le h. inr (x.0, refl); flows = flows_same (Suits v) old (depth + 1 + 1) })
+
+-- ... by the words of a component
+record IsProduct (v : Visible) (depth size : ℕ) (old new : Code) : Type 0 where
+  extends : Extends old new
+  few : here new ≤ here old + 2
+  at : (i : Sections) (from : ℕ) → from ≤ here old → Holds i from new → IsByWords i (here old) (here new) size
+  flows : Flows (Suits v) old (depth + 1 + 1) new (depth + 1 + 1)
+
+is_product : (v : Visible) (depth size : ℕ) (old new : Code) → AddsByWords old (depth + 1 + 1) size new → IsProduct v depth size old new
+is_product v depth size old new (inl x) =
+    let two = by_two v depth (op.Push (pos size)) op.Multiply old new (pushes_word v (depth + 1 + 1) (pos size)) (multiplies v (depth + 1)) x in
+    let long = two.long in
+    record { extends = two.extends; few = omega (arith, long); at = λ i from le h. inl (two.at i from le h); flows = two.flows }
+is_product v depth size old new (inr x) = subst (λ c. IsProduct v depth size old c) (sym x.1)
+    (record { extends = extends_self old; few = omega arith; at = λ i from le h. inr (x.0, refl); flows = flows_same (Suits v) old (depth + 1 + 1) })
+
+-- where what makes of an index an address stands
 record IsScaled (v : Visible) (depth : ℕ) (first : ℤ) (size : ℕ) (old new : Code) : Type 0 where
   extends : Extends old new
-  long : here new ≡ here old + 5
-  at : (i : Sections) (from : ℕ) → from ≤ here old → Holds i from new
-      → At i (here old) (op.Push first) × At i (here old + 1) op.Subtract × At i (here old + 2) (op.Push (pos size)) × At i (here old + 3) op.Multiply × At i (here old + 4) op.Add
+  few : here new ≤ here old + 5
+  at : (i : Sections) (from : ℕ) → from ≤ here old → Holds i from new → IsOffset i (here old) (here new) first size
   flows : Flows (Suits v) old (depth + 1 + 1) new (depth + 1)
 
 is_scaled : (v : Visible) (depth : ℕ) (first : ℤ) (size : ℕ) (old new : Code) → AddsOffset old (depth + 1 + 1) first size new → IsScaled v depth first size old new
 is_scaled v depth first size old new x =
-    let a = added_here old x.pushed (depth + 1 + 1) (op.Push first) x.push in
-    let b = added_here x.pushed x.counted (depth + 1 + 1 + 1) op.Subtract x.subtract in
-    let c = added_here x.counted x.sized (depth + 1 + 1) (op.Push (pos size)) x.size in
-    let d = added_here x.sized x.scaled (depth + 1 + 1 + 1) op.Multiply x.multiply in
-    let e = added_here x.scaled new (depth + 1 + 1) op.Add x.add in
-    let ea = added_extends old x.pushed (depth + 1 + 1) (op.Push first) x.push in
-    let eb = added_extends x.pushed x.counted (depth + 1 + 1 + 1) op.Subtract x.subtract in
-    let ec = added_extends x.counted x.sized (depth + 1 + 1) (op.Push (pos size)) x.size in
-    let ed = added_extends x.sized x.scaled (depth + 1 + 1 + 1) op.Multiply x.multiply in
-    let ee = added_extends x.scaled new (depth + 1 + 1) op.Add x.add in
-    let de = extends_trans x.sized x.scaled new ed ee in
-    let ce = extends_trans x.counted x.sized new ec de in
-    let be = extends_trans x.pushed x.counted new eb ce in
-    let one : here x.pushed ≡ here old + 1 = omega (arith, a) in
-    let two : here x.counted ≡ here old + 2 = omega (arith, a, b) in
-    let three : here x.sized ≡ here old + 3 = omega (arith, a, b, c) in
-    let four : here x.scaled ≡ here old + 4 = omega (arith, a, b, c, d) in
+    let less = is_less v depth first old x.counted x.less in
+    let product = is_product v depth size x.counted x.scaled x.product in
+    let last = added_here x.scaled new (depth + 1 + 1) op.Add x.add in
+    let grows = added_extends x.scaled new (depth + 1 + 1) op.Add x.add in
+    let rest = extends_trans x.counted x.scaled new product.extends grows in
+    let low = less.extends.longer in
+    let high = product.extends.longer in
+    let one = less.few in
+    let two = product.few in
     record {
-      extends = extends_trans old x.pushed new ea be;
-      long = omega (arith, a, b, c, d, e);
-      at = λ i from le h. (
-        added_at old x.pushed (depth + 1 + 1) (op.Push first) x.push i from le (holds_before i from x.pushed new be h),
-        subst (λ n. At i n op.Subtract) one (added_at x.pushed x.counted (depth + 1 + 1 + 1) op.Subtract x.subtract i from (omega (arith, le, one)) (holds_before i from x.counted new ce h)),
-        subst (λ n. At i n (op.Push (pos size))) two (added_at x.counted x.sized (depth + 1 + 1) (op.Push (pos size)) x.size i from (omega (arith, le, two)) (holds_before i from x.sized new de h)),
-        subst (λ n. At i n op.Multiply) three (added_at x.sized x.scaled (depth + 1 + 1 + 1) op.Multiply x.multiply i from (omega (arith, le, three)) (holds_before i from x.scaled new ee h)),
-        subst (λ n. At i n op.Add) four (added_at x.scaled new (depth + 1 + 1) op.Add x.add i from (omega (arith, le, four)) h),
-      );
+      extends = extends_trans old x.counted new less.extends rest;
+      few = omega (arith, one, two, last);
+      at = λ i from le h. record {
+        counted = here x.counted;
+        scaled = here x.scaled;
+        less = less.at i from le (holds_before i from x.counted new rest h);
+        product = product.at i from (omega (arith, le, low)) (holds_before i from x.scaled new grows h);
+        add = added_at x.scaled new (depth + 1 + 1) op.Add x.add i from (omega (arith, le, low, high)) h;
+        end = omega (arith, last);
+      };
       flows =
-          flows_then (Suits v) old x.pushed new (depth + 1 + 1) (depth + 1 + 1 + 1) (depth + 1) ea be
-          (instruction_flows (Suits v) old x.pushed (depth + 1 + 1) (depth + 1 + 1 + 1) (op.Push first) x.push (pushes_word v (depth + 1 + 1) first))
-          (flows_then (Suits v) x.pushed x.counted new (depth + 1 + 1 + 1) (depth + 1 + 1) (depth + 1) eb ce
-          (instruction_flows (Suits v) x.pushed x.counted (depth + 1 + 1 + 1) (depth + 1 + 1) op.Subtract x.subtract (subtracts v (depth + 1)))
-          (flows_then (Suits v) x.counted x.sized new (depth + 1 + 1) (depth + 1 + 1 + 1) (depth + 1) ec de
-          (instruction_flows (Suits v) x.counted x.sized (depth + 1 + 1) (depth + 1 + 1 + 1) (op.Push (pos size)) x.size (pushes_word v (depth + 1 + 1) (pos size)))
-          (flows_then (Suits v) x.sized x.scaled new (depth + 1 + 1 + 1) (depth + 1 + 1) (depth + 1) ed ee
-          (instruction_flows (Suits v) x.sized x.scaled (depth + 1 + 1 + 1) (depth + 1 + 1) op.Multiply x.multiply (multiplies v (depth + 1)))
-          (instruction_flows (Suits v) x.scaled new (depth + 1 + 1) (depth + 1) op.Add x.add (takes_two v depth)))));
+          flows_then (Suits v) old x.counted new (depth + 1 + 1) (depth + 1 + 1) (depth + 1) less.extends rest less.flows
+          (flows_then (Suits v) x.counted x.scaled new (depth + 1 + 1) (depth + 1 + 1) (depth + 1) product.extends grows product.flows
+          (instruction_flows (Suits v) x.scaled new (depth + 1 + 1) (depth + 1) op.Add x.add (takes_two v depth)));
     }
 
 module _ (quiet : QuietStays) (laws : ExpressionsAreTyped) (v : Visible) (old mid new : Code) (depth one two : ℕ) (t index u : Subtype) (many : ℕ) (e : ExprTree) (w : ℕ) (p : one ≡ depth + 1) (q : two ≡ one + 1)
@@ -325,16 +371,15 @@ module _ (quiet : QuietStays) (laws : ExpressionsAreTyped) (v : Visible) (old mi
   pub element_goes : EmitsPath v old depth t (Arguments (MoreArguments (tree.Value e) NoArguments) ∷ []) u new
   element_goes = record {
     extends = extends_trans old mid new checked.extends scaled.extends;
-    sized = let n = scaled.long in omega (arith, checked.sized, n);
+    sized = let n = scaled.few in omega (arith, checked.sized, n);
     goes = λ i h unit to rest final end le path.
-        let up = checked.extends.longer in
-        let five = scaled.long in
-        let places = scaled.at i (here old) up h in (
+        let up = checked.extends.longer in (
           index,
           u,
           many,
           shape_of v.scope u,
           here mid,
+          here new,
           (λ pl view sees. same_form v.scope pl sees.names.agrees t.type_number (ap is_some form) ∙ form),
           (λ pl view sees. repeated_shape v.scope sees.names.agrees.sound t index many u form),
           few,
@@ -342,13 +387,9 @@ module _ (quiet : QuietStays) (laws : ExpressionsAreTyped) (v : Visible) (old mi
           checked.computes i (holds_before i (here old) mid new scaled.extends h) unit,
           (λ calls pl view x sound sees is.
               is_a_number laws i v unit index e (index_fit v.scope t index u many e form legal) (index_integers v.scope sees.names.agrees.sound t index many u form) calls pl view x sound sees is),
-          places.0,
-          places.1,
-          places.2,
-          places.3,
-          places.4,
-          omega (arith, le, five),
-          subst (λ n. IsPath i (library_of unit) (Sees unit v) n to u (shape_of v.scope u) rest final end) five path,
+          scaled.at i (here old) up h,
+          le,
+          path,
         );
     flows = flows_then (Suits v) old mid new (depth + 1) (depth + 1 + 1) (depth + 1) checked.extends scaled.extends checked.flows scaled.flows;
   }

@@ -1,5 +1,5 @@
 -- Code that grows, and the images that hold it.
-use Rattle.std.proofs.Common.{◌≡◌, ◌≢◌, ℤ, ℕ, zero, suc, ◌<◌, ◌≤◌, List, [], ◌∷◌, ◌++◌, length, Some, refl, ap, ◌∙◌, subst, arith, length-append, take}
+use Rattle.std.proofs.Common.{◌≡◌, ◌≢◌, ℤ, ℕ, zero, suc, ◌<◌, ◌≤◌, List, [], ◌∷◌, ◌++◌, length, Some, inl, inr, refl, sym, ap, ◌∙◌, subst, arith, length-append, take}
 use Rattle.std.specs.Prelude.{slice_get, slice_set, Result, Ok, Err, IfErr, OnOk}
 use Rattle.image.specs.Sections.{Sections}
 use Rattle.image.specs.declared.instruction.Operation.{Operation}
@@ -7,6 +7,7 @@ use Rattle.image.specs.declared.instruction.Operation.TheVariants as op
 use Rattle.expr_code.specs.Views.{At}
 use Rattle.expr_code.specs.Branches.{Closes}
 use Rattle.expr_code.specs.Code.{Holds, Extends, Adds, IsAsBefore, Patches, here}
+use Rattle.expr_code.specs.Going.{AddsByWords, AddsLessFirst, AddsTwo}
 use Rattle.expr_code.specs.declared.code.Code.{Code}
 use Rattle.expr_code.specs.declared.refusal.Refusal.{Refusal}
 
@@ -78,6 +79,21 @@ then_kept p q = extends_trans _ _ _ p q
 
 pub added_kept : {a b c : Code} {depth : ℕ} {o : Operation} → Adds a depth o b → Extends b c → Extends a c
 added_kept p q = extends_trans _ _ _ (added_extends _ _ _ _ p) q
+
+-- from an index to an address
+two_kept : {a b : Code} {depth : ℕ} {x y : Operation} → AddsTwo a depth x y b → Extends a b
+two_kept p = added_kept p.push (added_extends _ _ _ _ p.then)
+
+pub less_kept : {a b : Code} {depth : ℕ} {first : ℤ} → AddsLessFirst a depth first b → Extends a b
+less_kept (inl p) = two_kept p
+less_kept {a = a} (inr h) = subst (λ c. Extends a c) (sym h.1) (extends_self a)
+
+pub less_same : (old new : Code) (depth : ℕ) (x y : ℤ) → x ≡ y → AddsLessFirst old depth x new → AddsLessFirst old depth y new
+less_same old new depth x y same a = subst (λ z. AddsLessFirst old depth z new) same a
+
+pub product_kept : {a b : Code} {depth words : ℕ} → AddsByWords a depth words b → Extends a b
+product_kept (inl p) = two_kept p
+product_kept {a = a} (inr h) = subst (λ c. Extends a c) (sym h.1) (extends_self a)
 
 -- ... the same code, and code that was cut back to where it began
 pub as_before : (a b : Code) → IsAsBefore a b → Extends a b

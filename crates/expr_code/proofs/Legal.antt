@@ -113,8 +113,8 @@ left_truth laws i v unit o a b logical h calls p view x sound sees e =
     let s = v.scope in
     let left = legal_left s o a b h in
     let right = legal_right s o a b h in
-    let first = laws.own s p calls sees.names.agrees (sound p sees.unit.sound) a left.wanted left.unbroken in
-    let second = laws.own s p calls sees.names.agrees (sound p sees.unit.sound) b right.wanted right.unbroken in
+    let first = laws.own s p calls sees.names.agrees (sound.0 p sees.unit.sound) a left.wanted left.unbroken in
+    let second = laws.own s p calls sees.names.agrees (sound.0 p sees.unit.sound) b right.wanted right.unbroken in
     let has = judged_two (is_known (own_of s a)) (is_known (own_of s b)) (has_binary s o (own_of s a) (own_of s b)) (unbroken NO_MEANING (start_of a) _ (legal_rule s o a b h)) first.known second.known in
     let boolean = (joined_boolean s (own_of s a) (own_of s b) (chosen (is_logical o) (is_boolean s (join s (own_of s a) (own_of s b))) _ logical has)).0 in
     as_truth s (own_of s a) x boolean (ap (suits s (own_of s a)) (sym e) ∙ first.suited)

@@ -1,5 +1,5 @@
 -- Parts of arrays at a checked index: their addresses, and their words.
-use Rattle.std.proofs.Common.{◌≡◌, ℕ, zero, suc, ◌+◌, ◌-◌, ◌*◌, ◌≤◌, ◌<◌, ℤ, List, [], ◌∷◌, ◌++◌, cond, length, Option, None, Some, Ok, Bool, true, false, refl, sym, ap, ◌∙◌, subst, arith, rules}
+use Rattle.std.proofs.Common.{◌≡◌, ℕ, zero, suc, inl, inr, ◌+◌, ◌-◌, ◌*◌, ◌≤◌, ◌<◌, ℤ, List, [], ◌∷◌, ◌++◌, cond, length, Option, None, Some, Ok, Bool, true, false, refl, sym, ap, ◌∙◌, subst, arith, rules}
 use Rattle.std.proofs.lemmas.Int.{ints}
 use Rattle.std.proofs.lemmas.Bool.{and_parts}
 use Rattle.std.proofs.lemmas.Slice.Eq.{bytes_eq-Decides}
@@ -10,9 +10,9 @@ use Rattle.base.specs.declared.schedule.ScheduleLine.{ScheduleLine}
 use Rattle.kernel.specs.State.{Kernel}
 use Rattle.kernel.specs.Effects.{Quiet}
 use Rattle.kernel.specs.Calm.{Calm}
-use Rattle.kernel.specs.Counting.{Spends}
+use Rattle.kernel.specs.Counting.{Done, Spends}
 use Rattle.kernel.specs.Laws.{QuietStays}
-use Rattle.kernel.specs.RunLaws.{spends_trans}
+use Rattle.kernel.specs.RunLaws.{spends_more, spends_trans}
 use Rattle.ada_tree.specs.declared.expression.Identifier.{Identifier}
 use Rattle.ada_tree.specs.ExpressionTree as tree
 use Rattle.ada_tree.specs.ExpressionTree.{Arguments, Component, ExprTree, MoreArguments, NoArguments, SelectorTree}
@@ -38,7 +38,7 @@ use Rattle.expr_soundness.specs.meaning.specs.SameMeaning.{frames_of}
 use Rattle.expr_code.specs.Views.{At, frames_above, in_frame, placed, Sight, view_of}
 use Rattle.expr_code.specs.Coming.{Comes, most_steps, on}
 use Rattle.expr_code.specs.Computing.{Answers, ComputesChecked, ComesToNumber, Library}
-use Rattle.expr_code.specs.Locating.{Finds, shape_in}
+use Rattle.expr_code.specs.Locating.{Finds, IsByWords, IsLessFirst, IsOffset, shape_in}
 use Rattle.expr_code.specs.Naming.{Lies}
 use Rattle.expr_code.proofs.Coming.{acts, after_first, steps, pushes}
 use Rattle.expr_code.proofs.Naming.{same_words}
@@ -59,6 +59,29 @@ in_base n h = ap (λ c. cond c (Ok (pos n)) constraint_error) (small n (2 ^ 63) 
 
 times : (n size : ℕ) → pos n *ℤ pos size ≡ pos (n * size)
 times n size = grind (arith, ints)
+
+minus_none : (z : ℤ) → z -ℤ pos 0 ≡ z
+minus_none z = grind (arith, ints)
+
+once : (n size : ℕ) → size ≡ 1 → n ≡ n * size
+once n size one = (let e : n ≡ n * 1 = omega arith in e) ∙ ap (λ s. n * s) (sym one)
+
+-- ---- code from an index to an address goes on
+
+less_up : (i : Sections) (from to : ℕ) (first : ℤ) → IsLessFirst i from to first → from ≤ to
+less_up i from to first (inl h) = let next = h.2 in omega (arith, next)
+less_up i from to first (inr h) = let next = h.1 in omega (arith, next)
+
+product_up : (i : Sections) (from to size : ℕ) → IsByWords i from to size → from ≤ to
+product_up i from to size (inl h) = let next = h.2 in omega (arith, next)
+product_up i from to size (inr h) = let next = h.1 in omega (arith, next)
+
+pub offset_up : (i : Sections) (from to : ℕ) (first : ℤ) (size : ℕ) → IsOffset i from to first size → from ≤ to
+offset_up i from to first size h =
+    let low = less_up i from h.counted first h.less in
+    let high = product_up i h.counted h.scaled size h.product in
+    let end = h.end in
+    omega (arith, low, high, end)
 
 -- ---- the words of a component among those of its array
 
@@ -160,40 +183,81 @@ module _ (quiet : QuietStays) (i : Sections) (schedule : List ScheduleLine) (k :
       → Spends (behaviour i schedule) t frames_of (most_steps i) (suc (length fs)) 1 k (in_frame m (placed f from s) fs) k (in_frame m (placed f to s') fs)
   one from to s s' h = steps quiet i schedule k t m calm (placed f from s) (placed f to s') fs h
 
+  after_two : (from : ℕ) → (from + 1) + 1 ≡ from + 2
+  after_two from = omega arith
+
+  -- the distance of an index from the first one
+  less_first : (from to : ℕ) (first z : ℤ) (n : ℕ) (base : List ℤ) → z -ℤ first ≡ pos n → n < 2 ^ 63 → IsLessFirst i from to first
+      → Spends (behaviour i schedule) t frames_of (most_steps i) (suc (length fs)) (to - from) k (in_frame m (placed f from (z ∷ base)) fs) k
+      (in_frame m (placed f to (pos n ∷ base)) fs)
+  less_first from to first z n base far few (inl h) =
+      let s1 : List ℤ = first ∷ z ∷ base in
+      let s2 : List ℤ = pos n ∷ base in
+      subst
+      (λ q. Spends (behaviour i schedule) t frames_of (most_steps i) (suc (length fs)) (q - from) k (in_frame m (placed f from (z ∷ base)) fs) k
+      (in_frame m (placed f q s2) fs)) (sym h.2)
+      (spends_more (behaviour i schedule) t frames_of (most_steps i) ((from + 2) - from) (omega arith)
+      (spends_trans (behaviour i schedule) t frames_of (most_steps i) 1 k (in_frame m (placed f (from + 2) s2) fs)
+      (pushes quiet i schedule k t m calm from first h.0 f fs (z ∷ base) (from + 1) refl)
+      (one (from + 1) (from + 2) s1 s2
+      (acts quiet i (from + 1) op.Subtract h.1 schedule k t m f fs s1
+      ∙ ap (λ x. gives i schedule k t m (placed f (from + 1) s1) fs x base) (ap in_range far ∙ in_base n few)
+      ∙ ap (λ q. does Quiet m (placed f q s2) fs None None) (after_two from)))))
+  less_first from to first z n base far few (inr h) =
+      subst
+      (λ q. Spends (behaviour i schedule) t frames_of (most_steps i) (suc (length fs)) (q - from) k (in_frame m (placed f from (z ∷ base)) fs) k
+      (in_frame m (placed f q (pos n ∷ base)) fs)) (sym h.1)
+      (subst
+      (λ y. Spends (behaviour i schedule) t frames_of (most_steps i) (suc (length fs)) (from - from) k (in_frame m (placed f from (z ∷ base)) fs) k
+      (in_frame m (placed f from (y ∷ base)) fs)) (sym (minus_none z) ∙ ap (λ y. z -ℤ y) (sym h.0) ∙ far) Done)
+
+  -- the words of so many components
+  by_words : (from to size n : ℕ) (base : List ℤ) → n * size < 2 ^ 63 → IsByWords i from to size
+      → Spends (behaviour i schedule) t frames_of (most_steps i) (suc (length fs)) (to - from) k (in_frame m (placed f from (pos n ∷ base)) fs) k
+      (in_frame m (placed f to (pos (n * size) ∷ base)) fs)
+  by_words from to size n base few (inl h) =
+      let s1 : List ℤ = pos size ∷ pos n ∷ base in
+      let s2 : List ℤ = pos (n * size) ∷ base in
+      subst
+      (λ q. Spends (behaviour i schedule) t frames_of (most_steps i) (suc (length fs)) (q - from) k (in_frame m (placed f from (pos n ∷ base)) fs) k
+      (in_frame m (placed f q s2) fs)) (sym h.2)
+      (spends_more (behaviour i schedule) t frames_of (most_steps i) ((from + 2) - from) (omega arith)
+      (spends_trans (behaviour i schedule) t frames_of (most_steps i) 1 k (in_frame m (placed f (from + 2) s2) fs)
+      (pushes quiet i schedule k t m calm from (pos size) h.0 f fs (pos n ∷ base) (from + 1) refl)
+      (one (from + 1) (from + 2) s1 s2
+      (acts quiet i (from + 1) op.Multiply h.1 schedule k t m f fs s1
+      ∙ ap (λ x. gives i schedule k t m (placed f (from + 1) s1) fs x base) (ap in_range (times n size) ∙ in_base (n * size) few)
+      ∙ ap (λ q. does Quiet m (placed f q s2) fs None None) (after_two from)))))
+  by_words from to size n base few (inr h) =
+      subst
+      (λ q. Spends (behaviour i schedule) t frames_of (most_steps i) (suc (length fs)) (q - from) k (in_frame m (placed f from (pos n ∷ base)) fs) k
+      (in_frame m (placed f q (pos (n * size) ∷ base)) fs)) (sym h.1)
+      (subst
+      (λ y. Spends (behaviour i schedule) t frames_of (most_steps i) (suc (length fs)) (from - from) k (in_frame m (placed f from (pos n ∷ base)) fs) k
+      (in_frame m (placed f from (pos y ∷ base)) fs)) (once n size h.0) Done)
+
   -- above the address of an array and a checked index: the distance from the first index, the words of so many components, and the address of the component
-  pub indexes : (place : ℕ) (first z : ℤ) (size address n : ℕ) (base : List ℤ)
-      → z -ℤ first ≡ pos n → n < 2 ^ 63 → n * size < 2 ^ 63 → address + n * size < 2 ^ 63
-      → At i place (op.Push first) → At i (place + 1) op.Subtract → At i (place + 2) (op.Push (pos size)) → At i (place + 3) op.Multiply → At i (place + 4) op.Add
-      → Spends (behaviour i schedule) t frames_of (most_steps i) (suc (length fs)) 5 k (in_frame m (placed f place (z ∷ pos address ∷ base)) fs) k (in_frame m (placed f (place + 5) (pos (address + n * size) ∷ base)) fs)
-  indexes place first z size address n base far few small_product small_sum a b c d e =
-      let end = in_frame m (placed f (place + 5) (pos (address + n * size) ∷ base)) fs in
-      let s0 : List ℤ = z ∷ pos address ∷ base in
-      let s1 : List ℤ = first ∷ z ∷ pos address ∷ base in
-      let s2 : List ℤ = pos n ∷ pos address ∷ base in
-      let s3 : List ℤ = pos size ∷ pos n ∷ pos address ∷ base in
-      let s4 : List ℤ = pos (n * size) ∷ pos address ∷ base in
-      let s5 : List ℤ = pos (address + n * size) ∷ base in
-      spends_trans (behaviour i schedule) t frames_of (most_steps i) 4 k end
-      (pushes quiet i schedule k t m calm place first a f fs s0 (place + 1) refl)
-      (spends_trans (behaviour i schedule) t frames_of (most_steps i) 3 k end
-      (one (place + 1) (place + 2) s1 s2
-      (acts quiet i (place + 1) op.Subtract b schedule k t m f fs s1
-      ∙ ap (λ x. gives i schedule k t m (placed f (place + 1) s1) fs x (pos address ∷ base)) (ap in_range far ∙ in_base n few)
-      ∙ ap (λ q. does Quiet m (placed f q s2) fs None None) (next 1)))
-      (spends_trans (behaviour i schedule) t frames_of (most_steps i) 2 k end
-      (pushes quiet i schedule k t m calm (place + 2) (pos size) c f fs s2 (place + 3) (next 2))
+  pub indexes : (from to : ℕ) (first z : ℤ) (size address n : ℕ) (base : List ℤ)
+      → z -ℤ first ≡ pos n → n < 2 ^ 63 → n * size < 2 ^ 63 → address + n * size < 2 ^ 63 → IsOffset i from to first size
+      → Spends (behaviour i schedule) t frames_of (most_steps i) (suc (length fs)) (to - from) k (in_frame m (placed f from (z ∷ pos address ∷ base)) fs) k
+      (in_frame m (placed f to (pos (address + n * size) ∷ base)) fs)
+  indexes from to first z size address n base far few small_product small_sum x =
+      let low = less_up i from x.counted first x.less in
+      let high = product_up i x.counted x.scaled size x.product in
+      let s2 : List ℤ = pos (n * size) ∷ pos address ∷ base in
+      let s3 : List ℤ = pos (address + n * size) ∷ base in
+      let end = in_frame m (placed f (x.scaled + 1) s3) fs in
+      subst
+      (λ q. Spends (behaviour i schedule) t frames_of (most_steps i) (suc (length fs)) (q - from) k (in_frame m (placed f from (z ∷ pos address ∷ base)) fs) k
+      (in_frame m (placed f q s3) fs)) (sym x.end)
+      (spends_more (behaviour i schedule) t frames_of (most_steps i) ((x.scaled + 1) - from) (omega (arith, low, high))
+      (spends_trans (behaviour i schedule) t frames_of (most_steps i) ((x.scaled - x.counted) + 1) k end
+      (less_first from x.counted first z n (pos address ∷ base) far few x.less)
       (spends_trans (behaviour i schedule) t frames_of (most_steps i) 1 k end
-      (one (place + 3) (place + 4) s3 s4
-      (acts quiet i (place + 3) op.Multiply d schedule k t m f fs s3
-      ∙ ap (λ x. gives i schedule k t m (placed f (place + 3) s3) fs x (pos address ∷ base)) (ap in_range (times n size) ∙ in_base (n * size) small_product)
-      ∙ ap (λ q. does Quiet m (placed f q s4) fs None None) (next 3)))
-      (one (place + 4) (place + 5) s4 s5
-      (acts quiet i (place + 4) op.Add e schedule k t m f fs s4
-      ∙ ap (λ x. gives i schedule k t m (placed f (place + 4) s4) fs x base) (in_base (address + n * size) small_sum)
-      ∙ ap (λ q. does Quiet m (placed f q s5) fs None None) (next 4))))))
-    where
-      next : (j : ℕ) → (place + j) + 1 ≡ place + suc j
-      next j = omega arith
+      (by_words x.counted x.scaled size n (pos address ∷ base) small_product x.product)
+      (one x.scaled (x.scaled + 1) s2 s3
+      (acts quiet i x.scaled op.Add x.add schedule k t m f fs s2
+      ∙ ap (λ y. gives i schedule k t m (placed f x.scaled s2) fs y base) (in_base (address + n * size) small_sum))))))
 
 -- ---- a value, and then an address
 
@@ -281,12 +345,12 @@ pub record StandsAsArray (ws : List ℤ) (address : ℕ) (x : Shape) (vs : Value
   pub small : length ws ≤ 65536
 
 module _ (quiet : QuietStays) (sized : ValuesHaveWords) (places : PartsHavePlaces) (i : Sections) (library : Library) (sight : Sight) (region : Region) where
-  -- Above the address of an array stands code for an index, checked, and five instructions: then the address of the component stands there.
-  pub finds_element : (from mid : ℕ) (e : ExprTree) (s index element : Subtype) (many : ℕ) (x : Shape)
+  -- Above the address of an array stands code for an index, checked, and what makes of it an address: then the address of the component stands there.
+  pub finds_element : (from mid after : ℕ) (e : ExprTree) (s index element : Subtype) (many : ℕ) (x : Shape)
       → from ≤ mid
       → ComputesChecked i library sight from mid index e
       → ComesToNumber i library sight e
-      → At i mid (op.Push index.first) → At i (mid + 1) op.Subtract → At i (mid + 2) (op.Push (pos (words x))) → At i (mid + 3) op.Multiply → At i (mid + 4) op.Add
+      → IsOffset i mid after index.first (words x)
       → (calls : Calls) (left : ℕ)
       → Answers i library calls left
       → (schedule : List ScheduleLine) (k : Kernel) (t : ℕ) (m : Words) (f : Frame) (fs : List Frame) (p : Place) (base : List ℤ)
@@ -296,10 +360,10 @@ module _ (quiet : QuietStays) (sized : ValuesHaveWords) (places : PartsHavePlace
       → form_at p.scope s.type_number ≡ Some (Arrays index many element)
       → (vs : Values) (address : ℕ)
       → StandsAsArray (region_words i region m f) address x vs
-      → Finds i schedule k t m (placed f from (pos address ∷ base)) fs region element x ((mid - from) + 5) (mid + 5) base (part_with calls p (IsObject s (Array vs)) (index_of e))
-  finds_element from mid e s index element many x le inner number a b c d add calls left answers schedule k t m f fs p base calm sees is form vs address stands =
-      subst (λ v. Finds i schedule k t m (placed f from (pos address ∷ base)) fs region element x ((mid - from) + 5) (mid + 5) base v) (sym (part_is calls p s index element many vs e form))
-      (then_finds quiet i schedule k t m calm fs region element x (placed f from (pos address ∷ base)) (mid - from) 5 mid (mid + 5) (on (pos address ∷ base)) base (and_then (value_with calls p e) (passed index)) go le (omega arith)
+      → Finds i schedule k t m (placed f from (pos address ∷ base)) fs region element x ((mid - from) + (after - mid)) after base (part_with calls p (IsObject s (Array vs)) (index_of e))
+  finds_element from mid after e s index element many x le inner number offset calls left answers schedule k t m f fs p base calm sees is form vs address stands =
+      subst (λ v. Finds i schedule k t m (placed f from (pos address ∷ base)) fs region element x ((mid - from) + (after - mid)) after base v) (sym (part_is calls p s index element many vs e form))
+      (then_finds quiet i schedule k t m calm fs region element x (placed f from (pos address ∷ base)) (mid - from) (after - mid) mid after (on (pos address ∷ base)) base (and_then (value_with calls p e) (passed index)) go le (offset_up i mid after index.first (words x) offset)
       (inner calls left answers schedule k t m f fs p (pos address ∷ base) calm sees is)
       (λ v ev. at_value v ev))
     where
@@ -309,14 +373,14 @@ module _ (quiet : QuietStays) (sized : ValuesHaveWords) (places : PartsHavePlace
       W : List ℤ
       W = region_words i region m f
 
-      at_number : (z : ℤ) → int_le index.first z ≡ true → Finds i schedule k t m (placed f mid (z ∷ pos address ∷ base)) fs region element x 5 (mid + 5) base (go (Number z))
+      at_number : (z : ℤ) → int_le index.first z ≡ true → Finds i schedule k t m (placed f mid (z ∷ pos address ∷ base)) fs region element x (after - mid) after base (go (Number z))
       at_number z above =
           let far = distance index.first z (z -ℤ index.first) above refl in
-          subst (λ o. Finds i schedule k t m (placed f mid (z ∷ pos address ∷ base)) fs region element x 5 (mid + 5) base (element_meaning o (Array vs) z)) (sym form)
-          (subst (λ y. Finds i schedule k t m (placed f mid (z ∷ pos address ∷ base)) fs region element x 5 (mid + 5) base (object_or_nothing (Some element) (element_at vs (unsigned_abs y)))) (sym far.1)
+          subst (λ o. Finds i schedule k t m (placed f mid (z ∷ pos address ∷ base)) fs region element x (after - mid) after base (element_meaning o (Array vs) z)) (sym form)
+          (subst (λ y. Finds i schedule k t m (placed f mid (z ∷ pos address ∷ base)) fs region element x (after - mid) after base (object_or_nothing (Some element) (element_at vs (unsigned_abs y)))) (sym far.1)
           (there far.0 far.1 (element_at vs far.0) refl))
         where
-          there : (n : ℕ) → z -ℤ index.first ≡ pos n → (o : Option Value) → element_at vs n ≡ o → Finds i schedule k t m (placed f mid (z ∷ pos address ∷ base)) fs region element x 5 (mid + 5) base (object_or_nothing (Some element) o)
+          there : (n : ℕ) → z -ℤ index.first ≡ pos n → (o : Option Value) → element_at vs n ≡ o → Finds i schedule k t m (placed f mid (z ∷ pos address ∷ base)) fs region element x (after - mid) after base (object_or_nothing (Some element) o)
           there n far None is = tt
           there n far (Some w) is =
               let lies = stands.lies in
@@ -330,15 +394,15 @@ module _ (quiet : QuietStays) (sized : ValuesHaveWords) (places : PartsHavePlace
                 subst (λ ws. Lies ws (address + n * words x) w) (sym (same_words i m region f mid (z ∷ pos address ∷ base))) (element_lies sized places W address x vs n w stands.shaped is lies),
                 element_shape x vs n w stands.shaped is,
                 refl,
-                indexes quiet i schedule k t m calm f fs mid index.first z (words x) address n base far (omega (arith, below, few)) (omega (arith, fit, room, small)) (omega (arith, fit, room, small)) a b c d add,
+                indexes quiet i schedule k t m calm f fs mid after index.first z (words x) address n base far (omega (arith, below, few)) (omega (arith, fit, room, small)) (omega (arith, fit, room, small)) offset,
               )
 
-      at_value : (v : Value) → and_then (value_with calls p e) (passed index) ≡ Gives v → Finds i schedule k t m (placed f mid (on (pos address ∷ base) v)) fs region element x 5 (mid + 5) base (go v)
+      at_value : (v : Value) → and_then (value_with calls p e) (passed index) ≡ Gives v → Finds i schedule k t m (placed f mid (on (pos address ∷ base) v)) fs region element x (after - mid) after base (go v)
       at_value v ev =
           let first = given (value_with calls p e) (passed index) v ev in
           let it = number calls p (view_of i schedule k t m f fs) first.0 answers.sound sees first.1 in
           let checked = passed_number index it.0 v (ap (passed index) (sym it.1) ∙ first.2) in
-          subst (λ u. Finds i schedule k t m (placed f mid (on (pos address ∷ base) u)) fs region element x 5 (mid + 5) base (go u)) (sym checked.0) (at_number it.0 checked.1)
+          subst (λ u. Finds i schedule k t m (placed f mid (on (pos address ∷ base) u)) fs region element x (after - mid) after base (go u)) (sym checked.0) (at_number it.0 checked.1)
 
 -- ---- a component of a record
 

@@ -42,8 +42,8 @@ use Rattle.expr_code.proofs.Coming.{more}
 use Rattle.expr_code.proofs.Expressions.{and_then_again}
 use Rattle.expr_code.proofs.Naming.{same_words}
 use Rattle.expr_code.proofs.Passing.{named_value}
-use Rattle.expr_code.specs.Locating.{IsPath, located}
-use Rattle.expr_code.proofs.Locating.{finds_element, finds_field, then_found}
+use Rattle.expr_code.specs.Locating.{IsOffset, IsPath, located}
+use Rattle.expr_code.proofs.Locating.{finds_element, finds_field, offset_up, then_found}
 
 -- a value of the shape of a record has fields, and one of the shape of an array components
 pub as_record : (x : Shape) (parts : Shapes) (v : Value) → x ≡ Grouped parts → has_shape x v ≡ true → (fields : Fields) × (v ≡ Record fields) × (have_shapes parts fields ≡ true)
@@ -103,21 +103,22 @@ module _ (quiet : QuietStays) (sized : ValuesHaveWords) (places : PartsHavePlace
         (subst (λ u. Lies (region_words i region m f) address u) it.1 lies) it.2 small))
         (λ a b l h. again a b (subst (λ ws. Lies ws b a) (same_words i m region f from (pos address ∷ base)) l) h))
 
-    along_index : (e : ExprTree) (rest : SelectorTrees) (from mid to : ℕ) (s last index element : Subtype) (many : ℕ) (x inner end : Shape)
+    along_index : (e : ExprTree) (rest : SelectorTrees) (from mid after to : ℕ) (s last index element : Subtype) (many : ℕ) (x inner end : Shape)
         → form_at p.scope s.type_number ≡ Some (Arrays index many element) → x ≡ Repeated many inner → many ≤ 65536 → from ≤ mid
         → ComputesChecked i library sight from mid index e → ComesToNumber i library sight e
-        → At i mid (op.Push index.first) → At i (mid + 1) op.Subtract → At i (mid + 2) (op.Push (pos (words inner))) → At i (mid + 3) op.Multiply → At i (mid + 4) op.Add → mid + 5 ≤ to
-        → ((v : Value) (address : ℕ) → Lies (region_words i region m f) address v → has_shape inner v ≡ true → At_part (mid + 5) to last end address (located calls p (IsObject element v) rest))
+        → IsOffset i mid after index.first (words inner) → after ≤ to
+        → ((v : Value) (address : ℕ) → Lies (region_words i region m f) address v → has_shape inner v ≡ true → At_part after to last end address (located calls p (IsObject element v) rest))
         → (v : Value) (address : ℕ) → Lies (region_words i region m f) address v → has_shape x v ≡ true
         → At_part from to last end address (located calls p (IsObject s v) (MoreSelectors (Arguments (MoreArguments (tree.Value e) NoArguments)) rest))
-    along_index e rest from mid to s last index element many x inner end form repeated few le code number a b c d add up again v address lies has =
+    along_index e rest from mid after to s last index element many x inner end form repeated few le code number offset up again v address lies has =
+        let far = offset_up i mid after index.first (words inner) offset in
         let it = as_array x inner many v repeated has in
         let count = same_count (count_values it.0) many it.2 in
         let selector = Arguments (MoreArguments (tree.Value e) NoArguments) in
-        more_finds schedule k t m calm f fs base from (((mid - from) + 5) + (to - (mid + 5))) (to - from) to (pos address ∷ base) last end (located calls p (IsObject s v) (MoreSelectors selector rest)) (omega (arith, le, up))
-        (then_found quiet i schedule k t m calm fs region last end element inner (placed f from (pos address ∷ base)) ((mid - from) + 5) (to - (mid + 5)) (mid + 5) to base (part_with calls p (IsObject s v) selector) (λ n. located calls p n rest) (omega (arith, le)) up
-        (subst (λ u. Finds i schedule k t m (placed f from (pos address ∷ base)) fs region element inner ((mid - from) + 5) (mid + 5) base (part_with calls p (IsObject s u) selector)) (sym it.1)
-        (finds_element quiet sized places i library sight region from mid e s index element many inner le code number a b c d add calls left answers schedule k t m f fs p base calm sees is form it.0 address
+        more_finds schedule k t m calm f fs base from (((mid - from) + (after - mid)) + (to - after)) (to - from) to (pos address ∷ base) last end (located calls p (IsObject s v) (MoreSelectors selector rest)) (omega (arith, le, far, up))
+        (then_found quiet i schedule k t m calm fs region last end element inner (placed f from (pos address ∷ base)) ((mid - from) + (after - mid)) (to - after) after to base (part_with calls p (IsObject s v) selector) (λ n. located calls p n rest) (omega (arith, le, far)) up
+        (subst (λ u. Finds i schedule k t m (placed f from (pos address ∷ base)) fs region element inner ((mid - from) + (after - mid)) after base (part_with calls p (IsObject s u) selector)) (sym it.1)
+        (finds_element quiet sized places i library sight region from mid after e s index element many inner le code number offset calls left answers schedule k t m f fs p base calm sees is form it.0 address
         (record { lies = subst (λ u. Lies (region_words i region m f) address u) it.1 lies; shaped = it.3; few = omega (arith, count, few); small = small })))
         (λ u q l h. again u q (subst (λ ws. Lies ws q u) (same_words i m region f from (pos address ∷ base)) l) h))
 
@@ -130,8 +131,8 @@ module _ (quiet : QuietStays) (sized : ValuesHaveWords) (places : PartsHavePlace
         along_field name rest from to s last x end code.0 code.1 code.2 code.3 code.4 (code.5 p (view_of i schedule k t m f fs) sees) (code.6 p (view_of i schedule k t m f fs) sees) code.7 code.8 code.9 code.11 code.12 code.13
         (λ a b l h. finds_path rest (from + 2) to code.2 last code.3 end code.14 a b l h) v address lies shaped
     finds_path (MoreSelectors (Arguments (MoreArguments (tree.Value e) NoArguments)) rest) from to s last x end code v address lies shaped =
-        along_index e rest from code.4 to s last code.0 code.1 code.2 x code.3 end (code.5 p (view_of i schedule k t m f fs) sees) (code.6 p (view_of i schedule k t m f fs) sees) code.7 code.8 code.9 code.10 code.11 code.12 code.13 code.14 code.15 code.16
-        (λ a b l h. finds_path rest (code.4 + 5) to code.1 last code.3 end code.17 a b l h) v address lies shaped
+        along_index e rest from code.4 code.5 to s last code.0 code.1 code.2 x code.3 end (code.6 p (view_of i schedule k t m f fs) sees) (code.7 p (view_of i schedule k t m f fs) sees) code.8 code.9 code.10 code.11 code.12 code.13
+        (λ a b l h. finds_path rest code.5 to code.1 last code.3 end code.14 a b l h) v address lies shaped
     finds_path (MoreSelectors other rest) from to s last x end code v address lies shaped = absurd code
 
 -- ---- the words of the part at the end of a path

@@ -1,5 +1,5 @@
 -- What refuses the code of a part of an expression refuses that of the whole.
-use Rattle.std.proofs.Common.{◌≡◌, ◌<◌, ◌≤◌, ◌+◌, ◌*◌, inl, inr, ℕ, zero, suc, [], ◌∷◌, List, length, map, take, Some, None, refl, sym, ap, ◌∙◌, subst, arith}
+use Rattle.std.proofs.Common.{◌≡◌, ◌<◌, ◌≤◌, ◌+◌, ◌*◌, ℕ, zero, suc, [], ◌∷◌, List, length, map, take, Some, None, refl, sym, ap, ◌∙◌, subst, arith}
 use Rattle.std.specs.Prelude.{cond, get_or, is_none, max}
 use Rattle.std.proofs.Math.Nat.{le-max_left, le-max_right}
 use Rattle.ada_tree.specs.declared.expression.ElsifValue.{ElsifValue}
@@ -17,6 +17,8 @@ use Rattle.expr_code.specs.OperatorCode.{binary_operation}
 use Rattle.expr_code.specs.Refusing.{branches_peak, elsifs_peak, IsRefused, IsRefusedBeside, operand_peak, operands_peak, operands_size, peak, RefusesBranches, RefusesExpression, RefusesOperands, selector_peak, selectors_peak, words_below}
 use Rattle.expr_code.specs.Widths.{width_of}
 use Rattle.expr_code.specs.declared.code.Code.{Code}
+use Rattle.expr_code.specs.declared.refusal.ImageLimit.{ImageLimit}
+use Rattle.expr_code.specs.declared.refusal.ImageLimit.TheVariants as limits
 use Rattle.expr_code.specs.declared.refusal.Refusal.{Refusal}
 use Rattle.expr_code.specs.declared.refusal.Refusal.TheVariants as refusal
 use Rattle.expr_code.specs.declared.visible.Visible.{Visible}
@@ -28,12 +30,19 @@ use Rattle.expr_code.proofs.Selecting.{taken_all}
 -- a part ends no later than the whole, and needs no more words; what is unfit for it is so for the whole
 pub refused_beside : {a b : Type 0} (m n l h : ℕ) → (a → b) → m ≤ n → l ≤ h → (why : Refusal) → IsRefusedBeside a m l why → IsRefusedBeside b n h why
 refused_beside m n l h unfit up high refusal.Memory r = tt
-refused_beside m n l h unfit up high refusal.Limit (inl r) = inl (omega (arith, r, up))
-refused_beside m n l h unfit up high refusal.Limit (inr (inl r)) = inr (inl (omega (arith, r, high)))
-refused_beside m n l h unfit up high refusal.Limit (inr (inr r)) = inr (inr (unfit r))
+refused_beside m n l h unfit up high (refusal.Limit limits.Instructions) r = omega (arith, r, up)
+refused_beside m n l h unfit up high (refusal.Limit limits.Frame) r = omega (arith, r, high)
+refused_beside m n l h unfit up high (refusal.Limit limits.Block) r = unfit r
+refused_beside m n l h unfit up high (refusal.Limit other) r = r
 
 pub refused_more : (a : Type 0) (m n l h : ℕ) → m ≤ n → l ≤ h → (why : Refusal) → IsRefusedBeside a m l why → IsRefusedBeside a n h why
 refused_more a m n l h up high why r = refused_beside m n l h (λ x. x) up high why r
+
+-- no limit is passed by no instructions and no words
+pub no_limit : (limit : ImageLimit) → IsRefused 0 0 (refusal.Limit limit) → ⊥
+no_limit limits.Instructions r = absurd (omega (arith, r))
+no_limit limits.Frame r = absurd (omega (arith, r))
+no_limit other r = r
 
 -- of an instruction, or of the words of one
 pub instruction_refused : (a : Type 0) (m n l h : ℕ) → m ≤ n → l ≤ h → (why : Refusal) → IsRefused m l why → IsRefusedBeside a n h why

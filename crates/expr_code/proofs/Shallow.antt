@@ -1,5 +1,5 @@
 -- How many words code that was added finds on the operand stack at most: code behind code, and each form of an expression.
-use Rattle.std.proofs.Common.{◌≡◌, ◌<◌, ◌≤◌, ◌+◌, ℕ, suc, List, [], ◌∷◌, length, map, Some, None, sym, ap, ◌∙◌, subst, arith}
+use Rattle.std.proofs.Common.{◌≡◌, ◌<◌, ◌≤◌, ◌+◌, ℕ, ℤ, pos, suc, inl, inr, List, [], ◌∷◌, length, map, Some, None, sym, ap, ◌∙◌, subst, arith}
 use Rattle.std.specs.Prelude.{get_or, max, slice_get}
 use Rattle.std.proofs.Math.Nat.{le-max_right}
 use Rattle.ada_tree.specs.declared.expression.Argument.{Argument}
@@ -10,6 +10,7 @@ use Rattle.ada_tree.specs.declared.expression.Selector.{Selector}
 use Rattle.ada_tree.specs.ExpressionTree as tree
 use Rattle.ada_tree.specs.ExpressionTree.{Arguments, Component, ExprTree, MoreArguments, MoreSelectors, NoArguments, NoElsifValues, NoSelectors, SelectorTrees, Value, argument_tree, argument_trees, bare_name, chain_tree, elsif_value_trees, expr_tree, selector_tree, selector_trees}
 use Rattle.image.specs.declared.instruction.Operation.{Operation}
+use Rattle.image.specs.declared.instruction.Operation.TheVariants as op
 use Rattle.types.specs.declared.entity.Role.{Role}
 use Rattle.types.specs.declared.entity.Subtype.{Subtype}
 use Rattle.types.specs.declared.standing.Standing.TheVariants as standing
@@ -18,7 +19,7 @@ use Rattle.types.specs.Standings.{stands_first}
 use Rattle.expr_soundness.proofs.Positions.{same_some}
 use Rattle.expr_code.specs.Branches.{Branch, Closes, branch_of, in_front}
 use Rattle.expr_code.specs.Code.{IsShallow}
-use Rattle.expr_code.specs.Going.{AddsOffset}
+use Rattle.expr_code.specs.Going.{AddsByWords, AddsLessFirst, AddsOffset, AddsTwo}
 use Rattle.expr_code.specs.OperatorCode.{binary_operation}
 use Rattle.expr_code.specs.Refusing.{argument_peak, arguments_peak, branches_peak, checked_peak, operand_peak, operands_peak, peak, selectors_peak, words_below}
 use Rattle.expr_code.specs.Widths.{width_of}
@@ -69,14 +70,23 @@ shallow_as a b c n same p = other a.deepest b.deepest c.deepest same p
 pub closed_shallow : (old new : Code) (height test : ℕ) (before after : List ℕ) → Closes old height test before after new → IsShallow old new height
 closed_shallow old new height test before after p = shallow_as old p.closed new height p.patches.deepest p.adds.shallow
 
-pub offset_shallow : (old : Code) (depth : ℕ) (first : _) (words : ℕ) (new : Code) → AddsOffset old depth first words new → IsShallow old new (depth + 1)
+two_shallow : (old : Code) (depth : ℕ) (first second : Operation) (new : Code) → AddsTwo old depth first second new → IsShallow old new (depth + 1)
+two_shallow old depth first second new p =
+    shallow_then old p.pushed new (depth + 1) (shallow_more old p.pushed depth (depth + 1) (omega arith) p.push.shallow) p.then.shallow
+
+less_shallow : (old : Code) (depth : ℕ) (first : ℤ) (new : Code) → AddsLessFirst old depth first new → IsShallow old new (depth + 1)
+less_shallow old depth first new (inl p) = two_shallow old depth (op.Push first) op.Subtract new p
+less_shallow old depth first new (inr h) = subst (λ c. IsShallow old c (depth + 1)) (sym h.1) (shallow_self old (depth + 1))
+
+product_shallow : (old : Code) (depth words : ℕ) (new : Code) → AddsByWords old depth words new → IsShallow old new (depth + 1)
+product_shallow old depth words new (inl p) = two_shallow old depth (op.Push (pos words)) op.Multiply new p
+product_shallow old depth words new (inr h) = subst (λ c. IsShallow old c (depth + 1)) (sym h.1) (shallow_self old (depth + 1))
+
+pub offset_shallow : (old : Code) (depth : ℕ) (first : ℤ) (words : ℕ) (new : Code) → AddsOffset old depth first words new → IsShallow old new (depth + 1)
 offset_shallow old depth first words new p =
-    let up : depth ≤ depth + 1 = omega arith in
-    shallow_next old p.scaled new depth (depth + 1) up
-    (shallow_then old p.sized p.scaled (depth + 1)
-    (shallow_next old p.counted p.sized depth (depth + 1) up
-    (shallow_then old p.pushed p.counted (depth + 1) (shallow_more old p.pushed depth (depth + 1) up p.push.shallow) p.subtract.shallow) p.size.shallow)
-    p.multiply.shallow) p.add.shallow
+    shallow_next old p.scaled new depth (depth + 1) (omega arith)
+    (shallow_then old p.counted p.scaled (depth + 1) (less_shallow old depth first p.counted p.less) (product_shallow p.counted depth words p.scaled p.product))
+    p.add.shallow
 
 module _ (v : Visible) (depth : ℕ) where
   -- ---- chains of operators

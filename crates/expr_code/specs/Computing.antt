@@ -22,6 +22,7 @@ use Rattle.types.specs.Shapes.{Shape, has_shape, value_words}
 use Rattle.types.specs.Evaluations.{Val, Gives, and_then}
 use Rattle.types.specs.Places.{Function, IsFunction, Place, ceiling_of}
 use Rattle.types.specs.Evaluating.{Calls, actuals_with, called, entered, formal_subtype, name_with, passed, value_with}
+use Rattle.expr_soundness.specs.Lying.{are_between}
 use Rattle.expr_code.specs.Views.{At, IsSameTask, placed, frames_above, Sight, View, view_of}
 use Rattle.expr_code.specs.Coming.{all_on, all_words, Comes, on}
 
@@ -54,8 +55,12 @@ pub record Library : Type 1 where
   -- the function has the subprogram with this number; and its parameters have these shapes
   pub coded : Function → ℕ → Type 0
   pub shapes : Function → List Shape
-  -- what is known of the values of calls: that they are of the types of the results
+  -- what is known of the values of calls: that they are of the types of the results, and between the bounds of their subtypes
   pub sound : Calls → Type 0
+
+-- values that are passed to the function: of the shapes of its formals, and between the bounds of their subtypes
+abbrev pub ArePassedTo : Library → Function → List Value → Type 0
+ArePassedTo library function args = ArePassed (library.shapes function) args × (are_between (map formal_subtype function.formals) args ≡ true)
 
 module _ (i : Sections) (library : Library) where
   -- The code of the functions that are called gives their values, with so many frames left: where the actual parameters stand on the operand stack at the call,
@@ -70,7 +75,7 @@ module _ (i : Sections) (library : Library) where
         → library.coded function number
         → IsCalledThrough p function through
         → At i place (call_operation through number)
-        → ArePassed (library.shapes function) args
+        → ArePassedTo library function args
         → left ≡ frames_above fs
         → Comes i schedule k t m (placed f place (all_on base args)) fs 1 (suc place) (on base) (called calls p function through args)
 
@@ -147,7 +152,7 @@ module _ (i : Sections) (library : Library) where
   abbrev pub AlwaysNames : Sight → Identifier → (selectors behind : SelectorTrees) → Operation → List Subtype → Type 0
   AlwaysNames sight first selectors behind operation ts = (p : Place) (view : View) → sight p view → NamesFunction first selectors behind operation ts p view
 
-  -- the actual parameters have the shapes of the formals of each function that has these subtypes of formals
+  -- the actual parameters may be passed to each function that has these subtypes of formals
   abbrev pub ArePassedWell : Sight → List Subtype → ArgumentTrees → Type 0
   ArePassedWell sight ts arguments =
       (calls : Calls) (p : Place) (view : View) (function : Function) (vs : List Value)
@@ -155,7 +160,7 @@ module _ (i : Sections) (library : Library) where
       → sight p view
       → map formal_subtype function.formals ≡ ts
       → actuals_with calls p arguments ts ≡ Gives vs
-      → ArePassed (library.shapes function) vs
+      → ArePassedTo library function vs
 
   -- the code of a function: its value, checked, and a return. It handles nothing, and sees what all bodies see and its formals
   pub record IsFunctionCode (function : Function) (number : ℕ) : Type 1 where
@@ -176,7 +181,7 @@ module _ (i : Sections) (library : Library) where
     -- what it sees when it is entered
     pub enters : (p : Place) (view inner : View) (args : List Value) (left : ℕ) (locals : List ℤ)
         → library.shared p view
-        → ArePassed (library.shapes function) args
+        → ArePassedTo library function args
         → inner.schedule ≡ view.schedule
         → inner.now ≡ view.now
         → IsSameTask p inner

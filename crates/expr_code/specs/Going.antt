@@ -1,8 +1,9 @@
 -- What code promises that goes from the address of an object to that of a part of it (RM 4.1.1, 4.1.3).
-use Rattle.std.specs.Prelude.{◌≡◌, ℕ, suc, ◌+◌, ◌*◌, ◌≤◌, ℤ, pos, Bool, true, false, ◌&&◌, List, [], ◌∷◌}
+use Rattle.std.specs.Prelude.{◌≡◌, ◌⊎◌, ℕ, suc, ◌+◌, ◌*◌, ◌≤◌, ℤ, pos, Bool, true, false, ◌&&◌, List, [], ◌∷◌}
 use Rattle.ada_tree.specs.ExpressionTree.{Attribute, MoreSelectors, NoSelectors, SelectorTree, SelectorTrees}
 use Rattle.ada_tree.specs.Size.{selector_size, selectors_size}
 use Rattle.image.specs.Sections.{Sections}
+use Rattle.image.specs.declared.instruction.Operation.{Operation}
 use Rattle.image.specs.declared.instruction.Operation.TheVariants as op
 use Rattle.types.specs.declared.entity.Role.{Role}
 use Rattle.types.specs.declared.entity.Subtype.{Subtype}
@@ -83,15 +84,25 @@ pub record EmitsAddress (v : Visible) (old : Code) (depth offset : ℕ) (t : Sub
       → IsPath i (library_of g) (Sees g v) (suc (here old)) (here new) t (shape_of v.scope t) all last (shape_of v.scope last)
   pub flows : Flows (Suits v) old depth new (depth + 1)
 
+-- two instructions, of which the second finds one word more
+pub record AddsTwo (old : Code) (depth : ℕ) (first second : Operation) (new : Code) : Type 0 where
+  pub pushed : Code
+  pub push : Adds old depth first pushed
+  pub then : Adds pushed (depth + 1) second new
+
+-- an index on top of the operand stack less the first one: nothing where that is 0
+abbrev pub AddsLessFirst : (old : Code) → (depth : ℕ) → (first : ℤ) → (new : Code) → Type 0
+AddsLessFirst old depth first new = AddsTwo old depth (op.Push first) op.Subtract new ⊎ ((first ≡ pos 0) × (new ≡ old))
+
+-- ... by the words of a component: nothing where it has one
+abbrev pub AddsByWords : (old : Code) → (depth words : ℕ) → (new : Code) → Type 0
+AddsByWords old depth words new = AddsTwo old depth (op.Push (pos words)) op.Multiply new ⊎ ((words ≡ 1) × (new ≡ old))
+
 -- what makes of an address and an index that was checked, both on the operand stack, the address of the component: from the first index on, by the words of
 -- each
 pub record AddsOffset (old : Code) (depth : ℕ) (first : ℤ) (words : ℕ) (new : Code) : Type 0 where
-  pub pushed : Code
   pub counted : Code
-  pub sized : Code
   pub scaled : Code
-  pub push : Adds old depth (op.Push first) pushed
-  pub subtract : Adds pushed (depth + 1) op.Subtract counted
-  pub size : Adds counted depth (op.Push (pos words)) sized
-  pub multiply : Adds sized (depth + 1) op.Multiply scaled
+  pub less : AddsLessFirst old depth first counted
+  pub product : AddsByWords counted depth words scaled
   pub add : Adds scaled depth op.Add new

@@ -1,5 +1,5 @@
 -- What it is that code finds a part of an object (RM 4.1.1, 4.1.3): its address stands on the operand stack.
-use Rattle.std.specs.Prelude.{◌≡◌, ℕ, suc, ◌+◌, ◌≤◌, pos, ℤ, List, ◌∷◌, length, true, Option, None, Some, bytes_eq, if◌then◌else◌}
+use Rattle.std.specs.Prelude.{◌≡◌, ◌⊎◌, ℕ, suc, ◌+◌, ◌≤◌, pos, ℤ, List, ◌∷◌, length, true, Option, None, Some, bytes_eq, if◌then◌else◌}
 use Rattle.base.specs.declared.schedule.ScheduleLine.{ScheduleLine}
 use Rattle.kernel.specs.State.{Kernel}
 use Rattle.kernel.specs.Counting.{Spends}
@@ -7,6 +7,7 @@ use Rattle.ada_tree.specs.ExpressionTree.{SelectorTrees, NoSelectors, MoreSelect
 use Rattle.image.specs.Sections.{Sections}
 use Rattle.image.specs.Frames.{Words, Frame, region_words}
 use Rattle.image.specs.Steps.{behaviour}
+use Rattle.image.specs.declared.instruction.Operation.{Operation}
 use Rattle.image.specs.declared.instruction.Operation.TheVariants as op
 use Rattle.image.specs.declared.instruction.Region.{Region}
 use Rattle.types.specs.declared.entity.RecordComponent.{RecordComponent}
@@ -49,8 +50,34 @@ module _ (i : Sections) (schedule : List ScheduleLine) (k : Kernel) (t : ℕ) (m
   Finds f fs region r x n to base (Raises e) = Comes i schedule k t m f fs n to (λ (meaning : Meaning). base) (Raises e)
   Finds f fs region r x n to base Meaningless = Unit {0}
 
+-- ---- from an index to an address
+
+module _ (i : Sections) where
+  -- two instructions, one behind the other
+  abbrev pub AreTwo : (from to : ℕ) → (first second : Operation) → Type 0
+  AreTwo from to first second = At i from first × At i (from + 1) second × (to ≡ from + 2)
+
+  -- an index less the first one: nothing where that is 0
+  abbrev pub IsLessFirst : (from to : ℕ) → (first : ℤ) → Type 0
+  IsLessFirst from to first = AreTwo from to (op.Push first) op.Subtract ⊎ ((first ≡ pos 0) × (to ≡ from))
+
+  -- ... by the words of a component: nothing where it has one
+  abbrev pub IsByWords : (from to : ℕ) → (size : ℕ) → Type 0
+  IsByWords from to size = AreTwo from to (op.Push (pos size)) op.Multiply ⊎ ((size ≡ 1) × (to ≡ from))
+
+  -- what makes of the address of an array and a checked index above it the address of the component
+  pub record IsOffset (from to : ℕ) (first : ℤ) (size : ℕ) : Type 0 where
+    pub counted : ℕ
+    pub scaled : ℕ
+    pub less : IsLessFirst from counted first
+    pub product : IsByWords counted scaled size
+    pub add : At i scaled op.Add
+    pub end : to ≡ scaled + 1
+
+-- ---- paths
+
 -- Code that goes from the address of an object or part of this subtype and shape along selectors: for a component of a record its offset and a sum; for one
--- of an array its index, checked, and five instructions that make it an address.
+-- of an array its index, checked, and what makes of it an address.
 module _ (i : Sections) (library : Library) (sight : Sight) where
   abbrev pub IsPath : (from to : ℕ) → Subtype → Shape → SelectorTrees → (last : Subtype) → (end : Shape) → Type 0
   IsPath from to s x NoSelectors last end = (from ≡ to) × (x ≡ end) × (s ≡ last)
@@ -75,17 +102,14 @@ module _ (i : Sections) (library : Library) (sight : Sight) where
       × (many : ℕ)
       × (inner : Shape)
       × (mid : ℕ)
+      × (after : ℕ)
       × ((p : Place) (view : View) → sight p view → form_at p.scope s.type_number ≡ Some (Arrays index many element))
       × ((p : Place) (view : View) → sight p view → x ≡ Repeated many inner)
       × (many ≤ 65536)
       × (from ≤ mid)
       × ComputesChecked i library sight from mid index e
       × ComesToNumber i library sight e
-      × At i mid (op.Push index.first)
-      × At i (mid + 1) op.Subtract
-      × At i (mid + 2) (op.Push (pos (words inner)))
-      × At i (mid + 3) op.Multiply
-      × At i (mid + 4) op.Add
-      × (mid + 5 ≤ to)
-      × IsPath (mid + 5) to element inner rest last end
+      × IsOffset i mid after index.first (words inner)
+      × (after ≤ to)
+      × IsPath after to element inner rest last end
   IsPath from to s x (MoreSelectors other rest) last end = ⊥

@@ -1,4 +1,4 @@
--- When code isn't made of an expression: memory was refused, or a limit of images may be passed.
+-- When code isn't made of an expression: memory was refused, or it may pass a limit of images, which is told.
 use Rattle.std.specs.Prelude.{◌≡◌, ℕ, suc, ◌+◌, ◌*◌, ◌<◌, max, Bool, true, false, ◌&&◌, List, [], ◌∷◌, Option, Some, is_none, ⊤, ◌⊎◌, if◌then◌else◌}
 use Rattle.base.specs.declared.limits.TheConstants.{FRAME_WORDS, INSTRUCTIONS}
 use Rattle.image.specs.Rules.{is_block}
@@ -22,6 +22,8 @@ use Rattle.expr_code.specs.OperatorCode.{binary_operation}
 use Rattle.expr_code.specs.Seeing.{slot_of}
 use Rattle.expr_code.specs.Widths.{width_of}
 use Rattle.expr_code.specs.declared.code.Code.{Code}
+use Rattle.expr_code.specs.declared.refusal.ImageLimit.{ImageLimit}
+use Rattle.expr_code.specs.declared.refusal.ImageLimit.TheVariants as limits
 use Rattle.expr_code.specs.declared.refusal.Refusal.{Refusal}
 use Rattle.expr_code.specs.declared.refusal.Refusal.TheVariants as refusal
 use Rattle.expr_code.specs.declared.visible.Slot.{Slot}
@@ -115,10 +117,17 @@ pub record HasUnfitObject (v : Visible) : Type 0 where
 
 -- ---- refusals
 
--- Why code is refused that would end behind so many instructions, with so many words on the operand stack at most: memory may always be refused.
+-- Which limit code may pass that would end behind so many instructions, with so many words on the operand stack at most, where it may be unfit in this way.
+abbrev pub MayPass : (unfit : Type 0) → (instructions words : ℕ) → ImageLimit → Type 0
+MayPass unfit instructions words limits.Instructions = INSTRUCTIONS < instructions
+MayPass unfit instructions words limits.Frame = FRAME_WORDS < words
+MayPass unfit instructions words limits.Block = unfit
+MayPass unfit instructions words other = ⊥
+
+-- Why it is refused: memory may always be refused, and else it may pass the limit that is told.
 abbrev pub IsRefusedBeside : (unfit : Type 0) → (instructions words : ℕ) → Refusal → Type 0
 IsRefusedBeside unfit instructions words refusal.Memory = ⊤
-IsRefusedBeside unfit instructions words refusal.Limit = (INSTRUCTIONS < instructions) ⊎ ((FRAME_WORDS < words) ⊎ unfit)
+IsRefusedBeside unfit instructions words (refusal.Limit limit) = MayPass unfit instructions words limit
 
 -- ... where no object counts
 abbrev pub IsRefused : (instructions words : ℕ) → Refusal → Type 0

@@ -20,6 +20,7 @@ use Rattle.types.specs.Layouts.{words_of}
 use Rattle.types.specs.Shapes.{has_shape, shape_of}
 use Rattle.expr_soundness.specs.expr_rules.specs.Laws.{type_shape}
 use Rattle.expr_soundness.specs.Answers.{CallsAnswer, FunctionsAreSound}
+use Rattle.expr_soundness.specs.Lying.{LoopsLie, PlaceLies, ReturnWithin}
 use Rattle.expr_soundness.specs.Agreeing.{Agrees, parameter_subtype}
 use Rattle.expr_code.specs.Entries.{entry_at}
 use Rattle.expr_code.specs.Views.{IsSameTask, View}
@@ -141,12 +142,13 @@ pub record HasObjects (g : Package) (p : Place) : Type 0 where
   pub same : (owner : Option ℕ) (name : List ℕ) → subtype_among (objects_by p owner) name ≡ subtype_among (g.first owner) name
   pub suited : (owner : Option ℕ) → AreSuited g.scope (objects_by p owner)
 
--- what stands around each body, whatever names of its own it has
+-- what stands around each body, whatever names of its own it has; and all that the place has, the objects of the running activation too, lies in its subtypes
 pub record SeesPackage (g : Package) (p : Place) (view : View) : Type 0 where
   pub scope : p.scope ≡ g.scope
   pub functions : p.functions ≡ g.functions
   pub sound : FunctionsAreSound p
   pub objects : HasObjects g p
+  pub values : PlaceLies p
   pub names : SeesScope g.scope (g.slots None) (outside p) view
   -- the words of each protected object are those of its components, whichever object the frame itself belongs to
   pub components : (object : ℕ) (name : List ℕ) (slot : Slot) (x : Object) → g.slots (Some object) name ≡ Some slot
@@ -174,6 +176,8 @@ pub record IsOffered (g : Package) (o : ProtectedObject) (f : Function) (number 
 pub record Sees (g : Package) (v : Visible) (p : Place) (view : View) : Type 0 where
   pub unit : SeesPackage g p view
   pub names : SeesScope v.scope (slot_of v) p view
+  -- loop parameters have numbers of their ranges
+  pub loops : LoopsLie v.scope p
   -- of a name that is visible there as a function's: another function, whose declaration is hidden there, may be meant by it
   pub functions : (name : List ℕ) (number : ℕ) (f : Function) (profile : Profile) (result : Subtype) → subprogram_of v name ≡ Some number
       → NamesProfile v.scope name profile → profile.result ≡ Some result
@@ -216,5 +220,5 @@ library_of g = record {
   shared = SeesPackage g;
   coded = IsCoded g;
   shapes = λ f. map (shape_of g.scope) (map formal_subtype f.formals);
-  sound = λ calls. (p : Place) → FunctionsAreSound p → CallsAnswer calls p;
+  sound = λ calls. ((p : Place) → FunctionsAreSound p → CallsAnswer calls p) × ReturnWithin calls;
 }

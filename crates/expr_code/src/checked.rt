@@ -8,22 +8,30 @@ ghost use Rattle.expr_code.specs.Emitting.{EmitsChecked, EmitsFitting, has_numbe
 ghost use Rattle.expr_code.specs.Code.{Extends, IsShallow};
 ghost use Rattle.expr_code.specs.Providing.{HasWhatExpressionsNeed, is_passable};
 ghost use Rattle.expr_code.specs.Refusing.{RefusesChecked, RefusesFitting, checked_peak, peak};
+ghost use Rattle.expr_soundness.specs.BoundsLaw.{is_inside};
 ghost use Rattle.expr_soundness.specs.SoundScopes.{IsKnown, SoundScope};
 
 use crate::code::{Code, above};
-use crate::refusal::Refusal;
+use crate::refusal::{ImageLimit, Refusal};
 use crate::visible::Visible;
 use ada_tree::Expr;
 use base::limits::WORDS;
-use expr_soundness::laws::expressions_are_typed;
+use expr_soundness::laws::{all_values_lie, checks_are_spared, expressions_are_typed};
 use image::Operation;
 use kernel::laws::quiet_stays;
 use types::laws::values_have_words;
-use types::{Subtype, TypeForm};
+use types::{Subtype, TypeForm, bounds};
+
+/// Whether every number between these bounds is one of the subtype.
+pub fn is_inside(bounds: (i64, i64), subtype: Subtype) -> bool
+    ensures { result ≡ is_inside bounds subtype }
+{
+    subtype.first <= bounds.0 && bounds.1 <= subtype.last
+}
 
 impl Code {
     /// Adds the code of an expression whose value is to lie in a subtype of numbers or truth values, and of the check that it does, where that is one of
-    /// numbers.
+    /// numbers and the bounds of the expression don't tell that it lies there.
     #[cycle(expression)]
     pub fn checked(
         &mut self,
@@ -45,15 +53,45 @@ impl Code {
         expressions_are_typed();
         values_have_words();
         match visible.scope.form(subtype.type_number) {
-            Some(TypeForm::Integer) => self.ranged(visible, depth, subtype, e),
-            Some(TypeForm::Time) => self.ranged(visible, depth, subtype, e),
-            Some(TypeForm::TimeSpan) => self.ranged(visible, depth, subtype, e),
+            Some(TypeForm::Integer) => self.checked_as_needed(visible, depth, subtype, e),
+            Some(TypeForm::Time) => self.checked_as_needed(visible, depth, subtype, e),
+            Some(TypeForm::TimeSpan) => self.checked_as_needed(visible, depth, subtype, e),
             Some(TypeForm::Boolean) => self.of_width(visible, depth, 1, e),
             _ => unreachable!(),
         }
     }
 
-    // The same of a subtype of numbers: the value, between the subtype's first and last.
+    // The same of a subtype of numbers: without the check where the bounds of the value lie inside the subtype.
+    #[cycle(expression)]
+    fn checked_as_needed(
+        &mut self,
+        visible: &Visible,
+        depth: u16,
+        subtype: Subtype,
+        e: &Expr,
+    ) -> Result<(), Refusal>
+        requires sound { SoundScope visible.now.scope }
+        requires covered { HasWhatExpressionsNeed visible.now }
+        requires fit { IsFit visible.now.scope subtype (expr_tree e.now) }
+        requires numbers { has_numbers (form_at visible.now.scope subtype.type_number) ≡ true }
+        ensures refused { IfErr result (λ why. RefusesChecked visible.now self.old depth (expr_tree e.now) why) }
+        ensures kept { IfErr result (λ why. Extends self.old self.new) }
+        ensures shallow { OnOk result (IsShallow self.old self.new (depth + checked_peak (peak visible.now.scope (expr_tree e.now)))) }
+        ensures emits { OnOk result (EmitsChecked visible.now self.old depth subtype (expr_tree e.now) self.new) }
+    {
+        quiet_stays();
+        expressions_are_typed();
+        checks_are_spared();
+        all_values_lie();
+        values_have_words();
+        if is_inside(bounds(&visible.scope, e), subtype) {
+            self.of_width(visible, depth, 1, e)
+        } else {
+            self.ranged(visible, depth, subtype, e)
+        }
+    }
+
+    // With the check: the value, between the subtype's first and last.
     #[cycle(expression)]
     fn ranged(
         &mut self,
@@ -133,7 +171,7 @@ impl Code {
         expressions_are_typed();
         let words = visible.scope.words(subtype);
         if words == 0 || WORDS < usize::from(words) {
-            return Err(Refusal::Limit);
+            return Err(Refusal::Limit(ImageLimit::Block));
         }
         self.of_width(visible, depth, words, e)?;
         Ok(words)

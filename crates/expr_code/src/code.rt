@@ -4,7 +4,7 @@ ghost use Rattle.base.specs.declared.limits.TheConstants.{FRAME_WORDS, INSTRUCTI
 ghost use Rattle.expr_code.specs.Code.{Adds, Extends, here, Patches};
 ghost use Rattle.expr_code.specs.Refusing.{IsRefused};
 
-use crate::refusal::Refusal;
+use crate::refusal::{ImageLimit, Refusal};
 use base::limits::{FRAME_WORDS, INSTRUCTIONS};
 use image::{Instr, Operation};
 use std::alloc::Global;
@@ -16,7 +16,7 @@ pub fn above(depth: u16) -> Result<u16, Refusal>
     ensures refused { IfErr result (λ why. IsRefused 0 (depth + 1) why) }
 {
     if FRAME_WORDS <= usize::from(depth) {
-        return Err(Refusal::Limit);
+        return Err(Refusal::Limit(ImageLimit::Frame));
     }
     Ok(depth + 1)
 }
@@ -29,7 +29,7 @@ pub fn raised(depth: u16, words: u16) -> Result<u16, Refusal>
 {
     match depth.checked_add(words) {
         Some(more) if usize::from(more) <= FRAME_WORDS => Ok(more),
-        _ => Err(Refusal::Limit),
+        _ => Err(Refusal::Limit(ImageLimit::Frame)),
     }
 }
 
@@ -64,8 +64,11 @@ impl Code {
         ensures refused { IfErr result (λ why. IsRefused (here self.old + 1) depth why) }
         ensures kept { IfErr result (λ why. Extends self.old self.new) }
     {
-        if FRAME_WORDS < usize::from(depth) || INSTRUCTIONS <= self.instructions.len() {
-            return Err(Refusal::Limit);
+        if FRAME_WORDS < usize::from(depth) {
+            return Err(Refusal::Limit(ImageLimit::Frame));
+        }
+        if INSTRUCTIONS <= self.instructions.len() {
+            return Err(Refusal::Limit(ImageLimit::Instructions));
         }
         self.instructions.push(Instr { depth, operation })?;
         self.deepest = self.deepest.max(depth);
@@ -77,7 +80,7 @@ impl Code {
         ensures end { IfOk result (λ end. end ≡ here self.now) }
         ensures refused { IfErr result (λ why. IsRefused (here self.now) 0 why) }
     {
-        u16::try_from(self.instructions.len()).map_err(|_| Refusal::Limit)
+        u16::try_from(self.instructions.len()).map_err(|_| Refusal::Limit(ImageLimit::Instructions))
     }
 
     /// Puts another operation in the place of one that stands there.

@@ -16,5 +16,5 @@ mod visible;
 
 pub use code::{Code, above, raised};
 pub use name::scalar_word;
-pub use refusal::Refusal;
+pub use refusal::{ImageLimit, Refusal};
 pub use visible::{Entries, OperationNumbers, Slot, Visible};

@@ -20,7 +20,7 @@ ghost use Rattle.expr_soundness.specs.SoundScopes.{SoundScope};
 ghost use Rattle.expr_code.specs.NameForms.{applied, value_named};
 
 use crate::code::{Code, above};
-use crate::refusal::Refusal;
+use crate::refusal::{ImageLimit, Refusal};
 use crate::visible::{Slot, Visible};
 use ada_tree::laws::arguments_by_parts;
 use ada_tree::{Argument, Identifier, NameExpr, Selector};
@@ -293,7 +293,7 @@ impl Code {
         ensures block { OnOk result (is_block words ≡ true) }
     {
         if words == 0 || WORDS < usize::from(words) {
-            return Err(Refusal::Limit);
+            return Err(Refusal::Limit(ImageLimit::Block));
         }
         self.emit(height, Operation::LoadBlock { region, words })
     }

@@ -1,5 +1,5 @@
 //! The code of parts of objects (RM 4.1.1, 4.1.3): the address of the object, what goes from there to the part's, and a load of the words there.
-ghost use Rattle.std.specs.Prelude.{◌≡◌, ◌+◌, ◌∷◌, [], false, map, None, Some, IfErr, IfOk, OnOk};
+ghost use Rattle.std.specs.Prelude.{◌≡◌, ◌≤◌, ◌+◌, ◌∷◌, [], false, map, None, Some, IfErr, IfOk, OnOk};
 ghost use Rattle.ada_tree.specs.ExpressionTree.{Arguments, argument_trees, bare_name, Component, MoreSelectors, Named, NoSelectors, selector_tree, selector_trees};
 ghost use Rattle.types.specs.declared.entity.Role.{Role};
 ghost use Rattle.types.specs.declared.standing.Standing.TheVariants as standing;
@@ -7,7 +7,7 @@ ghost use Rattle.types.specs.Evaluating.{fixed_value};
 ghost use Rattle.types.specs.Scopes.{number_of};
 ghost use Rattle.types.specs.Standings.{standing_of, stands_first};
 ghost use Rattle.expr_code.specs.Emitting.{EmitsExpression, IsLegalExpression};
-ghost use Rattle.expr_code.specs.Going.{AddsOffset, EmitsAddress, EmitsPath, EndsAt, IsLegalPart, IsLegalPath, Selects, SelectsAll};
+ghost use Rattle.expr_code.specs.Going.{AddsByWords, AddsLessFirst, AddsOffset, EmitsAddress, EmitsPath, EndsAt, IsLegalPart, IsLegalPath, Selects, SelectsAll};
 ghost use Rattle.expr_code.specs.Code.{Extends, here, IsShallow};
 ghost use Rattle.expr_code.specs.Providing.{HasWhatExpressionsNeed};
 ghost use Rattle.expr_code.specs.Refusing.{IsRefused, KeepsFit, RefusesAddress, RefusesExpression, RefusesPath, peak, selectors_peak};
@@ -17,7 +17,7 @@ ghost use Rattle.expr_soundness.specs.SoundScopes.{SoundScope};
 ghost use Rattle.expr_code.specs.NameForms.{arguments_alone, component_alone};
 
 use crate::code::{Code, above};
-use crate::refusal::Refusal;
+use crate::refusal::{ImageLimit, Refusal};
 use crate::visible::{Slot, Visible};
 use ada_tree::laws::arguments_by_parts;
 use ada_tree::{Argument, Identifier, Selector};
@@ -169,7 +169,7 @@ impl Code {
             unreachable!();
         };
         if WORDS < usize::from(offset) {
-            return Err(Refusal::Limit);
+            return Err(Refusal::Limit(ImageLimit::Block));
         }
         let address = above(depth)?;
         self.emit(address, Operation::Push(i64::from(offset)))?;
@@ -209,7 +209,7 @@ impl Code {
         };
         let words = visible.scope.words(*last);
         if WORDS < usize::from(*many) || WORDS < usize::from(words) {
-            return Err(Refusal::Limit);
+            return Err(Refusal::Limit(ImageLimit::Block));
         }
         let address = above(depth)?;
         self.checked(visible, address, *index, e)?;
@@ -223,11 +223,38 @@ impl Code {
         ensures kept { IfErr result (λ why. Extends self.old self.new) }
         ensures adds { OnOk result (AddsOffset self.old depth first words self.new) }
     {
+        self.less_first(depth, first)?;
+        self.by_words(depth, words)?;
+        self.emit(depth, Operation::Add)
+    }
+
+    // Takes the first index from the one on top: nothing is added where that is 0.
+    fn less_first(&mut self, depth: u16, first: i64) -> Result<(), Refusal>
+        ensures refused { IfErr result (λ why. IsRefused (here self.old + 2) (depth + 1) why) }
+        ensures kept { IfErr result (λ why. Extends self.old self.new) }
+        ensures few { OnOk result (here self.new ≤ here self.old + 2) }
+        ensures adds { OnOk result (AddsLessFirst self.old depth first self.new) }
+    {
+        if first == 0 {
+            return Ok(());
+        }
         let two = above(depth)?;
         self.emit(depth, Operation::Push(first))?;
-        self.emit(two, Operation::Subtract)?;
+        self.emit(two, Operation::Subtract)
+    }
+
+    // Multiplies the number on top by the words of a component: nothing is added where it has one.
+    fn by_words(&mut self, depth: u16, words: u16) -> Result<(), Refusal>
+        ensures refused { IfErr result (λ why. IsRefused (here self.old + 2) (depth + 1) why) }
+        ensures kept { IfErr result (λ why. Extends self.old self.new) }
+        ensures few { OnOk result (here self.new ≤ here self.old + 2) }
+        ensures adds { OnOk result (AddsByWords self.old depth words self.new) }
+    {
+        if words == 1 {
+            return Ok(());
+        }
+        let two = above(depth)?;
         self.emit(depth, Operation::Push(i64::from(words)))?;
-        self.emit(two, Operation::Multiply)?;
-        self.emit(depth, Operation::Add)
+        self.emit(two, Operation::Multiply)
     }
 }

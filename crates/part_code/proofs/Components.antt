@@ -4,21 +4,20 @@ use Rattle.std.specs.Prelude.{bytes_eq, nat_eq, option_map}
 use Rattle.kernel.specs.State.{put as with_entry}
 use Rattle.image.specs.Frames.{Words}
 use Rattle.image.specs.declared.instruction.Region.TheVariants as regions
-use Rattle.types.specs.declared.entity.Subtype.{Subtype}
 use Rattle.types.specs.Evaluating.{entered}
 use Rattle.types.specs.Laws.{ValuesHaveWords}
 use Rattle.types.specs.Layouts.{words_of}
 use Rattle.types.specs.Places.{Object, Place, function_of, object_of}
 use Rattle.types.specs.Shapes.{has_shape, shape_of, value_words}
-use Rattle.types.specs.Values.{Value}
 use Rattle.expr_soundness.specs.Agreeing.{Agrees}
 use Rattle.expr_soundness.specs.Answers.{FunctionsAreSound, are_actuals}
 use Rattle.expr_soundness.specs.Laws.{AgreementIsKept}
+use Rattle.expr_soundness.specs.Lying.{ObjectsLie, PlaceLies}
 use Rattle.expr_soundness.proofs.Positions.{same_some}
 use Rattle.expr_soundness.specs.meaning.specs.Programs.{Program}
 use Rattle.expr_soundness.specs.meaning.specs.Works.{Store}
 use Rattle.expr_code.specs.Naming.{Lies}
-use Rattle.expr_code.specs.Seeing.{AreSuited, HasObjects, Package, SeesPackage, objects_by, outside, subtype_among}
+use Rattle.expr_code.specs.Seeing.{AreSuited, Package, SeesPackage, objects_by, outside, subtype_among}
 use Rattle.expr_code.specs.Views.{IsSameTask, View}
 use Rattle.expr_code.specs.declared.visible.Slot.{Slot}
 use Rattle.part_code.specs.Layout.{AreApart, IsLaidPackage}
@@ -56,7 +55,7 @@ module _ (kept : AgreementIsKept) (sized : ValuesHaveWords) (program : Program) 
 
   module _ (p : Place) (view : View) (is_at : IsAt program new_store p) (now : p.now ≡ view.now) (schedule : p.schedule ≡ view.schedule)
       (task : IsSameTask p view) (memory : view.memory ≡ new_words) (plain : view.words regions.Plain ≡ m.plain) (small : IsAddressable view)
-      (sound : FunctionsAreSound p) where
+      (sound : FunctionsAreSound p) (all : PlaceLies p) where
     abbrev old_place : Place
     old_place = record p { components = store.components }
 
@@ -84,7 +83,27 @@ module _ (kept : AgreementIsKept) (sized : ValuesHaveWords) (program : Program) 
     before =
         stands.shared old_place old_view
         (record { scope = is_at.scope; functions = is_at.functions; variables = is_at.variables; components = refl }) now schedule task refl plain small
-        functions_before
+        functions_before all_before
+      where
+        lying : (n : ℕ) → ObjectsLie p.scope (new_components n)
+        lying n = subst (λ c. ObjectsLie p.scope (c n)) is_at.components (all.components n)
+
+        component_before : (n : ℕ) → ObjectsLie p.scope (store.components n)
+        component_before n = by_test (nat_eq n o) refl (lying n)
+          where
+            by_test : (b : Bool) → nat_eq n o ≡ b → ObjectsLie p.scope (cond b (x ∷ store.components o) (store.components n))
+                → ObjectsLie p.scope (store.components n)
+            by_test true e h = subst (λ k. ObjectsLie p.scope (store.components k)) (sym (same_number n o e)) h.1
+            by_test false e h = h
+
+        all_before : PlaceLies old_place
+        all_before = record {
+          variables = all.variables;
+          components = component_before;
+          locals = all.locals;
+          time = all.time;
+          inputs = all.inputs;
+        }
 
     here : record p { components = new_components } ≡ p
     here = λ j. record p { components = (sym is_at.components) j }
@@ -158,6 +177,7 @@ module _ (kept : AgreementIsKept) (sized : ValuesHaveWords) (program : Program) 
       functions = before.functions;
       sound = sound;
       objects = record { same = same_there; suited = suited_there };
+      values = all;
       names = record { agrees = agrees; objects = λ name s t u told means. before.names.objects name s t u told means };
       components = λ object name s y told h. subst (λ w. Lies (w.objects object) s.offset y.value) (sym memory) (lies object name s y told h);
       now = now;
@@ -169,7 +189,7 @@ module _ (kept : AgreementIsKept) (sized : ValuesHaveWords) (program : Program) 
 
   pub component_stands : StandsFor program g new_store new_words
   component_stands = record {
-    shared = λ p view is_at now schedule task memory plain small sound. shown p view is_at now schedule task memory plain small sound;
+    shared = λ p view is_at now schedule task memory plain small sound all. shown p view is_at now schedule task memory plain small sound all;
     plain = stands.plain;
     objects = few_objects;
   }

@@ -56,3 +56,4 @@ pub mod Within
 pub mod WrittenActuals
 mod WrittenLines
 pub mod CoveredObjects
+pub mod TurnNumbers

@@ -134,7 +134,7 @@ module _ (program : Program) (g : Package) (scope_is : program.scope ≡ g.scope
       let now = sym (ap (λ q. passed_expression calls p (record f { mode = q }) e) is) ∙ gives in
       let one = given (and_then (value_with calls p e) (passed f.subtype)) copied_in a now in
       let x = one.0 in
-      let suited = typed.typed calls p knows.sees.names.agrees (good p knows.sees.unit.sound) x (passed_same f.subtype (value_with calls p e) x one.1) in
+      let suited = typed.typed calls p knows.sees.names.agrees (good.0 p knows.sees.unit.sound) x (passed_same f.subtype (value_with calls p e) x one.1) in
       by_mode f [] a mode.In is
       (subst (λ q. Fits false f [] q) (same_given (record { values = x ∷ []; targets = [] }) a one.2) (
         (value_outside p view knows.sees f.subtype typed.known x suited, tt),

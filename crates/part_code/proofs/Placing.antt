@@ -8,17 +8,18 @@ use Rattle.types.specs.declared.entity.Role.{Role}
 use Rattle.types.specs.declared.entity.Role.TheVariants as role
 use Rattle.types.specs.declared.entity.Subtype.{Subtype}
 use Rattle.types.specs.Entities as entity
-use Rattle.types.specs.Entities.{ProtectedObject, Profile}
+use Rattle.types.specs.Entities.{Entity, ProtectedObject, Profile}
 use Rattle.types.specs.Laws.{ValuesHaveWords}
 use Rattle.types.specs.Layouts.{words_of}
 use Rattle.types.specs.Places.{Function, IsFunction, IsObject, IsProtected, Object, Place, function_of, meaning_of, object_of, own_components}
-use Rattle.types.specs.Scopes.{Named, Scope, base_range_of, integer, is_visible, number_of, with_name}
+use Rattle.types.specs.Scopes.{Named, Scope, entity_at, entity_of, is_visible, number_of, with_name}
 use Rattle.types.specs.Shapes.{has_shape, shape_of, value_words}
-use Rattle.types.specs.Values.{Number, Value}
+use Rattle.types.specs.Values.{Number, Value, is_within}
 use Rattle.expr_soundness.specs.Agreeing.{Agrees}
 use Rattle.expr_soundness.specs.Laws.{AgreementIsKept}
-use Rattle.expr_soundness.proofs.Positions.{same_some}
-use Rattle.expr_soundness.specs.meaning.specs.Works.{Activation}
+use Rattle.expr_soundness.specs.Lying.{LoopsLie, ObjectsLie, lies}
+use Rattle.expr_soundness.proofs.Positions.{entity_kept, entity_number, item_added, number_added, same_some}
+use Rattle.expr_soundness.specs.meaning.specs.Works.{Activation, turn_subtype}
 use Rattle.expr_code.specs.Naming.{Lies}
 use Rattle.expr_code.specs.Seeing.{external_of, IsCoded, IsOffered, number_behind, object_named, Package, SeesPackage, slot_of, subprogram_of, told_of, NamesProfile}
 use Rattle.expr_code.specs.Views.{View}
@@ -45,12 +46,19 @@ with_objects l p = record p { locals = l }
 
 -- what the package shows does not depend on the running activation and its words
 pub package_alone : (g : Package) → IsLaidPackage g → (p : Place) (view : View) (objects : List Object) (words : List ℤ) → length words ≤ 65536
-    → SeesPackage g p view → SeesPackage g (with_objects objects p) (framed_view words view)
-package_alone g laid p view objects words small h = record {
+    → ObjectsLie p.scope objects → SeesPackage g p view → SeesPackage g (with_objects objects p) (framed_view words view)
+package_alone g laid p view objects words small lying h = record {
   scope = h.scope;
   functions = h.functions;
   sound = h.sound;
   objects = record { same = h.objects.same; suited = h.objects.suited };
+  values = record {
+    variables = h.values.variables;
+    components = h.values.components;
+    locals = lying;
+    time = h.values.time;
+    inputs = h.values.inputs;
+  };
   names = record { agrees = h.names.agrees; objects = λ name slot t v there means. lies name slot t v there (h.names.objects name slot t v there means) };
   components = h.components;
   now = h.now;
@@ -98,8 +106,12 @@ module _ (kept : AgreementIsKept) (sized : ValuesHaveWords) (g : Package) (v : F
     abbrev old_view : View
     old_view = framed_view before view
 
+    -- all objects of the activation lie in their subtypes, the new one in front of the others
+    lying : ObjectsLie p.scope (x ∷ a.locals)
+    lying = subst (ObjectsLie p.scope) objects sees.values.locals
+
     knew : Knows g v old_place old_view
-    knew = rests.sees old_place old_view (package_alone g laid.unit p view a.locals before rests.small sees) refl within refl its
+    knew = rests.sees old_place old_view (package_alone g laid.unit p view a.locals before rests.small lying.1 sees) refl within refl its
 
     agreed : Agrees v.names.scope old_place
     agreed = knew.sees.names.agrees
@@ -172,6 +184,33 @@ module _ (kept : AgreementIsKept) (sized : ValuesHaveWords) (g : Package) (v : F
               itself name s u w e (ap (λ y. y.region) one ∙ region) (ap (λ y. y.offset) one ∙ at) h
           by_test false e = other name s u w e told (apart e) h
 
+      -- a loop parameter is no variable, so its name is another one
+      stored_loops : LoopsLie v.names.scope p
+      stored_loops name number u w z numbered stands h = by_test (bytes_eq x.name name) refl
+        where
+          not_variable : (q : Role) → IsVariable q → q ≢ role.LoopParameter
+          not_variable role.LoopParameter i e = i
+          not_variable role.Variable i e = cc
+          not_variable role.Constant i e = cc
+          not_variable role.In i e = cc
+          not_variable role.Out i e = cc
+          not_variable role.InOut i e = cc
+          not_variable role.Component i e = cc
+          not_variable role.ReadOnlyComponent i e = cc
+
+          role_of : Entity → Role
+          role_of (entity.Object q y) = q
+          role_of e = r
+
+          by_test : (b : Bool) → bytes_eq x.name name ≡ b → is_within u.first u.last z ≡ true
+          by_test true e =
+              let same : number ≡ named.number =
+              same_some number named.number (sym numbered ∙ ap (number_of v.names.scope) (sym (same_name x.name name e)) ∙ named.numbered) in
+              let one : entity.Object role.LoopParameter u ≡ entity.Object r t =
+              same_some (entity.Object role.LoopParameter u) (entity.Object r t) (sym stands ∙ ap (entity_at v.names.scope) same ∙ named.stands) in
+              absurd (not_variable r variable (ap role_of (sym one)))
+          by_test false e = knew.sees.loops name number u w z numbered stands (sym (behind name e) ∙ h)
+
       stored_home : (name : List ℕ) (s : Slot) → slot_of v.names name ≡ Some s → IsAtHomeIn p name s.region
       stored_home name s told = subst (λ l. IsAtHome s.region (object_of l name) own) (sym objects) (by_test (bytes_eq x.name name) refl)
         where
@@ -208,7 +247,7 @@ module _ (kept : AgreementIsKept) (sized : ValuesHaveWords) (g : Package) (v : F
 
       pub stored_knows : Knows g v p view
       stored_knows = record {
-        sees = record { unit = sees; names = record { agrees = stored_agrees; objects = stored_object }; functions = stored_function; externals = stored_external };
+        sees = record { unit = sees; names = record { agrees = stored_agrees; objects = stored_object }; loops = stored_loops; functions = stored_function; externals = stored_external };
         within = knew.within;
         room = room_kept;
         homes = stored_home;
@@ -217,7 +256,8 @@ module _ (kept : AgreementIsKept) (sized : ValuesHaveWords) (g : Package) (v : F
     -- ---- one name more is visible, for the object in front
     module _ (r : Role) (t : Subtype) (slot : Slot) (later : Framed) (widens : Widens v x.name r t slot later) (region : slot.region ≡ regions.Locals)
         (at : slot.offset ≡ offset) (wide : length (value_words x.value) ≡ words_of v.names.scope t)
-        (agrees : Agrees (with_name v.names.scope x.name (entity.Object r t)) p) where
+        (agrees : Agrees (with_name v.names.scope x.name (entity.Object r t)) p)
+        (ranged : (z : ℤ) → x.value ≡ Number z → is_within t.first t.last z ≡ true) where
       abbrev named : Named
       named = record { name = x.name; entity = entity.Object r t }
 
@@ -267,6 +307,30 @@ module _ (kept : AgreementIsKept) (sized : ValuesHaveWords) (g : Package) (v : F
             itself name s u w (is_this name e.0) (ap (λ y. y.region) (sym one) ∙ region) (ap (λ y. y.offset) (sym one) ∙ at) h)
       ]
 
+      wider_loops : LoopsLie later.names.scope p
+      wider_loops name number u w z numbered stands h =
+          by_number (number_added v.names.scope named name number (ap (λ q. number_of q name) (sym scope_is) ∙ numbered))
+        where
+          there : entity_at wider number ≡ Some (entity.Object role.LoopParameter u)
+          there = ap (λ q. entity_at q number) (sym scope_is) ∙ stands
+
+          subtype_or : Entity → Subtype
+          subtype_or (entity.Object q y) = y
+          subtype_or e = t
+
+          by_number : (number_of v.names.scope name ≡ Some number) ⊎ ((number ≡ length v.names.scope) × (bytes_eq name x.name ≡ true))
+              → is_within u.first u.last z ≡ true
+          by_number (inl e) =
+              let old = entity_number v.names.scope name number e in
+              let same = old.1 ∙ sym (entity_kept v.names.scope (named ∷ []) number old.0 old.1) ∙ there in
+              knew.sees.loops name number u w z e same (sym (behind name (differs name number e)) ∙ h)
+          by_number (inr e) =
+              let new : entity.Object r t ≡ entity.Object role.LoopParameter u =
+              same_some (entity.Object r t) (entity.Object role.LoopParameter u)
+              (sym (ap entity_of (item_added v.names.scope named)) ∙ ap (entity_at wider) (sym e.0) ∙ there) in
+              let is : x.value ≡ Number z = object_value (meaning_of p name) x.subtype w x.value (Number z) (first name (is_this name e.1)) h in
+              subst (λ y. is_within y.first y.last z ≡ true) (ap subtype_or new) (ranged z is)
+
       wider_home : (name : List ℕ) (s : Slot) → slot_of later.names name ≡ Some s → IsAtHomeIn p name s.region
       wider_home name s told = subst (λ l. IsAtHome s.region (object_of l name) own) (sym objects) (elim (slot_was name s told) [
         | inl e ↦ subst (λ o. IsAtHome s.region o own) (sym (found_behind x a.locals name (differs name e.number e.numbered))) (knew.homes name s e.told)
@@ -304,7 +368,7 @@ module _ (kept : AgreementIsKept) (sized : ValuesHaveWords) (g : Package) (v : F
 
       pub wider_knows : Knows g later p view
       wider_knows = record {
-        sees = record { unit = sees; names = record { agrees = wider_agrees; objects = wider_object }; functions = wider_function; externals = wider_external };
+        sees = record { unit = sees; names = record { agrees = wider_agrees; objects = wider_object }; loops = wider_loops; functions = wider_function; externals = wider_external };
         within = knew.within ∙ sym widens.within;
         room = (let r = room_kept in let e = widens.room in omega (arith, r, e));
         homes = wider_home;
@@ -318,16 +382,22 @@ module _ (kept : AgreementIsKept) (sized : ValuesHaveWords) (g : Package) (v : F
         wider_knows r x.subtype slot later widens region at (sized (shape_of v.names.scope x.subtype) x.value suited).sized
         (subst (Agrees (with_name v.names.scope x.name (entity.Object r x.subtype))) here
         (kept.declared v.names.scope old_place x.name r x.subtype x.value agreed widens.hidden widens.sound suited))
+        (λ z is. subst (λ y. lies p.scope x.subtype y ≡ true) is lying.0)
 
-    -- a loop over a range has its parameter: in a run an object of subtype Integer, whatever the type of the range is
-    pub parameter_knows : (n : ℕ) (z : ℤ) → x.subtype ≡ integer → x.value ≡ Number z → (slot : Slot) (later : Framed)
-        → Widens v x.name role.LoopParameter (base_range_of n) slot later → slot.region ≡ regions.Locals → slot.offset ≡ offset → Knows g later p view
-    parameter_knows n z same number slot later widens region at =
-        wider_knows role.LoopParameter (base_range_of n) slot later widens region at
-        (ap (λ y. length (value_words y)) number ∙ sym (single_number sized v.names.scope (base_range_of n) widens.sound))
-        (subst (Agrees (with_name v.names.scope x.name (entity.Object role.LoopParameter (base_range_of n)))) here
-        (subst (λ y. Agrees (with_name v.names.scope x.name (entity.Object role.LoopParameter (base_range_of n))) (with_objects (y ∷ a.locals) p)) is_this_object
-        (kept.parameter v.names.scope old_place x.name n z agreed widens.hidden widens.sound)))
+    -- a loop over a range has its parameter, with a number of the range: in a run an object of type Integer, whatever the type of the range is
+    pub parameter_knows : (t : Subtype) (z : ℤ) → is_within t.first t.last z ≡ true → x.subtype ≡ turn_subtype z → x.value ≡ Number z
+        → (slot : Slot) (later : Framed)
+        → Widens v x.name role.LoopParameter t slot later → slot.region ≡ regions.Locals → slot.offset ≡ offset → Knows g later p view
+    parameter_knows t z within_range same number slot later widens region at =
+        wider_knows role.LoopParameter t slot later widens region at
+        (ap (λ y. length (value_words y)) number ∙ sym (single_number sized v.names.scope t widens.sound))
+        (subst (Agrees (with_name v.names.scope x.name (entity.Object role.LoopParameter t))) here
+        (subst (λ y. Agrees (with_name v.names.scope x.name (entity.Object role.LoopParameter t)) (with_objects (y ∷ a.locals) p)) is_this_object
+        (kept.parameter v.names.scope old_place x.name t z agreed widens.hidden widens.sound)))
+        (λ y is. subst (λ n. is_within t.first t.last n ≡ true) (same_of z y (sym number ∙ is)) within_range)
       where
-        is_this_object : (let y : Object = record { name = x.name; subtype = integer; value = Number z } in y) ≡ x
+        same_of : (a b : ℤ) → Number a ≡ Number b → a ≡ b
+        same_of a b e = cc
+
+        is_this_object : (let y : Object = record { name = x.name; subtype = turn_subtype z; value = Number z } in y) ≡ x
         is_this_object = λ j. record { name = x.name; subtype = sym same j; value = sym number j }

@@ -37,7 +37,7 @@ use Rattle.expr_code.specs.Coming.{Comes, most_steps, on}
 use Rattle.expr_code.specs.Computing.{Answers, ComesToNumber, Library}
 use Rattle.expr_code.specs.Locating.{IsPath, shape_in}
 use Rattle.expr_code.proofs.Coming.{acts, after_first, more, steps, pushes, then_comes}
-use Rattle.expr_code.proofs.Locating.{distance, given, in_base, indexes, passed_number}
+use Rattle.expr_code.proofs.Locating.{distance, given, in_base, indexes, offset_up, passed_number}
 use Rattle.part_code.specs.Parts.{HasParts, part_offset, part_shape, place_or_none}
 use Rattle.part_code.specs.Parts as shapes
 use Rattle.part_code.proofs.PartWords.{further_offset, further_part, further_shape, part_fits}
@@ -163,13 +163,13 @@ module _ (W : Shape) (offset : ℕ) where
         (sym (ap (λ v. and_then v (all_selected calls p rest)) (field_is y s h.0 name h.2 partly.subtype form h.7)) ∙ named) in
         (r.0, record { home = r.1.home; name = r.1.name })
     path_part (MoreSelectors (Arguments (MoreArguments (tree.Value e) NoArguments)) rest) from to s x last end h y partly z named =
-        let form = h.5 p view sees in
-        let shape = h.6 p view sees in
+        let form = h.6 p view sees in
+        let shape = h.7 p view sees in
         let found = given (and_then (value_with calls p e) (passed h.0)) (λ v. and_then (element_of y h.0 h.1 (v ∷ [])) (all_selected calls p rest)) z
         (sym (index_is y s h.0 h.1 h.2 e rest partly.subtype form) ∙ named) in
-        let it = index_value s h.0 h.1 h.2 e h.10 form found.0 found.1 in
+        let it = index_value s h.0 h.1 h.2 e h.11 form found.0 found.1 in
         let next = with_one y (Element it.1) h.1 in
-        let r = path_part rest (h.4 + 5) to h.1 h.3 last end h.17 next (element_partly y s x h.3 h.2 it.1 h.1 partly shape it.4) z
+        let r = path_part rest h.5 to h.1 h.3 last end h.14 next (element_partly y s x h.3 h.2 it.1 h.1 partly shape it.4) z
         (sym (ap (λ v. and_then (element_of y h.0 h.1 (v ∷ [])) (all_selected calls p rest)) it.2
         ∙ ap (λ v. and_then v (all_selected calls p rest)) (element_is y h.0 h.1 it.0 it.1 it.3))
         ∙ found.2) in
@@ -223,39 +223,41 @@ module _ (W : Shape) (offset : ℕ) where
         (adds from (address y) h.4 base (omega (arith, at, fits, small_whole)) h.11 h.12))
         (path_comes rest (from + 2) to h.2 h.3 last end h.14 next inside base)))
     path_comes (MoreSelectors (Arguments (MoreArguments (tree.Value e) NoArguments)) rest) from to s x last end h y partly base =
-        let form = h.5 p (view_of i schedule k t m f fs) sees in
-        let shape = h.6 p (view_of i schedule k t m f fs) sees in
+        let form = h.6 p (view_of i schedule k t m f fs) sees in
+        let shape = h.7 p (view_of i schedule k t m f fs) sees in
         let mid = h.4 in
-        let le = h.8 in
-        let up = h.16 in
+        let after = h.5 in
+        let le = h.9 in
+        let far = offset_up i mid after h.0.first (words h.3) h.12 in
+        let up = h.13 in
         let stack : Target → List ℤ = λ z. pos (address z) ∷ base in
         let value = and_then (value_with calls p e) (passed h.0) in
         let go : Value → Val Target = λ v. and_then (element_of y h.0 h.1 (v ∷ [])) (all_selected calls p rest) in
         subst (λ v. Comes i schedule k t m (placed f from (pos (address y) ∷ base)) fs (to - from) to stack v) (sym (index_is i library sight sound calls answers.sound p here sees y s h.0 h.1 h.2 e rest partly.subtype form))
-        (more quiet i schedule k t m calm (placed f from (pos (address y) ∷ base)) fs ((mid - from) + (to - mid)) (to - from) to stack (and_then value go) (omega (arith, le, up))
+        (more quiet i schedule k t m calm (placed f from (pos (address y) ∷ base)) fs ((mid - from) + (to - mid)) (to - from) to stack (and_then value go) (omega (arith, le, far, up))
         (then_comes quiet i schedule k t m calm (placed f from (pos (address y) ∷ base)) fs (mid - from) (to - mid) mid to (on (pos (address y) ∷ base)) stack value go le
-        (omega (arith, up))
-        (h.9 calls left answers schedule k t m f fs p (pos (address y) ∷ base) calm sees is)
+        (omega (arith, far, up))
+        (h.10 calls left answers schedule k t m f fs p (pos (address y) ∷ base) calm sees is)
         (λ v ev.
-        let it = index_value i library sight sound calls answers.sound p here sees s h.0 h.1 h.2 e h.10 form v ev in
+        let it = index_value i library sight sound calls answers.sound p here sees s h.0 h.1 h.2 e h.11 form v ev in
         let next = with_one y (Element it.1) h.1 in
         let inside = element_partly y s x h.3 h.2 it.1 h.1 partly shape it.4 in
         let at = element_address y s x h.3 h.2 it.1 h.1 partly shape in
         let fits = part_fits W next.parts inside.has in
-        let few = h.7 in
+        let few = h.8 in
         let less = it.4 in
         let is_next : go v ≡ all_selected calls p rest next =
         ap go it.2 ∙ ap (λ w. and_then w (all_selected calls p rest)) (element_is i library sight sound calls answers.sound p here sees y h.0 h.1 it.0 it.1 it.3) in
         subst (λ w. Comes i schedule k t m (placed f mid (on (pos (address y) ∷ base) w)) fs (to - mid) to stack (go v)) (sym it.2)
         (subst (λ w. Comes i schedule k t m (placed f mid (it.0 ∷ pos (address y) ∷ base)) fs (to - mid) to stack w) (sym is_next)
-        (more quiet i schedule k t m calm (placed f mid (it.0 ∷ pos (address y) ∷ base)) fs (5 + (to - (mid + 5))) (to - mid) to stack (all_selected calls p rest next)
-        (omega (arith, up))
-        (after_first quiet i schedule k t m calm (placed f mid (it.0 ∷ pos (address y) ∷ base)) fs 5 (to - (mid + 5)) (mid + 5) to (pos (address next) ∷ base) stack
-        (all_selected calls p rest next) (omega arith)
+        (more quiet i schedule k t m calm (placed f mid (it.0 ∷ pos (address y) ∷ base)) fs ((after - mid) + (to - after)) (to - mid) to stack (all_selected calls p rest next)
+        (omega (arith, far, up))
+        (after_first quiet i schedule k t m calm (placed f mid (it.0 ∷ pos (address y) ∷ base)) fs (after - mid) (to - after) after to (pos (address next) ∷ base) stack
+        (all_selected calls p rest next) far
         (subst
-        (λ a. Spends (behaviour i schedule) t frames_of (most_steps i) (suc (length fs)) 5 k (in_frame m (placed f mid (it.0 ∷ pos (address y) ∷ base)) fs) k
-        (in_frame m (placed f (mid + 5) (pos a ∷ base)) fs)) (sym at)
-        (indexes quiet i schedule k t m calm f fs mid h.0.first it.0 (words h.3) (address y) it.1 base it.3 (omega (arith, less, few)) (omega (arith, at, fits, small_whole))
-        (omega (arith, at, fits, small_whole)) h.11 h.12 h.13 h.14 h.15))
-        (path_comes rest (mid + 5) to h.1 h.3 last end h.17 next inside base)))))))
+        (λ a. Spends (behaviour i schedule) t frames_of (most_steps i) (suc (length fs)) (after - mid) k (in_frame m (placed f mid (it.0 ∷ pos (address y) ∷ base)) fs) k
+        (in_frame m (placed f after (pos a ∷ base)) fs)) (sym at)
+        (indexes quiet i schedule k t m calm f fs mid after h.0.first it.0 (words h.3) (address y) it.1 base it.3 (omega (arith, less, few)) (omega (arith, at, fits, small_whole))
+        (omega (arith, at, fits, small_whole)) h.12))
+        (path_comes rest after to h.1 h.3 last end h.14 next inside base)))))))
     path_comes (MoreSelectors other rest) from to s x last end h y partly base = absurd h

@@ -17,6 +17,7 @@ use Rattle.types.specs.Values.{Number, Value}
 use Rattle.expr_soundness.specs.Agreeing.{Agrees, MeansOne}
 use Rattle.expr_soundness.specs.Answers.{FunctionsAreSound, are_actuals}
 use Rattle.expr_soundness.specs.Laws.{AgreementIsKept}
+use Rattle.expr_soundness.specs.Lying.{ObjectsLie, PlaceLies}
 use Rattle.expr_soundness.proofs.Positions.{same_some}
 use Rattle.expr_soundness.specs.meaning.specs.Programs.{Program}
 use Rattle.expr_soundness.specs.meaning.specs.Works.{Store}
@@ -66,7 +67,8 @@ module _ (kept : AgreementIsKept) (sized : ValuesHaveWords) (program : Program) 
   new_words = record m { plain = after }
 
   module _ (p : Place) (view : View) (is_at : IsAt program new_store p) (now : p.now ≡ view.now) (schedule : p.schedule ≡ view.schedule)
-      (task : IsSameTask p view) (memory : view.memory ≡ new_words) (plain : view.words regions.Plain ≡ after) (small : IsAddressable view) (sound : FunctionsAreSound p) where
+      (task : IsSameTask p view) (memory : view.memory ≡ new_words) (plain : view.words regions.Plain ≡ after) (small : IsAddressable view) (sound : FunctionsAreSound p)
+      (all : PlaceLies p) where
     abbrev old_place : Place
     old_place = record p { variables = store.variables }
 
@@ -94,8 +96,17 @@ module _ (kept : AgreementIsKept) (sized : ValuesHaveWords) (program : Program) 
     before =
         stands.shared old_place old_view (record { scope = is_at.scope; functions = is_at.functions; variables = refl; components = is_at.components }) now
         schedule task
-        refl refl few functions_before
+        refl refl few functions_before all_before
       where
+        all_before : PlaceLies old_place
+        all_before = record {
+          variables = (subst (ObjectsLie p.scope) is_at.variables all.variables).1;
+          components = all.components;
+          locals = all.locals;
+          time = all.time;
+          inputs = all.inputs;
+        }
+
         few : IsAddressable old_view
         few regions.Locals = small regions.Locals
         few regions.Plain = stands.plain
@@ -171,6 +182,7 @@ module _ (kept : AgreementIsKept) (sized : ValuesHaveWords) (program : Program) 
       functions = before.functions;
       sound = sound;
       objects = record { same = same_there; suited = suited_there };
+      values = all;
       names = record { agrees = agrees; objects = lies };
       components = λ object name s y told found.
           subst (λ w. Lies (w.objects object) s.offset y.value) (sym memory) (before.components object name s y told found);
@@ -183,7 +195,7 @@ module _ (kept : AgreementIsKept) (sized : ValuesHaveWords) (program : Program) 
 
   pub variable_stands : StandsFor program g new_store new_words
   variable_stands = record {
-    shared = λ p view is_at now schedule task memory plain small sound. shown p view is_at now schedule task memory plain small sound;
+    shared = λ p view is_at now schedule task memory plain small sound all. shown p view is_at now schedule task memory plain small sound all;
     plain = (let l = put.long in let s = stands.plain in omega (arith, l, s));
     objects = stands.objects;
   }

@@ -16,6 +16,7 @@ use Rattle.expr_soundness.proofs.Positions.{same_some}
 use Rattle.expr_code.specs.Code.{here}
 use Rattle.expr_code.specs.Refusing.{HasUnfitObject, IsRefused, IsRefusedBeside, RefusesExpression, is_fit, peak}
 use Rattle.expr_code.specs.declared.code.Code.{Code}
+use Rattle.expr_code.specs.declared.refusal.ImageLimit.TheVariants as limits
 use Rattle.expr_code.specs.declared.refusal.Refusal.{Refusal}
 use Rattle.expr_code.specs.declared.refusal.Refusal.TheVariants as refusal
 use Rattle.expr_code.specs.declared.visible.Visible.{Visible}
@@ -115,15 +116,13 @@ most_within a b p = each a.stack a.frame b.stack b.frame p.stack p.frame
     each m n k l p q = omega (arith, p, q)
 
 pub needing_refused : (m n : ℕ) (a b : Needs) → m ≤ n → Within a b → (why : Refusal) → IsNeeding m a why → IsNeeding n b why
-needing_refused m n a b up within refusal.Memory r = tt
-needing_refused m n a b up within refusal.Limit (inl r) = inl (omega (arith, r, up))
-needing_refused m n a b up within refusal.Limit (inr (inl r)) = inr (inl (let most = most_within a b within in omega (arith, r, most)))
-needing_refused m n a b up within refusal.Limit (inr (inr r)) = inr (inr (within.unfit r))
+needing_refused m n a b up within why r =
+    refused_beside m n (max a.stack a.frame) (max b.stack b.frame) within.unfit up (most_within a b within) why r
 
 -- ... and as many labels as the part are no more than those of the whole
 pub labelled : (few many : List (List ℕ)) → length few ≤ length many → (why : Refusal) → HasManyLabels few why → HasManyLabels many why
-labelled few many less refusal.Limit h = omega (arith, h, less)
-labelled few many less refusal.Memory h = h
+labelled few many less (refusal.Limit limits.Labels) h = omega (arith, h, less)
+labelled few many less why h = absurd h
 
 pub part_refused : (m n : ℕ) (a b : Needs) (few many : List (List ℕ)) (why : Refusal) → m ≤ n → Within a b → length few ≤ length many
     → (IsNeeding m a why ⊎ HasManyLabels few why) → (IsNeeding n b why ⊎ HasManyLabels many why)

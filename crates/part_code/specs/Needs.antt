@@ -30,6 +30,7 @@ use Rattle.expr_code.specs.Refusing.{IsRefused, IsRefusedBeside, IsUnfit, checke
 use Rattle.expr_code.specs.Providing.{is_passable}
 use Rattle.expr_code.specs.Seeing.{profile_named, slot_of, subprogram_of, external_profile}
 use Rattle.expr_code.specs.declared.code.Code.{Code}
+use Rattle.expr_code.specs.declared.refusal.ImageLimit.TheVariants as limits
 use Rattle.expr_code.specs.declared.refusal.Refusal.{Refusal}
 use Rattle.expr_code.specs.declared.refusal.Refusal.TheVariants as refusal
 use Rattle.expr_code.specs.declared.visible.Slot.{Slot}
@@ -337,7 +338,7 @@ IsNeeding instructions n why = IsRefusedBeside (n.unfit ≡ true) instructions (
 
 -- There are too many labels.
 abbrev pub HasManyLabels : (labels : List (List ℕ)) → Refusal → Type 0
-HasManyLabels labels refusal.Limit = LABELS < length labels
+HasManyLabels labels (refusal.Limit limits.Labels) = LABELS < length labels
 HasManyLabels labels why = ⊥
 
 -- ---- code that is added by parts

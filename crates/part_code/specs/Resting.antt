@@ -5,6 +5,7 @@ use Rattle.image.specs.declared.instruction.Region.{Region}
 use Rattle.image.specs.declared.instruction.Region.TheVariants as regions
 use Rattle.types.specs.Places.{Object, Place, is_among, object_of, own_components}
 use Rattle.expr_soundness.specs.Answers.{FunctionsAreSound}
+use Rattle.expr_soundness.specs.Lying.{PlaceLies}
 use Rattle.expr_soundness.specs.meaning.specs.Programs.{Program}
 use Rattle.expr_soundness.specs.meaning.specs.Works.{Activation, Store}
 use Rattle.expr_code.specs.Views.{IsSameTask, View}
@@ -34,6 +35,7 @@ pub record StandsFor (program : Program) (g : Package) (store : Store) (m : Word
       → view.words regions.Plain ≡ m.plain
       → IsAddressable view
       → FunctionsAreSound p
+      → PlaceLies p
       → SeesPackage g p view
   pub plain : length m.plain ≤ 65536
   pub objects : (o : ℕ) → length (m.objects o) ≤ 65536

@@ -1,5 +1,5 @@
 -- Which code is that of a statement, of a sequence of statements, and of the body of a procedure (RM 5, 6.3).
-use Rattle.std.specs.Prelude.{◌≡◌, ◌≤◌, ℕ, suc, ◌+◌, ◌-◌, ℤ, pos, List, [], ◌∷◌, ◌++◌, length, map, Option, Some, None, if◌then◌else◌, ⊤}
+use Rattle.std.specs.Prelude.{◌≡◌, ◌≤◌, ℕ, suc, ◌+◌, ◌-◌, ℤ, pos, List, [], ◌∷◌, ◌++◌, length, map, Option, Some, None, if◌then◌else◌, ⊤, true}
 use Rattle.base.specs.declared.schedule.ScheduleLine.{ScheduleLine}
 use Rattle.kernel.specs.State.{Kernel}
 use Rattle.kernel.specs.Calm.{Calm}
@@ -45,6 +45,7 @@ use Rattle.part_code.specs.Counting.{IsCounted, IsRange}
 use Rattle.part_code.specs.Handling.{GoesBy, Handling, KeepsException, unhandled}
 use Rattle.part_code.specs.Storing.{Assigns, Stores, assigned, declared, object_declared}
 use Rattle.expr_soundness.specs.meaning.specs.Targets.{activation_with, store_with}
+use Rattle.base.specs.Arithmetic.{is_in_base_range}
 
 -- the ways out of a statement: behind the innermost loop, and to the end of the body; and the word that holds the exception of the handler around it
 pub record Ways : Type 0 where
@@ -84,6 +85,10 @@ operation_kind o (Some barrier) = EntryBody o
 abbrev pub procedure_kind : (object : Option ℕ) → (barrier : Option ExprTree) → Kind
 procedure_kind None barrier = Plain
 procedure_kind (Some o) barrier = operation_kind o barrier
+
+-- wherever the frame stands the value is a number of 64 bits
+abbrev pub IsTimely : Package → Framed → ExprTree → Type 0
+IsTimely g v e = (p : Place) (view : View) (z : ℤ) → Knows g v p view → val p e ≡ Gives (values.Number z) → is_in_base_range z ≡ true
 
 module _ (i : Sections) (program : Program) (g : Package) (numbers : Numbers) where
   -- the shapes of the parameters that are copied in
@@ -185,7 +190,7 @@ module _ (i : Sections) (program : Program) (g : Package) (numbers : Numbers) wh
   -- a test that no action is open, in front of the time, and the delay (RM 9.5.1, 9.6)
   abbrev pub IsDelay : Framed → (from to : ℕ) → ExprTree → Type 0
   IsDelay v from to e =
-      (mid : ℕ) × (suc from ≤ mid) × At i from op.CheckBlocking × IsValue v (suc from) mid e × At i mid op.DelayUntil × (to ≡ suc mid)
+      (mid : ℕ) × (suc from ≤ mid) × At i from op.CheckBlocking × IsValue v (suc from) mid e × At i mid op.DelayUntil × (to ≡ suc mid) × IsTimely g v e
 
   -- ---- declarations
 
@@ -297,7 +302,7 @@ module _ (i : Sections) (program : Program) (g : Package) (numbers : Numbers) wh
     IsStatement v w r from to (Loop place (While e) body) = IsWhile v r from to e (λ exit a b. AreStatements v (within_loop exit w) r a b body)
     IsStatement v w r from to (Loop place (For parameter reversed range) body) =
         (c : IsCounted i g v from to parameter.name reversed)
-        × IsRange i g v c.inner c.counter c.limit (from + 2) c.start to parameter.name reversed range
+        × IsRange i g v c.inner c.counter c.limit (from + 2) c.start to parameter.name reversed range c.subtype
         × AreStatements c.inner (within_loop (from + 1) w) r c.start c.back body
         × GoesBy i r (from + 2) c.start
         × GoesBy i r c.back to

@@ -21,7 +21,7 @@ use crate::storing::stored_at;
 use ada_tree::laws::{arguments_by_parts, chains_by_parts, conditional_by_parts, names_by_parts};
 use ada_tree::{Argument, Expr, Identifier, Mode, NameExpr, Selector};
 use base::limits::WORDS;
-use expr_code::{Code, Refusal, Visible, raised};
+use expr_code::{Code, ImageLimit, Refusal, Visible, raised};
 use expr_soundness::laws::agreement_is_kept;
 use image::{Operation, Region};
 use kernel::laws::quiet_stays;
@@ -112,7 +112,7 @@ fn loaded_at(region: Region, words: u16) -> Operation
 /// How many words values of a subtype take, if they are as many as one instruction moves (docs/FORMATS.md).
 ///
 /// # Errors
-/// `Limit` where they take none, or more.
+/// `Block` where they take none, or more.
 pub fn words_of(visible: &Visible, subtype: Subtype) -> Result<u16, Refusal>
     ensures words { IfOk result (λ words. words ≡ words_of visible.now.scope subtype) }
     ensures block { IfOk result (λ words. is_block words ≡ true) }
@@ -120,7 +120,7 @@ pub fn words_of(visible: &Visible, subtype: Subtype) -> Result<u16, Refusal>
 {
     let words = visible.scope.words(subtype);
     if words == 0 || WORDS < usize::from(words) {
-        return Err(Refusal::Limit);
+        return Err(Refusal::Limit(ImageLimit::Block));
     }
     Ok(words)
 }

@@ -10,7 +10,7 @@ ghost use Rattle.part_code.specs.Needs.{RefusesChoices};
 
 use ada_tree::{CaseChoices, Expr};
 use base::limits::INSTRUCTIONS;
-use expr_code::{Code, Refusal, scalar_word};
+use expr_code::{Code, ImageLimit, Refusal, scalar_word};
 use image::Operation;
 use types::{Scope, static_value};
 
@@ -32,9 +32,9 @@ fn behind_tests(code: &Code, tests: usize) -> Result<u16, Refusal>
 {
     let start = usize::from(code.end()?);
     if INSTRUCTIONS < tests {
-        return Err(Refusal::Limit);
+        return Err(Refusal::Limit(ImageLimit::Instructions));
     }
-    u16::try_from(start + 4 * tests + 1).map_err(|_| Refusal::Limit)
+    u16::try_from(start + 4 * tests + 1).map_err(|_| Refusal::Limit(ImageLimit::Instructions))
 }
 
 // Adds the tests of choices by their static values.

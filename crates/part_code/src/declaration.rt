@@ -17,7 +17,7 @@ ghost use Rattle.expr_soundness.specs.SoundScopes.{IsKnown, SoundScope};
 use crate::moving::is_composite;
 use ada_tree::Expr;
 use base::limits::WORDS;
-use expr_code::{Code, Refusal, Visible, above, raised};
+use expr_code::{Code, ImageLimit, Refusal, Visible, above, raised};
 use image::{Operation, Region};
 use types::laws::{initial_values_have_shape, values_have_words};
 use types::{Subtype, TypeForm};
@@ -121,7 +121,7 @@ fn add_initial_words(
         None => {
             let words = visible.scope.words(subtype);
             if WORDS < usize::from(words) {
-                return Err(Refusal::Limit);
+                return Err(Refusal::Limit(ImageLimit::Frame));
             }
             push_initial(code, visible, 1, subtype)?;
             Ok(words)

@@ -4,7 +4,7 @@ ghost use Rattle.expr_code.specs.Refusing.{IsRefused};
 ghost use Rattle.part_code.specs.Emitting.{TakesWords};
 
 use base::limits::FRAME_WORDS;
-use expr_code::Refusal;
+use expr_code::{ImageLimit, Refusal};
 
 /// The place behind so many words of a frame, which has at most 512 (docs/FORMATS.md).
 pub fn behind(first: u16, words: u16) -> Result<u16, Refusal>
@@ -14,7 +14,7 @@ pub fn behind(first: u16, words: u16) -> Result<u16, Refusal>
 {
     match first.checked_add(words) {
         Some(end) if usize::from(end) <= FRAME_WORDS => Ok(end),
-        _ => Err(Refusal::Limit),
+        _ => Err(Refusal::Limit(ImageLimit::Frame)),
     }
 }
 

@@ -4,7 +4,7 @@ ghost use Rattle.expr_code.specs.Code.{here};
 ghost use Rattle.expr_code.specs.Refusing.{IsRefused};
 ghost use Rattle.part_code.specs.Emitting.{BeginsLoop, EndsLoop};
 
-use expr_code::{Code, Refusal};
+use expr_code::{Code, ImageLimit, Refusal};
 use image::Operation;
 
 /// The places at the head of a loop: its way out, and where each turn begins.
@@ -24,9 +24,9 @@ pub fn begin_loop(code: &mut Code) -> Result<Head, Refusal>
     let (exit, turn) = match code.end()?.checked_add(1) {
         Some(exit) => match exit.checked_add(1) {
             Some(turn) => (exit, turn),
-            None => return Err(Refusal::Limit),
+            None => return Err(Refusal::Limit(ImageLimit::Instructions)),
         },
-        None => return Err(Refusal::Limit),
+        None => return Err(Refusal::Limit(ImageLimit::Instructions)),
     };
     code.emit(0, Operation::Jump(turn))?;
     code.emit(0, Operation::Jump(0))?;

@@ -1,6 +1,6 @@
 -- Where exceptions go on that a frame raises, told by the items that its code follows.
 use Rattle.std.proofs.Common.{◌≡◌, ℕ, suc, ◌≤◌, ℤ, List, [], ◌∷◌, map, length, Option, Some, None, Bool, true, false, refl, sym, ap, ◌∙◌, subst, arith}
-use Rattle.std.specs.Prelude.{if◌then◌else◌, pos, slice_get}
+use Rattle.std.specs.Prelude.{if◌then◌else◌, pos, slice_get, ⊤}
 use Rattle.std.proofs.lemmas.Option.{none-some, same_Some}
 use Rattle.part_code.specs.image.specs.Sections.{Sections}
 use Rattle.part_code.specs.image.specs.Frames.{Frame, Role}
@@ -160,15 +160,19 @@ module _ (i : Sections) (program : Program) (g : Package) (numbers : Numbers) (n
 
   -- ---- a handler takes the exception
 
-  -- a frame has the words of its own that it ought to have
-  abbrev pub HasRoom : Type 0
-  HasRoom = (v : Framed) (a : Activation) (locals : List ℤ) → Rests g v a locals → v.room ≤ length locals
+  -- a frame that stands for the activation has the words of its own that it ought to have; those of all these activations
+  abbrev pub HasRoom : Activation → Type 0
+  HasRoom a = (v : Framed) (locals : List ℤ) → Rests g v a locals → v.room ≤ length locals
 
-  caught : HasRoom → (x : ℕ) (f : Frame) (fs : List Frame) (own : Activation) (os : List Activation) (hs : HandlerTrees) (body : StmtTrees) (items : List Item)
+  abbrev pub HaveRoom : List Activation → Type 0
+  HaveRoom [] = ⊤
+  HaveRoom (a ∷ all) = HasRoom a × HaveRoom all
+
+  caught : (x : ℕ) (f : Frame) (fs : List Frame) (own : Activation) (os : List Activation) → HasRoom own → (hs : HandlerTrees) (body : StmtTrees) (items : List Item)
       → (h : IsRaising x f fs own os (Handles hs ∷ items)) (at to : ℕ) (outer : Setting)
       → LeadsOver i program g numbers h.around f.subprogram h.from at to outer → Follow outer f.subprogram to items f.role fs os
       → IsTaking outer.visible outer.ways outer.raised (h.around.raised x) at to body → IsCaught i program g numbers note x f fs own os body items
-  caught room x f fs own os hs body items h at to outer over follows t =
+  caught x f fs own os room hs body items h at to outer over follows t =
       let a = h.around in
       let code = t.code.2 in
       let mid = t.code.1 in
@@ -181,7 +185,7 @@ module _ (i : Sections) (program : Program) (g : Package) (numbers : Numbers) (n
         held = subst (λ q. AreHeld f.locals q) held h.held;
         apart = ap (λ q. map held_offset q) (sym held) ∙ h.apart ∙ over.narrows.reserved;
       } in
-      let kept = code.keeps.keeps f outer.held own x (room outer.visible own f.locals resting.rests) resting in
+      let kept = code.keeps.keeps f outer.held own x (room outer.visible f.locals resting.rests) resting in
       let l = over.at_inside in
       let u = over.to_inside in
       let one = t.down in
@@ -230,17 +234,17 @@ module _ (i : Sections) (program : Program) (g : Package) (numbers : Numbers) (n
       }
 
   -- ... or none, and then it goes on behind
-  by_handler : HasRoom → (x : ℕ) (f : Frame) (fs : List Frame) (own : Activation) (os : List Activation) (hs : HandlerTrees) (items : List Item)
+  by_handler : (x : ℕ) (f : Frame) (fs : List Frame) (own : Activation) (os : List Activation) → HasRoom own → (hs : HandlerTrees) (items : List Item)
       → (h : IsRaising x f fs own os (Handles hs ∷ items)) (at to : ℕ) (outer : Setting)
       → LeadsOver i program g numbers h.around f.subprogram h.from at to outer → Follow outer f.subprogram to items f.role fs os
       → AreHandlers i program g numbers outer.visible outer.ways outer.raised h.around.raised at to hs
       → (o : Option StmtTrees) → handler_for program x hs ≡ o
       → (handler_for program x hs ≡ None → Caught x f fs own os items)
       → CaughtIf i program g numbers note x f fs own os items o (Caught x f fs own os items)
-  by_handler room x f fs own os hs items h at to outer over follows code (Some body) found later =
-      caught room x f fs own os hs body items h at to outer over follows
+  by_handler x f fs own os room hs items h at to outer over follows code (Some body) found later =
+      caught x f fs own os room hs body items h at to outer over follows
       (taking hs outer.visible outer.ways outer.raised h.around.raised at to x body code h.known found)
-  by_handler room x f fs own os hs items h at to outer over follows code None found later = later found
+  by_handler x f fs own os room hs items h at to outer over follows code None found later = later found
 
   -- ---- all items
 
@@ -267,81 +271,81 @@ module _ (i : Sections) (program : Program) (g : Package) (numbers : Numbers) (n
         depth = omega (arith, d, l);
       }
 
-  pub catches : HasRoom → (items : List Item) (x : ℕ) (f : Frame) (fs : List Frame) (own : Activation) (os : List Activation)
+  pub catches : (items : List Item) (x : ℕ) (f : Frame) (fs : List Frame) (own : Activation) (os : List Activation) → HaveRoom (own ∷ os)
       → IsRaising x f fs own os items → Caught x f fs own os items
-  catches room [] x f fs own os h = (h.goes ∙ h.follows.0.outermost.raised x, h.follows.2)
-  catches room (Declares d ∷ items) x f fs own os h =
+  catches [] x f fs own os room h = (h.goes ∙ h.follows.0.outermost.raised x, h.follows.2)
+  catches (Declares d ∷ items) x f fs own os room h =
       let r = h.follows in
-      catches room items x f fs own os (drop_seeing x f fs own os (Declares d) items h r.3 r.1 (r.4.narrows.reserved ∙ sym r.5.reserved) refl r.7)
-  catches room (DeclaresParameter d ∷ items) x f fs own os h =
+      catches items x f fs own os room (drop_seeing x f fs own os (Declares d) items h r.3 r.1 (r.4.narrows.reserved ∙ sym r.5.reserved) refl r.7)
+  catches (DeclaresParameter d ∷ items) x f fs own os room h =
       let r = h.follows in
-      catches room items x f fs own os (drop_seeing x f fs own os (DeclaresParameter d) items h r.3 r.1 (r.4.narrows.reserved ∙ sym r.5.reserved) refl r.7)
-  catches room (Sequence body hs ∷ items) x f fs own os h =
+      catches items x f fs own os room (drop_seeing x f fs own os (DeclaresParameter d) items h r.3 r.1 (r.4.narrows.reserved ∙ sym r.5.reserved) refl r.7)
+  catches (Sequence body hs ∷ items) x f fs own os room h =
       let r = h.follows in
-      catches room items x f fs own os (drop_seeing x f fs own os (Sequence body hs) items h r.2 r.1 r.3.narrows.reserved refl r.5)
-  catches room (Does s ∷ items) x f fs own os h =
+      catches items x f fs own os room (drop_seeing x f fs own os (Sequence body hs) items h r.2 r.1 r.3.narrows.reserved refl r.5)
+  catches (Does s ∷ items) x f fs own os room h =
       let r = h.follows in
-      catches room items x f fs own os (drop_seeing x f fs own os (Does s) items h r.2 r.1 r.3.narrows.reserved refl r.5)
-  catches room (DoesMain s ∷ items) x f fs own os h =
+      catches items x f fs own os room (drop_seeing x f fs own os (Does s) items h r.2 r.1 r.3.narrows.reserved refl r.5)
+  catches (DoesMain s ∷ items) x f fs own os room h =
       let r = h.follows in
-      catches room items x f fs own os (drop_seeing x f fs own os (DoesMain s) items h r.2 r.1 r.3.narrows.reserved refl r.5)
-  catches room (Handles NoHandlers ∷ items) x f fs own os h =
-      catches room items x f fs own os (drop_seeing x f fs own os (Handles NoHandlers) items h h.around.visible h.from refl refl h.follows)
-  catches room (Handles (MoreHandlers choices own_body rest) ∷ items) x f fs own os h =
+      catches items x f fs own os room (drop_seeing x f fs own os (DoesMain s) items h r.2 r.1 r.3.narrows.reserved refl r.5)
+  catches (Handles NoHandlers ∷ items) x f fs own os room h =
+      catches items x f fs own os room (drop_seeing x f fs own os (Handles NoHandlers) items h h.around.visible h.from refl refl h.follows)
+  catches (Handles (MoreHandlers choices own_body rest) ∷ items) x f fs own os room h =
       let hs = MoreHandlers choices own_body rest in
       let r = h.follows in
       let a = h.around in
       let outer = r.2 in
       let held : a.held ≡ outer.held = ap (λ q. q.held) r.3.sequence in
-      by_handler room x f fs own os hs items h r.0 r.1 outer r.3 r.5 r.4 (handler_for program x hs) refl
-      (λ found. catches room items x f fs own os
+      by_handler x f fs own os room.0 hs items h r.0 r.1 outer r.3 r.5 r.4 (handler_for program x hs) refl
+      (λ found. catches items x f fs own os room
       (drop_outer x f fs own os (Handles hs) items h outer r.1
       (passing hs outer.visible outer.ways outer.raised a.raised r.0 r.1 x r.4 h.known found)
       (subst (λ q. Shows g q outer.handling) (sym (ap (λ q. q.handling) r.3.sequence)) r.3.reaches.2)
       (λ z. subst (λ q. AreHeld f.locals q) held z)
       (λ z. ap (λ q. map held_offset q) (sym held) ∙ z ∙ r.3.narrows.reserved) refl r.5))
-  catches room (EndsHandler y ∷ items) x f fs own os h =
+  catches (EndsHandler y ∷ items) x f fs own os room h =
       let r = h.follows in
       let a = h.around in
       let outer = r.2 in
       let held : a.held ≡ exception_in r.1 y ∷ outer.held = ap (λ q. q.held) r.3.handler in
-      catches room items x f fs own os
+      catches items x f fs own os room
       (drop_outer x f fs own os (EndsHandler y) items h outer r.0 (ap (λ q. q.raised x) r.3.handler)
       (shows_as a.handling outer.handling (ap (λ q. q.handling) r.3.handler))
       (λ z. (subst (λ q. AreHeld f.locals q) held z).1)
       (λ z. ap (λ l. rest_of l) (ap (λ q. map held_offset q) (sym held) ∙ z ∙ r.3.reserved)) refl r.4)
-  catches room (Repeats body ∷ items) x f fs own os h =
+  catches (Repeats body ∷ items) x f fs own os room h =
       let r = h.follows in
       let a = h.around in
       let outer = r.2 in
       let held : a.held ≡ outer.held = ap (λ q. q.held) r.3.loop in
-      catches room items x f fs own os
+      catches items x f fs own os room
       (drop_outer x f fs own os (Repeats body) items h outer r.1 (ap (λ q. q.raised x) r.3.loop)
       (shows_as a.handling outer.handling (ap (λ q. q.handling) r.3.loop))
       (λ z. subst (λ q. AreHeld f.locals q) held z)
       (λ z. ap (λ q. map held_offset q) (sym held) ∙ z ∙ r.3.narrows.reserved) refl r.5)
-  catches room (RepeatsWhile e body ∷ items) x f fs own os h =
+  catches (RepeatsWhile e body ∷ items) x f fs own os room h =
       let r = h.follows in
       let a = h.around in
       let outer = r.2 in
       let held : a.held ≡ outer.held = ap (λ q. q.held) r.3.loop in
-      catches room items x f fs own os
+      catches items x f fs own os room
       (drop_outer x f fs own os (RepeatsWhile e body) items h outer r.1 (ap (λ q. q.raised x) r.3.loop)
       (shows_as a.handling outer.handling (ap (λ q. q.handling) r.3.loop))
       (λ z. subst (λ q. AreHeld f.locals q) held z)
       (λ z. ap (λ q. map held_offset q) (sym held) ∙ z ∙ r.3.narrows.reserved) refl r.5)
-  catches room (RepeatsFor parameter reversed now last body ∷ items) x f fs own os h =
+  catches (RepeatsFor parameter reversed now last body ∷ items) x f fs own os room h =
       let r = h.follows in
       let a = h.around in
       let outer = r.2 in
       let c = r.3 in
       let held : a.held ≡ in_turn c.counter c.limit now last outer.held = ap (λ q. q.held) r.4.loop in
-      catches room items x f fs own os
+      catches items x f fs own os room
       (drop_outer x f fs own os (RepeatsFor parameter reversed now last body) items h outer r.1 (ap (λ q. q.raised x) r.4.loop)
       (shows_as a.handling outer.handling (ap (λ q. q.handling) r.4.loop))
       (λ z. (subst (λ q. AreHeld f.locals q) held z).1.1)
       (λ z. ap (λ l. rest_of (rest_of l)) (ap (λ q. map held_offset q) (sym held) ∙ z ∙ r.4.narrows.reserved ∙ c.reserved)) refl r.6)
-  catches room (EndsCall names None xs ∷ items) x f fs own os h =
+  catches (EndsCall names None xs ∷ items) x f fs own os room h =
       let r = h.follows in (
         r.1,
         r.2,
@@ -351,9 +355,9 @@ module _ (i : Sections) (program : Program) (g : Package) (numbers : Numbers) (n
         h.goes ∙ r.9.outermost.raised x,
         r.13,
         r.14,
-        catches room items x r.1 r.2 r.3 r.4 (left x f fs own os names None xs items h),
+        catches items x r.1 r.2 r.3 r.4 (subst HaveRoom r.14 room.1) (left x f fs own os names None xs items h),
       )
-  catches room (EndsCall names (Some object) xs ∷ items) x f fs own os h =
+  catches (EndsCall names (Some object) xs ∷ items) x f fs own os room h =
       let r = h.follows in (
         r.1,
         r.2,
@@ -365,9 +369,9 @@ module _ (i : Sections) (program : Program) (g : Package) (numbers : Numbers) (n
         r.14,
         left x f fs own os names (Some object) xs items h,
       )
-  catches room (EndsServed object names done ∷ items) x f fs own os h =
+  catches (EndsServed object names done ∷ items) x f fs own os room h =
       let r = h.follows in (r.0, r.2, r.3, r.4, r.5, r.6, r.7, h.goes ∙ r.9.outermost.raised x, r.13, r.14, r.15)
-  catches room (i' ∷ items) x f fs own os h = absurd h.follows
+  catches (i' ∷ items) x f fs own os room h = absurd h.follows
 
   -- ---- the exception that a handler holds
 

@@ -26,12 +26,12 @@ use Rattle.step_soundness.specs.meaning.specs.SameMeaning.{frames_of}
 use Rattle.step_soundness.specs.meaning.specs.SourceSteps as source
 use Rattle.step_soundness.specs.meaning.specs.SourceSteps.{place_of, with_value, work_step}
 use Rattle.step_soundness.specs.meaning.specs.Works.{Item, Does, RepeatsFor, Goes, Activation, Store, TaskWork, frames_left}
-use Rattle.part_code.specs.expr_code.specs.Views.{in_frame, placed}
+use Rattle.part_code.specs.expr_code.specs.Views.{in_frame, placed, view_of}
 use Rattle.part_code.specs.expr_code.specs.Coming.{most_steps}
 use Rattle.part_code.specs.expr_code.specs.Seeing.{Package}
 use Rattle.part_code.specs.expr_code.proofs.Coming.{acts}
 use Rattle.part_code.specs.Resting.{Framed, RestsWith, StandsFor}
-use Rattle.part_code.specs.Counting.{Bounds, GoesOn, IsCounted, IsRange, bounds, in_turn, number_bounds, turn_first, turn_last, with_last, with_parameter}
+use Rattle.part_code.specs.Counting.{Bounds, GoesOn, IsCounted, IsRange, bounds, in_turn, number_bounds, turn_first, turn_last, with_last, with_parameter, are_turns_inside}
 use Rattle.part_code.specs.Statements.{Numbers}
 use Rattle.part_code.specs.Jumping.{Here}
 use Rattle.step_simulation.specs.Standing.{CodeStands, Going, frames_in, in_range, items_size, work_size}
@@ -41,6 +41,7 @@ use Rattle.step_simulation.proofs.Turning as turn
 use Rattle.part_code.proofs.Handling.{goes_within}
 use Rattle.step_simulation.proofs.Scenes.{Scene}
 use Rattle.step_simulation.proofs.Scenes as scene
+use Rattle.part_code.proofs.TurnNumbers.{next_inside, turn_within}
 
 module _ (this : Scene) where
   abbrev quiet : QuietStays
@@ -209,7 +210,7 @@ module _ (this : Scene) where
         c : IsCounted i g r.2 r.0 r.1 parameter.name reversed
         c = r.4.0
 
-        begin : IsRange i g r.2 c.inner c.counter c.limit (r.0 + 2) c.start r.1 parameter.name reversed range
+        begin : IsRange i g r.2 c.inner c.counter c.limit (r.0 + 2) c.start r.1 parameter.name reversed range c.subtype
         begin = r.4.1
 
         here : RestsWith g r.2 h.around.held w.own f.locals
@@ -239,11 +240,11 @@ module _ (this : Scene) where
         ComesTo b = Spent (((r.0 - f.place) + 1) + (begin.mid - (r.0 + 2))) (placed f f.place []) (placed f begin.mid (begin.stack [] b))
 
         -- the first turn
-        turns : (now' last : ℤ) (b : Bounds) → work_step now w.work ≡ source.for_turn now parameter.name reversed now' last body items → ComesTo b
+        turns : (now' last : ℤ) (b : Bounds) → are_turns_inside c.subtype reversed now' last ≡ true → work_step now w.work ≡ source.for_turn now parameter.name reversed now' last body items → ComesTo b
             → GoesOn i g schedule k t m (placed f begin.mid (begin.stack [] b)) fs (c.start - begin.mid) c.start c.inner
             (in_turn c.counter c.limit now' last h.around.held) (with_parameter parameter.name now' w.own)
             → Meet (in_frame m (placed f f.place []) fs).task
-        turns now' last b there spends on =
+        turns now' last b inside_it there spends on =
             let u1 = c.up in
             let u2 = c.over in
             let u3 = c.on in
@@ -276,6 +277,7 @@ module _ (this : Scene) where
               r.4.2,
               r.5,
               r.4.4,
+              inside_it,
             ))
             on.rests h.object (h.depth ∙ sym (before_ends i program g numbers body loop))
             (subst (λ q. suc (items_size (source.before body loop)) < work_size q) (sym is) (omega (arith, total)))
@@ -298,6 +300,7 @@ module _ (this : Scene) where
                 started = if reversed then source.for_turn now parameter.name true y x body items else source.for_turn now parameter.name false x y body items
             by_null false full =
                 turns (turn_first reversed x y) (turn_last reversed x y) (number_bounds x y)
+                (begin.inside (place_of now items) (view_of i schedule k t m f fs) x y (scene.sees_here this r.2 items f fs here h.object) eb full)
                 (there ∙ ap (λ q. if q then source.goes now items else (if reversed then source.for_turn now parameter.name true y x body items
                 else source.for_turn now parameter.name false x y body items)) full ∙ directed reversed)
                 spends
@@ -387,7 +390,8 @@ module _ (this : Scene) where
             (goes_within i outer.raised c.back c.back c.next.mid r.1 r.7 (omega arith) (omega (arith, u4, u6))) (behind f.locals here) refl r.4.handles h.object
             h.depth)
             (λ next ez there spends.
-            let on = c.next.goes schedule k t m f fs outer.held w.own now' last next calm here in
+            let next_in = next_inside c.subtype reversed now' last next r.8 other ez in
+            let on = c.next.goes schedule k t m f fs outer.held w.own now' last next calm here (turn_within c.subtype reversed next last next_in) in
             let own' = with_parameter parameter next w.own in
             let loop = RepeatsFor parameter reversed next last body ∷ items in
             let turn_setting = in_range i program g numbers (r.0 + 1) c.counter c.limit next last c.inner outer in
@@ -425,6 +429,7 @@ module _ (this : Scene) where
                     r.5,
                     r.6,
                     r.7,
+                    next_in,
                   ))
                   on.rests h.object (h.depth ∙ sym (before_ends i program g numbers body loop)));
               words = shares;

@@ -1,5 +1,5 @@
 -- Steps of `delay until`.
-use Rattle.std.proofs.Common.{◌≡◌, ℕ, suc, ◌+◌, ◌-◌, ◌<◌, List, [], ◌∷◌, Bool, None, true, false, refl, sym, ap, ◌∙◌, subst, arith}
+use Rattle.std.proofs.Common.{◌≡◌, ℕ, ℤ, suc, ◌+◌, ◌-◌, ◌<◌, List, [], ◌∷◌, Bool, None, true, false, refl, sym, ap, ◌∙◌, subst, arith}
 use Rattle.std.specs.Prelude.{if◌then◌else◌}
 use Rattle.kernel.specs.Effects.{Delays, is_inside_any}
 use Rattle.kernel.specs.RunLaws.{spends_trans}
@@ -10,14 +10,14 @@ use Rattle.part_code.specs.image.specs.Steps.{behaviour}
 use Rattle.part_code.specs.image.specs.declared.instruction.Operation.TheVariants as op
 use Rattle.part_code.specs.ada_tree.specs.ExpressionTree.{ExprTree}
 use Rattle.part_code.specs.ada_tree.specs.StatementTree.{DelayUntil}
-use Rattle.part_code.specs.types.specs.Evaluations.{and_then}
+use Rattle.part_code.specs.types.specs.Evaluations.{and_then, Val, Gives, Raises, Meaningless}
 use Rattle.part_code.specs.types.specs.Evaluating.{value_with}
 use Rattle.part_code.specs.types.specs.Values.{Value, Number, Truth, Array, Record}
 use Rattle.step_soundness.specs.meaning.specs.SameMeaning.{frames_of}
 use Rattle.step_soundness.specs.meaning.specs.SourceSteps as source
 use Rattle.step_soundness.specs.meaning.specs.SourceSteps.{with_value, work_step}
 use Rattle.step_soundness.specs.meaning.specs.Works.{Item, Does, Goes}
-use Rattle.part_code.specs.expr_code.specs.Views.{in_frame, placed}
+use Rattle.part_code.specs.expr_code.specs.Views.{in_frame, placed, view_of}
 use Rattle.part_code.specs.expr_code.specs.Coming.{most_steps, on}
 use Rattle.part_code.specs.expr_code.proofs.Coming.{acts}
 use Rattle.part_code.proofs.Handling.{goes_within}
@@ -53,6 +53,14 @@ module _ (this : Scene) (s : TaskState) where
       delay_numbers (Array vs) = refl
       delay_numbers (Record vs) = refl
 
+      number_given : (v : Val Value) (z : ℤ) → and_then v (turn.number_of_value this s) ≡ Gives z → v ≡ Gives (Number z)
+      number_given (Gives (Number y)) z e = cc
+      number_given (Gives (Truth b)) z e = cc
+      number_given (Gives (Array vs)) z e = cc
+      number_given (Gives (Record vs)) z e = cc
+      number_given (Raises x) z e = cc
+      number_given Meaningless z e = cc
+
       by_actions : (b : Bool) → is_inside_any k t ≡ b → scene.Meet this s
       by_actions true inside =
           let r = h.follows in
@@ -76,6 +84,8 @@ module _ (this : Scene) (s : TaskState) where
           let up = jumps_up i program g numbers f.place at leads.jumps in
           let rests = scene.narrowed this s h.around.visible r.2 w.own f.locals leads.narrows h.rests in
           let next : mid + 1 ≡ r.1 = omega (arith, end) in
+          let seen = scene.sees_here this r.2 items f fs rests h.object in
+          let timely = code.6 (source.place_of now items) (view_of i schedule k t m f fs) in
           let around = scene.seeing this r.2 h.around in
           let value = and_then (source.evaluate now items e) (turn.number_of_value this s) in
           subst (scene.Meet this) (sym (scene.going_is this s h.stack h.going))
@@ -101,7 +111,7 @@ module _ (this : Scene) (s : TaskState) where
                 ∙ (λ j. steps.does (Delays z) m (scene.goes_at this f (next j) f.locals) fs None None),
             record {
               effect = refl;
-              leaves = Going items refl (scene.goes_on this s items w.own around r.1 f.locals r.5 rests h.object h.depth);
+              leaves = (timely z seen (number_given (source.evaluate now items e) z ez), Going items refl (scene.goes_on this s items w.own around r.1 f.locals r.5 rests h.object h.depth));
               words = shares;
             },
           )))

@@ -248,7 +248,7 @@ module _ (this : Scene) (s : TaskState) where
           let one = code.invoked.up in
           moves (source.run_body now (Opens o) (Some o) c.procedure z items) (steps.does (Opens o) m body (waiting ∷ fs) None None) next
           (opens_entry quiet i entry.number proc.s proc.there schedule k t m f fs mid [] words many o entry.row code.invoked.calls free below few
-          (sym (has.barriers store m o known.store shares) ∙ there))
+          (sym (has.barriers store m o known.store known.values shares) ∙ there))
           (record {
             effect = refl;
             leaves = Going (body_items c.procedure (EndsCall (results c.procedure.parameters) (Some o) z.targets) items) refl
@@ -266,7 +266,7 @@ module _ (this : Scene) (s : TaskState) where
           let one = code.invoked.up in
           moves (source.works now (Queues o) (Goes (Queued c.procedure z.values z.targets ∷ items))) (steps.does (Queues o) m calling fs None None) next
           (waits_at_entry quiet i entry.number proc.s proc.there schedule k t m f fs mid [] words many o entry.row code.invoked.calls free below few
-          (sym (has.barriers store m o known.store shares) ∙ there) (ap is_some none))
+          (sym (has.barriers store m o known.store known.values shares) ∙ there) (ap is_some none))
           (record {
             effect = refl;
             leaves = record {

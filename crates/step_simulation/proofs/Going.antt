@@ -267,6 +267,7 @@ module _ (i : Sections) (program : Program) (g : Package) (numbers : Numbers) wh
           h.5,
           h.6,
           h.7,
+          h.8,
         )
     earlier (EndsCall names opened xs ∷ items) a more n x y role fs os j nar ins h =
         let outer = h.5 in

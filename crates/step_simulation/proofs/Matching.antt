@@ -217,7 +217,7 @@ module _ (this : Scene) where
   met_throwing s x items is pending h =
       raising.met_raised this s x items s.frame s.callers is
       (record { raises = λ schedule' m' closed. ap (λ r. steps.does_or_raises i schedule' k t m' s.frame s.callers r) pending })
-      (catches i program g numbers this.note (scene.has_room this) items x s.frame s.callers w.own w.callers h)
+      (catches i program g numbers this.note items x s.frame s.callers w.own w.callers (scene.have_room this) h)
 
   -- the task that runs waits in no entry call
   not_waiting : (q : Procedure) (vs : List Value) (xs : List Target) (items : List Item) → w.work ≡ Goes (Queued q vs xs ∷ items) → ⊥
@@ -235,7 +235,7 @@ module _ (this : Scene) where
   met_by s knows (Ended o h) = let e = calm.runs.on in absurd cc
 
 pub steps_are_met : QuietStays → StepsAreSound → StepsAreMet
-steps_are_met quiet step_soundness i program g numbers has premises schedule note k t calm store m w s known knows shares stands =
+steps_are_met quiet step_soundness i program g numbers has premises schedule inputs note k t calm store m w s known knows shares stands =
     met_by (record {
       quiet = quiet;
       step_soundness = step_soundness;
@@ -255,4 +255,5 @@ steps_are_met quiet step_soundness i program g numbers has premises schedule not
       shares = shares;
       w = w;
       known = known;
+      inputs = inputs;
     }) s knows stands

@@ -219,7 +219,7 @@ module _ (this : Scene) where
         (ap (λ q. work_step now q) is ∙ ap (λ q. source.leaves now closed q work (Some (works.Raised x))) c.9)
         (throws.raises schedule m (scene.queues_closed this) ∙ ap (λ q. unwind i m x f q) c.8 ∙ hands_back x o c.0 pending f above below m c.7 c.6)
         (record {
-          effect = ap Ends (sym (has.barriers store m o this.known.store shares));
+          effect = ap Ends (sym (has.barriers store m o this.known.store this.known.values shares));
           leaves = record { done = done; items = items; work = refl; goes_on = c.10; gives = λ o' u' outer there. (refl, sound.0) };
           words = shares;
         })

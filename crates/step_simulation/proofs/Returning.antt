@@ -268,7 +268,7 @@ module _ (this : Scene) (s : TaskState) where
       (ends.ends schedule m (scene.queues_closed this))
       (Last refl) (omega arith, λ some. omega (arith, some))
       (record {
-        effect = ap Ends (sym (has.barriers store m o known.store shares));
+        effect = ap Ends (sym (has.barriers store m o known.store known.values shares));
         leaves = record {
           done = done;
           items = items;
@@ -314,7 +314,7 @@ module _ (this : Scene) (s : TaskState) where
       (spends_takes (behaviour i schedule) t frames_of (most_steps i) 1 k (in_frame m body fs) back.spends (Last refl))
       (omega (arith, low), λ some. omega (arith, low))
       (record {
-        effect = ap Ends (sym (has.barriers store m o known.store shares));
+        effect = ap Ends (sym (has.barriers store m o known.store known.values shares));
         leaves = record {
           done = done;
           items = items;

@@ -1,5 +1,5 @@
 -- A step of a task and the frame that stands for its work: how steps meet, exceptions on their way, items without code, ways out.
-use Rattle.std.proofs.Common.{◌≡◌, ℕ, suc, ◌+◌, ◌-◌, ◌<◌, ◌≤◌, ◌⊎◌, inl, inr, ⊎_elim, ℤ, List, [], ◌∷◌, length, Option, Some, None, refl, sym, ap, ◌∙◌, subst, arith}
+use Rattle.std.proofs.Common.{◌≡◌, ℕ, suc, ◌+◌, ◌-◌, ◌<◌, ◌≤◌, ◌⊎◌, inl, inr, ⊎_elim, ℤ, List, [], ◌∷◌, length, Option, Some, None, refl, sym, ap, ◌∙◌, subst, arith, true}
 use Rattle.part_code.specs.base.specs.declared.schedule.ScheduleLine.{ScheduleLine}
 use Rattle.part_code.specs.base.specs.declared.limits.TheConstants.{FRAMES}
 use Rattle.kernel.specs.State.{Kernel}
@@ -46,7 +46,10 @@ use Rattle.part_code.specs.Jumping.{Here, Jumps, There}
 use Rattle.step_simulation.specs.Standing.{AreQueuesClosed, Around, Catches, CodeStands, Follows, Going, Inside, IsGoingOn, LeadsByWays, LeavesBy, Note, Raised, RaisesNext, frames_in, items_size, relation, with_visible, work_size}
 use Rattle.step_simulation.specs.Laws.{HasCode, IsKnownHere}
 use Rattle.step_simulation.proofs.Going.{Drops, earlier, jumps_up, shows_then, way_back, way_out}
-use Rattle.step_simulation.proofs.Catching.{catches}
+use Rattle.step_simulation.proofs.Catching.{catches, HaveRoom}
+use Rattle.step_soundness.specs.InSubtypes.{CallersLie}
+use Rattle.step_soundness.specs.expr_soundness.specs.Lying.{ObjectsLie, PlaceLies}
+use Rattle.part_code.specs.base.specs.Schedule.{are_lines}
 
 -- what is known where a task takes a step: of the image, of the program, and of both sides
 pub record Scene : Type 0 where
@@ -68,6 +71,7 @@ pub record Scene : Type 0 where
   pub shares : StandsFor program g store m
   pub w : TaskWork
   pub known : IsKnownHere program k t store w
+  pub inputs : are_lines schedule ≡ true
 
 module _ (this : Scene) where
   abbrev quiet : QuietStays
@@ -167,7 +171,7 @@ module _ (this : Scene) where
 
   -- where the task may call the entry of an object in whose queue a call waits, the barrier is closed
   pub queues_closed : AreQueuesClosed i program g numbers k t m
-  queues_closed o u queued free below = sym (has.barriers store m o known.store shares) ∙ known.closed o u queued free below
+  queues_closed o u queued free below = sym (has.barriers store m o known.store known.values shares) ∙ known.closed o u queued free below
 
   -- no step of a sound task is without meaning
   pub has_meaning : (items : List Item) → work_step now w.work ≡ source.means_nothing now items → ⊥
@@ -188,22 +192,33 @@ module _ (this : Scene) where
   same_task : (items : List Item) (f : Frame) (fs : List Frame) → IsSameTask (place_of now items) (view_of i schedule k t m f fs)
   same_task items f fs = (refl, refl, ap (λ q. q.ceiling) (sym known.partition))
 
+  -- all that is there lies in its subtypes, whichever activation of the task runs
+  place_lies : (items : List Item) (a : Activation) → ObjectsLie program.scope a.locals
+      → PlaceLies (let p : Place = record (place_of now items) { locals = a.locals; within = a.within } in p)
+  place_lies items a lying = record {
+    variables = known.values.variables;
+    components = known.values.components;
+    locals = lying;
+    time = known.time;
+    inputs = this.inputs;
+  }
+
   pub sees_package : (items : List Item) (f : Frame) (fs : List Frame) → length f.locals ≤ 65536
       → SeesPackage g (place_of now items) (view_of i schedule k t m f fs)
   sees_package items f fs small =
       shares.shared (place_of now items) (view_of i schedule k t m f fs)
       (record { scope = refl; functions = refl; variables = refl; components = refl }) refl refl (same_task items f fs) refl refl (is_small f small fs)
-      (known.store.functions (place_of now items))
+      (known.store.functions (place_of now items)) (place_lies items w.own known.objects.own)
 
   -- a frame has the words of its own that it ought to have
-  pub has_room : (v : Framed) (a : Activation) (locals : List ℤ) → Rests g v a locals → v.room ≤ length locals
-  has_room v a locals rests =
+  has_room : (a : Activation) → ObjectsLie program.scope a.locals → (v : Framed) (locals : List ℤ) → Rests g v a locals → v.room ≤ length locals
+  has_room a lying v locals rests =
       let f : Frame = record { subprogram = 0; place = 0; locals = locals; stack = []; role = Inner } in
       let p : Place = record (place_of now []) { locals = a.locals; within = a.within } in
       let view : View = record (view_of i schedule k t m f []) { words = words_for locals a.within } in
       (rests.sees p view
       (shares.shared p view (record { scope = refl; functions = refl; variables = refl; components = refl }) refl refl (same_task [] f []) refl refl
-      small (known.store.functions p)) refl refl refl refl).room
+      small (known.store.functions p) (place_lies [] a lying)) refl refl refl refl).room
     where
       -- those of a frame of some body of the object
       words_for : List ℤ → Option ℕ → Region → List ℤ
@@ -215,6 +230,14 @@ module _ (this : Scene) where
       small regions.Locals = rests.small
       small regions.Plain = shares.plain
       small regions.Object = small_object a.within
+
+  -- those of the task's activations have
+  pub have_room : HaveRoom i program g numbers this.note (w.own ∷ w.callers)
+  have_room = (has_room w.own known.objects.own, waiting w.callers known.objects.callers)
+    where
+      waiting : (callers : List Activation) → CallersLie program.scope callers → HaveRoom i program g numbers this.note callers
+      waiting [] lying = tt
+      waiting (a ∷ callers) lying = (has_room a lying.0, waiting callers lying.1)
 
   pub sees_here : {held : List HeldWord} (v : Framed) (items : List Item) (f : Frame) (fs : List Frame) → RestsWith g v held w.own f.locals
       → own_object i f ≡ w.own.within → Knows g v (place_of now items) (view_of i schedule k t m f fs)
@@ -519,7 +542,7 @@ module _ (this : Scene) where
         → own_object i f ≡ w.own.within
         → length fs ≡ frames_in items → Handled f fs v items from' to'
     handled_by a now' to items v from' to' follows goes rests same shows object depth = λ x place left known is low high.
-        catches i program g numbers this.note has_room items x (placed f place left) fs w.own w.callers
+        catches i program g numbers this.note items x (placed f place left) fs w.own w.callers have_room
         (record {
           around = a;
           from = to;

@@ -92,7 +92,7 @@ module _ (i : Sections) (program : Program) (g : Package) (numbers : Numbers) wh
     follows_under (RepeatsWhile e body ∷ items) a n from role fs os own all h =
         (h.0, h.1, h.2, h.3, h.4, follows_under items h.2 n h.1 role fs os own all h.5)
     follows_under (RepeatsFor parameter reversed now last body ∷ items) a n from role fs os own all h =
-        (h.0, h.1, h.2, h.3, h.4, h.5, follows_under items h.2 n h.1 role fs os own all h.6, h.7)
+        (h.0, h.1, h.2, h.3, h.4, h.5, follows_under items h.2 n h.1 role fs os own all h.6, h.7, h.8)
     follows_under (EndsCall names opened xs ∷ items) a n from role fs os own all h =
         let below = subst (λ q. OfAllServed Same q) h.13 all in (
           h.0,

@@ -1,5 +1,5 @@
 -- What is proved of code that stands for work, as statements; each is the contract of a public function.
-use Rattle.std.specs.Prelude.{◌≡◌, ◌≢◌, ◌≤◌, ℕ, List, [], ◌∷◌, Option, Some, None, false, length, slice_get, ⊤}
+use Rattle.std.specs.Prelude.{◌≡◌, ◌≢◌, ◌≤◌, ℕ, List, [], ◌∷◌, Option, Some, None, false, length, slice_get, ⊤, true}
 use Rattle.part_code.specs.base.specs.declared.schedule.ScheduleLine.{ScheduleLine}
 use Rattle.kernel.specs.State.{Action, Kernel, Serves, put}
 use Rattle.kernel.specs.Calm.{Calm}
@@ -27,6 +27,9 @@ use Rattle.part_code.specs.expr_code.specs.Seeing.{library_of, Package}
 use Rattle.part_code.specs.Resting.{StandsFor}
 use Rattle.part_code.specs.Statements.{HasProcedures, IsProcedureCode, Numbers}
 use Rattle.step_simulation.specs.Standing.{CodeStands, GivesSame, HasEnded, HasQueued, Note, relation}
+use Rattle.part_code.specs.base.specs.Arithmetic.{is_in_base_range}
+use Rattle.part_code.specs.base.specs.Schedule.{are_lines}
+use Rattle.step_soundness.specs.InSubtypes.{StoreLies, TaskLies}
 
 -- the entry of this object has this body, with its code, in the object's row of the image
 pub record HasEntry (i : Sections) (program : Program) (g : Package) (numbers : Numbers) (o : ℕ) (q : Procedure) : Type 0 where
@@ -42,7 +45,7 @@ pub record HasCode (i : Sections) (program : Program) (g : Package) (numbers : N
   pub functions : (left : ℕ) → Answers i (library_of g) (call left) left
   pub procedures : HasProcedures i program g numbers
   pub entries : (o : ℕ) (q : Procedure) → entry_of program.procedures o ≡ Some q → HasEntry i program g numbers o q
-  pub barriers : (m : Store) (words : Words) (o : ℕ) → IsSoundStore program m → StandsFor program g m words
+  pub barriers : (m : Store) (words : Words) (o : ℕ) → IsSoundStore program m → StoreLies program.scope m → StandsFor program g m words
       → calls.is_open program m o ≡ is_open i words o
 
 -- What is known of task t, which is to take a step, in each world of a program's run: the store and the task's work break no rule, the task waits in no entry
@@ -54,6 +57,10 @@ pub record IsKnownHere (program : Program) (k : Kernel) (t : ℕ) (m : Store) (w
   pub opened : Matches (k.actions t) (opened_in (items_of w.work))
   pub partition : k.partition ≡ program_partition program
   pub closed : (o u : ℕ) → k.queued o ≡ Some u → is_inside_any k t ≡ false → is_above_ceiling k t o ≡ false → calls.is_open program m o ≡ false
+  -- all values lie in their subtypes, and the time is a number of 64 bits
+  pub values : StoreLies program.scope m
+  pub objects : TaskLies program.scope w
+  pub time : is_in_base_range k.now ≡ true
 
 -- the caller for whom the task's frame runs the body of an entry is the one that the kernel knows
 abbrev pub KnowsCaller : Kernel → (t : ℕ) → TaskState → Type 0
@@ -63,7 +70,8 @@ KnowsCaller k t s = (o u : ℕ) (pending : Option ℕ) → s.frame.role ≡ Serv
 abbrev pub StepsAreMet : Type 0
 StepsAreMet =
     (i : Sections) (program : Program) (g : Package) (numbers : Numbers) → HasCode i program g numbers → Premises program
-    → (schedule : List ScheduleLine) (note : Note) (k : Kernel) (t : ℕ) → Calm k t → (store : Store) (m : Words) (w : TaskWork) (s : TaskState)
+    → (schedule : List ScheduleLine) → are_lines schedule ≡ true
+    → (note : Note) (k : Kernel) (t : ℕ) → Calm k t → (store : Store) (m : Words) (w : TaskWork) (s : TaskState)
     → IsKnownHere program k t store w
     → KnowsCaller k t s
     → StandsFor program g store m

@@ -5,7 +5,7 @@ use Rattle.part_code.specs.ada_tree.specs.StatementTree.{NoHandlers, MoreHandler
 use Rattle.part_code.specs.base.specs.declared.schedule.ScheduleLine.{ScheduleLine}
 use Rattle.part_code.specs.handlers.specs.Innermost.{handler_of}
 use Rattle.kernel.specs.State.{Action, Kernel, Outcome, Serves}
-use Rattle.kernel.specs.Effects.{Effect, Ends, Queues, Quiet, after, is_above_ceiling, is_inside_any}
+use Rattle.kernel.specs.Effects.{Effect, Ends, Queues, Quiet, after, is_above_ceiling, is_inside_any, Delays}
 use Rattle.part_code.specs.image.specs.Sections.{Sections, first_place}
 use Rattle.part_code.specs.image.specs.Operations.{called, results_of}
 use Rattle.part_code.specs.image.specs.Frames.{Inner, Opened, Serving, Role, Frame, TaskState, Words, own_object}
@@ -28,9 +28,10 @@ use Rattle.part_code.specs.Resting.{AreHeld, Framed, HeldWord, NarrowsFrame, Res
 use Rattle.part_code.specs.Handling.{GoesBy, Handling, exception_in}
 use Rattle.part_code.specs.Copying.{AreCopies, ArePlaced, GivesBack, addresses_of, copies_on, held_at, passed_words}
 use Rattle.part_code.specs.declared.call.Destination.{Destination}
-use Rattle.part_code.specs.Counting.{IsCounted, in_turn}
+use Rattle.part_code.specs.Counting.{IsCounted, in_turn, are_turns_inside}
 use Rattle.part_code.specs.Jumping.{Jumps}
 use Rattle.part_code.specs.Statements.{AreHandlers, AreStatements, IsDeclared, IsForever, IsMainStatementCode, IsParameterDeclared, IsSequence, IsStatement, IsWhile, Numbers, Ways, shapes_of, within_handler, within_loop}
+use Rattle.part_code.specs.base.specs.Arithmetic.{is_in_base_range}
 
 -- ---- what is left to do, as a size that falls where no code is run
 
@@ -340,6 +341,7 @@ module _ (i : Sections) (program : Program) (g : Package) (numbers : Numbers) wh
         × AreStatements i program g numbers c.inner (within_loop (head + 1) outer.ways) outer.raised c.start c.back body
         × Follows outer n to items role fs os
         × GoesBy i outer.raised c.back to
+        × (are_turns_inside c.subtype reversed now last ≡ true)
     Follows a n from (EndsCall names opened xs ∷ items) role fs os =
         (ret : ℕ) × (c : Frame) × (below : List Frame) × (o : Activation) × (older : List Activation) × (outer : Around) × (ds : List Destination) × (to : ℕ)
         × (role ≡ role_of opened)
@@ -502,6 +504,7 @@ module _ (i : Sections) (program : Program) (g : Package) (numbers : Numbers) wh
     abbrev pub LeavesBy : Kernel → (t : ℕ) → Effect → TaskWork → TaskState → Option GivenToCaller → Option steps.Given → Type 0
     LeavesBy k t (Ends is_open) w s p q = HasEnded k t w s p q
     LeavesBy k t (Queues o) w s p q = HasQueued k o w s
+    LeavesBy k t (Delays until) w s p q = (is_in_base_range until ≡ true) × CodeStands (after t (Delays until) k) t w s
     LeavesBy k t e w s p q = CodeStands (after t e k) t w s
 
   -- Words stand for variables and components, and frames for the work of each task, under a note; after its step the frames stand for what it has still to do.

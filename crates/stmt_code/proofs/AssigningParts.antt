@@ -41,6 +41,7 @@ use Rattle.part_code.proofs.Pointing.{PointsTo, address_here, computes_pointed, 
 use Rattle.part_code.proofs.Assigning.{form_there}
 use Rattle.part_code.proofs.StoringCode.{StoresIn, block_in, comes_part, given_value, word_in}
 use Rattle.part_code.proofs.StoringParts.{address_is, part_puts, place_of}
+use Rattle.expr_soundness.proofs.Lies.{results_lie}
 
 module _ (kept : AgreementIsKept) (sized : ValuesHaveWords) (calls : CallsAreTyped) (quiet : QuietStays) (i : Sections) (program : Program) (g : Package)
     (numbers : Numbers) (v : Framed) (name : NameTree) (e : ExprTree) (r : Role) (t last : Subtype) (slot : Slot) (laid : IsLaidOut g v)
@@ -113,7 +114,7 @@ module _ (kept : AgreementIsKept) (sized : ValuesHaveWords) (calls : CallsAreTyp
         puts schedule k task m f fs store a p y is_at locals within stands rests own knows gives =
             let c = call p.frames_left in
             let view = view_of i schedule k task m f fs in
-            let good : (library_of g).sound c = λ q s. calls.answered q s p.frames_left in
+            let good : (library_of g).sound c = (λ q s. calls.answered q s p.frames_left, results_lie p.frames_left) in
             let to : Destination = record { region = slot.region; subtype = last } in
             let target = given (found c p) (assigned_to c p e) y gives in
             let z = target.0 in

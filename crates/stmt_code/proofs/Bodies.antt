@@ -19,6 +19,8 @@ use Rattle.part_code.specs.Layout.{IsLaidPackage}
 use Rattle.part_code.specs.Resting.{AreHeld, Framed, RestsWith, held_offset}
 use Rattle.stmt_code.proofs.Beginning.{Enters, EntersOne, begun, entered}
 use Rattle.stmt_code.proofs.Entering.{BeginsBody, rests_alike}
+use Rattle.expr_soundness.specs.Lying.{ObjectsLie}
+use Rattle.types.specs.Scopes.{Scope}
 
 -- ---- parameters of different names are found in either order
 
@@ -72,6 +74,24 @@ entered_alike (f ∷ fs) vs l name h = by_mode (is_out f.mode) vs (λ us k. ente
     by_mode true vs rest = rest vs l
     by_mode false vs rest = by_value vs rest
 
+-- ... and lie in their subtypes in either order
+entered_lie : (s : Scope) (ps : List Parameter) (vs : List Value) (l : List Object) → ObjectsLie s (bound ps vs) → ObjectsLie s l
+    → ObjectsLie s (entered ps vs l)
+entered_lie s [] vs l h k = k
+entered_lie s (f ∷ fs) vs l h k = by_mode (is_out f.mode) vs h (λ us m i j. entered_lie s fs us m i j)
+  where
+    by_value : (vs : List Value) → ObjectsLie s (with_first f vs (bound fs (drop 1 vs)))
+        → ((us : List Value) (m : List Object) → ObjectsLie s (bound fs us) → ObjectsLie s m → ObjectsLie s (entered fs us m))
+        → ObjectsLie s (entered fs (drop 1 vs) (with_first f vs l))
+    by_value [] i rest = rest [] l i k
+    by_value (x ∷ xs) i rest = rest xs (record { name = f.name; subtype = f.subtype; value = x } ∷ l) i.1 (i.0, k)
+
+    by_mode : (b : Bool) (vs : List Value) → ObjectsLie s (if b then bound fs vs else with_first f vs (bound fs (drop 1 vs)))
+        → ((us : List Value) (m : List Object) → ObjectsLie s (bound fs us) → ObjectsLie s m → ObjectsLie s (entered fs us m))
+        → ObjectsLie s (if b then entered fs vs l else entered fs (drop 1 vs) (with_first f vs l))
+    by_mode true vs i rest = rest vs l i k
+    by_mode false vs i rest = by_value vs i rest
+
 -- ---- as many addresses as places
 
 places_many : (program : Program) (g : Package) (ps : List Parameter) (v last : Framed) (from : ℕ) (places : List ℕ) → Enters program g v from places ps last
@@ -113,7 +133,8 @@ module _ (kept : AgreementIsKept) (sized : ValuesHaveWords) (program : Program) 
       let lasts = ap length reserved in
       record {
         rests = rests_alike g laid last (record { within = q.object; locals = entered q.parameters vs [] }) l words
-            (λ name. nothing_behind (object_of l name) ∙ sym (entered_alike q.parameters vs [] name distinct)) found.0;
+            (λ name. nothing_behind (object_of l name) ∙ sym (entered_alike q.parameters vs [] name distinct))
+            (λ s lying. entered_lie s q.parameters vs [] lying tt) found.0;
         held = held;
         apart = offsets_held last.reserved addresses (omega (arith, lasts, as_many, many));
       }

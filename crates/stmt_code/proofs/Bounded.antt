@@ -1,7 +1,7 @@
 -- What is known of a loop over a range that breaks no rule: its bounds are of integer types, and its parameter is visible in its statements, with the first of
 -- two words of the frame.
-use Rattle.std.proofs.Common.{◌≡◌, ℕ, suc, ◌<◌, ◌≤◌, ◌++◌, List, [], ◌∷◌, length, take, Bool, true, false, not, ◌&&◌, Option, Some, None, inl, inr, refl, sym, ap, ◌∙◌, subst, arith}
-use Rattle.std.specs.Prelude.{pos}
+use Rattle.std.proofs.Common.{◌≡◌, ℕ, suc, ◌<◌, ◌≤◌, ◌++◌, List, [], ◌∷◌, length, take, Bool, true, false, not, ◌&&◌, Option, Some, None, inl, inr, refl, sym, ap, ◌∙◌, subst, arith, ℤ}
+use Rattle.std.specs.Prelude.{pos, int_le, option_map}
 use Rattle.base.specs.declared.faults.TheConstants.{NO_MEANING}
 use Rattle.ada_tree.specs.declared.expression.Identifier.{Identifier}
 use Rattle.ada_tree.specs.ExpressionTree.{ExprTree}
@@ -14,10 +14,10 @@ use Rattle.types.specs.Entities as entity
 use Rattle.types.specs.Entities.{Entity, Profile}
 use Rattle.types.specs.Laws.{ShapesStay, ValuesHaveWords}
 use Rattle.types.specs.Layouts.{words_of}
-use Rattle.types.specs.Places.{Object}
-use Rattle.types.specs.Scopes.{Scope, base_range_of, form_at, integer, integer_type, is_visible, with_name}
+use Rattle.types.specs.Places.{Object, Place}
+use Rattle.types.specs.Scopes.{Scope, form_at, integer_type, is_visible, with_name}
 use Rattle.types.specs.Statics.{start_of}
-use Rattle.types.specs.Values.{Number}
+use Rattle.types.specs.Values.{Number, Value}
 use Rattle.expr_soundness.specs.expr_rules.specs.declared.own.Own.{Own}
 use Rattle.expr_soundness.specs.expr_rules.specs.declared.own.Own.TheVariants.{Typed, Universal, Unknown}
 use Rattle.expr_soundness.specs.expr_rules.specs.declared.own.Wanted.TheVariants.{AnyInteger}
@@ -27,7 +27,7 @@ use Rattle.expr_soundness.specs.expr_rules.specs.NameRules.{mismatch}
 use Rattle.expr_soundness.specs.expr_rules.specs.Typing.{is_integers, is_integral, is_known, is_wanted, own_of}
 use Rattle.expr_soundness.specs.expr_rules.proofs.TypedLaw.{back_empty, front_empty, judged, unbroken}
 use Rattle.type_rules.specs.SubtypeNames.{declared_twice}
-use Rattle.declaring.specs.BodyNames.{bounds_type, if_integers, last_rule, loop_faults, loop_scope, loop_type, parameter_entity}
+use Rattle.declaring.specs.BodyNames.{bounds_type, if_integers, last_rule, loop_faults, loop_scope, loop_type, parameter_entity, turns_subtype}
 use Rattle.part_code.specs.stmt_rules.specs.StatementRules.{in_loop, stmts_faults}
 use Rattle.expr_soundness.specs.Agreeing.{Agrees}
 use Rattle.expr_soundness.specs.Laws.{AgreementIsKept, ScopesAreSound}
@@ -44,7 +44,7 @@ use Rattle.expr_code.proofs.Widths.{integral_one, known}
 use Rattle.stmt_code.specs.Emitting.{AreAcceptedStatements, IsAcceptedStatement, Serves, seeing}
 use Rattle.part_code.specs.Emitting.{HasEntries}
 use Rattle.part_code.specs.Layout.{EndsBelow}
-use Rattle.part_code.specs.Resting.{Framed}
+use Rattle.part_code.specs.Resting.{Framed, Knows}
 use Rattle.stmt_code.specs.Turns.{BeginsRange}
 use Rattle.stmt_code.specs.declared.draft.Draft.{Draft}
 use Rattle.part_code.specs.declared.turns.Turns.{Turns}
@@ -57,6 +57,16 @@ use Rattle.part_code.specs.Suiting.{SuitsStatements}
 use Rattle.stmt_code.proofs.Accepting.{ways_in_loop}
 use Rattle.stmt_code.proofs.Suiting.{entries_wider, entry_wider, external_wider, number_wider, slots_first, stands_wider, subprograms_first, suits_wider}
 use Rattle.stmt_code.proofs.Widening.{scope_wider}
+use Rattle.types.specs.declared.entity.Subtype.{Subtype}
+use Rattle.types.specs.Bounds.{bounds_of}
+use Rattle.types.specs.Evaluations.{Val, Gives, Raises, Meaningless, and_then}
+use Rattle.types.specs.Evaluating.{call, val, value_with}
+use Rattle.expr_soundness.specs.BoundsLaw.{ValuesAreBounded, VisibleValuesLie}
+use Rattle.expr_soundness.specs.Lying.{comes_between}
+use Rattle.expr_soundness.specs.meaning.specs.Works.{turn_subtype}
+use Rattle.expr_code.specs.Views.{View}
+use Rattle.part_code.specs.Counting.{bounds, number_bounds, with_last, Bounds}
+use Rattle.expr_soundness.proofs.Elements.{both_left, both_right}
 
 -- ---- what is legal
 
@@ -90,11 +100,14 @@ module _ (s : Scope) (sound : SoundScope s) (e : ExprTree) (h : faults_of s AnyI
   pub integer_legal : expressions.IsLegalExpression s e
   integer_legal = wanted_legal s AnyInteger e h
 
--- the type of the bounds
+-- the parameter's subtype, of the type of the bounds
 pub record IsOfIntegers (s : Scope) (range : RangeTree) : Type 0 where
   pub number : ℕ
   pub typed : loop_type s range ≡ Some number
   pub integers : is_integers (form_at s number) ≡ true
+
+abbrev pub subtype_in : (s : Scope) (range : RangeTree) → IsOfIntegers s range → Subtype
+subtype_in s range of_type = turns_subtype s range of_type.number
 
 module _ (s : Scope) (parameter : Identifier) (range : RangeTree) (legal : loop_faults s parameter range ≡ []) where
   abbrev of_first : Faults
@@ -137,6 +150,50 @@ module _ (s : Scope) (parameter : Identifier) (range : RangeTree) (legal : loop_
       (ap is_integers sound.integer) in
       record { number = found.0; typed = found.1; integers = found.2 }
 
+-- ---- the numbers of the range
+
+both_at_least : (a b : Bool) → a ≡ true → b ≡ true → (a && b) ≡ true
+both_at_least true b h k = k
+both_at_least false b h k = cc
+
+least_of : (t : ℤ × ℤ) (z : ℤ) → comes_between t (Gives (Number z)) ≡ true → int_le t.0 z ≡ true
+least_of t z h = both_left (int_le t.0 z) (int_le z t.1) h
+
+greatest_of : (t : ℤ × ℤ) (z : ℤ) → comes_between t (Gives (Number z)) ≡ true → int_le z t.1 ≡ true
+greatest_of t z h = both_right (int_le t.0 z) (int_le z t.1) h
+
+given_bounds : (a b : Bounds) → Gives a ≡ Gives b → a ≡ b
+given_bounds a b e = cc
+
+-- what both bounds come to
+two_given : (a b : Val Value) (x y : ℤ) → and_then a (λ v. and_then b (with_last v)) ≡ Gives (number_bounds x y)
+    → (a ≡ Gives (Number x)) × (b ≡ Gives (Number y))
+two_given (Gives v) (Gives w) x y h =
+    let e = given_bounds (record { first = v; last = w }) (number_bounds x y) h in (ap (λ q. Gives q.first) e, ap (λ q. Gives q.last) e)
+two_given (Gives v) (Raises n) x y h = cc
+two_given (Gives v) Meaningless x y h = cc
+two_given (Raises n) b x y h = cc
+two_given Meaningless b x y h = cc
+
+-- wherever the frame stands the range goes within the parameter's subtype
+pub range_fits : ValuesAreBounded → VisibleValuesLie → (g : Package) (v : Framed) (parameter : Identifier) (range : RangeTree)
+    → loop_faults v.names.scope parameter range ≡ [] → (number : ℕ) (p : Place) (view : View) (x y : ℤ) → Knows g v p view
+    → bounds range (call p.frames_left) p ≡ Gives (number_bounds x y)
+    → (let t = turns_subtype v.names.scope range number in (int_le t.first x && int_le y t.last) ≡ true)
+range_fits bounded visible g v parameter range legal number p view x y knows gives =
+    let s = v.names.scope in
+    let agrees = knows.sees.names.agrees in
+    let all = visible s p agrees knows.sees.unit.values knows.sees.loops in
+    let two = two_given (value_with (call p.frames_left) p range.first) (value_with (call p.frames_left) p range.last) x y gives in
+    let lies : (e : ExprTree) → faults_of s AnyInteger e ≡ [] → comes_between (bounds_of s e) (val p e) ≡ true =
+    λ e h. bounded s p agrees knows.sees.unit.sound all e AnyInteger
+    (front_empty (faults_in s AnyInteger e) (mismatch s AnyInteger (own_of s e) (start_of e)) h) in
+    both_at_least (int_le (bounds_of s range.first).0 x) (int_le y (bounds_of s range.last).1)
+    (least_of (bounds_of s range.first) x
+    (subst (λ v. comes_between (bounds_of s range.first) v ≡ true) two.0 (lies range.first (first_legal s parameter range legal))))
+    (greatest_of (bounds_of s range.last) y
+    (subst (λ v. comes_between (bounds_of s range.last) v ≡ true) two.1 (lies range.last (last_legal s parameter range legal))))
+
 -- ---- what is visible in the loop
 
 module _ (stay : ShapesStay) (v later : Visible) (start opened : Draft) (parameter : Identifier) (reversed : Bool) (range : RangeTree) (t : Turns) (null : ℕ)
@@ -145,8 +202,11 @@ module _ (stay : ShapesStay) (v later : Visible) (start opened : Draft) (paramet
   abbrev pub slot : Slot
   slot = record { region = regions.Locals; offset = t.counter }
 
-  scope_is : later.scope ≡ with_name v.scope parameter.name (entity.Object role.LoopParameter (base_range_of of_type.number))
-  scope_is = r.scope ∙ ap (λ o. with_name v.scope parameter.name (parameter_entity o)) of_type.typed
+  abbrev pub subtype : Subtype
+  subtype = subtype_in v.scope range of_type
+
+  scope_is : later.scope ≡ with_name v.scope parameter.name (entity.Object role.LoopParameter subtype)
+  scope_is = r.scope ∙ ap (λ o. with_name v.scope parameter.name (parameter_entity (option_map (turns_subtype v.scope range) o))) of_type.typed
 
   hidden : is_visible v.scope parameter.name ≡ false
   hidden = parameter_hidden v.scope parameter range legal
@@ -154,23 +214,23 @@ module _ (stay : ShapesStay) (v later : Visible) (start opened : Draft) (paramet
   pub sound_inside : ScopesAreSound → SoundScope later.scope
   sound_inside scopes =
       subst SoundScope (sym scope_is)
-      (scope_wider scopes v.scope parameter.name role.LoopParameter (base_range_of of_type.number) hidden of_type.integers sound)
+      (scope_wider scopes v.scope parameter.name role.LoopParameter subtype hidden of_type.integers sound)
 
   pub entries_inside : HasEntries later
   entries_inside =
-      entries_wider stay v later parameter.name role.LoopParameter (base_range_of of_type.number) slot sound entries hidden scope_is r.slots r.subprograms
+      entries_wider stay v later parameter.name role.LoopParameter subtype slot sound entries hidden scope_is r.slots r.subprograms
 
   pub slots_stay : take (length v.slots) later.slots ≡ v.slots
   slots_stay =
-      slots_first stay v later parameter.name role.LoopParameter (base_range_of of_type.number) slot sound entries hidden scope_is r.slots r.subprograms
+      slots_first stay v later parameter.name role.LoopParameter subtype slot sound entries hidden scope_is r.slots r.subprograms
 
   pub subprograms_stay : take (length v.subprograms) later.subprograms ≡ v.subprograms
   subprograms_stay =
-      subprograms_first stay v later parameter.name role.LoopParameter (base_range_of of_type.number) slot sound entries hidden scope_is r.slots r.subprograms
+      subprograms_first stay v later parameter.name role.LoopParameter subtype slot sound entries hidden scope_is r.slots r.subprograms
 
   pub suits_inside : (i : Sections) (s : Subprogram) → t.counter < s.locals → SuitsStatements v i s → SuitsStatements later i s
   suits_inside i s within suits =
-      suits_wider stay v later parameter.name role.LoopParameter (base_range_of of_type.number) slot sound entries hidden scope_is r.slots r.subprograms
+      suits_wider stay v later parameter.name role.LoopParameter subtype slot sound entries hidden scope_is r.slots r.subprograms
       i s r.operations refl within suits
 
   -- ---- the frame in the loop
@@ -180,10 +240,10 @@ module _ (stay : ShapesStay) (v later : Visible) (start opened : Draft) (paramet
     abbrev pub inner : Framed
     inner = record { names = later; room = f.room; reserved = t.counter ∷ t.limit ∷ f.reserved; within = f.within }
 
-    single : words_of v.scope (base_range_of of_type.number) ≡ 1
-    single = single_number sized v.scope (base_range_of of_type.number) of_type.integers
+    single : words_of v.scope subtype ≡ 1
+    single = single_number sized v.scope subtype of_type.integers
 
-    adds : AddsObject (seeing f v) parameter.name role.LoopParameter (base_range_of of_type.number) start.words.taken slot inner
+    adds : AddsObject (seeing f v) parameter.name role.LoopParameter subtype start.words.taken slot inner
     adds = record {
       hidden = hidden;
       sound = of_type.integers;
@@ -201,10 +261,10 @@ module _ (stay : ShapesStay) (v later : Visible) (start opened : Draft) (paramet
     limit_is : t.limit ≡ suc start.words.taken
     limit_is = r.limit ∙ ap suc r.counter
 
-    pub holds : HoldsRange (seeing f v) parameter.name of_type.number slot t.limit inner
+    pub holds : HoldsRange (seeing f v) parameter.name subtype slot t.limit inner
     holds =
-        subst (λ m. HoldsRange (seeing f v) parameter.name of_type.number slot m inner) (sym limit_is)
-        (holds_behind (seeing f v) inner parameter.name of_type.number start.words.taken slot serves.ends serves.below adds
+        subst (λ m. HoldsRange (seeing f v) parameter.name subtype slot m inner) (sym limit_is)
+        (holds_behind (seeing f v) inner parameter.name subtype start.words.taken slot serves.ends serves.below adds
         (λ j. r.counter j ∷ limit_is j ∷ f.reserved)
         (let n = r.takes.taken in let m = r.takes.most in omega (arith, n, m, room)))
 
@@ -217,32 +277,32 @@ module _ (stay : ShapesStay) (v later : Visible) (start opened : Draft) (paramet
       numbered = numbered;
       externals = λ name operation n o q told.
           serves.externals name operation n o q
-          (external_wider stay v later parameter.name role.LoopParameter (base_range_of of_type.number) slot sound entries hidden scope_is r.slots r.subprograms
+          (external_wider stay v later parameter.name role.LoopParameter subtype slot sound entries hidden scope_is r.slots r.subprograms
           r.operations name operation n told);
       entries = λ name operation n o told.
           serves.entries name operation n o
-          (entry_wider stay v later parameter.name role.LoopParameter (base_range_of of_type.number) slot sound entries hidden scope_is r.slots r.subprograms
+          (entry_wider stay v later parameter.name role.LoopParameter subtype slot sound entries hidden scope_is r.slots r.subprograms
           name operation n told);
       scope = serves.scope;
       place = record serves.place { locals = object ∷ serves.place.locals };
       here = serves.here;
       agrees = subst (λ z. Agrees z (record serves.place { locals = object ∷ serves.place.locals })) (sym scope_is)
-          (kept.parameter v.scope serves.place parameter.name of_type.number (pos 0) serves.agrees hidden of_type.integers);
-      laid = parameter_laid kept sized g (seeing f v) inner serves.laid sound parameter.name of_type.number slot t.limit holds stay;
+          (kept.parameter v.scope serves.place parameter.name subtype (pos 0) serves.agrees hidden of_type.integers);
+      laid = parameter_laid kept sized g (seeing f v) inner serves.laid sound parameter.name subtype slot t.limit holds stay;
       ends = subst (EndsBelow inner) top
-          (parameter_ends kept sized g (seeing f v) inner serves.laid sound parameter.name of_type.number slot t.limit holds stay start.words.taken serves.ends
+          (parameter_ends kept sized g (seeing f v) inner serves.laid sound parameter.name subtype slot t.limit holds stay start.words.taken serves.ends
           r.counter);
       below = subst (AreBelow inner.reserved) top
-          (parameter_below kept sized g (seeing f v) inner serves.laid sound parameter.name of_type.number slot t.limit holds start.words.taken serves.below
+          (parameter_below kept sized g (seeing f v) inner serves.laid sound parameter.name subtype slot t.limit holds start.words.taken serves.below
           r.counter limit_is);
     }
       where
         object : Object
-        object = record { name = parameter.name; subtype = integer; value = Number (pos 0) }
+        object = record { name = parameter.name; subtype = turn_subtype (pos 0); value = Number (pos 0) }
 
         finds : (name : List ℕ) (e : Entity) → entity_named later.scope name ≡ Some e → IsFound program f.within name e
         finds name e h =
-            elim (stands_wider stay v later parameter.name role.LoopParameter (base_range_of of_type.number) slot sound entries hidden scope_is r.slots
+            elim (stands_wider stay v later parameter.name role.LoopParameter subtype slot sound entries hidden scope_is r.slots
             r.subprograms name e h) [
               | inl old ↦ serves.finds name e old
               | inr is ↦ subst (IsFound program f.within name) (sym is.1) tt
@@ -253,9 +313,9 @@ module _ (stay : ShapesStay) (v later : Visible) (start opened : Draft) (paramet
             → numbers q ≡ Some n
         numbered name q n profile found told naming none =
             let old =
-            (number_wider stay v later parameter.name role.LoopParameter (base_range_of of_type.number) slot sound entries hidden scope_is r.slots r.subprograms
+            (number_wider stay v later parameter.name role.LoopParameter subtype slot sound entries hidden scope_is r.slots r.subprograms
             name n told).0 in
             let before = is_told v.scope v.subprograms name n old in
             serves.numbered name q n profile found old
-            (profile_without v.scope parameter.name (entity.Object role.LoopParameter (base_range_of of_type.number)) name before.number profile before.numbered
+            (profile_without v.scope parameter.name (entity.Object role.LoopParameter subtype) name before.number profile before.numbered
             (subst (λ z. NamesProfile z name profile) scope_is naming)) none

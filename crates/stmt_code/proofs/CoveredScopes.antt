@@ -1,6 +1,6 @@
 -- What is visible keeps what code needs of it where an object, a loop parameter or formals are visible besides.
 use Rattle.std.proofs.Common.{◌≡◌, ◌≤◌, ◌⊎◌, ◌||◌, inl, inr, ◌++◌, ◌+◌, ℕ, zero, suc, [], ◌∷◌, List, length, map, Bool, true, false, Option, Some, None, refl, sym, ap, ◌∙◌, subst, arith}
-use Rattle.std.specs.Prelude.{cond, is_some}
+use Rattle.std.specs.Prelude.{cond, is_some, option_map}
 use Rattle.std.proofs.lemmas.List.{append-nil, append_assoc}
 use Rattle.base.specs.declared.faults.TheConstants.{DECLARED_TWICE}
 use Rattle.image.specs.declared.instruction.Region.TheVariants as regions
@@ -13,12 +13,12 @@ use Rattle.types.specs.declared.entity.Subtype.{Subtype}
 use Rattle.types.specs.declared.standing.Standing.{Standing}
 use Rattle.types.specs.declared.standing.Standing.TheVariants as standing
 use Rattle.types.specs.Entities.{Entity, Exception, Object, Profile}
-use Rattle.types.specs.Scopes.{Named, Scope, base_range_of, entity_at, entity_of, form_at, is_visible, number_of, with_name}
+use Rattle.types.specs.Scopes.{Named, Scope, entity_at, entity_of, form_at, is_visible, number_of, with_name}
 use Rattle.types.specs.Standings.{stands_first, stands_for}
 use Rattle.expr_soundness.specs.expr_rules.proofs.TypedLaw.{unbroken}
 use Rattle.type_rules.specs.ObjectRules.{object_entity, role_of}
 use Rattle.type_rules.specs.SubtypeNames.{declared_twice, entity_at_or_none, subtype_of}
-use Rattle.declaring.specs.BodyNames.{formal_role, formal_scope, formals_scope, loop_faults, loop_scope, parameter_entity}
+use Rattle.declaring.specs.BodyNames.{formal_role, formal_scope, formals_scope, loop_faults, loop_scope, parameter_entity, turns_subtype}
 use Rattle.part_code.specs.step_soundness.specs.Fitting.{entity_named}
 use Rattle.expr_soundness.specs.SoundScopes.{IsSoundObject, SoundScope}
 use Rattle.expr_soundness.proofs.Growing.{form_before, grown, object_named, sound_with_object, test_kept}
@@ -38,7 +38,7 @@ use Rattle.part_code.specs.Providing.{HasWhatCodeNeeds, is_full}
 use Rattle.part_code.proofs.OperationNames.{told_object, told_without}
 use Rattle.stmt_code.specs.Subprograms.{AreLegalFormals}
 use Rattle.stmt_code.specs.WholeRefusals.{formals_visible, from_behind, out_behind, placed_as, placed_formals, placed_if}
-use Rattle.stmt_code.proofs.Bounded.{parameter_hidden, range_type}
+use Rattle.stmt_code.proofs.Bounded.{parameter_hidden, range_type, subtype_in}
 use Rattle.stmt_code.proofs.FormalNames.{AreNamed, IsBehind, formal_known, formals_named, named_there, one_behind, visible_there}
 use Rattle.stmt_code.proofs.ObjectMore.{behind_before, callee_before, constant_or_variable, named_before, scalar_kept}
 
@@ -253,8 +253,9 @@ module _ (exceptions : List (List ℕ)) (v : Visible) (sound : SoundScope v.scop
     whole_loop parameter range h =
         let s = v.scope in
         let found = range_type s parameter range h sound in
-        subst (λ o. IsCovered exceptions (with_object v (with_name s parameter.name (parameter_entity o)) taken)) (sym found.typed)
-        (covered_with exceptions v.operations s v.slots v.subprograms whole parameter.name role.LoopParameter (base_range_of found.number) here refl
+        subst (λ o. IsCovered exceptions (with_object v (with_name s parameter.name (parameter_entity (option_map (turns_subtype s range) o))) taken))
+        (sym found.typed)
+        (covered_with exceptions v.operations s v.slots v.subprograms whole parameter.name role.LoopParameter (subtype_in s range found) here refl
         found.integers (parameter_hidden s parameter range h))
 
     pub covered_loop : (parameter : Identifier) (range : RangeTree) → loop_faults v.scope parameter range ≡ []

@@ -1,5 +1,5 @@
 -- The code of `delay until`: a test, the time, and the delay.
-use Rattle.std.proofs.Common.{◌≡◌, ◌≤◌, ◌+◌, ◌*◌, [], ℕ, suc, length, None, Some, refl, sym, ap, ◌∙◌, subst, arith}
+use Rattle.std.proofs.Common.{◌≡◌, ◌≤◌, ◌+◌, ◌*◌, [], ℕ, suc, length, None, Some, refl, sym, ap, ◌∙◌, subst, arith, ℤ, pos, negsuc, true}
 use Rattle.std.specs.Prelude.{not}
 use Rattle.ada_tree.specs.ExpressionTree.{ExprTree}
 use Rattle.ada_tree.specs.Size.{expr_size}
@@ -7,7 +7,7 @@ use Rattle.ada_tree.specs.StatementTree.{DelayUntil}
 use Rattle.image.specs.Sections.{Sections}
 use Rattle.image.specs.Rules.{has_depth}
 use Rattle.image.specs.declared.instruction.Operation.TheVariants as op
-use Rattle.types.specs.Scopes.{Scope}
+use Rattle.types.specs.Scopes.{Scope, integer, least_number, greatest_number}
 use Rattle.types.specs.Statics.{start_of}
 use Rattle.expr_soundness.specs.expr_rules.specs.ExpressionRules.{faults_of}
 use Rattle.expr_soundness.specs.expr_rules.specs.Typing.{is_time, own_of}
@@ -21,7 +21,7 @@ use Rattle.expr_code.specs.Computing.{Computes}
 use Rattle.expr_code.specs.Emitting.{EmitsExpression, IsLegalExpression}
 use Rattle.expr_code.specs.Flows.{AreKeptBetween}
 use Rattle.expr_code.specs.Refusing.{IsRefused, RefusesExpression, peak}
-use Rattle.expr_code.specs.Seeing.{Sees, library_of}
+use Rattle.expr_code.specs.Seeing.{Sees, library_of, Package}
 use Rattle.expr_code.specs.Widths.{own_words, width_of}
 use Rattle.expr_code.specs.declared.code.Code.{Code}
 use Rattle.expr_code.specs.declared.refusal.Refusal.{Refusal}
@@ -32,7 +32,7 @@ use Rattle.expr_code.proofs.Refusals.{peak_some}
 use Rattle.expr_code.proofs.Widths.{numeric_one}
 use Rattle.part_code.specs.Bounds.{stmt_bound}
 use Rattle.part_code.specs.Needs.{Needs, value_needs}
-use Rattle.part_code.specs.Statements.{Ways}
+use Rattle.part_code.specs.Statements.{Ways, IsTimely}
 use Rattle.part_code.proofs.Within.{plain_refused, stack_within, value_refused, within_self}
 use Rattle.stmt_code.specs.Emitting.{EmitsStatement, IsLegalStatement}
 use Rattle.stmt_code.specs.Refusing.{Refuses}
@@ -41,6 +41,13 @@ use Rattle.stmt_code.specs.declared.draft.Draft.{Draft}
 use Rattle.stmt_code.proofs.Adding.{IsBeside, labels_beside, most_beside, taken_beside, value_extends, value_kept, wanted_legal}
 use Rattle.stmt_code.proofs.RowsAdded.{goes_kept, rows_kept}
 use Rattle.stmt_code.proofs.Staying.{coded, stays_code, stays_self}
+use Rattle.base.specs.Arithmetic.{is_in_base_range}
+use Rattle.types.specs.Bounds.{bounds_of}
+use Rattle.types.specs.Values.{Number, is_within}
+use Rattle.types.specs.Evaluations.{Gives}
+use Rattle.expr_soundness.specs.BoundsLaw.{ValuesAreBounded, VisibleValuesLie, is_inside}
+use Rattle.expr_soundness.specs.Lying.{comes_between}
+use Rattle.part_code.specs.Resting.{Framed}
 
 -- ---- what is legal
 
@@ -58,6 +65,27 @@ module _ (s : Scope) (place : ℕ) (e : ExprTree) (h : IsLegalStatement s (Delay
       by_own (Typed n) r =
           numeric_one s (Typed n)
           (time_numeric s (Typed n) (not_false (is_time s (Typed n)) (unbroken _ (start_of e) (not (is_time s (Typed n))) r)))
+
+-- ---- the time
+
+-- a number between bounds that 64 bits hold
+base_again : (z : ℤ) → is_within least_number greatest_number z ≡ true → is_in_base_range z ≡ true
+base_again (pos n) h = grind (arith, h)
+base_again (negsuc n) h = grind (arith, h)
+
+between_base : (b : ℤ × ℤ) (z : ℤ) → is_inside b integer ≡ true → comes_between b (Gives (Number z)) ≡ true → is_within least_number greatest_number z ≡ true
+between_base b z h k = grind (arith, h, k)
+
+module _ (bounded : ValuesAreBounded) (visible : VisibleValuesLie) (g : Package) (v : Framed) (e : ExprTree) (legal : IsLegalExpression v.names.scope e)
+    (inside : is_inside (bounds_of v.names.scope e) integer ≡ true) where
+  timely : IsTimely g v e
+  timely p view z knows gives =
+      let s = v.names.scope in
+      let agrees = knows.sees.names.agrees in
+      let all = visible s p agrees knows.sees.unit.values knows.sees.loops in
+      base_again z
+      (between_base (bounds_of s e) z inside
+      (subst (λ x. comes_between (bounds_of s e) x ≡ true) gives (bounded s p agrees knows.sees.unit.sound all e legal.wanted legal.unbroken)))
 
 -- ---- the code
 
@@ -85,8 +113,9 @@ module _ (v : Visible) (w : Ways) (a c : Draft) (b m : Code) (place : ℕ) (e : 
     behind : Holds i (here b) c.code
     behind = holds_later i (here a.code) (here b) c.code starts.longer h
 
-  pub delay_emits : EmitsStatement v w a (DelayUntil place e) c
-  delay_emits = record {
+  pub delay_emits : ValuesAreBounded → VisibleValuesLie → IsLegalStatement v.scope (DelayUntil place e)
+      → is_inside (bounds_of v.scope e) integer ≡ true → EmitsStatement v w a (DelayUntil place e) c
+  delay_emits bounded visible legal inside = record {
     extends = extends_trans a.code b c.code starts grows;
     labels = labels_beside a c same;
     taken = taken_beside a c same;
@@ -103,6 +132,8 @@ module _ (v : Visible) (w : Ways) (a c : Draft) (b m : Code) (place : ℕ) (e : 
             (x.computes i (holds_before i (here b) m c.code (added_extends m c.code 1 op.DelayUntil q) (behind i h)) g)),
         added_at m c.code 1 op.DelayUntil q i (here a.code) (omega (arith, first_here, x.extends.longer)) h,
         last_here,
+        timely bounded visible g f e (subst (λ y. IsLegalExpression y.scope e) (sym names) (until_legal v.scope place e legal))
+            (subst (λ y. is_inside (bounds_of y.scope e) integer ≡ true) (sym names) inside),
       ),
       goes_kept a c same.2 i program handling goes,
     );

@@ -6,6 +6,8 @@ use Rattle.image.specs.Frames.{object_words}
 use Rattle.image.specs.declared.instruction.Region.{Region}
 use Rattle.image.specs.declared.instruction.Region.TheVariants as regions
 use Rattle.types.specs.declared.entity.Role.{Role}
+use Rattle.types.specs.declared.entity.Role.TheVariants as role
+use Rattle.types.specs.declared.entity.Subtype.{Subtype}
 use Rattle.types.specs.Entities.{Entity, OfSubtype, OfType, Predefined, Protected, ProtectedObject}
 use Rattle.types.specs.Laws.{ValuesHaveWords}
 use Rattle.types.specs.Places.{Function, IsFunction, IsObject, IsProtected, Meaning, Object, Place, function_meaning, function_of, is_of, meaning_in_scope, meaning_of, meaning_of_entity, meaning_or, object_meaning, object_of, or_else, own_components, own_function, own_object, package_function, package_object}
@@ -23,10 +25,11 @@ use Rattle.expr_code.specs.Naming.{Lies}
 use Rattle.expr_code.specs.Seeing.{external_of, IsCoded, IsOffered, object_named, Package, SeesPackage, outside, slot_of, subprogram_of}
 use Rattle.expr_code.specs.Views.{View}
 use Rattle.expr_code.specs.declared.visible.Slot.{Slot}
-use Rattle.part_code.specs.Layout.{IsLaidOut, IsLaidPackage, Widens}
+use Rattle.part_code.specs.Layout.{IsLaidOut, IsLaidPackage, Widens, NamesObject}
 use Rattle.part_code.specs.Resting.{Framed, IsAtHome, IsAtHomeIn, Knows, Rests}
 use Rattle.part_code.proofs.Names.{meant_by}
 use Rattle.part_code.proofs.Placing.{declared_knows, framed_view, package_alone, with_locals, with_objects}
+use Rattle.expr_soundness.specs.Lying.{ObjectsLie}
 
 -- ---- an object more, whose words stand there
 
@@ -45,11 +48,13 @@ rests_more kept sized g v later laid a words x r slot rests widens region suited
 -- ---- other objects of which each name finds the same
 
 module _ (g : Package) (laid : IsLaidPackage g) (v : Framed) (a : Activation) (l : List Object) (words : List ℤ)
-    (alike : (name : List ℕ) → object_of l name ≡ object_of a.locals name) (rests : Rests g v a words) where
+    (alike : (name : List ℕ) → object_of l name ≡ object_of a.locals name) (lying : (s : Scope) → ObjectsLie s l → ObjectsLie s a.locals)
+    (rests : Rests g v a words) where
   module _ (p : Place) (view : View) (sees : SeesPackage g p view) (objects : p.locals ≡ l) (within : p.within ≡ a.within) (is : view.words regions.Locals ≡ words)
       (its : view.words regions.Object ≡ object_words a.within view.memory) where
     knew : Knows g v (with_objects a.locals p) (framed_view words view)
-    knew = rests.sees (with_objects a.locals p) (framed_view words view) (package_alone g laid p view a.locals words rests.small sees) refl within refl its
+    knew = rests.sees (with_objects a.locals p) (framed_view words view) (package_alone g laid p view a.locals words rests.small
+        (lying p.scope (subst (ObjectsLie p.scope) objects sees.values.locals)) sees) refl within refl its
 
     found : (name : List ℕ) → object_of p.locals name ≡ object_of a.locals name
     found name = ap (λ q. object_of q name) objects ∙ alike name
@@ -79,6 +84,7 @@ module _ (g : Package) (laid : IsLaidPackage g) (v : Framed) (a : Activation) (l
           agrees = agrees;
           objects = λ name slot t u told h. lies slot u (knew.sees.names.objects name slot t u told (sym (means name) ∙ h));
         };
+        loops = λ name number t u z numbered stands h. knew.sees.loops name number t u z numbered stands (sym (means name) ∙ h);
         functions = λ name n f profile result told naming gives h.
             knew.sees.functions name n f profile result told naming gives (sym (means name) ∙ h);
         externals = λ name operation n o f told h found. knew.sees.externals name operation n o f told (sym (means name) ∙ h) found;
@@ -132,10 +138,15 @@ outside_all : (o : Option ℕ) → is_of o None ≡ true → o ≡ None
 outside_all (Some n) h = cc
 outside_all None h = refl
 
+-- none of these names is that of a loop parameter
+abbrev pub HasNoLoops : Scope → Type 0
+HasNoLoops s = (name : List ℕ) (t : Subtype) → NamesObject s name role.LoopParameter t → ⊥
+
 -- names of the package that stand in front of a body, with their places and subprograms
 pub record IsOfPackage (g : Package) (v : Framed) : Type 0 where
   pub sound : SoundScope v.names.scope
   pub first : StandsFirst v.names.scope g.scope
+  pub no_loops : HasNoLoops v.names.scope
   pub plain : (name : List ℕ) (slot : Slot) → slot_of v.names name ≡ Some slot → slot.region ≡ regions.Plain
   pub slots : (name : List ℕ) (slot : Slot) → slot_of v.names name ≡ Some slot → g.slots None name ≡ Some slot
   pub calls : (name : List ℕ) (number : ℕ) → subprogram_of v.names name ≡ Some number → g.subprograms None name ≡ Some number
@@ -201,6 +212,7 @@ module _ (kept : AgreementIsKept) (g : Package) (v : Framed) (of_package : IsOfP
           agrees = subst (Agrees v.names.scope) bare (kept.narrowed v.names.scope g.scope (outside p) of_package.first of_package.sound sees.names.agrees);
           objects = λ name slot t u told h. sees.names.objects name slot t u (of_package.slots name slot told) (at name (IsObject t u) h);
         };
+        loops = λ name number t u z numbered stands h. absurd (of_package.no_loops name t (record { number = number; numbered = numbered; stands = stands }));
         functions = λ name number f profile result told naming gives h. coded name number f told h;
         externals = λ name operation number o f told h found.
             of_package.externals name operation number o f told (ap (λ s. object_named s name) (sym sees.scope) ∙ object_meant p name o h) found;

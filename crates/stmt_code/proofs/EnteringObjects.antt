@@ -17,7 +17,7 @@ use Rattle.expr_code.specs.declared.visible.Slot.{Slot}
 use Rattle.part_code.specs.Resting.{Framed, IsAtHomeIn, Knows}
 use Rattle.part_code.proofs.Names.{object_value}
 use Rattle.part_code.proofs.StoringCode.{component_meant, meant_among}
-use Rattle.stmt_code.proofs.Entering.{BeginsBody, function_is, no_scope_function, object_meant, same_function}
+use Rattle.stmt_code.proofs.Entering.{HasNoLoops, BeginsBody, function_is, no_scope_function, object_meant, same_function}
 
 -- ---- what stands in front of the body
 
@@ -31,6 +31,7 @@ IsPlacedIn g o name slot =
 -- names that stand in front of a body of a protected object, with their places and subprograms
 pub record IsOfObject (g : Package) (o : ℕ) (v : Framed) : Type 0 where
   pub within : v.within ≡ Some o
+  pub no_loops : HasNoLoops v.names.scope
   -- where no activation has objects they mean within the object what they stand for, whatever values the package's objects have
   pub agrees : (p : Place) → p.scope ≡ g.scope → p.functions ≡ g.functions → FunctionsAreSound p → HasObjects g p → p.locals ≡ [] → p.within ≡ Some o
       → Agrees v.names.scope p
@@ -176,6 +177,7 @@ module _ (g : Package) (o : ℕ) (v : Framed) (of_object : IsOfObject g o v) (wo
           agrees = of_object.agrees p sees.scope sees.functions sees.sound sees.objects objects within;
           objects = lies;
         };
+        loops = λ name number t u z numbered stands h. absurd (of_object.no_loops name t (record { number = number; numbered = numbered; stands = stands }));
         functions = coded;
         externals = λ name operation number x f told h found.
             of_object.externals name operation number x f told (ap (λ s. object_named s name) (sym sees.scope) ∙ object_meant p name x h) found;

@@ -63,6 +63,7 @@ use Rattle.part_code.proofs.ObjectNames.{names_object}
 use Rattle.part_code.proofs.StoringCode.{stored_there, with_stored}
 use Rattle.part_code.proofs.StoringParts.{PutsIn, address_is, place_of, put_there}
 use Rattle.part_code.proofs.Words.{block_put, with_words}
+use Rattle.expr_soundness.proofs.Lies.{results_lie}
 
 -- ---- the instruction
 
@@ -155,7 +156,7 @@ module _ (kept : AgreementIsKept) (sized : ValuesHaveWords) (places : PartsHaveP
     view = view_of i schedule k task m f fs
 
     good : (library_of g).sound c
-    good = λ q s. calls.answered q s p.frames_left
+    good = (λ q s. calls.answered q s p.frames_left, results_lie p.frames_left)
 
     abbrev Reached : ℕ → ℕ → (n : ℕ) → (stack before : List ℤ) → Type 0
     Reached a b n before stack =
@@ -403,7 +404,7 @@ module _ (kept : AgreementIsKept) (sized : ValuesHaveWords) (places : PartsHaveP
             (λ r s. arrives_else rest other (suc moving.1) end moving.9 last_arrives (omega (arith, le, up, over)) r s) (subst Suited same suited))
 
       assigned_there : Arrived to (assigned_to c p e z)
-      assigned_there = arrives e low to code first reached (λ x is. typed.typed c p knows.sees.names.agrees (good p knows.sees.unit.sound) x is)
+      assigned_there = arrives e low to code first reached (λ x is. typed.typed c p knows.sees.names.agrees (good.0 p knows.sees.unit.sound) x is)
 
     by_target : (u : Val Target) → pointed name.first name.selectors c p ≡ u
         → Comes i schedule k task m (placed f from []) fs (low - from) low (λ y. pos (place_in sized way y) ∷ []) u

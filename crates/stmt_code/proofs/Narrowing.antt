@@ -3,12 +3,14 @@ use Rattle.std.proofs.Common.{◌≡◌, ℕ, List, [], ◌∷◌, ◌++◌, len
 use Rattle.std.specs.Prelude.{take}
 use Rattle.std.proofs.Math.Seq.{take-append_seam}
 use Rattle.types.specs.declared.entity.Role.{Role}
+use Rattle.types.specs.declared.entity.Role.TheVariants as role
 use Rattle.types.specs.declared.entity.Subtype.{Subtype}
 use Rattle.types.specs.Entities as entity
-use Rattle.types.specs.Scopes.{Named}
+use Rattle.types.specs.Scopes.{Named, entity_at, number_of}
 use Rattle.declaring.specs.Laws.{StandsFirst}
 use Rattle.expr_soundness.specs.Laws.{AgreementIsKept}
 use Rattle.expr_soundness.specs.SoundScopes.{SoundScope}
+use Rattle.expr_soundness.proofs.Positions.{entity_kept, number_kept}
 use Rattle.expr_code.specs.Seeing.{external_of, number_behind, object_named, Package, slot_of, subprogram_of, told_of, NamesProfile}
 use Rattle.expr_code.specs.declared.visible.Slot.{Slot}
 use Rattle.part_code.specs.Layout.{Widens}
@@ -51,6 +53,9 @@ module _ (kept : AgreementIsKept) (g : Package) (v later : Framed) (name : List 
         agrees = kept.narrowed v.names.scope later.names.scope p stands_first sound knows.sees.names.agrees;
         objects = λ other s u w told means. knows.sees.names.objects other s u w (slot_more other s told) means;
       };
+      loops = λ other number u w z numbered stands means.
+          knows.sees.loops other number u w z (ap (λ q. number_of q other) scope_is ∙ number_kept v.names.scope (named ∷ []) other number numbered)
+          (ap (λ q. entity_at q number) scope_is ∙ entity_kept v.names.scope (named ∷ []) number (entity.Object role.LoopParameter u) stands) means;
       functions = λ other n f profile result told naming gives means.
           knows.sees.functions other n f profile result (number_more other n told)
           (subst (λ z. NamesProfile z other profile) (sym scope_is) (profile_kept v.names.scope (named ∷ []) other profile naming)) gives means;

@@ -10,12 +10,11 @@ use Rattle.types.specs.declared.entity.Subtype.{Subtype}
 use Rattle.types.specs.Laws.{ShapesStay, ValuesHaveWords}
 use Rattle.types.specs.Layouts.{words_of}
 use Rattle.types.specs.Places.{IsObject, Place, is_among, meaning_of}
-use Rattle.types.specs.Scopes.{base_range_of, integer}
 use Rattle.types.specs.Shapes.{value_words}
-use Rattle.types.specs.Values.{Number, Value}
+use Rattle.types.specs.Values.{Number, Value, is_within}
 use Rattle.expr_soundness.specs.Laws.{AgreementIsKept}
 use Rattle.expr_soundness.specs.SoundScopes.{SoundScope}
-use Rattle.expr_soundness.specs.meaning.specs.Works.{Activation}
+use Rattle.expr_soundness.specs.meaning.specs.Works.{Activation, turn_subtype}
 use Rattle.expr_code.specs.Naming.{Lies}
 use Rattle.expr_code.specs.Seeing.{Package, SeesPackage, slot_of}
 use Rattle.expr_code.specs.Views.{View}
@@ -29,6 +28,7 @@ use Rattle.part_code.proofs.Names.{meant_width, single_number}
 use Rattle.stmt_code.proofs.Narrowing.{shows_wider}
 use Rattle.part_code.proofs.Placing.{framed_view, package_alone, parameter_knows, with_locals, with_objects}
 use Rattle.part_code.proofs.Words.{IsWritten, others_kept, set_is, with_outside, with_words, written}
+use Rattle.expr_soundness.specs.Lying.{ObjectsLie}
 
 -- ---- what a method does for a loop over a range
 
@@ -38,10 +38,10 @@ IsUnseen v offset =
     (name : List ℕ) (x : Slot) (r : Role) (t : Subtype) → slot_of v.names name ≡ Some x → x.region ≡ regions.Locals → NamesObject v.names.scope name r t
     → AreApart offset 1 x.offset (words_of v.names.scope t)
 
--- The parameter, of the integer type with this number, is visible in its statements beside all else, and has a word; the last value has another one; and
+-- The parameter, of this subtype, is visible in its statements beside all else, and has a word; the last value has another one; and
 -- statements leave both alone.
-pub record HoldsRange (v : Framed) (name : List ℕ) (n : ℕ) (slot : Slot) (limit : ℕ) (inner : Framed) : Type 0 where
-  pub widens : Widens v name role.LoopParameter (base_range_of n) slot inner
+pub record HoldsRange (v : Framed) (name : List ℕ) (t : Subtype) (slot : Slot) (limit : ℕ) (inner : Framed) : Type 0 where
+  pub widens : Widens v name role.LoopParameter t slot inner
   pub region : slot.region ≡ regions.Locals
   pub reserved : inner.reserved ≡ slot.offset ∷ limit ∷ v.reserved
   pub parameter_free : IsFree v.reserved slot.offset 1
@@ -56,11 +56,11 @@ pub record HoldsRange (v : Framed) (name : List ℕ) (n : ℕ) (slot : Slot) (li
 abbrev pub AreBelow : List ℕ → ℕ → Type 0
 AreBelow places top = (n : ℕ) → is_among places n ≡ true → n < top
 
-pub holds_behind : (v inner : Framed) (name : List ℕ) (n top : ℕ) (slot : Slot) → EndsBelow v top → AreBelow v.reserved top
-    → AddsObject v name role.LoopParameter (base_range_of n) top slot inner → inner.reserved ≡ top ∷ suc top ∷ v.reserved → suc top < v.room
-    → HoldsRange v name n slot (suc top) inner
-holds_behind v inner name n top slot ends below adds reserved room = record {
-  widens = widens_behind v inner name role.LoopParameter (base_range_of n) top slot ends adds;
+pub holds_behind : (v inner : Framed) (name : List ℕ) (t : Subtype) (top : ℕ) (slot : Slot) → EndsBelow v top → AreBelow v.reserved top
+    → AddsObject v name role.LoopParameter t top slot inner → inner.reserved ≡ top ∷ suc top ∷ v.reserved → suc top < v.room
+    → HoldsRange v name t slot (suc top) inner
+holds_behind v inner name t top slot ends below adds reserved room = record {
+  widens = widens_behind v inner name role.LoopParameter t top slot ends adds;
   region = adds.region;
   reserved = reserved ∙ ap (λ m. m ∷ suc top ∷ v.reserved) (sym adds.offset);
   parameter_free = λ m among. inl (let k = below m among in let o = adds.offset in omega (arith, k, o));
@@ -159,7 +159,8 @@ module _ (sized : ValuesHaveWords) (g : Package) (v : Framed) (laid : IsLaidOut 
 
     knew : Knows g v p (framed_view before view)
     knew = subst (λ q. Knows g v q (framed_view before view)) here
-        (rests.sees (with_objects a.locals p) (framed_view before view) (package_alone g laid.unit p view a.locals before rests.small sees) refl within refl its)
+        (rests.sees (with_objects a.locals p) (framed_view before view) (package_alone g laid.unit p view a.locals before rests.small
+        (subst (ObjectsLie p.scope) objects sees.values.locals) sees) refl within refl its)
 
     by_region : (r : Region) (slot : Slot) (u : Value) → ((r ≡ regions.Locals) → AreApart offset 1 slot.offset (length (value_words u)))
         → Lies (with_locals before view.words r) slot.offset u → Lies (view.words r) slot.offset u
@@ -178,7 +179,7 @@ module _ (sized : ValuesHaveWords) (g : Package) (v : Framed) (laid : IsLaidOut 
 
     unseen_knows : Knows g v p view
     unseen_knows = record {
-      sees = record { unit = sees; names = record { agrees = knew.sees.names.agrees; objects = object_lies }; functions = knew.sees.functions; externals = knew.sees.externals };
+      sees = record { unit = sees; names = record { agrees = knew.sees.names.agrees; objects = object_lies }; loops = knew.sees.loops; functions = knew.sees.functions; externals = knew.sees.externals };
       room = (let r = knew.room in let l = put.long in let e = ap length words in omega (arith, r, l, e));
       within = knew.within;
       homes = knew.homes;
@@ -191,13 +192,13 @@ module _ (sized : ValuesHaveWords) (g : Package) (v : Framed) (laid : IsLaidOut 
 -- ---- a loop
 
 module _ (kept : AgreementIsKept) (sized : ValuesHaveWords) (g : Package) (v inner : Framed) (laid : IsLaidOut g v) (sound : SoundScope v.names.scope)
-    (name : List ℕ) (n : ℕ) (slot : Slot) (limit : ℕ) (holds : HoldsRange v name n slot limit inner) where
+    (name : List ℕ) (t : Subtype) (slot : Slot) (limit : ℕ) (holds : HoldsRange v name t slot limit inner) where
   abbrev counter : ℕ
   counter = slot.offset
 
   -- the parameter takes one word
-  single : words_of v.names.scope (base_range_of n) ≡ 1
-  single = single_number sized v.names.scope (base_range_of n) holds.widens.sound
+  single : words_of v.names.scope t ≡ 1
+  single = single_number sized v.names.scope t holds.widens.sound
 
   parameter_unseen : IsUnseen v counter
   parameter_unseen other x r t told local named =
@@ -209,7 +210,7 @@ module _ (kept : AgreementIsKept) (sized : ValuesHaveWords) (g : Package) (v inn
 
   -- what is seen in the loop's statements is seen without it
   pub parameter_shows : Shows g inner v
-  parameter_shows = shows_wider kept g v inner name role.LoopParameter (base_range_of n) slot holds.widens sound
+  parameter_shows = shows_wider kept g v inner name role.LoopParameter t slot holds.widens sound
 
   pub rests_behind : (a : Activation) (locals : List ℤ) → Rests g inner a locals → Rests g v a locals
   rests_behind a locals rests = record {
@@ -218,15 +219,15 @@ module _ (kept : AgreementIsKept) (sized : ValuesHaveWords) (g : Package) (v inn
   }
 
   -- the parameter with a value, whose word is put among those of the frame
-  parameter_rests : (a : Activation) (locals : List ℤ) (z : ℤ) → counter < length locals → Rests g v a locals
+  parameter_rests : (a : Activation) (locals : List ℤ) (z : ℤ) → is_within t.first t.last z ≡ true → counter < length locals → Rests g v a locals
       → Rests g inner (with_parameter name z a) (with_word counter z locals)
-  parameter_rests a locals z less rests =
+  parameter_rests a locals z ranged less rests =
       let put = number_written locals counter z less in
       record {
         small = (let l = put.long in let s = rests.small in omega (arith, l, s));
         sees = λ p view unit objects within words its.
-            parameter_knows kept sized g v laid a locals (with_word counter z locals) rests (record { name = name; subtype = integer; value = Number z }) counter
-            put p view unit objects within words its n z refl refl slot inner holds.widens holds.region refl;
+            parameter_knows kept sized g v laid a locals (with_word counter z locals) rests (record { name = name; subtype = turn_subtype z; value = Number z }) counter
+            put p view unit objects within words its t z ranged refl refl slot inner holds.widens holds.region refl;
       }
 
   -- both words of the loop are put
@@ -261,14 +262,19 @@ module _ (kept : AgreementIsKept) (sized : ValuesHaveWords) (g : Package) (v inn
       apart = rests.apart;
     }
 
+    -- the words are held, whatever they are
+    pub turn_held : AreHeld (with_both now last locals) (in_turn counter limit now last held)
+    turn_held = (
+      word_there middle counter now first',
+      (word_elsewhere middle counter limit now first' holds.differ ∙ word_there locals limit last second, both_held),
+    )
+
     -- the first turn
-    pub turn_rests : RestsWith g inner (in_turn counter limit now last held) (with_parameter name now a) (with_both now last locals)
-    turn_rests = record {
-      rests = parameter_rests a middle now first' middle_rests;
-      held = (
-        word_there middle counter now first',
-        (word_elsewhere middle counter limit now first' holds.differ ∙ word_there locals limit last second, both_held),
-      );
+    pub turn_rests : is_within t.first t.last now ≡ true
+        → RestsWith g inner (in_turn counter limit now last held) (with_parameter name now a) (with_both now last locals)
+    turn_rests ranged = record {
+      rests = parameter_rests a middle now ranged first' middle_rests;
+      held = turn_held;
       apart = ap (λ l. counter ∷ limit ∷ l) rests.apart ∙ sym holds.reserved;
     }
 
@@ -277,13 +283,13 @@ module _ (kept : AgreementIsKept) (sized : ValuesHaveWords) (g : Package) (v inn
     both_swapped = words_swapped locals counter limit now last first second holds.differ
 
   -- the next turn: the parameter has another value
-  pub next_rests : (a : Activation) (locals : List ℤ) (held : List HeldWord) (now last next : ℤ)
+  pub next_rests : (a : Activation) (locals : List ℤ) (held : List HeldWord) (now last next : ℤ) → is_within t.first t.last next ≡ true
       → RestsWith g inner (in_turn counter limit now last held) a locals
       → RestsWith g inner (in_turn counter limit next last held) (with_parameter name next a) (with_word counter next locals)
-  next_rests a locals held now last next rests =
+  next_rests a locals held now last next ranged rests =
       let first = inside locals counter now rests.held.0 in
       record {
-        rests = parameter_rests a locals next first (rests_behind a locals rests.rests);
+        rests = parameter_rests a locals next ranged first (rests_behind a locals rests.rests);
         held = (
           word_there locals counter next first,
           (
@@ -308,7 +314,7 @@ module _ (kept : AgreementIsKept) (sized : ValuesHaveWords) (g : Package) (v inn
     -- no word of a variable is one of the loop's, or one of those around it
     pub parameter_spares : AreFree inner
     parameter_spares =
-        free_more stay g v inner name role.LoopParameter (base_range_of n) slot sound laid holds.widens holds.region (counter ∷ limit ∷ v.reserved)
+        free_more stay g v inner name role.LoopParameter t slot sound laid holds.widens holds.region (counter ∷ limit ∷ v.reserved)
         holds.reserved
         (λ other x q u told local named variable.
         free_one_more counter (limit ∷ v.reserved) x.offset (words_of v.names.scope u) (parameter_unseen other x q u told local named)
@@ -318,12 +324,12 @@ module _ (kept : AgreementIsKept) (sized : ValuesHaveWords) (g : Package) (v inn
 
     -- the places are laid out as around the loop, with the parameter's
     pub parameter_laid : IsLaidOut g inner
-    parameter_laid = laid_wider stay g v inner name role.LoopParameter (base_range_of n) slot sound laid holds.widens holds.region parameter_spares
+    parameter_laid = laid_wider stay g v inner name role.LoopParameter t slot sound laid holds.widens holds.region parameter_spares
 
     -- the words of all that is visible in the statements, and those that they leave alone, end behind the two words of the loop
     pub parameter_ends : (top : ℕ) → EndsBelow v top → counter ≡ top → EndsBelow inner (suc (suc top))
-    parameter_ends top ends at other x r t told local named =
-        let e = ends_wider stay g v inner name role.LoopParameter (base_range_of n) slot sound laid holds.widens holds.region top ends at other x r t told local
+    parameter_ends top ends at other x r u told local named =
+        let e = ends_wider stay g v inner name role.LoopParameter t slot sound laid holds.widens holds.region top ends at other x r u told local
         named in
         let s = single in
         omega (arith, e, s)

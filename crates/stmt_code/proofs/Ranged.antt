@@ -37,7 +37,7 @@ use Rattle.stmt_code.specs.declared.draft.Draft.{Draft}
 use Rattle.part_code.specs.declared.turns.Turns.{Turns}
 use Rattle.stmt_code.proofs.Adding.{IsBeside, labels_beside, labels_stay, labels_then, most_beside, taken_beside}
 use Rattle.part_code.proofs.Jumps.{depth_there, jump_kept, same_place}
-use Rattle.stmt_code.proofs.Bounded.{IsOfIntegers, holds, serves_inside, slot, suits_inside}
+use Rattle.stmt_code.proofs.Bounded.{IsOfIntegers, holds, serves_inside, slot, suits_inside, range_fits, subtype_in}
 use Rattle.part_code.proofs.Jumps.{added_is, patched_is}
 use Rattle.part_code.proofs.Lists.{shorter}
 use Rattle.stmt_code.proofs.Ranging.{Advances, Begins, stands_counted}
@@ -46,6 +46,7 @@ use Rattle.stmt_code.proofs.Turned.{HasBoth, StandAll, advances_by, all_extends,
 use Rattle.part_code.proofs.Walking.{behind}
 use Rattle.part_code.proofs.Handling.{goes_within}
 use Rattle.stmt_code.proofs.RowsAdded.{Surrounds, finds_later, finds_patched, goes_behind, goes_front, handled_inside, keeps_then, rows_around}
+use Rattle.expr_soundness.specs.BoundsLaw.{ValuesAreBounded, VisibleValuesLie}
 
 -- no place of a part of code is this one
 abbrev IsOutside : (from to place : ℕ) → Type 0
@@ -288,7 +289,8 @@ module _ (stay : ShapesStay) (v later : Visible) (w : Ways) (a b e c : Draft) (c
         (subst (λ n. StandAll i n (value_counted t)) (tested_at ∙ ap suc values_at)
         (all_there i (here q.tested) q.tested counted (value_counted t) (omega arith) in_counted q.counts)))
 
-    module _ (quiet : QuietStays) (kept : AgreementIsKept) (sized : ValuesHaveWords) (l : HasLabels i c.labels) (program : Program) (g : Package)
+    module _ (bounded : ValuesAreBounded) (visible : VisibleValuesLie) (quiet : QuietStays) (kept : AgreementIsKept) (sized : ValuesHaveWords)
+        (l : HasLabels i c.labels) (program : Program) (g : Package)
         (numbers : Numbers) (f : Framed) (serves : Serves program g numbers (seeing f v) b.words.taken) (room : c.words.most ≤ f.room)
         (handling : Handling) (handled : IsHandled i program e c p.rows handling) (bounds_go : GoesBy i handling (here a.code) (here e.code))
         (turns_go : GoesBy i handling (here c.code) (here whole)) where
@@ -314,7 +316,7 @@ module _ (stay : ShapesStay) (v later : Visible) (w : Ways) (a b e c : Draft) (c
 
       pub loop_stands : (place : ℕ) → IsStatement i program g numbers (seeing f v) w handling (here a.code) (here whole) (Loop place (For parameter reversed range) body)
       loop_stands place =
-          stands_counted quiet kept sized i g (seeing f v) in_loop serves.laid sound parameter.name of_type.number
+          stands_counted quiet kept sized i g (seeing f v) in_loop serves.laid sound parameter.name (subtype_in v.scope range of_type)
           (slot stay v later b e parameter reversed range t null sound entries legal of_type r) t.limit
           (holds stay v later b e parameter reversed range t null sound entries legal of_type r kept sized program g numbers f serves room_before) program numbers w handling
           parameter refl place reversed range body (here a.code) (here r.middle) start (here c.code) (here whole)
@@ -322,7 +324,8 @@ module _ (stay : ShapesStay) (v later : Visible) (w : Ways) (a b e c : Draft) (c
           (omega (arith, compared_at, opened_at, p.extends.longer)) (omega (arith, whole_at, turned_at, counted_at, tested_at, values_at)) (0, at_skip)
           (subst (λ n. At i n (op.Jump (here whole))) out_is (subst (λ n. At i out (op.Jump n)) (sym whole_at) (0, at_out)))
           (subst (λ n. Computes i (library_of g) (Sees g v) n (here r.middle) range.first) begun_at (r.first.computes i in_first g))
-          (r.last.computes i in_last g) begins_there body_there advances_there
+          (r.last.computes i in_last g) (range_fits bounded visible g (seeing f v) parameter range legal of_type.number) begins_there body_there
+          advances_there
           (subst (λ n. At i n (op.Jump (behind 6 start))) (counted_at ∙ ap (behind 4) (tested_at ∙ ap suc values_at))
           (subst (λ n. At i (here counted) (op.Jump n)) (opened_at ∙ ap suc compared_at) (0, at_back)))
           (goes_within i handling (here a.code) (here a.code + 2) (behind 6 start) (here e.code) bounds_go (omega arith)
@@ -475,10 +478,10 @@ module _ (stay : ShapesStay) (v later : Visible) (w : Ways) (a b e c : Draft) (c
         (finds_patched turned ended out (op.Jump (here turned)) ends.patches place (finds_later c.code turned body_grows place h)));
   }
 
-  pub range_emits : QuietStays → AgreementIsKept → ValuesHaveWords → (place : ℕ) (d : Draft)
+  pub range_emits : ValuesAreBounded → VisibleValuesLie → QuietStays → AgreementIsKept → ValuesHaveWords → (place : ℕ) (d : Draft)
       → d ≡ record c { code = whole; words = record c.words { taken = a.words.taken } }
       → EmitsStatement v w a (Loop place (For parameter reversed range) body) d
-  range_emits quiet kept sized place d is = subst (EmitsStatement v w a (Loop place (For parameter reversed range) body)) (sym is) (record {
+  range_emits bounded visible quiet kept sized place d is = subst (EmitsStatement v w a (Loop place (For parameter reversed range) body)) (sym is) (record {
     extends = patched_extends patched whole last (op.JumpIfNotZero end) again a.code (omega (arith, last_at, before_body, begun_at))
         (patched_extends ended patched null (op.JumpIfNotZero end) patch a.code (omega (arith, r.begins.place, compared_at, bounds_long, begun_at))
         (patched_extends turned ended out (op.Jump (here turned)) ends.patches a.code (omega (arith, out_is)) grows));
@@ -492,14 +495,14 @@ module _ (stay : ShapesStay) (v later : Visible) (w : Ways) (a b e c : Draft) (c
     stands = λ i h l program g numbers f names serves room handling goes.
         let frame : seeing f v ≡ f = λ j. record f { names = (sym names) j } in
         subst (λ z. IsStatement i program g numbers z w handling (here a.code) (here whole) (Loop place (For parameter reversed range) body)) frame
-        (loop_stands i h quiet kept sized l program g numbers f
+        (loop_stands i h bounded visible quiet kept sized l program g numbers f
         (subst (λ z. Serves program g numbers z b.words.taken) (sym frame)
         (subst (Serves program g numbers f) (sym (taken_beside a b same)) serves)) room handling
         (handled_inside a e c looped around p.rows i program handling goes) (goes_front a e c looped around p.rows i program handling goes)
         (goes_behind a e c looped around p.rows i program handling goes) place);
     tells = λ i h l program g numbers f names serves room handling goes.
         let frame : seeing f v ≡ f = λ j. record f { names = (sym names) j } in
-        loop_tells i h quiet kept sized l program g numbers f
+        loop_tells i h bounded visible quiet kept sized l program g numbers f
         (subst (λ z. Serves program g numbers z b.words.taken) (sym frame)
         (subst (Serves program g numbers f) (sym (taken_beside a b same)) serves)) room handling
         (handled_inside a e c looped around p.rows i program handling goes) (goes_front a e c looped around p.rows i program handling goes)

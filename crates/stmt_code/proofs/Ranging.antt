@@ -1,6 +1,6 @@
 -- The code of a loop over a range: its bounds and the first turn, and the end of each turn.
 use Rattle.std.proofs.Common.{◌≡◌, ℕ, suc, ◌+◌, ◌-◌, ◌<◌, ◌≤◌, ℤ, pos, List, [], ◌∷◌, length, None, Some, Ok, Err, Bool, true, false, refl, sym, ap, ◌∙◌, subst, arith}
-use Rattle.std.specs.Prelude.{int_lt, slice_get, if◌then◌else◌}
+use Rattle.std.specs.Prelude.{int_lt, slice_get, if◌then◌else◌, int_le, ◌&&◌}
 use Rattle.base.specs.Arithmetic.{Checked, difference_of, sum_of}
 use Rattle.base.specs.declared.schedule.ScheduleLine.{ScheduleLine}
 use Rattle.kernel.specs.State.{Kernel}
@@ -26,23 +26,25 @@ use Rattle.types.specs.Evaluations.{Val, Gives, Raises, Meaningless, and_then}
 use Rattle.types.specs.Laws.{ValuesHaveWords}
 use Rattle.types.specs.Operators.{are_same}
 use Rattle.types.specs.Places.{Place}
-use Rattle.types.specs.Values.{Value}
+use Rattle.types.specs.Values.{Value, is_within}
 use Rattle.expr_soundness.specs.Laws.{AgreementIsKept}
 use Rattle.expr_soundness.specs.SoundScopes.{SoundScope}
 use Rattle.expr_code.specs.Coming.{Comes, most_steps, on}
 use Rattle.expr_code.specs.Computing.{Computes, Everywhere}
 use Rattle.expr_code.specs.Seeing.{library_of, Package, Sees}
-use Rattle.expr_code.specs.Views.{At, in_frame, placed, view_of}
+use Rattle.expr_code.specs.Views.{At, in_frame, placed, view_of, View}
 use Rattle.expr_code.specs.declared.visible.Slot.{Slot}
 use Rattle.expr_code.proofs.Coming.{acts, after_first, more, then_comes, steps}
 use Rattle.part_code.specs.Handling.{GoesBy, Handling}
-use Rattle.part_code.specs.Counting.{Bounds, GoesOn, IsCounted, IsTurnEnd, IsRange, bounds, in_turn, number_bounds, turn_first, turn_last, with_last, with_parameter}
+use Rattle.part_code.specs.Counting.{Bounds, GoesOn, IsCounted, IsTurnEnd, IsRange, bounds, in_turn, number_bounds, turn_first, turn_last, with_last, with_parameter, are_turns_inside}
 use Rattle.part_code.specs.Layout.{IsLaidOut}
-use Rattle.part_code.specs.Resting.{Framed, HeldWord, Knows, RestsWith}
+use Rattle.part_code.specs.Resting.{Framed, HeldWord, Knows, RestsWith, AreHeld}
 use Rattle.part_code.specs.Statements.{AreStatements, IsStatement, Numbers, Ways, within_loop}
 use Rattle.part_code.specs.Turns.{next_operation}
-use Rattle.stmt_code.proofs.Parameters.{HoldsRange, both_swapped, inside, next_rests, null_rests, parameter_fits, parameter_shows, turn_rests, with_both, with_word, word_long}
+use Rattle.stmt_code.proofs.Parameters.{HoldsRange, both_swapped, inside, next_rests, null_rests, parameter_fits, parameter_shows, turn_rests, with_both, with_word, word_long, turn_held}
 use Rattle.part_code.proofs.Walking.{Walks, behind, compares, jumps_if, loads_local, orders, puts, stores_local, then_step}
+use Rattle.types.specs.declared.entity.Subtype.{Subtype}
+use Rattle.part_code.proofs.TurnNumbers.{turn_within}
 
 -- ---- the bounds
 
@@ -92,21 +94,27 @@ pub record Advances (i : Sections) (counter limit back to : ℕ) (reversed : Boo
   pub computes : At i (behind 6 back) (next_operation reversed)
   pub store : At i (behind 7 back) (op.StoreLocal counter)
 
+-- ---- the numbers of turns
+
+first_inside : (t : Subtype) (x y : ℤ) → (int_le t.first x && int_le y t.last) ≡ true → int_lt y x ≡ false
+    → (int_le t.first x && (int_le x y && int_le y t.last)) ≡ true
+first_inside t x y h k = grind (arith, h, k)
+
 -- ---- the loop
 
 module _ (quiet : QuietStays) (kept : AgreementIsKept) (sized : ValuesHaveWords) (i : Sections) (g : Package) (v inner : Framed) (laid : IsLaidOut g v)
-    (sound : SoundScope v.names.scope) (name : List ℕ) (n : ℕ) (slot : Slot) (limit : ℕ) (holds : HoldsRange v name n slot limit inner) where
+    (sound : SoundScope v.names.scope) (name : List ℕ) (t : Subtype) (slot : Slot) (limit : ℕ) (holds : HoldsRange v name t slot limit inner) where
   abbrev counter : ℕ
   counter = slot.offset
 
   -- the frame's words in the first turn, between these bounds
   abbrev both_words : (reversed : Bool) (x y : ℤ) → List ℤ → List ℤ
   both_words reversed x y locals =
-      with_both kept sized g v inner laid sound name n slot limit holds (turn_first reversed x y) (turn_last reversed x y) locals
+      with_both kept sized g v inner laid sound name t slot limit holds (turn_first reversed x y) (turn_last reversed x y) locals
 
-  module _ (schedule : List ScheduleLine) (k : Kernel) (t : ℕ) (m : Words) (f : Frame) (fs : List Frame) (calm : Calm k t) where
+  module _ (schedule : List ScheduleLine) (k : Kernel) (u : ℕ) (m : Words) (f : Frame) (fs : List Frame) (calm : Calm k u) where
     abbrev Goes : (n : ℕ) → (f g : Frame) → Type 0
-    Goes n f g = Walks i schedule k t m fs n f g
+    Goes n f g = Walks i schedule k u m fs n f g
 
     -- the frame at a place, with these words of its own
     abbrev at : ℕ → List ℤ → List ℤ → Frame
@@ -125,19 +133,19 @@ module _ (quiet : QuietStays) (kept : AgreementIsKept) (sized : ValuesHaveWords)
 
       begun : Goes 6 (placed f mid (y ∷ x ∷ [])) (at (if int_lt y x then to else behind 6 mid) both [])
       begun =
-          then_step quiet i schedule k t m fs calm 5 (placed f mid (y ∷ x ∷ [])) (at (behind 1 mid) (with_word one y f.locals) (x ∷ [])) end
-          (stores_local quiet i schedule k t m f fs mid one last y (x ∷ []) one_in)
-          (then_step quiet i schedule k t m fs calm 4 (at (behind 1 mid) (with_word one y f.locals) (x ∷ [])) (at (behind 2 mid) both []) end
-          (stores_local quiet i schedule k t m (at (behind 1 mid) (with_word one y f.locals) (x ∷ [])) fs (behind 1 mid) other first x [] other_in'
+          then_step quiet i schedule k u m fs calm 5 (placed f mid (y ∷ x ∷ [])) (at (behind 1 mid) (with_word one y f.locals) (x ∷ [])) end
+          (stores_local quiet i schedule k u m f fs mid one last y (x ∷ []) one_in)
+          (then_step quiet i schedule k u m fs calm 4 (at (behind 1 mid) (with_word one y f.locals) (x ∷ [])) (at (behind 2 mid) both []) end
+          (stores_local quiet i schedule k u m (at (behind 1 mid) (with_word one y f.locals) (x ∷ [])) fs (behind 1 mid) other first x [] other_in'
           ∙ ap (λ l. does Quiet m (at (behind 2 mid) l []) fs None None) stored)
-          (then_step quiet i schedule k t m fs calm 3 (at (behind 2 mid) both []) (at (behind 3 mid) both (y ∷ [])) end
-          (loads_local quiet i schedule k t m (at (behind 2 mid) both []) fs (behind 2 mid) one last_again y [] one_there)
-          (then_step quiet i schedule k t m fs calm 2 (at (behind 3 mid) both (y ∷ [])) (at (behind 4 mid) both (x ∷ y ∷ [])) end
-          (loads_local quiet i schedule k t m (at (behind 3 mid) both []) fs (behind 3 mid) other first_again x (y ∷ []) other_there)
-          (then_step quiet i schedule k t m fs calm 1 (at (behind 4 mid) both (x ∷ y ∷ [])) (at (behind 5 mid) both (word_of (int_lt y x) ∷ [])) end
-          (orders quiet i schedule k t m (at (behind 4 mid) both []) fs (behind 4 mid) less y x [])
-          (then_step quiet i schedule k t m fs calm 0 (at (behind 5 mid) both (word_of (int_lt y x) ∷ [])) end end
-          (jumps_if quiet i schedule k t m (at (behind 5 mid) both []) fs (behind 5 mid) to jump (int_lt y x) []) Done)))))
+          (then_step quiet i schedule k u m fs calm 3 (at (behind 2 mid) both []) (at (behind 3 mid) both (y ∷ [])) end
+          (loads_local quiet i schedule k u m (at (behind 2 mid) both []) fs (behind 2 mid) one last_again y [] one_there)
+          (then_step quiet i schedule k u m fs calm 2 (at (behind 3 mid) both (y ∷ [])) (at (behind 4 mid) both (x ∷ y ∷ [])) end
+          (loads_local quiet i schedule k u m (at (behind 3 mid) both []) fs (behind 3 mid) other first_again x (y ∷ []) other_there)
+          (then_step quiet i schedule k u m fs calm 1 (at (behind 4 mid) both (x ∷ y ∷ [])) (at (behind 5 mid) both (word_of (int_lt y x) ∷ [])) end
+          (orders quiet i schedule k u m (at (behind 4 mid) both []) fs (behind 4 mid) less y x [])
+          (then_step quiet i schedule k u m fs calm 0 (at (behind 5 mid) both (word_of (int_lt y x) ∷ [])) end end
+          (jumps_if quiet i schedule k u m (at (behind 5 mid) both []) fs (behind 5 mid) to jump (int_lt y x) []) Done)))))
         where
           end : Frame
           end = at (if int_lt y x then to else behind 6 mid) both []
@@ -147,64 +155,62 @@ module _ (quiet : QuietStays) (kept : AgreementIsKept) (sized : ValuesHaveWords)
         → (a : Activation) (held : List HeldWord) → RestsWith g v held a f.locals
         → Goes 6 (placed f mid (y ∷ x ∷ []))
         (at (if int_lt y x then to else behind 6 mid)
-        (with_both kept sized g v inner laid sound name n slot limit holds (turn_first reversed x y) (turn_last reversed x y) f.locals) [])
+        (with_both kept sized g v inner laid sound name t slot limit holds (turn_first reversed x y) (turn_last reversed x y) f.locals) [])
     begun_by mid to false code x y first second a held rests =
         begun limit counter mid to code.last code.first code.last_again code.first_again code.less code.jump x y second first
-        (with_both kept sized g v inner laid sound name n slot limit holds x y f.locals) refl there.held.1.0 there.held.0
+        (with_both kept sized g v inner laid sound name t slot limit holds x y f.locals) refl there.1.0 there.0
       where
-        there : RestsWith g inner (in_turn counter limit x y held) (with_parameter name x a)
-            (with_both kept sized g v inner laid sound name n slot limit holds x y f.locals)
-        there = turn_rests kept sized g v inner laid sound name n slot limit holds a f.locals held x y rests first second
+        there : AreHeld (with_both kept sized g v inner laid sound name t slot limit holds x y f.locals) (in_turn counter limit x y held)
+        there = turn_held kept sized g v inner laid sound name t slot limit holds a f.locals held x y rests first second
     begun_by mid to true code x y first second a held rests =
         begun counter limit mid to code.last code.first code.last_again code.first_again code.less code.jump x y first second
-        (with_both kept sized g v inner laid sound name n slot limit holds y x f.locals)
-        (both_swapped kept sized g v inner laid sound name n slot limit holds a f.locals held y x rests first second) there.held.0 there.held.1.0
+        (with_both kept sized g v inner laid sound name t slot limit holds y x f.locals)
+        (both_swapped kept sized g v inner laid sound name t slot limit holds a f.locals held y x rests first second) there.0 there.1.0
       where
-        there : RestsWith g inner (in_turn counter limit y x held) (with_parameter name y a)
-            (with_both kept sized g v inner laid sound name n slot limit holds y x f.locals)
-        there = turn_rests kept sized g v inner laid sound name n slot limit holds a f.locals held y x rests first second
+        there : AreHeld (with_both kept sized g v inner laid sound name t slot limit holds y x f.locals) (in_turn counter limit y x held)
+        there = turn_held kept sized g v inner laid sound name t slot limit holds a f.locals held y x rests first second
 
     -- ---- the end of a turn
     module _ (back to : ℕ) (reversed : Bool) (code : Advances i counter limit back to reversed) (now last : ℤ) (now_there : slice_get f.locals counter ≡ Some now)
         (last_there : slice_get f.locals limit ≡ Some last) where
       tested : Goes 4 (placed f back []) (placed f (if are_equal now last then to else behind 4 back) [])
       tested =
-          then_step quiet i schedule k t m fs calm 3 (placed f back []) (placed f (behind 1 back) (now ∷ [])) end
-          (loads_local quiet i schedule k t m f fs back counter code.now now [] now_there)
-          (then_step quiet i schedule k t m fs calm 2 (placed f (behind 1 back) (now ∷ [])) (placed f (behind 2 back) (last ∷ now ∷ [])) end
-          (loads_local quiet i schedule k t m f fs (behind 1 back) limit code.last last (now ∷ []) last_there)
-          (then_step quiet i schedule k t m fs calm 1 (placed f (behind 2 back) (last ∷ now ∷ [])) (placed f (behind 3 back) (word_of (are_equal now last) ∷ [])) end
-          (compares quiet i schedule k t m f fs (behind 2 back) code.equal now last [])
-          (then_step quiet i schedule k t m fs calm 0 (placed f (behind 3 back) (word_of (are_equal now last) ∷ [])) end end
-          (jumps_if quiet i schedule k t m f fs (behind 3 back) to code.jump (are_equal now last) []) Done)))
+          then_step quiet i schedule k u m fs calm 3 (placed f back []) (placed f (behind 1 back) (now ∷ [])) end
+          (loads_local quiet i schedule k u m f fs back counter code.now now [] now_there)
+          (then_step quiet i schedule k u m fs calm 2 (placed f (behind 1 back) (now ∷ [])) (placed f (behind 2 back) (last ∷ now ∷ [])) end
+          (loads_local quiet i schedule k u m f fs (behind 1 back) limit code.last last (now ∷ []) last_there)
+          (then_step quiet i schedule k u m fs calm 1 (placed f (behind 2 back) (last ∷ now ∷ [])) (placed f (behind 3 back) (word_of (are_equal now last) ∷ [])) end
+          (compares quiet i schedule k u m f fs (behind 2 back) code.equal now last [])
+          (then_step quiet i schedule k u m fs calm 0 (placed f (behind 3 back) (word_of (are_equal now last) ∷ [])) end end
+          (jumps_if quiet i schedule k u m f fs (behind 3 back) to code.jump (are_equal now last) []) Done)))
         where
           end : Frame
           end = placed f (if are_equal now last then to else behind 4 back) []
 
       loaded_again : Goes 2 (placed f (behind 4 back) []) (placed f (behind 6 back) (pos 1 ∷ now ∷ []))
       loaded_again =
-          then_step quiet i schedule k t m fs calm 1 (placed f (behind 4 back) []) (placed f (behind 5 back) (now ∷ [])) (placed f (behind 6 back) (pos 1 ∷ now ∷ []))
-          (loads_local quiet i schedule k t m f fs (behind 4 back) counter code.again now [] now_there)
-          (then_step quiet i schedule k t m fs calm 0 (placed f (behind 5 back) (now ∷ [])) (placed f (behind 6 back) (pos 1 ∷ now ∷ []))
+          then_step quiet i schedule k u m fs calm 1 (placed f (behind 4 back) []) (placed f (behind 5 back) (now ∷ [])) (placed f (behind 6 back) (pos 1 ∷ now ∷ []))
+          (loads_local quiet i schedule k u m f fs (behind 4 back) counter code.again now [] now_there)
+          (then_step quiet i schedule k u m fs calm 0 (placed f (behind 5 back) (now ∷ [])) (placed f (behind 6 back) (pos 1 ∷ now ∷ []))
           (placed f (behind 6 back) (pos 1 ∷ now ∷ []))
-          (puts quiet i schedule k t m f fs (behind 5 back) (pos 1) code.one (now ∷ [])) Done)
+          (puts quiet i schedule k u m f fs (behind 5 back) (pos 1) code.one (now ∷ [])) Done)
 
       abbrev one_more : Bool → Checked
       one_more r = if r then difference_of now (pos 1) else sum_of now (pos 1)
 
-      number_acts : (r : Bool) → At i (behind 6 back) (next_operation r) → (schedule : List ScheduleLine) (k : Kernel) (t : ℕ) (m : Words)
-          → act i schedule k t (in_frame m (placed f (behind 6 back) (pos 1 ∷ now ∷ [])) fs)
-          ≡ gives i schedule k t m (placed f (behind 6 back) (pos 1 ∷ now ∷ [])) fs (one_more r) []
-      number_acts true here schedule k t m = acts quiet i (behind 6 back) op.Subtract here schedule k t m f fs (pos 1 ∷ now ∷ [])
-      number_acts false here schedule k t m = acts quiet i (behind 6 back) op.Add here schedule k t m f fs (pos 1 ∷ now ∷ [])
+      number_acts : (r : Bool) → At i (behind 6 back) (next_operation r) → (schedule : List ScheduleLine) (k : Kernel) (u : ℕ) (m : Words)
+          → act i schedule k u (in_frame m (placed f (behind 6 back) (pos 1 ∷ now ∷ [])) fs)
+          ≡ gives i schedule k u m (placed f (behind 6 back) (pos 1 ∷ now ∷ [])) fs (one_more r) []
+      number_acts true here schedule k u m = acts quiet i (behind 6 back) op.Subtract here schedule k u m f fs (pos 1 ∷ now ∷ [])
+      number_acts false here schedule k u m = acts quiet i (behind 6 back) op.Add here schedule k u m f fs (pos 1 ∷ now ∷ [])
 
       number_comes : (c : Checked)
-          → ((schedule : List ScheduleLine) (k : Kernel) (t : ℕ) (m : Words) → act i schedule k t (in_frame m (placed f (behind 6 back) (pos 1 ∷ now ∷ [])) fs)
-          ≡ gives i schedule k t m (placed f (behind 6 back) (pos 1 ∷ now ∷ [])) fs c [])
-          → Comes i schedule k t m (placed f (behind 6 back) (pos 1 ∷ now ∷ [])) fs 1 (behind 7 back) (λ z. z ∷ []) (number_computed c)
+          → ((schedule : List ScheduleLine) (k : Kernel) (u : ℕ) (m : Words) → act i schedule k u (in_frame m (placed f (behind 6 back) (pos 1 ∷ now ∷ [])) fs)
+          ≡ gives i schedule k u m (placed f (behind 6 back) (pos 1 ∷ now ∷ [])) fs c [])
+          → Comes i schedule k u m (placed f (behind 6 back) (pos 1 ∷ now ∷ [])) fs 1 (behind 7 back) (λ z. z ∷ []) (number_computed c)
       number_comes (Ok z) is =
-          steps quiet i schedule k t m calm (placed f (behind 6 back) (pos 1 ∷ now ∷ [])) (placed f (behind 7 back) (z ∷ [])) fs
-          (is schedule k t m ∙ ap (λ q. does Quiet m (placed f q (z ∷ [])) fs None None) up)
+          steps quiet i schedule k u m calm (placed f (behind 6 back) (pos 1 ∷ now ∷ [])) (placed f (behind 7 back) (z ∷ [])) fs
+          (is schedule k u m ∙ ap (λ q. does Quiet m (placed f q (z ∷ [])) fs None None) up)
         where
           up : (behind 6 back) + 1 ≡ behind 7 back
           up = omega arith
@@ -215,37 +221,40 @@ module _ (quiet : QuietStays) (kept : AgreementIsKept) (sized : ValuesHaveWords)
         Last refl,
         omega arith,
         omega arith,
-        record { throws = λ schedule l m opened ranked. is schedule l t m },
+        record { throws = λ schedule l m opened ranked. is schedule l u m },
       )
 
-      counted : are_equal now last ≡ false → Comes i schedule k t m (placed f back []) fs ((behind 7 back) - back) (behind 7 back) (λ z. z ∷ [])
+      counted : are_equal now last ≡ false → Comes i schedule k u m (placed f back []) fs ((behind 7 back) - back) (behind 7 back) (λ z. z ∷ [])
           (number_computed (one_more reversed))
       counted other =
-          more quiet i schedule k t m calm (placed f back []) fs (4 + (2 + 1)) ((behind 7 back) - back) (behind 7 back) (λ z. z ∷ []) (number_computed (one_more reversed))
+          more quiet i schedule k u m calm (placed f back []) fs (4 + (2 + 1)) ((behind 7 back) - back) (behind 7 back) (λ z. z ∷ []) (number_computed (one_more reversed))
           (omega arith)
-          (after_first quiet i schedule k t m calm (placed f back []) fs 4 (2 + 1) (behind 4 back) (behind 7 back) [] (λ z. z ∷ [])
+          (after_first quiet i schedule k u m calm (placed f back []) fs 4 (2 + 1) (behind 4 back) (behind 7 back) [] (λ z. z ∷ [])
           (number_computed (one_more reversed))
           (omega arith)
           (subst (λ b. Goes 4 (placed f back []) (placed f (if b then to else behind 4 back) [])) other tested)
-          (after_first quiet i schedule k t m calm (placed f (behind 4 back) []) fs 2 1 (behind 6 back) (behind 7 back) (pos 1 ∷ now ∷ []) (λ z. z ∷ [])
+          (after_first quiet i schedule k u m calm (placed f (behind 4 back) []) fs 2 1 (behind 6 back) (behind 7 back) (pos 1 ∷ now ∷ []) (λ z. z ∷ [])
           (number_computed (one_more reversed))
           (omega arith) loaded_again
           (number_comes (one_more reversed) (number_acts reversed code.computes))))
 
       advanced : (next : ℤ) → Goes 1 (placed f (behind 7 back) (next ∷ [])) (at (behind 8 back) (with_word counter next f.locals) [])
       advanced next =
-          then_step quiet i schedule k t m fs calm 0 (placed f (behind 7 back) (next ∷ [])) (at (behind 8 back) (with_word counter next f.locals) [])
+          then_step quiet i schedule k u m fs calm 0 (placed f (behind 7 back) (next ∷ [])) (at (behind 8 back) (with_word counter next f.locals) [])
           (at (behind 8 back) (with_word counter next f.locals) [])
-          (stores_local quiet i schedule k t m f fs (behind 7 back) counter code.store next [] (inside f.locals counter now now_there)) Done
+          (stores_local quiet i schedule k u m f fs (behind 7 back) counter code.store next [] (inside f.locals counter now now_there)) Done
 
   -- ---- the parts of the loop
 
   -- the bounds and the first turn
   pub is_range : (range : RangeTree) (reversed : Bool) (from middle mid to : ℕ) → from ≤ middle → middle ≤ mid
       → Computes i (library_of g) (Sees g v.names) from middle range.first → Computes i (library_of g) (Sees g v.names) middle mid range.last
+      → ((p : Place) (view : View) (x y : ℤ) → Knows g v p view → bounds range (call p.frames_left) p ≡ Gives (number_bounds x y)
+      → (int_le t.first x && int_le y t.last) ≡ true)
       → Begins i counter limit mid to reversed
-      → IsRange i g v inner counter limit from (behind 6 mid) to name reversed range
-  is_range range reversed from middle mid to low high first last code = record {
+      → IsRange i g v inner counter limit from (behind 6 mid) to name reversed range t
+  is_range range reversed from middle mid to low high first last fitted code = record {
+    inside = λ p view x y knows gives full. turns_inside reversed x y (fitted p view x y knows gives) full;
     mid = mid;
     up = omega (arith, low, high);
     over = omega arith;
@@ -255,86 +264,92 @@ module _ (quiet : QuietStays) (kept : AgreementIsKept) (sized : ValuesHaveWords)
     begins = begins;
   }
     where
-      counter_in : (p : Place) (f : Frame) (schedule : List ScheduleLine) (k : Kernel) (t : ℕ) (m : Words) (fs : List Frame)
-          → Knows g v p (view_of i schedule k t m f fs) → counter < length f.locals
-      counter_in p f schedule k t m fs knows =
-          let r = knows.room in let h = parameter_fits kept sized g v inner laid sound name n slot limit holds in omega (arith, r, h)
+      turns_inside : (r : Bool) (x y : ℤ) → (int_le t.first x && int_le y t.last) ≡ true → int_lt y x ≡ false
+          → are_turns_inside t r (turn_first r x y) (turn_last r x y) ≡ true
+      turns_inside true x y h k = first_inside t x y h k
+      turns_inside false x y h k = first_inside t x y h k
 
-      limit_in : (p : Place) (f : Frame) (schedule : List ScheduleLine) (k : Kernel) (t : ℕ) (m : Words) (fs : List Frame)
-          → Knows g v p (view_of i schedule k t m f fs) → limit < length f.locals
-      limit_in p f schedule k t m fs knows = let r = knows.room in let h = holds.room in omega (arith, r, h)
+      counter_in : (p : Place) (f : Frame) (schedule : List ScheduleLine) (k : Kernel) (u : ℕ) (m : Words) (fs : List Frame)
+          → Knows g v p (view_of i schedule k u m f fs) → counter < length f.locals
+      counter_in p f schedule k u m fs knows =
+          let r = knows.room in let h = parameter_fits kept sized g v inner laid sound name t slot limit holds in omega (arith, r, h)
 
-      null : (schedule : List ScheduleLine) (k : Kernel) (t : ℕ) (m : Words) (f : Frame) (fs : List Frame) (held : List HeldWord) (a : Activation) (p : Place)
+      limit_in : (p : Place) (f : Frame) (schedule : List ScheduleLine) (k : Kernel) (u : ℕ) (m : Words) (fs : List Frame)
+          → Knows g v p (view_of i schedule k u m f fs) → limit < length f.locals
+      limit_in p f schedule k u m fs knows = let r = knows.room in let h = holds.room in omega (arith, r, h)
+
+      null : (schedule : List ScheduleLine) (k : Kernel) (u : ℕ) (m : Words) (f : Frame) (fs : List Frame) (held : List HeldWord) (a : Activation) (p : Place)
           (x y : ℤ)
-          → Calm k t → p.locals ≡ a.locals → Knows g v p (view_of i schedule k t m f fs) → RestsWith g v held a f.locals
+          → Calm k u → p.locals ≡ a.locals → Knows g v p (view_of i schedule k u m f fs) → RestsWith g v held a f.locals
           → bounds range (call p.frames_left) p ≡ Gives (number_bounds x y) → int_lt y x ≡ true
-          → GoesOn i g schedule k t m (placed f mid (bounds_on [] (number_bounds x y))) fs ((behind 6 mid) - mid) to v held a
-      null schedule k t m f fs held a p x y calm objects knows rests gives before =
-          let c = counter_in p f schedule k t m fs knows in
-          let l = limit_in p f schedule k t m fs knows in
+          → GoesOn i g schedule k u m (placed f mid (bounds_on [] (number_bounds x y))) fs ((behind 6 mid) - mid) to v held a
+      null schedule k u m f fs held a p x y calm objects knows rests gives before =
+          let c = counter_in p f schedule k u m fs knows in
+          let l = limit_in p f schedule k u m fs knows in
           record {
             locals = both_words reversed x y f.locals;
-            spends = spends_more (behaviour i schedule) t frames_of (most_steps i) ((behind 6 mid) - mid) (omega arith)
-                (subst (λ b. Walks i schedule k t m fs 6 (placed f mid (y ∷ x ∷ []))
+            spends = spends_more (behaviour i schedule) u frames_of (most_steps i) ((behind 6 mid) - mid) (omega arith)
+                (subst (λ b. Walks i schedule k u m fs 6 (placed f mid (y ∷ x ∷ []))
                 (record f { place = if b then to else behind 6 mid; locals = both_words reversed x y f.locals; stack = [] })) before
-                (begun_by schedule k t m f fs calm mid to reversed code x y c l a held rests));
-            rests = null_rests kept sized g v inner laid sound name n slot limit holds a f.locals held (turn_first reversed x y) (turn_last reversed x y)
+                (begun_by schedule k u m f fs calm mid to reversed code x y c l a held rests));
+            rests = null_rests kept sized g v inner laid sound name t slot limit holds a f.locals held (turn_first reversed x y) (turn_last reversed x y)
                 rests c l;
           }
 
-      begins : (schedule : List ScheduleLine) (k : Kernel) (t : ℕ) (m : Words) (f : Frame) (fs : List Frame) (held : List HeldWord) (a : Activation) (p : Place)
+      begins : (schedule : List ScheduleLine) (k : Kernel) (u : ℕ) (m : Words) (f : Frame) (fs : List Frame) (held : List HeldWord) (a : Activation) (p : Place)
           (x y : ℤ)
-          → Calm k t → p.locals ≡ a.locals → Knows g v p (view_of i schedule k t m f fs) → RestsWith g v held a f.locals
+          → Calm k u → p.locals ≡ a.locals → Knows g v p (view_of i schedule k u m f fs) → RestsWith g v held a f.locals
           → bounds range (call p.frames_left) p ≡ Gives (number_bounds x y) → int_lt y x ≡ false
-          → GoesOn i g schedule k t m (placed f mid (bounds_on [] (number_bounds x y))) fs ((behind 6 mid) - mid) (behind 6 mid) inner
+          → GoesOn i g schedule k u m (placed f mid (bounds_on [] (number_bounds x y))) fs ((behind 6 mid) - mid) (behind 6 mid) inner
           (in_turn counter limit (turn_first reversed x y) (turn_last reversed x y) held) (with_parameter name (turn_first reversed x y) a)
-      begins schedule k t m f fs held a p x y calm objects knows rests gives before =
-          let c = counter_in p f schedule k t m fs knows in
-          let l = limit_in p f schedule k t m fs knows in
+      begins schedule k u m f fs held a p x y calm objects knows rests gives before =
+          let c = counter_in p f schedule k u m fs knows in
+          let l = limit_in p f schedule k u m fs knows in
           record {
             locals = both_words reversed x y f.locals;
-            spends = spends_more (behaviour i schedule) t frames_of (most_steps i) ((behind 6 mid) - mid) (omega arith)
-                (subst (λ b. Walks i schedule k t m fs 6 (placed f mid (y ∷ x ∷ []))
+            spends = spends_more (behaviour i schedule) u frames_of (most_steps i) ((behind 6 mid) - mid) (omega arith)
+                (subst (λ b. Walks i schedule k u m fs 6 (placed f mid (y ∷ x ∷ []))
                 (record f { place = if b then to else behind 6 mid; locals = both_words reversed x y f.locals; stack = [] })) before
-                (begun_by schedule k t m f fs calm mid to reversed code x y c l a held rests));
-            rests = turn_rests kept sized g v inner laid sound name n slot limit holds a f.locals held (turn_first reversed x y) (turn_last reversed x y)
-                rests c l;
+                (begun_by schedule k u m f fs calm mid to reversed code x y c l a held rests));
+            rests = turn_rests kept sized g v inner laid sound name t slot limit holds a f.locals held (turn_first reversed x y) (turn_last reversed x y)
+                rests c l (turn_within t reversed (turn_first reversed x y) (turn_last reversed x y)
+                (turns_inside reversed x y (fitted p (view_of i schedule k u m f fs) x y knows gives) before));
           }
 
   -- the end of a turn
-  pub is_next : (reversed : Bool) (back to : ℕ) → Advances i counter limit back to reversed → IsTurnEnd i g inner counter limit back (behind 8 back) to name reversed
+  pub is_next : (reversed : Bool) (back to : ℕ) → Advances i counter limit back to reversed → IsTurnEnd i g inner counter limit back (behind 8 back) to name reversed t
   is_next reversed back to code = record {
     ends = ends;
     mid = behind 7 back;
     up = omega arith;
     over = omega arith;
     stack = λ z. z ∷ [];
-    counts = λ schedule k t m f fs held a now last calm rests other.
-        counted schedule k t m f fs calm back to reversed code now last rests.held.0 rests.held.1.0 other;
+    counts = λ schedule k u m f fs held a now last calm rests other.
+        counted schedule k u m f fs calm back to reversed code now last rests.held.0 rests.held.1.0 other;
     goes = goes;
   }
     where
-      ends : (schedule : List ScheduleLine) (k : Kernel) (t : ℕ) (m : Words) (f : Frame) (fs : List Frame) (held : List HeldWord) (a : Activation) (now last : ℤ)
-          → Calm k t → RestsWith g inner (in_turn counter limit now last held) a f.locals → are_same now last ≡ true
-          → GoesOn i g schedule k t m (placed f back []) fs ((behind 8 back) - back) to inner (in_turn counter limit now last held) a
-      ends schedule k t m f fs held a now last calm rests same = record {
+      ends : (schedule : List ScheduleLine) (k : Kernel) (u : ℕ) (m : Words) (f : Frame) (fs : List Frame) (held : List HeldWord) (a : Activation) (now last : ℤ)
+          → Calm k u → RestsWith g inner (in_turn counter limit now last held) a f.locals → are_same now last ≡ true
+          → GoesOn i g schedule k u m (placed f back []) fs ((behind 8 back) - back) to inner (in_turn counter limit now last held) a
+      ends schedule k u m f fs held a now last calm rests same = record {
         locals = f.locals;
-        spends = spends_more (behaviour i schedule) t frames_of (most_steps i) ((behind 8 back) - back) (omega arith)
-            (subst (λ b. Walks i schedule k t m fs 4 (placed f back []) (placed f (if b then to else behind 4 back) [])) same
-            (tested schedule k t m f fs calm back to reversed code now last rests.held.0 rests.held.1.0));
+        spends = spends_more (behaviour i schedule) u frames_of (most_steps i) ((behind 8 back) - back) (omega arith)
+            (subst (λ b. Walks i schedule k u m fs 4 (placed f back []) (placed f (if b then to else behind 4 back) [])) same
+            (tested schedule k u m f fs calm back to reversed code now last rests.held.0 rests.held.1.0));
         rests = rests;
       }
 
-      goes : (schedule : List ScheduleLine) (k : Kernel) (t : ℕ) (m : Words) (f : Frame) (fs : List Frame) (held : List HeldWord) (a : Activation)
+      goes : (schedule : List ScheduleLine) (k : Kernel) (u : ℕ) (m : Words) (f : Frame) (fs : List Frame) (held : List HeldWord) (a : Activation)
           (now last next : ℤ)
-          → Calm k t → RestsWith g inner (in_turn counter limit now last held) a f.locals
-          → GoesOn i g schedule k t m (placed f (behind 7 back) (next ∷ [])) fs ((behind 8 back) - (behind 7 back)) (behind 8 back) inner
+          → Calm k u → RestsWith g inner (in_turn counter limit now last held) a f.locals → is_within t.first t.last next ≡ true
+          → GoesOn i g schedule k u m (placed f (behind 7 back) (next ∷ [])) fs ((behind 8 back) - (behind 7 back)) (behind 8 back) inner
           (in_turn counter limit next last held) (with_parameter name next a)
-      goes schedule k t m f fs held a now last next calm rests = record {
+      goes schedule k u m f fs held a now last next calm rests ranged = record {
         locals = with_word counter next f.locals;
-        spends = spends_more (behaviour i schedule) t frames_of (most_steps i) ((behind 8 back) - (behind 7 back)) (omega arith)
-            (advanced schedule k t m f fs calm back to reversed code now last rests.held.0 rests.held.1.0 next);
-        rests = next_rests kept sized g v inner laid sound name n slot limit holds a f.locals held now last next rests;
+        spends = spends_more (behaviour i schedule) u frames_of (most_steps i) ((behind 8 back) - (behind 7 back)) (omega arith)
+            (advanced schedule k u m f fs calm back to reversed code now last rests.held.0 rests.held.1.0 next);
+        rests = next_rests kept sized g v inner laid sound name t slot limit holds a f.locals held now last next ranged rests;
       }
 
   -- the whole loop around its statements
@@ -345,6 +360,7 @@ module _ (quiet : QuietStays) (kept : AgreementIsKept) (sized : ValuesHaveWords)
     counter = counter;
     limit = limit;
     inner = inner;
+    subtype = t;
     start = start;
     back = back;
     turn = behind 8 back;
@@ -356,7 +372,7 @@ module _ (quiet : QuietStays) (kept : AgreementIsKept) (sized : ValuesHaveWords)
     out = out;
     next = is_next reversed back to code;
     jump = jump;
-    shows = parameter_shows kept sized g v inner laid sound name n slot limit holds;
+    shows = parameter_shows kept sized g v inner laid sound name t slot limit holds;
     reserved = holds.reserved;
   }
 
@@ -366,20 +382,22 @@ module _ (quiet : QuietStays) (kept : AgreementIsKept) (sized : ValuesHaveWords)
       → from + 2 ≤ middle → middle ≤ mid → behind 6 mid ≤ back → to ≡ suc (behind 8 back)
       → At i from (op.Jump (from + 2)) → At i (from + 1) (op.Jump to)
       → Computes i (library_of g) (Sees g v.names) (from + 2) middle range.first → Computes i (library_of g) (Sees g v.names) middle mid range.last
+      → ((p : Place) (view : View) (x y : ℤ) → Knows g v p view → bounds range (call p.frames_left) p ≡ Gives (number_bounds x y)
+      → (int_le t.first x && int_le y t.last) ≡ true)
       → Begins i counter limit mid to reversed
       → AreStatements i program g numbers inner (within_loop (from + 1) w) handling (behind 6 mid) back body
       → Advances i counter limit back to reversed → At i (behind 8 back) (op.Jump (behind 6 mid))
       → GoesBy i handling (from + 2) (behind 6 mid) → GoesBy i handling back to
       → IsStatement i program g numbers v w handling from to (Loop place (For parameter reversed range) body)
-  stands_counted program numbers w handling parameter same place reversed range body from middle mid back to low high over end skip out first last begin statements code
+  stands_counted program numbers w handling parameter same place reversed range body from middle mid back to low high over end skip out first last fitted begin statements code
       jump bounds_go turns_go =
       subst
       (λ q. (c : IsCounted i g v from to q reversed)
-      × IsRange i g v c.inner c.counter c.limit (from + 2) c.start to q reversed range
+      × IsRange i g v c.inner c.counter c.limit (from + 2) c.start to q reversed range c.subtype
       × AreStatements i program g numbers c.inner (within_loop (from + 1) w) handling c.start c.back body × GoesBy i handling (from + 2) c.start
       × GoesBy i handling c.back to) (sym same) (
         is_counted reversed from (behind 6 mid) back to (omega (arith, low, high)) over end skip out code jump,
-        is_range range reversed (from + 2) middle mid to low high first last begin,
+        is_range range reversed (from + 2) middle mid to low high first last fitted begin,
         statements,
         bounds_go,
         turns_go,

@@ -14,7 +14,9 @@ ghost use Rattle.stmt_code.specs.Staying.{Stays};
 use crate::draft::Draft;
 use ada_tree::Expr;
 use expr_code::{Refusal, Visible};
+use expr_soundness::laws::{values_are_bounded, visible_values_lie};
 use image::Operation;
+use types::bounds;
 
 impl Draft {
     /// Adds the code of a delay: a test that the task is inside no protected action, so that nothing is evaluated where it is (RM 9.5.1), the time, and the
@@ -33,6 +35,10 @@ impl Draft {
             (DelayUntil place (expr_tree until.now))) (value_needs visible.now (expr_tree until.now)) why) }
         ensures stays { OnOk result (Stays self.old (value_needs visible.now (expr_tree until.now)) self.old.labels (length self.old.rows.items) self.new) }
     {
+        values_are_bounded();
+        visible_values_lie();
+        // (nothing is read of these: that they are held in 64 bits tells that the time is)
+        bounds(&visible.scope, until);
         self.code.emit(0, Operation::CheckBlocking)?;
         self.code.of_width(visible, 0, 1, until)?;
         self.code.emit(1, Operation::DelayUntil)

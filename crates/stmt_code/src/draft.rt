@@ -7,7 +7,7 @@ ghost use Rattle.part_code.specs.Needs.{HasManyLabels};
 
 use crate::tables::CodeTables;
 use base::limits::LABELS;
-use expr_code::{Code, Refusal};
+use expr_code::{Code, ImageLimit, Refusal};
 use indexmap::IndexSet;
 use lexer::Text;
 use part_code::FrameWords;
@@ -47,7 +47,7 @@ impl Labels {
     {
         let (number, _) = self.labels.insert_full(label.clone()?)?;
         if LABELS <= number {
-            return Err(Refusal::Limit);
+            return Err(Refusal::Limit(ImageLimit::Labels));
         }
         Ok(number as u16)
     }

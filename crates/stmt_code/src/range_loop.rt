@@ -15,7 +15,9 @@ use ada_tree::{Identifier, Range, Stmt};
 use declaring::declare_loop_parameter;
 use declaring::laws::names_are_added;
 use expr_code::{Refusal, Slot, Visible};
-use expr_soundness::laws::{agreement_is_kept, scopes_are_sound};
+use expr_soundness::laws::{
+    agreement_is_kept, scopes_are_sound, values_are_bounded, visible_values_lie,
+};
 use image::{Operation, Region};
 use kernel::laws::quiet_stays;
 use part_code::{Extent, Head, Leaving, Turns, begin_loop, end_loop};
@@ -88,7 +90,9 @@ impl Draft {
         quiet_stays();
         scopes_are_sound();
         shapes_stay();
+        values_are_bounded();
         values_have_words();
+        visible_values_lie();
         let extent = Extent::of(visible, self.words);
         let head = begin_loop(&mut self.code)?;
         let (turns, null) = self.begin_range(visible, parameter, reversed, range)?;

@@ -1,5 +1,5 @@
 //! The tables that go with code: its rows of handlers, and where the code of its statements stands.
-ghost use Rattle.std.specs.Prelude.{◌≡◌, ◌∷◌, ◌++◌, [], IfErr, OnOk};
+ghost use Rattle.std.specs.Prelude.{◌≡◌, ◌∷◌, ◌++◌, [], length, IfErr, OnOk};
 ghost use Rattle.expr_code.specs.Refusing.{IsRefused};
 
 use expr_code::Refusal;
@@ -57,6 +57,13 @@ impl CodeTables {
     {
         self.places.push(row)?;
         Ok(())
+    }
+
+    /// How many rows of handlers there are.
+    pub fn many(&self) -> usize
+        ensures { result ≡ length self.now.items }
+    {
+        self.handlers.len()
     }
 
     /// Both lists.

@@ -14,7 +14,7 @@ use Rattle.ada_tree.specs.ExpressionTree.{argument_trees, Arguments, expr_tree, 
 use Rattle.expr_code.specs.Emitting.{EmitsExpression, IsLegalExpression}
 use Rattle.expr_code.specs.Going.{EmitsPath, IsLegalPart, IsLegalPath}
 use Rattle.expr_code.proofs.Branching.{adds_none, all_branches}
-use Rattle.expr_code.proofs.Checking.{checked_emits, fit_legal, unchecked_emits}
+use Rattle.expr_code.proofs.Checking.{checked_emits, fit_legal, spared_emits, unchecked_emits}
 use Rattle.expr_code.proofs.Chains.{all_emitted, and_then_at, none_emitted, operand_at, or_else_at}
 use Rattle.expr_code.proofs.Emitted.{number_emits, parenthesized_emits, sign_emits, unary_at}
 use Rattle.types.specs.Evaluating.{fixed_value}
@@ -274,6 +274,25 @@ checked-of_width-requires t c =
         ),
       ),
     )
+
+pub checked_as_needed-of_width-requires : goal.checked_as_needed-of_width-requires
+checked_as_needed-of_width-requires t c =
+    let s = c.args.visible.now.scope in (
+      search (rules, expressions.the_lemmas),
+      (
+        c.requires.sound,
+        (
+          c.requires.covered,
+          (fit_legal s c.args.subtype _ c.requires.fit, numbers_fit_width s c.requires.sound c.args.subtype _ c.requires.fit c.requires.numbers),
+        ),
+      ),
+    )
+
+pub checked_as_needed-returns-then-is_inside-clause-emits : goal.checked_as_needed-returns-then-is_inside-clause-emits
+checked_as_needed-returns-then-is_inside-clause-emits t c =
+    on_ok_weaker _ (λ p. spared_emits c.quiet_stays.ensures c.expressions_are_typed.ensures c.values_have_words.ensures c.args.visible.now _ _
+    c.args.depth c.args.subtype _ c.requires.fit p c.checks_are_spared.ensures c.all_values_lie.ensures (search rules) c.requires.numbers)
+    c.of_width.ensures.emits
 
 pub ranged-returns-clause-emits : goal.ranged-returns-clause-emits
 ranged-returns-clause-emits t c =
@@ -552,6 +571,9 @@ short_circuit-returns-in_default-clause-shallow = stack.short_circuit-returns-in
 pub ranged-returns-clause-shallow : goal.ranged-returns-clause-shallow
 ranged-returns-clause-shallow = stack.ranged-returns-clause-shallow
 
+pub checked_as_needed-returns-then-is_inside-clause-shallow : goal.checked_as_needed-returns-then-is_inside-clause-shallow
+checked_as_needed-returns-then-is_inside-clause-shallow = stack.checked_as_needed-returns-then-is_inside-clause-shallow
+
 pub checked-returns-in-Some-Boolean-clause-shallow : goal.checked-returns-in-Some-Boolean-clause-shallow
 checked-returns-in-Some-Boolean-clause-shallow = stack.checked-returns-in-Some-Boolean-clause-shallow
 
@@ -712,6 +734,9 @@ ranged-returns-in_err-above-clause-kept = kept.ranged-returns-in_err-above-claus
 
 pub ranged-returns-clause-kept : goal.ranged-returns-clause-kept
 ranged-returns-clause-kept = kept.ranged-returns-clause-kept
+
+pub checked_as_needed-returns-then-is_inside-clause-kept : goal.checked_as_needed-returns-then-is_inside-clause-kept
+checked_as_needed-returns-then-is_inside-clause-kept = kept.checked_as_needed-returns-then-is_inside-clause-kept
 
 pub checked-returns-in-Some-Boolean-clause-kept : goal.checked-returns-in-Some-Boolean-clause-kept
 checked-returns-in-Some-Boolean-clause-kept = kept.checked-returns-in-Some-Boolean-clause-kept

@@ -23,8 +23,8 @@ returns-in_err-above-clause-kept c =
 
 pub returns-then-from-gt-WORDS-clause-refused : goal.returns-then-from-gt-WORDS-clause-refused
 returns-then-from-gt-WORDS-clause-refused c =
-    inr (inr (inr (far_offset c.args.visible.now.scope c.requires.sound c.args.subtype _ c.args.name.now.name c.in-Some.last (search rules) (search rules)
-    c.in-Some-component_offset.offset (sym c.component_offset.ensures ∙ c.in-Some-component_offset.is) (search rules))))
+    inr (far_offset c.args.visible.now.scope c.requires.sound c.args.subtype _ c.args.name.now.name c.in-Some.last (search rules) (search rules)
+    c.in-Some-component_offset.offset (sym c.component_offset.ensures ∙ c.in-Some-component_offset.is) (search rules))
 
 pub returns-clause-shallow : goal.returns-clause-shallow
 returns-clause-shallow c =

@@ -455,7 +455,8 @@ counted-returns-clause-emits t c =
     c.requires.sound c.requires.entries legal (range_type v.scope c.args.parameter.now range legal c.requires.sound) c.in_ok-head.ensures.begins
     (refl, refl, (refl, refl))
     c.in_ok-head.ensures.exit c.in_ok-turns.ensures.begins statements c.in_ok-last.ensures.ends ends c.in_ok-end.ensures.end c.patch.ensures.patches
-    c.patch-2.ensures.patches c.quiet_stays.ensures c.agreement_is_kept.ensures c.values_have_words.ensures c.args.place _
+    c.patch-2.ensures.patches c.values_are_bounded.ensures c.visible_values_lie.ensures c.quiet_stays.ensures c.agreement_is_kept.ensures
+    c.values_have_words.ensures c.args.place _
     (λ j. record c.statements.new.self { code = c.patch-2.new.self; words = words j })
 
 pub counted-returns-clause-same : goal.counted-returns-clause-same

@@ -2,7 +2,7 @@ use Rattle.std.proofs.Common.{◌+◌, arith, refl, rules, sym, subst}
 use Rattle.std.proofs.lemmas.Result.{IfErr-weaker, on_ok_weaker}
 use Rattle.ada_tree.specs.ExpressionTree.{expr_tree, name_tree, selector_trees}
 use Rattle.expr_code.specs.Going.{EmitsAddress, EndsAt, IsLegalPath}
-use Rattle.expr_code.specs.Code.{Adds, IsShallow}
+use Rattle.expr_code.specs.Code.{Adds, IsShallow, here}
 use Rattle.expr_code.specs.Refusing.{RefusesAddress, selectors_peak}
 use Rattle.stmt_code.proofs.LeavesStay.{part_stays}
 use Rattle.part_code.proofs.AssignmentsRefused.{address_refuses, store_refuses, value_refuses}
@@ -120,7 +120,7 @@ returns-clause-refused c =
     IfErr-weaker _ _ _
     (λ why p.
     store_refuses v name e c.args.self.now.code c.args.self.now.labels c.args.slot r c.args.subtype c.requires.stands.1 c.requires.there
-    _ _ last why (omega (arith, low, long)) (omega (arith, words, more)) part p)
+    (here c.of_subtype.new.self + 1) c.in_ok-raised.field-0 last why (omega (arith, low, long)) (omega (arith, words, more)) part p)
     c.emit.ensures.refused
 
 pub returns-clause-stays : goal.returns-clause-stays

@@ -1,7 +1,7 @@
-use Rattle.std.proofs.Common.{arith, refl, rules, subst}
+use Rattle.std.proofs.Common.{◌+◌, arith, refl, rules, subst}
 use Rattle.std.proofs.lemmas.Result.{IfErr-weaker, on_ok_weaker}
 use Rattle.ada_tree.specs.ExpressionTree.{expr_tree, name_tree}
-use Rattle.expr_code.specs.Code.{Adds}
+use Rattle.expr_code.specs.Code.{Adds, here}
 use Rattle.expr_code.proofs.Fitting.{fitting_checked}
 use Rattle.stmt_code.proofs.AssignedNames.{assigned_known}
 use Rattle.stmt_code.proofs.LeavesStay.{word_stays}
@@ -63,7 +63,7 @@ returns-clause-refused c =
     IfErr-weaker _ _ _
     (λ why p.
     store_refuses v name (expr_tree c.args.value.now) c.args.self.now.code c.args.self.now.labels c.args.slot r c.args.subtype c.requires.stands.1
-    c.requires.there _ 1 c.args.subtype why (omega (arith, long)) (omega arith) at p)
+    c.requires.there (here c.of_subtype.new.self + 1) 1 c.args.subtype why (omega (arith, long)) (omega arith) at p)
     c.emit.ensures.refused
 
 pub returns-clause-stays : goal.returns-clause-stays

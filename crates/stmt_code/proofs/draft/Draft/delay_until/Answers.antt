@@ -1,4 +1,6 @@
-use Rattle.std.proofs.Common.{refl, rules}
+use Rattle.std.proofs.Common.{◌≡◌, true, refl, rules, subst}
+use Rattle.types.specs.Scopes.{integer}
+use Rattle.expr_soundness.specs.BoundsLaw.{is_inside}
 use Rattle.std.proofs.lemmas.Result.{IfErr-weaker, on_ok_weaker}
 use Rattle.ada_tree.specs.ExpressionTree.{expr_tree}
 use Rattle.expr_code.proofs.Growing.{added_here}
@@ -14,10 +16,12 @@ of_width-requires-clause-wide c = until_wide c.args.visible.now.scope c.args.pla
 
 pub returns-clause-emits : goal.returns-clause-emits
 returns-clause-emits c = λ w.
+    let held : is_inside c.bounds.result integer ≡ true = search rules in
     on_ok_weaker _
     (λ q.
     delay_emits c.args.visible.now w c.args.self.now (record c.args.self.now { code = c.emit-2.new.self }) c.emit.new.self c.of_width.new.self c.args.place
-    (expr_tree c.args.until.now) c.in_ok-emit.ensures.adds c.in_ok-of_width.ensures.emits q (refl, refl, (refl, refl)))
+    (expr_tree c.args.until.now) c.in_ok-emit.ensures.adds c.in_ok-of_width.ensures.emits q (refl, refl, (refl, refl))
+    c.values_are_bounded.ensures c.visible_values_lie.ensures c.requires.legal (subst (λ b. is_inside b integer ≡ true) c.bounds.ensures held))
     c.emit-2.ensures.adds
 
 pub returns-in_err-emit-clause-refused : goal.returns-in_err-emit-clause-refused

@@ -219,6 +219,10 @@ pub checked-returns-in-Some-Boolean-clause-kept : goal.checked-returns-in-Some-B
 checked-returns-in-Some-Boolean-clause-kept t c =
     IfErr-weaker _ _ _ (λ why p. as_before _ _ p) c.of_width.ensures.restored
 
+pub checked_as_needed-returns-then-is_inside-clause-kept : goal.checked_as_needed-returns-then-is_inside-clause-kept
+checked_as_needed-returns-then-is_inside-clause-kept t c =
+    IfErr-weaker _ _ _ (λ why p. as_before _ _ p) c.of_width.ensures.restored
+
 -- ---- parts of objects
 
 pub part-returns-in_err-last-clause-kept : goal.part-returns-in_err-last-clause-kept

@@ -303,7 +303,7 @@ element-checked-requires t c =
 pub element-returns-then-from-gt-WORDS-clause-refused : goal.element-returns-then-from-gt-WORDS-clause-refused
 element-returns-then-from-gt-WORDS-clause-refused t c =
     let s = c.args.visible.now.scope in
-    inr (inr (inr (elim c.then-from-gt-WORDS.branch [
+    inr (elim c.then-from-gt-WORDS.branch [
       | element-then-from-gt-WORDS-via-then-from-gt-WORDS w ↦ let more = w.if-from-gt-WORDS.true in
           many_unfit s c.requires.sound c.args.subtype c.in-Some-Array.index c.in-Some-Array.many c.in-Some-Array.last (search rules) (search (rules, more))
       | element-then-from-gt-WORDS-via-else-from-gt-WORDS+then-from-gt-WORDS-2 w ↦
@@ -311,7 +311,7 @@ element-returns-then-from-gt-WORDS-clause-refused t c =
           let same = w.from-else-from-gt-WORDS.ensures in
           large_unfit s c.requires.sound c.args.subtype c.in-Some-Array.index c.in-Some-Array.many c.in-Some-Array.last (search rules) c.words-words.result
           c.words-words.ensures (search (rules, more, same))
-    ])))
+    ])
 
 pub element-returns-in_err-checked-clause-refused : goal.element-returns-in_err-checked-clause-refused
 element-returns-in_err-checked-clause-refused t c =

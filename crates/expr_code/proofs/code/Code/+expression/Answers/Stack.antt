@@ -115,6 +115,11 @@ checked-returns-in-Some-Boolean-clause-shallow t c =
     on_ok_weaker _ (λ p. unchecked_shallow c.args.visible.now c.args.depth (expr_tree c.args.e.now) c.args.self.now c.of_width.new.self p)
     c.of_width.ensures.shallow
 
+pub checked_as_needed-returns-then-is_inside-clause-shallow : goal.checked_as_needed-returns-then-is_inside-clause-shallow
+checked_as_needed-returns-then-is_inside-clause-shallow t c =
+    on_ok_weaker _ (λ p. unchecked_shallow c.args.visible.now c.args.depth (expr_tree c.args.e.now) c.args.self.now c.of_width.new.self p)
+    c.of_width.ensures.shallow
+
 pub conversion-returns-clause-shallow : goal.conversion-returns-clause-shallow
 conversion-returns-clause-shallow t c =
     let v = c.args.visible.now in

@@ -1,6 +1,7 @@
 -- What refuses the code of parts of statements and of whole ones, answered for the methods that add it.
 use Rattle.std.proofs.Common.{◌≡◌, ◌∷◌, [], arith, map, refl, sym, ap, ◌∙◌, rules, subst}
-use Rattle.std.proofs.lemmas.Result.{IfErr-weaker}
+use Rattle.std.specs.Prelude.{IfErr}
+use Rattle.std.proofs.lemmas.Result.{IfErr-weaker, err_from_is_err_and}
 use Rattle.ada_tree.specs.ExpressionTree.{expr_tree}
 use Rattle.ada_tree.specs.StatementTree.{Block, Case, For, Forever, Loop, NoHandlers, While, alternative_tree, alternative_trees, alternatives_of, choices_tree, declaration_tree, elsif_tree, elsif_trees, elsifs_of, handler_trees, iteration_tree, range_tree, stmt_tree, stmt_trees}
 use Rattle.stmt_code.specs.declared.draft.Draft.{Draft}
@@ -313,7 +314,9 @@ counted-returns-in_err-last-clause-refused t c =
     let whole = instruction_refuses v c.args.self.now c.in_err-last.field-0.0 c.args.place
     (For c.args.parameter.now c.args.reversed range) body _ 2 (omega (arith, long, bounds, turned, seen)) (range_two (around v c.args.self.now) c.args.parameter.now c.args.reversed range)
     c.in_err-last.ensures.refused in
-    search (rules, whole, c.from_residual-in_err-last.ensures)
+    let told = err_from_is_err_and c.from_residual-in_err-last.result c.from_residual-in_err-last.ensures.1 in
+    subst (λ r. IfErr r (λ f. RefusesStatement v c.args.self.now (Loop c.args.place (For c.args.parameter.now c.args.reversed range) body) f)) (sym told.1)
+    (subst (λ f. RefusesStatement v c.args.self.now (Loop c.args.place (For c.args.parameter.now c.args.reversed range) body) f) (sym told.2) whole)
 
 pub counted-returns-in_err-end-clause-refused : goal.counted-returns-in_err-end-clause-refused
 counted-returns-in_err-end-clause-refused t c =
@@ -329,7 +332,9 @@ counted-returns-in_err-end-clause-refused t c =
     let whole = instruction_refuses v c.args.self.now c.in_err-end.field-0.0 c.args.place
     (For c.args.parameter.now c.args.reversed range) body _ 0 (omega (arith, long, bounds, turned, seen, ended)) (omega arith)
     c.in_err-end.ensures.refused in
-    search (rules, whole)
+    let told = err_from_is_err_and c.from_residual-in_err-end.result c.from_residual-in_err-end.ensures.1 in
+    subst (λ r. IfErr r (λ f. RefusesStatement v c.args.self.now (Loop c.args.place (For c.args.parameter.now c.args.reversed range) body) f)) (sym told.1)
+    (subst (λ f. RefusesStatement v c.args.self.now (Loop c.args.place (For c.args.parameter.now c.args.reversed range) body) f) (sym told.2) whole)
 
 -- ---- refusals: blocks
 
