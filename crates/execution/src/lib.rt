@@ -3,6 +3,7 @@
 
 mod execution_of;
 mod line;
+mod parameters;
 mod serving;
 mod settling;
 mod state;

@@ -1,14 +1,10 @@
 //! What the end of an action makes of two tasks: the body of an entry is run for a queued caller, or the caller goes on (RM 9.5.3).
-ghost use Rattle.std.specs.Prelude.{◌≡◌, ◌<◌, ◌≤◌, ◌+◌, ◌++◌, length, slice_set};
+ghost use Rattle.std.specs.Prelude.{◌≡◌, ◌≤◌, ◌+◌, ◌++◌, length};
 ghost use Rattle.base.specs.declared.limits.TheConstants.{FRAME_WORDS};
-ghost use Rattle.image.specs.Frames.{arguments};
 ghost use Rattle.task_steps.specs.Acting.{given_of};
-ghost use Rattle.execution.specs.Held.{task_at};
-ghost use Rattle.execution.specs.Settling.{CanReceive, CanServe, given_tasks, served_tasks, without};
+ghost use Rattle.execution.specs.Settling.{CanReceive, CanServe, given_tasks, served_tasks};
 
 use crate::state::State;
-use arrayvec::ArrayVec;
-use base::limits::FRAME_WORDS;
 use clock::Delays;
 use dispatch::Ready;
 use processor::{Role, TaskState};
@@ -27,7 +23,11 @@ impl<'a, R: Ready, D: Delays> State<'a, R, D> {
             unreachable!()
         };
         let place = first_place(&self.program, number);
-        let parameters = self.take_parameters(caller, subprogram.parameters);
+        let Some(waiting) = self.tasks.get_mut(usize::from(caller)) else {
+            unreachable!()
+        };
+        self.parameters.keep(waiting.top(subprogram.parameters));
+        waiting.drop_top(subprogram.parameters);
         let Some(server) = self.tasks.get_mut(usize::from(task)) else {
             unreachable!()
         };
@@ -36,23 +36,7 @@ impl<'a, R: Ready, D: Delays> State<'a, R, D> {
             caller,
             pending: server.raising(),
         };
-        server.serve(number, place, &subprogram, role, &parameters);
-    }
-
-    // Takes so many words off the operand stack of a task.
-    fn take_parameters(&mut self, caller: u8, count: u16) -> ArrayVec<i64, FRAME_WORDS>
-        requires caller { caller < length self.old.tasks }
-        requires there { count ≤ length (task_at self.old.image self.old.tasks caller).frame.stack }
-        requires few { count ≤ FRAME_WORDS }
-        ensures words { result.items ≡ arguments count (task_at self.old.image self.old.tasks caller).frame.stack }
-        ensures state { self.new ≡ record self.old { tasks = slice_set self.old.tasks caller (without count (task_at self.old.image self.old.tasks caller)) } }
-    {
-        let Some(state) = self.tasks.get_mut(usize::from(caller)) else {
-            unreachable!()
-        };
-        let parameters = copied(state.frame().top(count));
-        state.drop_top(count);
-        parameters
+        server.serve(number, place, &subprogram, role, self.parameters.words());
     }
 
     /// The caller that was served goes on behind its entry call with the results, or raises the exception there in its next step.
@@ -72,16 +56,6 @@ impl<'a, R: Ready, D: Delays> State<'a, R, D> {
             None => unreachable!(),
         }
     }
-}
-
-// A copy of these words.
-fn copied(words: &[i64]) -> ArrayVec<i64, FRAME_WORDS>
-    requires { length words.now ≤ FRAME_WORDS }
-    ensures { result.items ≡ words.now }
-{
-    let mut copy = ArrayVec::new();
-    let _ = copy.try_extend_from_slice(words);
-    copy
 }
 
 // Puts these words on the operand stack of a task, the first one on top.

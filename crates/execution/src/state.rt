@@ -13,6 +13,7 @@ ghost use Rattle.task_steps.specs.Raised.{raising_ahead};
 ghost use Rattle.tasking.specs.Held.{kernel_of, partition_of};
 ghost use Rattle.execution.specs.Held.{body_state, rest_of, task_at, world_of};
 
+use crate::parameters::Parameters;
 use clock::{Delays, Schedule};
 use dispatch::Ready;
 use image::Image;
@@ -32,6 +33,7 @@ pub(crate) struct State<'a, R: Ready, D: Delays> {
     pub(crate) schedule: &'a Schedule,
     pub(crate) memory: Memory,
     pub(crate) tasks: Vec<TaskState>,
+    pub(crate) parameters: Parameters,
     pub(crate) tasking: Tasking<R, D>,
 }
 
@@ -69,6 +71,7 @@ impl<'a, R: Ready, D: Delays> State<'a, R, D> {
             schedule,
             memory,
             tasks,
+            parameters: Parameters::new(alloc)?,
             tasking: initial_tasking(alloc, image)?,
         })
     }

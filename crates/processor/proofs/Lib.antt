@@ -1,5 +1,6 @@
 pub mod Blocks
 pub mod DecodedSoFar
+pub mod DecodedWith
 pub mod FrameWords
 pub mod Going
 pub mod InitialRow
@@ -8,11 +9,18 @@ pub mod Leaving
 pub mod Meets
 pub mod PartPlaces
 pub mod Parts
+pub mod Passing
+pub mod PlainCalls
 pub mod Reaching
 pub mod RowFrames
+pub mod RowGoing
+pub mod RowMoves
+pub mod RowWrites
 pub mod Rows
 pub mod SafeCode
+pub mod Stacking
 pub mod Stopping
 pub mod TaskGoing
 pub mod TurnMeets
 pub mod Turns
+pub mod Windows

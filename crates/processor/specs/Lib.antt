@@ -1,3 +1,4 @@
+pub mod Crossing
 pub mod Decoded
 pub mod Decoding
 pub mod Laws

@@ -2,8 +2,9 @@
 #![tactic(auto)]
 
 mod counting;
+mod crossing;
 mod decoding;
-mod frame;
+mod header;
 pub mod laws;
 mod operation;
 mod program;
@@ -16,10 +17,10 @@ mod turning;
 
 pub use counting::Steps;
 pub use decoding::decode;
-pub use frame::Frame;
 pub use operation::Operation;
 pub use program::Program;
 pub use role::Role;
+pub use row::TASK_WORDS;
 pub use running::{Within, run_within};
 pub use shared::{initial_row, object_words, plain_words, store_object_words, store_plain_words};
 pub use task_state::{CALLERS, TaskState};

@@ -47,7 +47,7 @@ pub(crate) fn store_block(
     ensures { Does program.now (operations.StoreBlock region count) state.old memory.old result memory.new state.new }
 {
     let index = operand(state, count);
-    memory.keep(state.frame().top(count));
+    memory.keep(state.top(count));
     if !put_block(program, state, memory, region, index) {
         return Act::of(Effect::Breaks);
     }
@@ -101,7 +101,7 @@ fn region_words<'a>(
     ensures { result.now ≡ region_words program.now region (words_in program.now memory.now.shared) state.now.frame }
 {
     match region {
-        Region::Locals => state.frame().locals(),
+        Region::Locals => state.locals(),
         Region::Plain => memory.plain_words(program.image()),
         Region::Object => match own_object(program, state) {
             None => &[],
@@ -147,7 +147,7 @@ fn keep_words(
     ensures passed { memory.new.passed ≡ take count (drop at (region_words program.now region (words_in program.now memory.old.shared) state.now.frame)) }
 {
     match region {
-        Region::Locals => memory.keep(&state.frame().locals()[at..at + count]),
+        Region::Locals => memory.keep(&state.locals()[at..at + count]),
         Region::Plain => memory.keep_plain(program.image(), at, count),
         Region::Object => match own_object(program, state) {
             None => memory.keep(&[]),

@@ -427,8 +427,8 @@ pub fn raising_ahead<R: Ready, D: Delays>(
     Some(Raising {
         exception,
         is_pending: state.raising().is_some(),
-        subprogram: state.frame().subprogram(),
-        place: state.frame().place(),
+        subprogram: state.subprogram(),
+        place: state.place(),
         cause: cause_of(program, tasking, task, state, exception),
     })
 }

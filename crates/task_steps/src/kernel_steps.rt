@@ -167,5 +167,5 @@ pub(crate) fn operand(state: &TaskState, above: u16) -> i64
     requires few { length state.now.frame.stack ≤ FRAME_WORDS }
     ensures { drop above state.now.frame.stack ≡ result ∷ drop (above + 1) state.now.frame.stack }
 {
-    state.frame().top(above + 1)[0]
+    state.top(above + 1)[0]
 }

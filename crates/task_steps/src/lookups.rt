@@ -13,7 +13,7 @@ use processor::{Program, TaskState};
 pub(crate) fn operation(program: &Program, state: &TaskState) -> Option<Operation>
     ensures { result ≡ option_map (λ x. x.operation) (slice_get program.now.instructions state.now.frame.place) }
 {
-    let place = usize::from(state.frame().place());
+    let place = usize::from(state.place());
     program
         .image()
         .instructions()
@@ -50,7 +50,7 @@ pub fn first_place(program: &Program, number: u16) -> u16
 pub(crate) fn results(program: &Program, state: &TaskState) -> u16
     ensures { result ≡ results_of (called program.now state.now.frame.subprogram) }
 {
-    match called(program, state.frame().subprogram()) {
+    match called(program, state.subprogram()) {
         None => 0,
         Some(subprogram) => subprogram.results,
     }
@@ -60,7 +60,7 @@ pub(crate) fn results(program: &Program, state: &TaskState) -> u16
 pub(crate) fn own_object(program: &Program, state: &TaskState) -> Option<u16>
     ensures { result ≡ own_object program.now state.now.frame }
 {
-    match called(program, state.frame().subprogram()) {
+    match called(program, state.subprogram()) {
         None => None,
         Some(subprogram) => subprogram.kind.object(),
     }

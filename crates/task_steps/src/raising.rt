@@ -82,7 +82,7 @@ fn remove(program: &Program, state: &mut TaskState, memory: &Memory, exception: 
 {
     frames_have_room();
     let _image = program.image();
-    let role = state.frame().role();
+    let role = state.role();
     state.abandon();
     match role {
         Role::Inner => None,
@@ -121,7 +121,7 @@ fn handler(program: &Program, state: &TaskState, exception: u16) -> Option<u16>
 {
     steps_sound();
     frames_have_room();
-    let place = state.frame().place();
+    let place = state.place();
     target::<Brand>(program.image().handlers(), place, exception, Blank::new(2))
 }
 

@@ -18,7 +18,7 @@ pub(crate) fn leave(program: &Program, state: &mut TaskState, memory: &mut Memor
     if state.callers() == 0 {
         return Act::of(Effect::Finishes);
     }
-    match state.frame().role() {
+    match state.role() {
         Role::Inner => {
             state.leave(results);
             Act::of(Effect::Quiet)
@@ -32,7 +32,7 @@ pub(crate) fn leave(program: &Program, state: &mut TaskState, memory: &mut Memor
             pending,
             ..
         } => {
-            memory.keep_turned(state.frame().top(results));
+            memory.keep_turned(state.top(results));
             state.abandon();
             state.set_raising(pending);
             ends(program, memory, object, Some(Given::Results))

@@ -1,7 +1,7 @@
 use Rattle.std.proofs.Common.{rules, ◌≡◌, ◌≤◌, Some, length, subst, ◌∙◌}
 use Rattle.image.specs.Operations.{called, parameters_of}
 use Rattle.processor.specs.Decoding.{words_in}
-use Rattle.task_steps.proofs.CallSteps.{calls}
+use Rattle.processor.proofs.PlainCalls.{calls}
 use Rattle.task_steps.proofs.calls.call.Goals as goal
 
 pub returns : goal.returns
