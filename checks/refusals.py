@@ -11,6 +11,7 @@ import subprocess
 import sys
 from concurrent.futures import ThreadPoolExecutor
 
+import limits
 import mnemonics
 from rows import row_of
 
@@ -130,6 +131,10 @@ def calls_of(program, folder):
         Call("run of a refused image", ["run", "main.img", "empty", "1"], {"main.img": mnemonics.image_of("return_alone 102=00"), **empty}, "", "image fault 43 at byte 102\n", 6),
         Call("usage", ["go", "main.adb", "empty", "x"], {}, "", "usage\n", 1),
     ]
+    text, mark = limits.large(*limits.LARGE_BODIES[0][:2])
+    explained = subprocess.run([program, "explain", "23"], check=True, capture_output=True, text=True).stdout
+    told = explained + limits.frame_line("GO", limits.place_of(text, mark))
+    found.append(Call("explain of code that passes a limit", ["explain", "23", "main.adb"], {"main.adb": text.encode()}, told))
     return found
 
 

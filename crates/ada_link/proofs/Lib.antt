@@ -1,5 +1,6 @@
 mod LinkedTasks
 mod Unmoved
+mod KeptTimes
 mod Reached
 mod Meaning
 mod Callees
@@ -10,6 +11,7 @@ mod RowRules
 mod ObjectLines
 mod WellFormed
 mod Refusals
+mod Stopped
 mod TaskLines
 mod MemoryAlone
 mod Located

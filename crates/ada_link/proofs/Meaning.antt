@@ -1,9 +1,9 @@
 -- A linked image has the meaning of its program.
-use Rattle.std.proofs.Common.{◌≡◌, ℕ, ◌+◌, List, [], refl, sym, ap, ◌∙◌, subst}
+use Rattle.std.proofs.Common.{◌≡◌, ℕ, ◌+◌, List, [], refl, sym, ap, ◌∙◌, subst, Bool, true, false, Option, length, pos}
 use Rattle.base.specs.declared.schedule.ScheduleLine.{ScheduleLine}
 use Rattle.kernel.specs.State.{Kernel}
-use Rattle.kernel.specs.Effects.{begin}
-use Rattle.kernel.specs.Worlds.{Tasks, among, solo_of, step}
+use Rattle.kernel.specs.Effects.{begin, after, Closes, Effect, Ending, HandsBack, TakesOver}
+use Rattle.kernel.specs.Worlds.{Tasks, among, solo_of, step, Solo, ending}
 use Rattle.kernel.specs.Laws.{LeftUnmoved, LinesGrow, QuietStays, ReachesCallers, RunnerIsCalm}
 use Rattle.kernel.specs.RunLaws.{run_plus}
 use Rattle.image.specs.Sections.{Sections}
@@ -20,7 +20,7 @@ use Rattle.checking.specs.ProgramRules.{IsLegal}
 use Rattle.ravenscar.specs.ProgramRules.{IsRestricted}
 use Rattle.meaning.specs.Laws.{CountGivesMeaning}
 use Rattle.meaning.specs.Calls as calls
-use Rattle.meaning.specs.Meeting.{Before, Met, Meets, Relation}
+use Rattle.meaning.specs.Meeting.{Before, Met, Meets, Relation, Moved, Owed}
 use Rattle.meaning.specs.MeetingLaws.{met_for}
 use Rattle.meaning.specs.Works.{GivenToCaller, Store, TaskWork}
 use Rattle.meaning.specs.Source.{SourceWorld, source, partition_of, source_behaviour, source_start}
@@ -43,6 +43,17 @@ use Rattle.package_code.specs.LinkLaws.{LinkedKeepsCount, LinkedMeansTheSame}
 use Rattle.package_code.specs.Linked.{IsLinkedProgram}
 use Rattle.ada_link.proofs.LinkedTasks.{as_many, same_name, same_priority, tasks_stand}
 use Rattle.ada_link.proofs.Reached.{Step, closed_queue, image_relation, owed}
+use Rattle.std.specs.Prelude.{nat_le, ◌&&◌}
+use Rattle.base.specs.Schedule.{are_lines, are_ordered_from, is_schedule}
+use Rattle.base.specs.declared.limits.TheConstants.{SCHEDULE_LINES}
+use Rattle.program_soundness.specs.LyingWorlds.{ProgramsKeepSubtypes, WorldLies}
+use Rattle.ada_link.proofs.KeptTimes.{TimesFit, begin_fits, timed, times_left}
+
+-- what a schedule has
+lines_of : (a b c : Bool) → (a && b && c) ≡ true → b ≡ true
+lines_of true true c h = refl
+lines_of true false c h = cc
+lines_of false b c h = cc
 
 pub record LawsBelow : Type 0 where
   pub starts_whole : StartsWhole
@@ -57,6 +68,7 @@ pub record LawsBelow : Type 0 where
   pub runs : RunsAreSound
   pub met : StepsAreMet
   pub effects : EffectsAreMet
+  pub subtypes : ProgramsKeepSubtypes
 
 module _ (laws : LawsBelow) (p : ProgramTree) (i : Sections) (g : Package) (numbers : Numbers) (well_formed : IsWellFormed i) (legal : IsLegal p)
     (restricted : IsRestricted p) (linked : IsLinkedProgram p i g numbers) where
@@ -76,9 +88,12 @@ module _ (laws : LawsBelow) (p : ProgramTree) (i : Sections) (g : Package) (numb
       })
 
   abbrev all : Relation Note Store TaskWork GivenToCaller Words TaskState steps.Given
-  all = image_relation i program g numbers
+  all = timed (image_relation i program g numbers)
 
-  module _ (schedule : List ScheduleLine) where
+  module _ (schedule : List ScheduleLine) (ok : is_schedule schedule ≡ true) where
+    inputs : are_lines schedule ≡ true
+    inputs = lines_of (nat_le (length schedule) SCHEDULE_LINES) (are_lines schedule) (are_ordered_from (pos 0) schedule) ok
+
     -- the worlds of the program's run
     abbrev Sources : SourceWorld → Type 0
     Sources v = (n : ℕ) × (v ≡ source p schedule n)
@@ -106,9 +121,17 @@ module _ (laws : LawsBelow) (p : ProgramTree) (i : Sections) (g : Package) (numb
       d = d;
     }
 
+    -- what is known beside the times
+    untimed : {note : Note} {k : Kernel} {t : ℕ} {c : Tasks Store TaskWork} {d : Tasks Words TaskState} → Here note k t c d
+        → Before (source_behaviour p schedule) (behaviour i schedule) (image_relation i program g numbers) frames_of (most_steps i) Sources (IsWhole i) note k t
+        c d
+    untimed r = record { ones = r.ones; others = r.others; runner = r.runner; shared = r.shared; stand = λ u. (r.stand u).1 }
+
     known : (note : Note) (k : Kernel) (t : ℕ) (c : Tasks Store TaskWork) (d : Tasks Words TaskState) → Here note k t c d
         → IsKnownHere program k t c.memory (c.tasks t)
     known note k t c d r =
+        let lying : WorldLies program (record { kernel = k; rest = c }) =
+        subst (WorldLies program) (sym r.ones.1) (laws.subtypes p schedule r.ones.0 legal restricted) in
         let world : IsSoundWorld program (record { kernel = k; rest = c }) =
         subst (IsSoundWorld program) (sym r.ones.1) (laws.runs program schedule r.ones.0 sound) in
         let awaits = runner_awaits (calls.is_open program c.memory) k world.kernel t r.runner.calm.runs.running in
@@ -117,7 +140,10 @@ module _ (laws : LawsBelow) (p : ProgramTree) (i : Sections) (g : Package) (numb
           task = subst (λ q. IsSoundTask program c.memory q (c.tasks t)) awaits (world.tasks t);
           opened = world.actions t;
           partition = r.others.partition ∙ sym same_partition;
-          closed = closed_queue (reached note k t c d) r;
+          closed = closed_queue (reached note k t c d) (untimed r);
+          values = lying.store;
+          objects = lying.tasks t;
+          time = (r.stand t).0.now;
         }
 
     -- the kernel knows for whom the frame runs the body of an entry
@@ -131,9 +157,32 @@ module _ (laws : LawsBelow) (p : ProgramTree) (i : Sections) (g : Package) (numb
         → Met (source_behaviour p schedule) (behaviour i schedule) all frames_of (most_steps i) note k t (solo_of t c) (solo_of t d)
     met note k t c d r =
         met_for (source_behaviour p schedule) (behaviour i schedule) (relation i program g numbers) all frames_of (most_steps i) note note k t
-        (λ m n h. h) (λ w s h there. h) (λ e w s given gives h. h) (λ w. refl) (solo_of t c) (solo_of t d)
-        (laws.met i program g numbers linked.code (laws.premises p legal) schedule note k t r.runner.calm c.memory d.memory (c.tasks t) (d.tasks t)
-        (known note k t c d r) (knows_caller note k t c d r) r.shared (r.stand t (r.others.bounded.running t r.runner.calm.runs.running)))
+        (λ m n h. h) (λ w s h. ((r.stand t).0, λ there. h)) (λ e w s given gives h. h) (λ w. refl) (solo_of t c) (solo_of t d)
+        (laws.met i program g numbers linked.code (laws.premises p legal) schedule inputs note k t r.runner.calm c.memory d.memory (c.tasks t) (d.tasks t)
+        (known note k t c d r) (knows_caller note k t c d r) r.shared ((r.stand t).1 (r.others.bounded.running t r.runner.calm.runs.running)))
+
+    owed_timed : (note : Note) (k : Kernel) (t : ℕ) (c : Tasks Store TaskWork) (d : Tasks Words TaskState) (e : Effect) (a : Solo Store TaskWork)
+        (b : Solo Words TaskState) (x : Option GivenToCaller) (y : Option steps.Given)
+        → Moved (source_behaviour p schedule) (behaviour i schedule) all frames_of (most_steps i) Sources (IsWhole i) note k t c d e a b x y
+        → (next : Note) × Owed (source_behaviour p schedule) (behaviour i schedule) all frames_of (most_steps i) next k t e c.tasks d.tasks a.task b.task x y
+        (ending k t e)
+    owed_timed note k t c d e a b x y moved = (inner.0, by_ending (ending k t e) inner.1)
+      where
+        fit : TimesFit (after t e k)
+        fit = times_left i program g numbers note k t e a.task b.task x y moved.leaves (moved.before.stand t).0
+
+        inner : (next : Note) × Owed (source_behaviour p schedule) (behaviour i schedule) (image_relation i program g numbers) frames_of (most_steps i) next k t e
+            c.tasks d.tasks a.task b.task x y (ending k t e)
+        inner =
+            owed (reached note k t c d) (untimed moved.before) e a b x y
+            (record { before = untimed moved.before; ones = moved.ones; others = moved.others; shared = moved.shared; leaves = moved.leaves })
+
+        by_ending : (z : Ending) → Owed (source_behaviour p schedule) (behaviour i schedule) (image_relation i program g numbers) frames_of (most_steps i) inner.0 k
+            t e c.tasks d.tasks a.task b.task x y z
+            → Owed (source_behaviour p schedule) (behaviour i schedule) all frames_of (most_steps i) inner.0 k t e c.tasks d.tasks a.task b.task x y z
+        by_ending Closes h = ((fit, h.0), λ v other. (fit, h.1 v other))
+        by_ending (TakesOver o u) h = ((fit, h.0), (fit, h.1), λ v other unlike. (fit, h.2 v other unlike))
+        by_ending (HandsBack u) h = ((fit, h.0), (fit, h.1), λ v other unlike. (fit, h.2 v other unlike))
 
     meets : Meets (source_behaviour p schedule) (behaviour i schedule) all frames_of (most_steps i) Sources (IsWhole i)
     meets = record {
@@ -147,7 +196,7 @@ module _ (laws : LawsBelow) (p : ProgramTree) (i : Sections) (g : Package) (numb
         reaches = λ e. laws.reaches (is_open i w.rest.memory) w.kernel t e runs.running h.kept;
       };
       met = met;
-      owed = λ note k t c d e a b x y moved. owed (reached note k t c d) moved.before e a b x y moved;
+      owed = owed_timed;
     }
 
     -- ---- the starts
@@ -161,13 +210,13 @@ module _ (laws : LawsBelow) (p : ProgramTree) (i : Sections) (g : Package) (numb
         others = laws.starts_whole i well_formed;
         note = λ u. [];
         shared = linked.words;
-        stands = λ u there. tasks_stand program i g numbers (λ v. []) (source_start p).kernel u program.tasks i.tasks linked.tasks u there;
+        stands = λ u. (begin_fits (partition_of p), λ there. tasks_stand program i g numbers (λ v. []) (source_start p).kernel u program.tasks i.tasks linked.tasks u there);
       };
     }
 
   pub counted : KeepsCount p i (most_steps i)
   counted =
-      met_keeps_count p i all (most_steps i) (λ s v. (n : ℕ) × (v ≡ source p s n)) (λ s. IsWhole i) laws.grow laws.quiet (λ schedule ok. under schedule)
+      met_keeps_count p i all (most_steps i) (λ s v. (n : ℕ) × (v ≡ source p s n)) (λ s. IsWhole i) laws.grow laws.quiet (λ schedule ok. under schedule ok)
 
 pub linked_keeps_count : LawsBelow → LinkedKeepsCount
 linked_keeps_count laws p i g numbers well_formed legal restricted linked = counted laws p i g numbers well_formed legal restricted linked

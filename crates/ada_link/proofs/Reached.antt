@@ -433,7 +433,7 @@ module _ (this : Step) where
     owed Finishes a b p q moved = (note, plain Finishes refl a.task b.task p q moved.leaves)
     owed Breaks a b p q moved = (note, plain Breaks refl a.task b.task p q moved.leaves)
     owed (Says label value) a b p q moved = (note, plain (Says label value) refl a.task b.task p q moved.leaves)
-    owed (Delays until) a b p q moved = (note, plain (Delays until) refl a.task b.task p q moved.leaves)
+    owed (Delays until) a b p q moved = (note, plain (Delays until) refl a.task b.task p q moved.leaves.1)
     owed (Opens o) a b p q moved = (note, plain (Opens o) refl a.task b.task p q moved.leaves)
     owed (Views o) a b p q moved = (note, plain (Views o) refl a.task b.task p q moved.leaves)
     owed (Dies x) a b p q moved = (note, plain (Dies x) refl a.task b.task p q moved.leaves)

@@ -1,9 +1,9 @@
 -- Why no sections of a program are put together: what refuses its variables, its bodies, main or its tables refuses the program.
-use Rattle.std.proofs.Common.{◌≡◌, ℕ, suc, ◌+◌, ◌≤◌, ◌<◌, List, [], ◌∷◌, ◌++◌, length, map, take, inl, inr, Bool, true, false, ◌&&◌, Option, Some, None, refl, sym, ap, ◌∙◌, subst, arith, length-append, take_all}
+use Rattle.std.proofs.Common.{◌≡◌, ℕ, suc, ◌+◌, ◌≤◌, ◌<◌, List, [], ◌∷◌, ◌++◌, length, map, take, inl, inr, true, ◌&&◌, Option, Some, None, refl, sym, ap, ◌∙◌, subst, arith, length-append, take_all}
 use Rattle.std.specs.List.{list_all}
-use Rattle.std.specs.Prelude.{nat_le, sum_by}
+use Rattle.std.specs.Prelude.{sum_by}
 use Rattle.base.specs.Names.{is_label, is_name}
-use Rattle.base.specs.declared.limits.TheConstants.{EXCEPTIONS, INSTRUCTIONS, LABELS, OBJECTS, ROWS, SUBPROGRAMS, TASKS, WORDS}
+use Rattle.base.specs.declared.limits.TheConstants.{EXCEPTIONS, INSTRUCTIONS, LABELS, OBJECTS, ROWS, TASKS, WORDS}
 use Rattle.ada_tree.specs.ProgramTree.{BodyItemTree, ItemTree, OfItem, PackageTree, ProgramTree}
 use Rattle.image.specs.ObjectTable.{ObjectRow}
 use Rattle.image.specs.Sections.{Sections}
@@ -14,26 +14,29 @@ use Rattle.program_soundness.specs.Fronts.{declared_in}
 use Rattle.expr_code.specs.Code.{here}
 use Rattle.expr_code.specs.Refusing.{IsRefused}
 use Rattle.expr_code.specs.Seeing.{told_of}
+use Rattle.expr_code.specs.declared.refusal.ImageLimit.{ImageLimit}
+use Rattle.expr_code.specs.declared.refusal.ImageLimit.TheVariants as limits
 use Rattle.expr_code.specs.declared.refusal.Refusal.{Refusal}
 use Rattle.expr_code.specs.declared.refusal.Refusal.TheVariants as refusal
 use Rattle.step_simulation.specs.part_code.specs.Bounds.{main_bound}
-use Rattle.step_simulation.specs.part_code.specs.Needs.{RefusesMain}
+use Rattle.step_simulation.specs.part_code.specs.Needs.{HasManyLabels, RefusesMain}
 use Rattle.package_code.specs.Bodies.{bodies_among, bodies_before, names_among, number_from}
 use Rattle.package_code.specs.Counts.{bounds_from}
-use Rattle.package_code.specs.Directory.{HaveBodyNumbers, HasManyBodies, IsDirectory, component_told, entries_among, operation_told}
+use Rattle.package_code.specs.Directory.{HaveBodyNumbers, HasManyBodies, HasNoNumbers, IsDirectory, component_told, entries_among, operation_told}
 use Rattle.package_code.specs.Globals.{AreGlobals, RefusesGlobals}
 use Rattle.package_code.specs.Laws.{HasFew}
 use Rattle.package_code.specs.Package.{first_words_of}
-use Rattle.package_code.specs.Program.{HasProgram, has_texts, is_within_limits}
+use Rattle.package_code.specs.Program.{HasProgram, PassesTable, has_texts}
 use Rattle.source_laws.specs.Limits.{MayPassLimits}
 use Rattle.source_laws.specs.Spelled.{is_spelled}
 use Rattle.ada_link.specs.Compiled.{RefusesCompiling}
-use Rattle.package_code.specs.Refusing.{RefusesCode, RefusesSections, RefusesLinking, items_labels, items_rows, program_labels, program_rows, program_words, seen_at}
+use Rattle.package_code.specs.Refusing.{HasMany, HasManyWords, RefusesCode, RefusesSections, RefusesLinking, items_labels, items_rows, program_labels, program_rows, program_words, seen_at}
 use Rattle.package_code.specs.Walking.{IsAsTold, IsWalked}
 use Rattle.package_code.specs.declared.directory.Directory.{Directory}
 use Rattle.package_code.specs.declared.globals.Globals.{Globals}
 use Rattle.package_code.specs.declared.walk.Walk.{Walk}
 use Rattle.package_code.specs.Objects.{RefusesObjects, component_slots, object_words}
+use Rattle.expr_code.proofs.Refusals.{no_limit}
 use Rattle.package_code.proofs.ComponentSlots.{components_told}
 use Rattle.package_code.proofs.Numbered.{operations_numbered}
 use Rattle.package_code.proofs.ObjectNumbers.{rows_words}
@@ -56,11 +59,6 @@ bodies_behind (d ∷ ds) body = bodies_behind ds body
 bodies_are : (o : Option PackageTree) → bodies_among (package_bodies o) ≡ bodies_among (declared_in o)
 bodies_are (Some p) = sym (bodies_behind p.declaration.items p.body.items)
 bodies_are None = refl
-
-no_more : IsRefused 0 0 refusal.Limit → ⊥
-no_more (inl h) = absurd (omega (arith, h))
-no_more (inr (inl h)) = absurd (omega (arith, h))
-no_more (inr (inr h)) = h
 
 module _ (t : ProgramTree) where
   abbrev all : List BodyItemTree
@@ -105,28 +103,31 @@ module _ (t : ProgramTree) where
 
   pub plain_refused : (why : Refusal) → IsRefused 0 0 why → RefusesSections t why
   plain_refused refusal.Memory r = inl (inl tt)
-  plain_refused refusal.Limit r = absurd (no_more r)
+  plain_refused (refusal.Limit limit) r = absurd (no_limit limit r)
 
   -- ---- protected objects
 
   pub objects_refused : (why : Refusal) → RefusesObjects whole (package_items t.package_) why → RefusesSections t why
   objects_refused refusal.Memory r = inl (inl tt)
-  objects_refused refusal.Limit r = inr (inl (omega (arith, r)))
+  objects_refused (refusal.Limit limits.Words) r = inr (inl (omega (arith, r)))
+  objects_refused why r = absurd r
 
   -- ---- variables and bodies
 
   pub globals_refused : (why : Refusal) → RefusesGlobals whole [] (package_items t.package_) why → RefusesSections t why
   globals_refused refusal.Memory r = inl (inl tt)
-  globals_refused refusal.Limit r =
+  globals_refused (refusal.Limit limits.Words) r =
       inr (inl (more (length (first_words_of (program_of t).variables))
       (total (map (λ cs. length (first_words_of cs)) (components_among whole (package_items t.package_)))) r))
     where
       more : (a b : ℕ) → WORDS < a → WORDS < a + b
       more a b h = omega (arith, h)
+  globals_refused why r = absurd r
 
   pub bodies_refused : (why : Refusal) → HasManyBodies (package_bodies t.package_) why → RefusesSections t why
   bodies_refused refusal.Memory r = inl (inl tt)
-  bodies_refused refusal.Limit r = inr (inr (inl (inl (let e = bodies_are t.package_ in omega (arith, r, e)))))
+  bodies_refused (refusal.Limit limits.Subprograms) r = inr (inr (inl (let e = bodies_are t.package_ in omega (arith, r, e))))
+  bodies_refused why r = absurd r
 
   pub code_refused : (why : Refusal) → RefusesCode t why → RefusesSections t why
   code_refused why r = inl r
@@ -154,24 +155,23 @@ module _ (t : ProgramTree) where
 
     pub main_refused : (why : Refusal) → RefusesMain walk.visible walk.draft.code t.main.statements (main_bound t.main.statements) why → RefusesSections t why
     main_refused refusal.Memory r = inl (inl tt)
-    main_refused refusal.Limit (inl h) = inl (inl (inl (let less = few in omega (arith, h, less))))
-    main_refused refusal.Limit (inr (inl h)) = absurd (omega (arith, h))
-    main_refused refusal.Limit (inr (inr h)) = absurd h
+    main_refused (refusal.Limit limits.Instructions) h = inl (inl (let less = few in omega (arith, h, less)))
+    main_refused (refusal.Limit limits.Frame) h = absurd (omega (arith, h))
+    main_refused why h = absurd h
 
     -- main's number, behind those of all bodies
-    pub task_refused : (many : ℕ) → many ≡ bodies_before t walk.place → (why : Refusal) → IsRefused many 0 why → RefusesSections t why
+    pub task_refused : (many : ℕ) → many ≡ bodies_before t walk.place → (why : Refusal) → HasNoNumbers many why → RefusesSections t why
     task_refused many is refusal.Memory r = inl (inl tt)
-    task_refused many is refusal.Limit (inl h) =
-        inr (inr (inl (inl (let e = is ∙ ap bodies_among (ap (λ n. take n all) last ∙ take_all (length all) all (omega arith)) in omega (arith, h, e)))))
-    task_refused many is refusal.Limit (inr (inl h)) = absurd (omega (arith, h))
-    task_refused many is refusal.Limit (inr (inr h)) = absurd h
+    task_refused many is (refusal.Limit limits.Subprograms) h =
+        inr (inr (inl (let e = is ∙ ap bodies_among (ap (λ n. take n all) last ∙ take_all (length all) all (omega arith)) in omega (arith, h, e))))
+    task_refused many is why h = absurd h
 
   -- code that keeps the rules ends within the limit
   pub row_refused : (end : ℕ) → end ≤ INSTRUCTIONS → (why : Refusal) → IsRefused end 0 why → RefusesSections t why
   row_refused end up refusal.Memory r = inl (inl tt)
-  row_refused end up refusal.Limit (inl h) = absurd (omega (arith, h, up))
-  row_refused end up refusal.Limit (inr (inl h)) = absurd (omega (arith, h))
-  row_refused end up refusal.Limit (inr (inr h)) = absurd h
+  row_refused end up (refusal.Limit limits.Instructions) h = absurd (omega (arith, h, up))
+  row_refused end up (refusal.Limit limits.Frame) h = absurd (omega (arith, h))
+  row_refused end up why h = absurd h
 
   -- ---- tables
 
@@ -189,13 +189,6 @@ module _ (t : ProgramTree) where
     pub texts_spelled : is_spelled t ≡ true → has_texts i ≡ true
     texts_spelled spelled = texts_are ∙ spelled
 
-    either : (a b : Bool) (C : Type 0) → (a && b) ≡ false → (a ≡ false → C) → (b ≡ false → C) → C
-    either false b C e left right = left refl
-    either true b C e left right = right e
-
-    beyond_ : (n m : ℕ) → nat_le n m ≡ false → m < n
-    beyond_ n m e = grind (arith, e)
-
     many : length i.subprograms ≡ suc (bodies_among all)
     many =
         let a = ap length h.subprograms ∙ length-append h.walk.subprograms.items _ in
@@ -210,39 +203,41 @@ module _ (t : ProgramTree) where
         ap (sum_by (λ (o : ObjectRow). length o.words)) h.objects ∙ rows_words t 0 whole (package_items t.package_) in
         (λ j. plain j + parts j)
 
-    pub limits_refused : length i.objects ≡ (program_of t).objects → is_within_limits i ≡ false → RefusesSections t refusal.Limit
-    limits_refused objects missed =
-        either (nat_le (length i.subprograms) SUBPROGRAMS) _ (RefusesSections t refusal.Limit) missed
-        (λ e. inr (inr (inl (inl (let up = beyond_ (length i.subprograms) SUBPROGRAMS e in omega (arith, up, many))))))
-        (λ rest. either (nat_le (length i.tasks) TASKS) _ (RefusesSections t refusal.Limit) rest
-        (λ e. inr (inr (inl (inr (inr (inl (subst (λ n. TASKS < n) (as_many_tasks t (program_of t).tasks i.tasks h.tasks) (beyond_ (length i.tasks) TASKS e))))))))
-        (λ rest. either (nat_le (length i.exceptions) EXCEPTIONS) _ (RefusesSections t refusal.Limit) rest
-        (λ e. inr (inr (inl (inr (inl (subst (λ l. EXCEPTIONS < length l) (h.exceptions ∙ h.are.exceptions) (beyond_ (length i.exceptions) EXCEPTIONS e)))))))
-        (λ rest. either (nat_le (length i.labels) LABELS) _ (RefusesSections t refusal.Limit) rest
-        (λ e. inl (inr (subst (λ l. LABELS < length l) labels (beyond_ (length i.labels) LABELS e))))
-        (λ rest. either (nat_le (length i.plain_words + sum_by (λ o. length o.words) i.objects) WORDS) _ (RefusesSections t refusal.Limit) rest
-        (λ e. inr (inl (subst (λ n. WORDS < n) all_words (beyond_ (length i.plain_words + sum_by (λ o. length o.words) i.objects) WORDS e))))
-        (λ rest. either (nat_le (length i.rows) ROWS) (nat_le (length i.objects) OBJECTS) (RefusesSections t refusal.Limit) rest
-        (λ e. inr (inr (inr (subst (λ n. ROWS < n) rows (beyond_ (length i.rows) ROWS e)))))
-        (λ e. inr (inr (inl (inr (inr (inr (subst (λ n. OBJECTS < n) objects (beyond_ (length i.objects) OBJECTS e)))))))))))))
+    pub limits_refused : length i.objects ≡ (program_of t).objects → (limit : ImageLimit) → PassesTable i limit → RefusesSections t (refusal.Limit limit)
+    limits_refused objects limits.Subprograms up = inr (inr (inl (let e = many in omega (arith, up, e))))
+    limits_refused objects limits.Tasks up = inr (inr (inl (subst (λ n. TASKS < n) (as_many_tasks t (program_of t).tasks i.tasks h.tasks) up)))
+    limits_refused objects limits.Exceptions up = inr (inr (inl (subst (λ l. EXCEPTIONS < length l) (h.exceptions ∙ h.are.exceptions) up)))
+    limits_refused objects limits.Labels up = inl (inr (subst (λ l. LABELS < length l) labels up))
+    limits_refused objects limits.Words up = inr (inl (subst (λ n. WORDS < n) all_words up))
+    limits_refused objects limits.Rows up = inr (inr (inr (subst (λ n. ROWS < n) rows up)))
+    limits_refused objects limits.Objects up = inr (inr (inl (subst (λ n. OBJECTS < n) objects up)))
+    limits_refused objects other up = absurd up
 
   -- ---- no legal program has too many
 
-  pub few_refused : HasFew t → (why : Refusal) → RefusesSections t why → RefusesLinking t why
-  few_refused few why (inl (inl r)) = inl r
-  few_refused few why (inr (inr (inr r))) = inr r
-  few_refused few refusal.Limit (inl (inr h)) = absurd (let up = few.labels in omega (arith, h, up))
-  few_refused few refusal.Memory (inl (inr h)) = absurd h
-  few_refused few refusal.Limit (inr (inl h)) = absurd (let up = few.words in omega (arith, h, up))
-  few_refused few refusal.Memory (inr (inl h)) = absurd h
-  few_refused few refusal.Limit (inr (inr (inl (inl h)))) = absurd (let up = few.subprograms in omega (arith, h, up))
-  few_refused few refusal.Limit (inr (inr (inl (inr (inl h))))) = absurd (let up = few.exceptions in omega (arith, h, up))
-  few_refused few refusal.Limit (inr (inr (inl (inr (inr (inl h)))))) = absurd (let up = few.tasks in omega (arith, h, up))
-  few_refused few refusal.Limit (inr (inr (inl (inr (inr (inr h)))))) = absurd (let up = few.objects in omega (arith, h, up))
-  few_refused few refusal.Memory (inr (inr (inl h))) = absurd h
+  module _ (few : HasFew t) where
+    few_labels : (why : Refusal) → HasManyLabels (program_labels t) why → ⊥
+    few_labels (refusal.Limit limits.Labels) h = let up = few.labels in absurd (omega (arith, h, up))
+    few_labels why h = h
 
--- ---- what is told of an accepted text
+    few_words : (why : Refusal) → HasManyWords t why → ⊥
+    few_words (refusal.Limit limits.Words) h = let up = few.words in absurd (omega (arith, h, up))
+    few_words why h = h
 
-pub compiling_refused : (t : ProgramTree) → (RefusesLinking t refusal.Limit → MayPassLimits t) → (why : Refusal) → RefusesLinking t why → RefusesCompiling t why
+    few_things : (why : Refusal) → HasMany t why → ⊥
+    few_things (refusal.Limit limits.Subprograms) h = let up = few.subprograms in absurd (omega (arith, h, up))
+    few_things (refusal.Limit limits.Exceptions) h = let up = few.exceptions in absurd (omega (arith, h, up))
+    few_things (refusal.Limit limits.Tasks) h = let up = few.tasks in absurd (omega (arith, h, up))
+    few_things (refusal.Limit limits.Objects) h = let up = few.objects in absurd (omega (arith, h, up))
+    few_things why h = h
+
+    pub few_refused : (why : Refusal) → RefusesSections t why → RefusesLinking t why
+    few_refused why (inl (inl r)) = inl r
+    few_refused why (inl (inr h)) = absurd (few_labels why h)
+    few_refused why (inr (inl h)) = absurd (few_words why h)
+    few_refused why (inr (inr (inl h))) = absurd (few_things why h)
+    few_refused why (inr (inr (inr r))) = inr r
+
+pub compiling_refused : (t : ProgramTree) → ((passed : ImageLimit) → RefusesLinking t (refusal.Limit passed) → MayPassLimits t) → (why : Refusal) → RefusesLinking t why → RefusesCompiling t why
 compiling_refused t told refusal.Memory r = tt
-compiling_refused t told refusal.Limit r = told r
+compiling_refused t told (refusal.Limit passed) r = told passed r

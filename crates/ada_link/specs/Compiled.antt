@@ -15,4 +15,4 @@ IsBounded tree image = (number : ℕ) → size_of image number ≤ instructions_
 -- why none is made of an accepted program: memory was refused, or its code may pass a limit of images
 abbrev pub RefusesCompiling : ProgramTree → Refusal → Type 0
 RefusesCompiling tree refusal.Memory = ⊤
-RefusesCompiling tree refusal.Limit = MayPassLimits tree
+RefusesCompiling tree (refusal.Limit limit) = MayPassLimits tree

@@ -10,3 +10,4 @@ pub use Rattle.step_simulation.specs.part_code as part_code
 pub use Rattle.stmt_code as stmt_code
 pub mod Compiled
 pub mod Located
+pub mod Stopped

@@ -62,7 +62,7 @@ pub fn compile_with_places(alloc: Global, accepted: &Accepted) -> Result<Compile
 /// The image of an accepted program: it means the same, with the same lines, times and outcome.
 ///
 /// # Errors
-/// `Memory` where memory was refused; `Limit` where the code of the program may pass a limit of images (docs/LANGUAGE.md, "Limits").
+/// `Memory` where memory was refused; `Limit` where the code of the program may pass a limit of images, which it tells (docs/LANGUAGE.md, "Limits").
 pub fn compile_tree(alloc: Global, accepted: &Accepted) -> Result<Image, Refusal>
     ensures means { IfOk result (λ image. SameMeaning (program_tree accepted.now) image) }
     ensures counted { IfOk result (λ image. KeepsCount (program_tree accepted.now) image (most_steps image)) }

@@ -6,7 +6,10 @@ pub mod laws;
 pub mod link_laws;
 mod places;
 mod program;
+mod stopping;
 
 pub use compiling::{Compiled, compile_tree, compile_with_places};
-pub use expr_code::Refusal;
+pub use expr_code::{ImageLimit, Refusal};
+pub use package_code::Stop;
 pub use places::Places;
+pub use stopping::first_stop;

@@ -7,6 +7,7 @@ use meaning::laws::count_gives_meaning;
 use program_soundness::body_laws::premises_hold;
 use program_soundness::program_laws::starts_are_sound;
 use program_soundness::run_laws::runs_are_sound;
+use program_soundness::subtype_laws::programs_keep_subtypes;
 use step_simulation::laws::{effects_are_met, steps_are_met};
 
 /// A well-formed image that has the code of an accepted program keeps the count of steps.
@@ -22,6 +23,7 @@ pub fn linked_keeps_count()
     premises_hold();
     starts_are_sound();
     runs_are_sound();
+    programs_keep_subtypes();
     effects_are_met();
     steps_are_met();
 }

@@ -1,18 +1,17 @@
 //! The sections of the image of a program.
-ghost use Rattle.std.specs.Prelude.{◌≡◌, length, true, IfErr, IfOk};
+ghost use Rattle.std.specs.Prelude.{◌≡◌, length, false, true, IfErr, IfOk};
 ghost use Rattle.ada_tree.specs.ProgramTree.{program_tree};
 ghost use Rattle.meaning.specs.Programs.{base_priority, package_items, program_of};
-ghost use Rattle.expr_code.specs.Refusing.{IsRefused};
-ghost use Rattle.package_code.specs.Directory.{IsDirectory};
+ghost use Rattle.package_code.specs.Directory.{HasNoNumbers, IsDirectory};
 ghost use Rattle.package_code.specs.Globals.{AreGlobals};
 ghost use Rattle.package_code.specs.Objects.{HaveObjects, objects_have_words};
 ghost use Rattle.package_code.specs.Places.{HasPlaces};
-ghost use Rattle.package_code.specs.Program.{HasProgram, KeepsTables, is_within_limits};
+ghost use Rattle.package_code.specs.Program.{HasProgram, KeepsTables, PassesTable, is_within_limits};
 ghost use Rattle.package_code.specs.Refusing.{RefusesSections, RefusesLinking, program_labels, program_rows};
 
 use crate::laws::{names_are_sound, variables_are_placed};
 use base::limits::{EXCEPTIONS, LABELS, OBJECTS, ROWS, SUBPROGRAMS, TASKS};
-use expr_code::Refusal;
+use expr_code::{ImageLimit, Refusal};
 use expr_soundness::laws::scopes_are_sound;
 use image::{Kind, Object, Parts, Task};
 use lexer::Text;
@@ -32,25 +31,29 @@ use types::laws::{shapes_stay, values_have_words};
 
 // The row of main, whose subprogram has this number.
 fn main_task(accepted: &Accepted, number: usize) -> Result<Task, Refusal>
-    ensures refused { IfErr result (λ why. IsRefused number 0 why) }
+    ensures refused { IfErr result (λ why. HasNoNumbers number why) }
     ensures task { let t = program_tree accepted.now in IfOk result (λ task. task ≡ record
         { name = t.main.name.name; priority = base_priority (program_of t).scope t.main.aspect; subprogram = number }) }
 {
-    let subprogram = u16::try_from(number).map_err(|_| Refusal::Limit)?;
+    let subprogram = u16::try_from(number).map_err(|_| Refusal::Limit(ImageLimit::Subprograms))?;
     let main = &accepted.program().main;
     task_row(accepted.scope(), &main.name, &main.aspect, subprogram)
 }
 
-// What the declarations of a program tell: the first words of its variables, its exceptions, the rows of its protected objects, and what bodies see of them.
-struct DeclaredTables {
-    words: Vec<i64>,
-    exceptions: Vec<Text>,
-    objects: Vec<Object>,
-    directory: Directory,
+/// What the declarations of a program tell: the first words of its variables, its exceptions, the rows of its protected objects, and what bodies see of them.
+#[derive(Drop)]
+pub(crate) struct DeclaredTables {
+    pub(crate) words: Vec<i64>,
+    pub(crate) exceptions: Vec<Text>,
+    pub(crate) objects: Vec<Object>,
+    pub(crate) directory: Directory,
 }
 
-// Those of a program, in the order of its text.
-fn declarations(alloc: Global, accepted: &Accepted) -> Result<DeclaredTables, Refusal>
+/// Those of a program, in the order of its text.
+///
+/// # Errors
+/// Those of `sections`.
+pub(crate) fn declarations(alloc: Global, accepted: &Accepted) -> Result<DeclaredTables, Refusal>
     ensures globals { let t = program_tree accepted.now in IfOk result (λ told. AreGlobals (program_of t).scope (package_items t.package_)
         (record { slots = told.directory.slots; words = told.words; exceptions = told.exceptions })) }
     ensures directory { IfOk result (λ told. IsDirectory (program_tree accepted.now) told.directory) }
@@ -148,6 +151,28 @@ fn is_within_limits(parts: &Parts) -> bool
         && parts.objects.len() <= OBJECTS
 }
 
+// A limit that is passed by what the program has of its own.
+fn passed_limit(parts: &Parts) -> ImageLimit
+    requires passed { is_within_limits parts.now ≡ false }
+    ensures { PassesTable parts.now result }
+{
+    if SUBPROGRAMS < parts.subprograms.len() {
+        ImageLimit::Subprograms
+    } else if TASKS < parts.tasks.len() {
+        ImageLimit::Tasks
+    } else if EXCEPTIONS < parts.exceptions.len() {
+        ImageLimit::Exceptions
+    } else if LABELS < parts.labels.len() {
+        ImageLimit::Labels
+    } else if !parts.has_words() {
+        ImageLimit::Words
+    } else if ROWS < parts.rows.len() {
+        ImageLimit::Rows
+    } else {
+        ImageLimit::Objects
+    }
+}
+
 // They are put together, and have the texts and counts of an image.
 fn within_tables(alloc: Global, accepted: &Accepted) -> Result<Linked, Refusal>
     ensures program { IfOk result (λ linked. HasProgram (program_tree accepted.now) linked.parts) }
@@ -166,7 +191,7 @@ fn within_tables(alloc: Global, accepted: &Accepted) -> Result<Linked, Refusal>
     let _program = accepted.program();
     let linked = put_together(alloc, accepted)?;
     if !is_within_limits(&linked.parts) {
-        return Err(Refusal::Limit);
+        return Err(Refusal::Limit(passed_limit(&linked.parts)));
     }
     Ok(linked)
 }
@@ -176,8 +201,8 @@ fn within_tables(alloc: Global, accepted: &Accepted) -> Result<Linked, Refusal>
 /// the last task (RM 10.2). They make a well-formed image (`sections_are_well_formed`). With them come the places of the statements of its bodies.
 ///
 /// # Errors
-/// `Limit` where the bound on its instructions, the choices of its handlers, or the words of a frame or of an object, pass those of images (specs/Refusing);
-/// `Memory` where memory was refused.
+/// `Limit` where the bound on its instructions, the choices of its handlers, or the words of a frame or of an object, pass those of images (specs/Refusing),
+/// with the limit that may be passed; `Memory` where memory was refused.
 pub(crate) fn sections(alloc: Global, accepted: &Accepted) -> Result<Linked, Refusal>
     ensures program { IfOk result (λ linked. HasProgram (program_tree accepted.now) linked.parts) }
     ensures places { IfOk result (λ linked. HasPlaces (program_tree accepted.now) linked.parts linked.places.items) }

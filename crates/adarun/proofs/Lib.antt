@@ -1,4 +1,5 @@
 mod Compiling
+mod CodeTold
 mod Named
 mod Running
 mod Driving

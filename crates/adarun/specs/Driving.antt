@@ -1,5 +1,5 @@
 -- What the program's work over files leaves, by what is asked for and by its exit status.
-use Rattle.std.specs.Prelude.{◌≡◌, ◌≢◌, ◌<◌, ◌⊎◌, ℕ, List, Option, Some, None, true, ⊤}
+use Rattle.std.specs.Prelude.{◌≡◌, ◌≢◌, ◌<◌, ◌⊎◌, ◌++◌, ℕ, List, Option, Some, None, true, ⊤}
 use Rattle.std.specs.Io.KnownBytes.{Appends}
 use Rattle.base.specs.declared.faults.TheConstants.{MEMORY_REFUSED}
 use Rattle.base.specs.declared.schedule.ScheduleLine.{ScheduleLine}
@@ -26,6 +26,7 @@ use Rattle.tracing.specs.declared.origin.Origin.{Origin}
 use Rattle.waveforms.specs.Waves.{waves_text}
 use Rattle.command_line.specs.Words.{Command, CompileText, DumpText, ExplainFault, ExplainText, GoText, ListImage, Nothing, RunImage, TraceText, asked, is_told}
 use Rattle.adarun.specs.Accepted.{Compiles, RefusesText}
+use Rattle.adarun.specs.CodeTold.{IsCodeTold}
 use Rattle.adarun.specs.Headline.{Runs, WritesBeginning}
 use Rattle.adarun.specs.Naming.{object_names}
 use Rattle.adarun.specs.Origins.{origin_in}
@@ -237,24 +238,35 @@ abbrev pub IsFaultPlace : ℕ → List ℕ → Option ℕ → Type 0
 IsFaultPlace number text (Some place) = HasFaultAt number place text
 IsFaultPlace number text None = HasImage text ⊎ HasAnotherFault number text
 
+-- the explanation of the number with what is told of the text behind it, and behind that what is told of its code
+pub record HasWholeTold (number : ℕ) (text whole : List ℕ) : Type 0 where
+  pub place : Option ℕ
+  pub is_place : IsFaultPlace number text place
+  pub told : List ℕ
+  pub explained : IsExplained number place text (Some told)
+  pub code : List ℕ
+  pub is_code : IsCodeTold number place text code
+  pub whole_is : whole ≡ told ++ code
+
+-- None where no fault has the number
+abbrev pub IsWholeTold : ℕ → List ℕ → Option (List ℕ) → Type 0
+IsWholeTold number text None = explanation_of number ≡ None
+IsWholeTold number text (Some whole) = HasWholeTold number text whole
+
 -- the source was read, and the explanation was written with what is told of this source behind it
 pub record HasExplainedText (contents : Contents) (source : List ℕ) (number : ℕ) (old new : Option (List ℕ)) : Type 0 where
   pub text : List ℕ
   pub source_read : IsContentRead (contents source) text
-  pub place : Option ℕ
-  pub is_place : IsFaultPlace number text place
   pub whole : List ℕ
-  pub explained : IsExplained number place text (Some whole)
+  pub told : IsWholeTold number text (Some whole)
   pub written : Appends old new whole
 
 -- a beginning of that was written
 pub record HasBegunExplainingText (contents : Contents) (source : List ℕ) (number : ℕ) (old new : Option (List ℕ)) : Type 0 where
   pub text : List ℕ
   pub source_read : IsContentRead (contents source) text
-  pub place : Option ℕ
-  pub is_place : IsFaultPlace number text place
   pub whole : List ℕ
-  pub explained : IsExplained number place text (Some whole)
+  pub told : IsWholeTold number text (Some whole)
   pub begins : AppendsBeginning old new whole
 
 abbrev pub LeavesExplainText : Contents → List ℕ → ℕ → Status → Option (List ℕ) → Option (List ℕ) → Type 0

@@ -4,5 +4,6 @@ pub mod Origins
 pub mod Headline
 pub mod Stopping
 pub mod Joined
+pub mod CodeTold
 pub mod Driving
 pub mod Explaining

@@ -47,7 +47,7 @@ fn compiled_of(alloc: Global, accepted: &Accepted) -> Result<Compiled, Fault>
     match compile_with_places(alloc, accepted) {
         Ok(made) => Ok(made),
         Err(Refusal::Memory) => Err(Fault::memory()),
-        Err(Refusal::Limit) => Err(Fault {
+        Err(Refusal::Limit(_)) => Err(Fault {
             number: LIMIT_PASSED,
             place: program.main.place,
         }),

@@ -1,6 +1,7 @@
 //! The compiler and runtime: from a source text to its image, to the timed lines of its run, and the program's work over any files and streams.
 #![tactic(auto)]
 
+mod code_told;
 mod compilation;
 mod files;
 mod going;

@@ -1,13 +1,14 @@
 //! The program's work over any files and streams.
-ghost use Rattle.std.specs.Prelude.{◌≡◌, ◌≢◌, ◌<◌, ◌⊎◌, ℕ, Err, IfOk, List, OnOk, Option, map, nat_eq, if◌then◌else◌};
+ghost use Rattle.std.specs.Prelude.{◌≡◌, ◌≢◌, ◌<◌, ◌⊎◌, ℕ, Err, IfOk, List, OnOk, Option, map, nat_eq, option_map, if◌then◌else◌};
 ghost use Rattle.base.specs.declared.faults.TheConstants.{MEMORY_REFUSED};
 ghost use Rattle.adarun.specs.Driving as driving;
-ghost use Rattle.adarun.specs.Driving.{AnswersStatus, IsFaultPlace, KeepsSink, LeavesCompile, LeavesExplain, LeavesExplainText, LeavesGo, LeavesList, LeavesRun, LeavesTrace, text_of};
+ghost use Rattle.adarun.specs.Driving.{AnswersStatus, IsFaultPlace, IsWholeTold, KeepsSink, LeavesCompile, LeavesExplain, LeavesExplainText, LeavesGo, LeavesList, LeavesRun, LeavesTrace, text_of};
 ghost use Rattle.image.specs.Code.{code};
 ghost use Rattle.machine.specs.Stands.{EndsBy};
 ghost use Rattle.machine.specs.Written.{AppendsBeginning};
 ghost use Rattle.std.specs.Io.KnownBytes.{Appends};
 
+use crate::code_told::told_of_limit;
 use crate::compilation::{compile, compile_named};
 use crate::files::{FileStore, ReadError, WriteError};
 use crate::going::{GoFault, go};
@@ -371,6 +372,21 @@ fn fault_place(alloc: Global, number: u64, text: &[u8]) -> Result<Option<u32>, A
     }
 }
 
+// The explanation with what is told of the text behind it, and behind that what is told of its code.
+fn whole_told(alloc: Global, number: u64, text: &[u8]) -> Result<Option<Vec<u8>>, AllocError>
+    ensures { IfOk result (λ whole. IsWholeTold number text.now (option_map (λ bytes. bytes.items) whole)) }
+{
+    let place = fault_place(alloc, number, text)?;
+    match explained(alloc, number, place, text)? {
+        Some(mut whole) => {
+            let code = told_of_limit(alloc, number, place, text)?;
+            whole.extend_from_slice(&code)?;
+            Ok(Some(whole))
+        }
+        None => Ok(None),
+    }
+}
+
 // With what is told of the source behind the explanation.
 fn drive_explain_text<F: FileStore, O: Sink, E: Sink>(
     alloc: Global,
@@ -390,11 +406,7 @@ fn drive_explain_text<F: FileStore, O: Sink, E: Sink>(
         Ok(text) => text,
         Err(error) => return unread(err, error, source),
     };
-    let place = match fault_place(alloc, number, &text) {
-        Ok(place) => place,
-        Err(_) => return no_memory(err),
-    };
-    let whole = match explained(alloc, number, place, &text) {
+    let whole = match whole_told(alloc, number, &text) {
         Ok(Some(whole)) => whole,
         Ok(None) => return usage(err),
         Err(_) => return no_memory(err),

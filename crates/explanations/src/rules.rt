@@ -358,6 +358,7 @@ fault 23 at 3:23
 
 The place is what passes the limit: here the range of an array with 1,025 components. Where the \
 code of a legal program passes a limit of images (docs/FORMATS.md, \"Limits\"), the place is \
-main's first byte: make the program smaller; declare arrays and records of more than 255 words in \
-the package and not in a body, and assign large ones from variables by name.
+main's first byte, and `adarun explain 23 SRC` names the body with which it is passed: make the \
+program smaller; declare arrays and records of more than 255 words in the package and not in a \
+body, and assign large ones from variables by name.
 ";

@@ -4,6 +4,8 @@
 mod hints;
 mod others;
 mod places;
+mod stopped;
 
 pub use hints::explained;
 pub use places::{column_behind, line_behind};
+pub use stopped::{frame_line, instructions_line, rows_line};

@@ -1,5 +1,5 @@
--- The walk over a package goes as its text tells: what is visible, labels, the number of rows, the bound on instructions; why it stops is a reason to refuse the program.
-use Rattle.std.proofs.Common.{◌≡◌, ℕ, suc, ◌+◌, ◌≤◌, List, [], ◌∷◌, length, map, take, inl, inr, Option, None, Some, true, refl, sym, ap, ◌∙◌, subst, arith, length-append}
+-- The walk over a package goes as its text tells: what is visible, labels, the number of rows, the bound on instructions; where it stops a limit may be passed, which refuses the program.
+use Rattle.std.proofs.Common.{◌≡◌, ℕ, suc, ◌+◌, ◌≤◌, ◌<◌, List, [], ◌∷◌, length, map, take, inl, inr, Option, None, Some, true, refl, sym, ap, ◌∙◌, subst, arith, length-append}
 use Rattle.std.specs.Prelude.{is_some, slice_get}
 use Rattle.ada_tree.specs.declared.expression.Identifier.{Identifier}
 use Rattle.ada_tree.specs.StatementTree.{SubprogramTree}
@@ -11,28 +11,32 @@ use Rattle.declaring.specs.ItemRules.{item_scope}
 use Rattle.legality.specs.MainRules.{item_name}
 use Rattle.expr_soundness.specs.meaning.specs.Programs.{program_of}
 use Rattle.program_soundness.specs.Fronts.{declared_in, front, start_in}
+use Rattle.program_soundness.proofs.Listing.{same_some}
 use Rattle.program_soundness.proofs.Walked.{item_entity, own_profile, scope_next}
 use Rattle.type_rules.specs.ProfileRules.{profile_entity}
+use Rattle.image.specs.declared.subprograms.Subprogram.{Subprogram}
 use Rattle.expr_code.specs.Code.{here}
+use Rattle.expr_code.specs.Refusing.{IsRefused}
 use Rattle.expr_code.specs.Seeing.{told_of}
+use Rattle.expr_code.specs.declared.refusal.ImageLimit.{ImageLimit}
 use Rattle.expr_code.specs.declared.refusal.Refusal.{Refusal}
 use Rattle.expr_code.specs.declared.refusal.Refusal.TheVariants as refusal
 use Rattle.expr_code.specs.declared.visible.Visible.{Visible}
+use Rattle.expr_code.proofs.Refusals.{no_limit}
 use Rattle.step_simulation.specs.part_code.specs.Bounds.{main_bound, procedure_bound}
 use Rattle.step_simulation.specs.part_code.specs.Emitting.{HasEntries}
-use Rattle.step_simulation.specs.part_code.specs.Needs.{HasManyLabels, IsNeeding, Needs}
-use Rattle.stmt_code.specs.declared.draft.Draft.{Draft}
-use Rattle.step_simulation.specs.part_code.proofs.Within.{Within, needing_refused, within_then}
-use Rattle.package_code.specs.Bodies.{Coded, coded_at, number_in, of_subprogram}
+use Rattle.step_simulation.specs.part_code.specs.Needs.{IsNeeding, Needs}
+use Rattle.step_simulation.specs.part_code.proofs.Within.{Within, labelled, needing_refused, within_then}
+use Rattle.package_code.specs.Bodies.{Coded, bodies_before, bodies_of, coded_at, number_in, of_subprogram}
 use Rattle.package_code.specs.Counts.{bound_of, bounds_from}
 use Rattle.package_code.specs.Directory.{IsDirectory, HasEntriesSoFar, TellsNext, operations_told}
 use Rattle.package_code.specs.Refusing.{RefusesCode, body_needs, coded_labels, coded_rows, item_needs, items_labels, items_needs, items_rows, program_bound, program_labels, program_needs, seen_at, seen_by, seen_with, subprogram_labels, subprogram_rows}
-use Rattle.package_code.specs.Walking.{AddsAsTold, AddsBody, BeginsWalk, IsAsTold, IsWalked, RefusesBody}
+use Rattle.package_code.specs.Walking.{AddsAsTold, AddsBody, BeginsWalk, HasBody, IsAsTold, IsWalked, KeepsMade, PassesBehind, RefusesBody, StopsAt, StopsThere, begins_at}
 use Rattle.package_code.specs.declared.directory.Directory.{Directory}
 use Rattle.package_code.specs.declared.walk.Walk.{Walk}
 use Rattle.package_code.proofs.Coded.{labelled_by, needs_by, rows_by}
 use Rattle.package_code.proofs.Counted.{adds_few}
-use Rattle.package_code.proofs.ItemsTold.{bound_behind, bound_next, bounds_next, bounds_upto, labels_inside, labels_next, labels_within, needs_within, none_taken, rows_next}
+use Rattle.package_code.proofs.ItemsTold.{bound_behind, bound_next, bounds_next, bounds_upto, labels_inside, labels_next, labels_within, needs_within, none_taken, plus_none, rows_next}
 use Rattle.package_code.proofs.Seen.{known_name, operations_are, seen_first, seen_next}
 use Rattle.package_code.proofs.Told.{Grows, item_grows, subprogram_grows}
 
@@ -50,6 +54,16 @@ entries_next v mid name has (inr grown) slots subprograms =
   where
     one : (n m k : ℕ) → n ≡ m → k ≡ m + 1 → suc n ≡ k
     one n m k a b = omega (arith, a, b)
+
+-- ---- what is refused for no limit, and what it keeps
+
+pub plain_keeps : (old new : List Subprogram) (why : Refusal) → IsRefused 0 0 why → KeepsMade why old new
+plain_keeps old new refusal.Memory r = tt
+plain_keeps old new (refusal.Limit limit) r = absurd (no_limit limit r)
+
+pub same_keeps : (old new : List Subprogram) (why : Refusal) → new ≡ old → KeepsMade why old new
+same_keeps old new refusal.Memory same = tt
+same_keeps old new (refusal.Limit limit) same = same
 
 module _ (t : ProgramTree) where
   abbrev start : Scope
@@ -205,61 +219,98 @@ module _ (t : ProgramTree) where
       let none : 0 + place ≡ place = omega arith in
       subst (λ n. Within (item_needs t n x) (items_needs t 0 all)) none (needs_within t all 0 place x at)
 
-  many_more : (a b : List (List ℕ)) (why : Refusal) → length a ≤ length b → HasManyLabels a why → HasManyLabels b why
-  many_more a b refusal.Limit up h = omega (arith, up, h)
-  many_more a b refusal.Memory up h = absurd h
-
   -- of a body, in front of which the others of its item have their code
   module _ (place : ℕ) (item : BodyItemTree) (k : ℕ) (c : Coded) (at : slice_get all place ≡ Some item) (is : slice_get (coded_at t place item) k ≡ Some c) where
-    needs_there : Within (body_needs t c) (items_needs t 0 all)
+    pub needs_there : Within (body_needs t c) (items_needs t 0 all)
     needs_there = within_then (body_needs t c) (item_needs t place item) (items_needs t 0 all) (needs_by t place item k c is) (item_within place item at)
 
-    module _ (v : Visible) (draft : Draft) (why : Refusal)
-        (few : here draft.code ≤ total (bounds_from t 0 (take place all)) + total (map bound_of (take k (coded_at t place item))))
-        (labels : draft.labels ≡ coded_labels (items_labels [] (take place all)) (take k (coded_at t place item)))
-        (seen : v ≡ seen_by t c) where
-      bounded : here draft.code + bound_of c ≤ program_bound t
-      bounded =
-          up (here draft.code) (bound_of c) (total (bounds_from t 0 (take place all))) (total (map bound_of (take k (coded_at t place item))))
-          (total (bounds_from t 0 all)) (main_bound t.main.statements) few
-          (subst (λ p. total (bounds_from t 0 (take place all)) + bounds_upto (coded_at t p item) k c ≤ total (bounds_from t 0 all)) none
-          (bound_behind t all 0 place item k c at (subst (λ n. slice_get (coded_at t n item) k ≡ Some c) (sym none) is)))
-        where
-          none : 0 + place ≡ place
-          none = omega arith
+    -- behind at most so many instructions it is within the bound of all
+    bounded : (n : ℕ) → n ≤ total (bounds_from t 0 (take place all)) + total (map bound_of (take k (coded_at t place item))) → n + bound_of c ≤ program_bound t
+    bounded n few =
+        up n (bound_of c) (total (bounds_from t 0 (take place all))) (total (map bound_of (take k (coded_at t place item))))
+        (total (bounds_from t 0 all)) (main_bound t.main.statements) few
+        (subst (λ p. total (bounds_from t 0 (take place all)) + bounds_upto (coded_at t p item) k c ≤ total (bounds_from t 0 all)) none
+        (bound_behind t all 0 place item k c at (subst (λ n. slice_get (coded_at t n item) k ≡ Some c) (sym none) is)))
+      where
+        none : 0 + place ≡ place
+        none = omega arith
 
-          up : (a p s f x m : ℕ) → a ≤ s + f → s + (f + p) ≤ x → a + p ≤ x + m
-          up a p s f x m h k = omega (arith, h, k)
+        up : (a p s f x m : ℕ) → a ≤ s + f → s + (f + p) ≤ x → a + p ≤ x + m
+        up a p s f x m h k = omega (arith, h, k)
 
-      labels_less : length (subprogram_labels (coded_labels (items_labels [] (take place all)) (take k (coded_at t place item))) c.head c.body)
-          ≤ length (program_labels t)
-      labels_less =
-          let own = labels_inside (items_labels [] (take place all)) (coded_at t place item) k c is in
-          let item_is = ap length (labelled_by (items_labels [] (take place all)) t place item) in
-          let within = labels_within [] all place item at in
-          omega (arith, own, item_is, within)
+    labels_less : length (subprogram_labels (coded_labels (items_labels [] (take place all)) (take k (coded_at t place item))) c.head c.body)
+        ≤ length (program_labels t)
+    labels_less =
+        let own = labels_inside (items_labels [] (take place all)) (coded_at t place item) k c is in
+        let item_is = ap length (labelled_by (items_labels [] (take place all)) t place item) in
+        let within = labels_within [] all place item at in
+        omega (arith, own, item_is, within)
 
-      by_reason : RefusesBody (seen_by t c) draft c.head c.body why → RefusesCode t why
-      by_reason (inl n) =
-          needs_refused (here draft.code + bound_of c) (here draft.code + bound_of c) (body_needs t c) why (omega arith) needs_there bounded n
-      by_reason (inr h) =
-          inr (many_more (subprogram_labels draft.labels c.head c.body) (program_labels t) why
-          (subst (λ l. length (subprogram_labels l c.head c.body) ≤ length (program_labels t)) (sym labels) labels_less) h)
+    module _ (directory : Directory) (old : Walk)
+        (bodies : (number : ℕ) (b : Coded) → number < length old.subprograms.items → slice_get (bodies_of t) number ≡ Some b → HasBody t directory number b old)
+        (ends : begins_at old.subprograms.items (length old.subprograms.items) ≡ here old.draft.code)
+        (many : length old.subprograms.items ≡ bodies_before t place + k)
+        (few : here old.draft.code ≤ total (bounds_from t 0 (take place all)) + total (map bound_of (take k (coded_at t place item))))
+        (labels : old.draft.labels ≡ coded_labels (items_labels [] (take place all)) (take k (coded_at t place item)))
+        (v : Visible) (seen : v ≡ seen_by t c) (made : List Subprogram) where
+      passing : (limit : ImageLimit) → RefusesBody (seen_by t c) old.draft c.head c.body (refusal.Limit limit)
+          → PassesBehind t c (here old.draft.code) limit
+      passing limit (inl n) = inl n
+      passing limit (inr h) =
+          inr (labelled (subprogram_labels old.draft.labels c.head c.body) (program_labels t)
+          (subst (λ l. length (subprogram_labels l c.head c.body) ≤ length (program_labels t)) (sym labels) labels_less) (refusal.Limit limit) h)
+
+      stopped : (limit : ImageLimit) → made ≡ old.subprograms.items → RefusesBody (seen_by t c) old.draft c.head c.body (refusal.Limit limit)
+          → StopsAt t directory place item made limit
+      stopped limit same r = record {
+        index = k;
+        coded = c;
+        there = is;
+        many = ap length same ∙ many;
+        front = old;
+        made_is = same;
+        bodies = bodies;
+        end = ends;
+        few = few;
+        passes = passing limit r;
+      }
 
       -- its code isn't made
-      pub coded_refused : RefusesBody v draft c.head c.body why → RefusesCode t why
-      coded_refused r = by_reason (subst (λ u. RefusesBody u draft c.head c.body why) seen r)
+      pub code_stops : (why : Refusal) → KeepsMade why old.subprograms.items made → RefusesBody v old.draft c.head c.body why
+          → StopsThere t directory place made why
+      code_stops refusal.Memory kept r = tt
+      code_stops (refusal.Limit limit) kept r =
+          λ x there.
+          subst (λ y. StopsAt t directory place y made limit) (same_some item x (sym at ∙ there))
+          (stopped limit kept (subst (λ u. RefusesBody u old.draft c.head c.body (refusal.Limit limit)) seen r))
 
   -- the first body of an item
-  pub body_refused : (old : Walk) (item : BodyItemTree) (c : Coded) (v : Visible) (draft : Draft) (why : Refusal) → IsAsTold t old
+  pub body_stops : (directory : Directory) (old : Walk) (item : BodyItemTree) (c : Coded) (v : Visible) (made : List Subprogram) (why : Refusal)
+      → IsWalked t directory old → IsAsTold t old
       → slice_get all old.place ≡ Some item → slice_get (coded_at t old.place item) 0 ≡ Some c
-      → v ≡ seen_by t c → draft ≡ old.draft
-      → RefusesBody v draft c.head c.body why → RefusesCode t why
-  body_refused old item c v draft why told at is seen same =
+      → v ≡ seen_by t c → KeepsMade why old.subprograms.items made
+      → RefusesBody v old.draft c.head c.body why → StopsThere t directory old.place made why
+  body_stops directory old item c v made why walked told at is seen kept r =
       let none = none_taken (coded_at t old.place item) in
-      coded_refused old.place item 0 c at is v draft why
-      (let few = told.few in
-      let code = ap (λ (z : Draft). here z.code) same in
-      let more = ap (λ l. total (map bound_of l)) none in
-      omega (arith, few, code, more))
-      (ap (λ (z : Draft). z.labels) same ∙ told.labels ∙ ap (coded_labels (items_labels [] (take old.place all))) (sym none)) seen
+      code_stops old.place item 0 c at is directory old walked.bodies walked.end (walked.many ∙ sym (plus_none (bodies_before t old.place)))
+      (let few = told.few in let more = ap (λ l. total (map bound_of l)) none in omega (arith, few, more))
+      (told.labels ∙ ap (coded_labels (items_labels [] (take old.place all))) (sym none)) v seen made why kept r
+
+  -- what has no limit stops nothing
+  pub plain_stops : (directory : Directory) (place : ℕ) (made : List Subprogram) (why : Refusal) → IsRefused 0 0 why → StopsThere t directory place made why
+  plain_stops directory place made refusal.Memory r = tt
+  plain_stops directory place made (refusal.Limit limit) r = absurd (no_limit limit r)
+
+  -- where the walk stops the program is refused
+  pub stop_refuses : (directory : Directory) (place : ℕ) (x : BodyItemTree) (made : List Subprogram) (limit : ImageLimit) → slice_get all place ≡ Some x
+      → (w : StopsAt t directory place x made limit) → PassesBehind t w.coded (here w.front.draft.code) limit → RefusesCode t (refusal.Limit limit)
+  stop_refuses directory place x made limit at w (inl n) =
+      needs_refused (here w.front.draft.code + bound_of w.coded) (here w.front.draft.code + bound_of w.coded) (body_needs t w.coded) (refusal.Limit limit)
+      (omega arith)
+      (needs_there place x w.index w.coded at w.there) (bounded place x w.index w.coded at w.there (here w.front.draft.code) w.few) n
+  stop_refuses directory place x made limit at w (inr h) = inr h
+
+  pub stops_refuse : (directory : Directory) (place : ℕ) (x : BodyItemTree) (made : List Subprogram) → slice_get all place ≡ Some x
+      → (why : Refusal) → StopsThere t directory place made why → RefusesCode t why
+  stops_refuse directory place x made at refusal.Memory s = inl tt
+  stops_refuse directory place x made at (refusal.Limit limit) s = (let w = s x at in stop_refuses directory place x made limit at w w.passes)

@@ -79,6 +79,8 @@ use Rattle.package_code.proofs.InOrder.{stands_there}
 use Rattle.package_code.proofs.OperationBodies.{object, object_few}
 use Rattle.package_code.proofs.OperationsAdded as added
 use Rattle.package_code.proofs.Seen.{either_some}
+use Rattle.expr_soundness.specs.Lying.{PlaceLies}
+use Rattle.program_soundness.specs.step_soundness.specs.InSubtypes.{StoreLies}
 
 -- ---- what a bare name is worth where it is no component
 
@@ -319,7 +321,8 @@ module _ (laws : LawsOfNames) (t : ProgramTree) (legal : IsLegal t) (restricted 
   -- ---- the image's
 
   module _ (i : Sections) (objects : HaveObjects t i.objects) (many : length i.objects ≡ program.objects) (g : Package) (ordered : IsInOrder t i g)
-      (of_program : IsPackageOf t i g) (m : Store) (words : Words) (store : IsSoundStore program m) (stands_ : StandsFor program g m words) (o : ℕ) where
+      (of_program : IsPackageOf t i g) (m : Store) (words : Words) (store : IsSoundStore program m) (lying : StoreLies program.scope m)
+      (stands_ : StandsFor program g m words) (o : ℕ) where
     memory : IsSoundMemory program m
     memory = record { variables = store.variables; components = store.components; same = store.same }
 
@@ -344,8 +347,11 @@ module _ (laws : LawsOfNames) (t : ProgramTree) (legal : IsLegal t) (restricted 
     unfolding place
     lies name slot x told found =
         (stands_.shared place view (record { scope = refl; functions = refl; variables = refl; components = refl }) refl refl (refl, refl, refl) refl refl
-        addressable (store.functions (static_place program.scope))).components o name slot x told found
+        addressable (store.functions (static_place program.scope)) all).components o name slot x told found
       where
+        all : PlaceLies (seen program m (static_place program.scope))
+        all = record { variables = lying.variables; components = lying.components; locals = tt; time = refl; inputs = refl }
+
         addressable : (r : Region) → length (view.words r) ≤ 65536
         addressable regions.Locals = omega arith
         addressable regions.Plain = stands_.plain

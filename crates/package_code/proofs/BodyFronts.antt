@@ -1,23 +1,23 @@
 -- What stands in front of the parameters of a body, whosever it is: names that mean what they stand for, with places that are laid out, so that its frames can
 -- be made.
-use Rattle.std.proofs.Common.{◌≡◌, ◌⊎◌, ℕ, suc, List, [], ◌∷◌, ◌++◌, inl, inr, map, true, Option, Some, None, refl, sym, ap, ◌∙◌, subst}
-use Rattle.std.specs.Prelude.{slice_get}
+use Rattle.std.proofs.Common.{◌≡◌, ◌⊎◌, ℕ, suc, List, [], ◌∷◌, ◌++◌, inl, inr, map, true, false, Option, Some, None, refl, sym, ap, ◌∙◌, subst, Bool}
+use Rattle.std.specs.Prelude.{slice_get, is_some, cond, not}
 use Rattle.ada_tree.specs.declared.expression.Identifier.{Identifier}
 use Rattle.ada_tree.specs.declared.declaration.Formal.{Formal}
 use Rattle.ada_tree.specs.StatementTree.{SubprogramTree}
 use Rattle.ada_tree.specs.ProgramTree.{BodyItemTree, BodyTree, ProgramTree, SubprogramBody}
 use Rattle.types.specs.declared.entity.Subtype.{Subtype}
-use Rattle.types.specs.Entities.{Doubtful, Entity, Profile, Protected, ProtectedObject}
+use Rattle.types.specs.Entities.{Doubtful, Entity, Profile, Protected, ProtectedObject, TypeForm, Integers, Booleans, Times, Spans, Arrays, Records}
 use Rattle.types.specs.Layouts.{words_of}
 use Rattle.types.specs.Places.{Place}
-use Rattle.types.specs.Scopes.{Scope, form_at}
+use Rattle.types.specs.Scopes.{Scope, form_at, is_visible, with_name}
 use Rattle.types.specs.Shapes.{has_shape, shape_of, words}
 use Rattle.types.specs.Statics.{static_place}
 use Rattle.types.specs.Values.{Value}
 use Rattle.expr_soundness.specs.expr_rules.proofs.TypedLaw.{back_empty, front_empty, unbroken}
-use Rattle.type_rules.specs.SubtypeNames.{end_rule, named_entity, subtype_faults, subtype_of}
+use Rattle.type_rules.specs.SubtypeNames.{end_rule, named_entity, subtype_faults, subtype_of, is_composite, is_composite_form}
 use Rattle.declaring.specs.BodyNames.{formals_scope}
-use Rattle.type_rules.specs.ProfileRules.{formal_and, formal_faults, formal_parameters, formals_faults, function_faults, has_wrong_formal, profile_faults, result_faults, subprogram_scope}
+use Rattle.type_rules.specs.ProfileRules.{formal_and, formal_faults, formal_parameters, formals_faults, function_faults, has_wrong_formal, profile_faults, result_faults, subprogram_scope, is_wrong_formal, is_in}
 use Rattle.legality.specs.BodyRules.{head_faults, subprogram_body_faults}
 use Rattle.program_soundness.specs.checking.specs.ProgramRules.{IsLegal}
 use Rattle.ravenscar.specs.ProgramRules.{IsRestricted}
@@ -27,7 +27,7 @@ use Rattle.expr_soundness.specs.SoundScopes.{IsKnown, SoundScope}
 use Rattle.expr_soundness.proofs.Goods.{not_empty}
 use Rattle.expr_soundness.proofs.Parts.{subtype_values}
 use Rattle.expr_soundness.specs.meaning.specs.Calls.{procedure_among, procedure_here}
-use Rattle.expr_soundness.specs.meaning.specs.Programs.{Procedure, Program, parameter, program_of, subtype_named}
+use Rattle.expr_soundness.specs.meaning.specs.Programs.{Procedure, Program, parameter, program_of, subtype_named, formal}
 use Rattle.expr_soundness.specs.meaning.specs.Works.{Store}
 use Rattle.program_soundness.specs.step_soundness.specs.Fitting.{FitsScope, IsFound, formal_of}
 use Rattle.program_soundness.specs.step_soundness.specs.Holding.{inside}
@@ -50,6 +50,9 @@ use Rattle.step_simulation.specs.part_code.specs.Resting.{Framed}
 use Rattle.step_simulation.specs.part_code.proofs.Initials.{shape_there}
 use Rattle.stmt_code.proofs.Entering.{BeginsBody}
 use Rattle.package_code.proofs.NewParameters.{AreCopiedIn, all_copied_in, either_false}
+use Rattle.expr_soundness.specs.CompositesLaw.{is_simple}
+use Rattle.stmt_code.proofs.Functions.{AreScalarFormals}
+use Rattle.expr_soundness.proofs.Growing.{form_kept}
 
 -- ---- what is visible in front of the parameters of a body
 
@@ -180,6 +183,60 @@ module _ (scopes : ScopesAreSound) (t : ProgramTree) (owner : Option ℕ) (s : S
 
     pub body_words : (u : Subtype) → IsKnown s u → words_of whole u ≡ words_of s u
     body_words u known = ap words (shape_there s front_place front_agrees u known)
+
+    -- ---- the formals of a function have no parts
+
+    simple_form : (o : Option TypeForm) → is_some o ≡ true → is_composite_form o ≡ false → is_simple o ≡ true
+    simple_form None h k = cc
+    simple_form (Some Integers) h k = refl
+    simple_form (Some Booleans) h k = refl
+    simple_form (Some Times) h k = refl
+    simple_form (Some Spans) h k = refl
+    simple_form (Some (Arrays index many element)) h k = cc
+    simple_form (Some (Records cs)) h k = cc
+
+    form_with : (u : Scope) (name : List ℕ) (e : Entity) (n : ℕ) (form : TypeForm) → form_at u n ≡ Some form → form_at (with_name u name e) n ≡ Some form
+    form_with u name e n form h = by_visible (is_visible u name)
+      where
+        by_visible : (seen : Bool) → form_at (cond seen u (u ++ record { name = name; entity = e } ∷ [])) n ≡ Some form
+        by_visible true = h
+        by_visible false = form_kept u (record { name = name; entity = e } ∷ []) n form h
+
+    -- what is known in front of the whole body is the same in the program
+    there_simple : (u : Subtype) → IsKnown before u → is_simple (form_at before u.type_number) ≡ true → is_simple (form_at whole u.type_number) ≡ true
+    there_simple u known h =
+        let form = not_empty (form_at before u.type_number) known in
+        let here : form_at s u.type_number ≡ Some form.0 =
+        elim f.own [
+          | inl y ↦ subst (λ z. form_at z u.type_number ≡ Some form.0) y.0 (form_with before d.name.name _ u.type_number form.0 form.1)
+          | inr y ↦ subst (λ z. form_at z u.type_number ≡ Some form.0) y.0 form.1
+        ] in
+        ap is_simple (front_agrees.forms u.type_number form.0 here) ∙ sym (ap is_simple form.1) ∙ h
+
+    formal_simple : (x : Formal) → subtype_faults before x.subtype ≡ [] → is_composite before (subtype_of before x.subtype) ≡ false
+        → is_simple (form_at whole (formal whole x).subtype.type_number) ≡ true
+    formal_simple x legal none =
+        let u = legal_subtype x.subtype.place (named_entity before x.subtype) legal (doubt x.subtype.name) in
+        let named = named_is whole x.subtype u.0 (f.same x.subtype u.0 u.1) in
+        let known = scopes.subtype before x.subtype u.0 f.front u.1 in
+        subst (λ y. is_simple (form_at whole y.type_number) ≡ true) (sym named)
+        (there_simple u.0 known (simple_form (form_at before u.0.type_number) known (ap (is_composite before) (sym u.1) ∙ none)))
+
+    formals_simple_from : (earlier fs : List Formal) → formals_faults before earlier fs ≡ [] → has_wrong_formal before fs ≡ false
+        → AreScalarFormals whole (map (formal whole) fs)
+    formals_simple_from earlier [] h k = tt
+    formals_simple_from earlier (x ∷ fs) h k =
+        let parts = either_false (is_wrong_formal before x) (has_wrong_formal before fs) k in
+        let own = either_false (not (is_in x.mode)) (is_composite before (subtype_of before x.subtype)) parts.0 in (
+          formal_simple x (back_empty _ (subtype_faults before x.subtype) (front_empty (formal_faults before earlier x) (formals_faults before (earlier ++ x ∷ []) fs) h)) own.1,
+          formals_simple_from (earlier ++ x ∷ []) fs (back_empty (formal_faults before earlier x) (formals_faults before (earlier ++ x ∷ []) fs) h) parts.1,
+        )
+
+    pub formals_simple : (r : Identifier) → d.result ≡ Some r → AreScalarFormals whole (map (formal whole) d.formals)
+    formals_simple r some =
+        let rules_ : function_faults before d.name d.formals (Some r) ≡ [] =
+        subst (λ o. function_faults before d.name d.formals o ≡ []) some (back_empty _ (function_faults before d.name d.formals d.result) legal_profile) in
+        formals_simple_from [] d.formals legal_formals (either_false _ (has_wrong_formal before d.formals) (unbroken _ d.name.place _ rules_)).1
 
 -- ---- the body at a place of the package
 

@@ -37,6 +37,8 @@ use Rattle.step_simulation.specs.part_code.specs.Statements.{HasProcedures, IsPr
 use Rattle.package_code.specs.Package.{IsPackageOf}
 use Rattle.package_code.proofs.InFront.{LawsOfNames, known, whole}
 use Rattle.package_code.proofs.OperationBodies.{object}
+use Rattle.program_soundness.specs.step_soundness.specs.InSubtypes.{StoreLies}
+use Rattle.expr_soundness.proofs.Lies.{results_lie}
 
 -- the predefined exceptions are the first ones
 four_first : (xs : List (List ℕ)) → 4 ≤ length (predefined ++ xs)
@@ -64,6 +66,13 @@ shows_opened kept g p view o sees = record {
     objects = sees.names.objects;
   };
   objects = record { same = sees.objects.same; suited = sees.objects.suited };
+  values = record {
+    variables = sees.values.variables;
+    components = sees.values.components;
+    locals = sees.values.locals;
+    time = sees.values.time;
+    inputs = sees.values.inputs;
+  };
   components = sees.components;
   now = sees.now;
   schedule = sees.schedule;
@@ -273,13 +282,13 @@ module _ (laws : LawsOfNames) (t : ProgramTree) (legal : IsLegal t) (restricted 
 
       pub ada_linkd : QuietStays → ViewsOn → ViewsBack → i.exceptions ≡ program.exceptions
           → ((o : ℕ) (q : Procedure) → entry_of program.procedures o ≡ Some q → IsInRow o q)
-          → ((m : Store) (words : Words) (o : ℕ) → IsSoundStore program m → StandsFor program g m words → is_open program m o ≡ steps.is_open i words o)
+          → ((m : Store) (words : Words) (o : ℕ) → IsSoundStore program m → StoreLies program.scope m → StandsFor program g m words → is_open program m o ≡ steps.is_open i words o)
           → HasCode i program g numbers
       ada_linkd quiet views back exceptions rows barriers = record {
         exceptions = exceptions;
         predefined = four_first (exceptions_among (package_items t.package_));
         functions = functions_answer quiet views back i (library_of g) functions_coded
-            (λ left p sound. (known laws t legal restricted).typed.answered p sound left) (λ p view sees. sees.task)
+            (λ left. (λ p sound. (known laws t legal restricted).typed.answered p sound left, results_lie left)) (λ p view sees. sees.task)
             (shows_opened (known laws t legal restricted).kept g);
         procedures = procedures_coded;
         entries = entries_coded rows;

@@ -15,6 +15,7 @@ use Rattle.types.specs.Shapes.{value_words}
 use Rattle.type_rules.specs.SubtypeNames.{subtype_of}
 use Rattle.expr_soundness.specs.meaning.specs.Programs.{component, components_among, initial_value, items_among, objects_or_none, package_items, program_of, subtype_or_integer}
 use Rattle.program_soundness.proofs.Listing.{or_else_none}
+use Rattle.expr_code.specs.declared.refusal.ImageLimit.TheVariants as limits
 use Rattle.expr_code.specs.declared.refusal.Refusal.{Refusal}
 use Rattle.expr_code.specs.declared.refusal.Refusal.TheVariants as refusal
 use Rattle.expr_code.specs.declared.visible.Slot.{Slot}
@@ -176,11 +177,13 @@ words_both s (OfTask d ∷ xs) ys = words_both s xs ys
 
 pub refused_first : (s : Scope) (xs ys : List ItemTree) (why : Refusal) → RefusesObjects s xs why → RefusesObjects s (xs ++ ys) why
 refused_first s xs ys refusal.Memory r = tt
-refused_first s xs ys refusal.Limit r = (let e = words_both s xs ys in omega (arith, e, r))
+refused_first s xs ys (refusal.Limit limits.Words) r = (let e = words_both s xs ys in omega (arith, e, r))
+refused_first s xs ys why r = absurd r
 
 pub refused_second : (s : Scope) (xs ys : List ItemTree) (why : Refusal) → RefusesObjects s ys why → RefusesObjects s (xs ++ ys) why
 refused_second s xs ys refusal.Memory r = tt
-refused_second s xs ys refusal.Limit r = (let e = words_both s xs ys in omega (arith, e, r))
+refused_second s xs ys (refusal.Limit limits.Words) r = (let e = words_both s xs ys in omega (arith, e, r))
+refused_second s xs ys why r = absurd r
 
 pub object_refused_among : (s : Scope) (all : List Item) (n : ℕ) (x : Item) (why : Refusal) → n < length all → x ≡ get_or all n x
     → RefusesObjects s (item_tree x ∷ []) why → RefusesObjects s (map item_tree all) why
@@ -220,7 +223,7 @@ part_refused s all n x words why less is many r =
 
     by_reason : (r : Refusal) → RefusesComponent words r → RefusesComponents s ((front ++ one) ++ behind) r
     by_reason refusal.Memory h = tt
-    by_reason refusal.Limit h =
+    by_reason (refusal.Limit limits.Words) h =
         (let a = ap (λ l. length (first_words_of l)) (map-append (component s) (front ++ one) behind
         ∙ ap (λ l. l ++ map (component s) behind) (map-append (component s) front one)) in
         let b = ap length (words_more (map (component s) front ++ map (component s) one) (map (component s) behind))
@@ -228,10 +231,12 @@ part_refused s all n x words why less is many r =
         let c = ap length (words_more (map (component s) front) (map (component s) one))
         ∙ length-append (first_words_of (map (component s) front)) (first_words_of (map (component s) one)) in
         omega (arith, a, b, c, many, h))
+    by_reason r h = absurd h
 
 pub parts_refused : (s : Scope) (d : ProtectedTree) (why : Refusal) → RefusesComponents s d.components why → RefusesObjects s (OfProtected d ∷ []) why
 parts_refused s d refusal.Memory r = tt
-parts_refused s d refusal.Limit r = omega (arith, r)
+parts_refused s d (refusal.Limit limits.Words) r = omega (arith, r)
+parts_refused s d why r = absurd r
 
 -- ---- what is told
 

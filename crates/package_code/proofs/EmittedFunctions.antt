@@ -1,5 +1,5 @@
 -- Functions whose code methods have added are those of a program, in each image that holds the code.
-use Rattle.std.proofs.Common.{◌≡◌, ℕ, suc, List, [], map, length, Option, Some, refl, sym, ◌∙◌, subst, arith}
+use Rattle.std.proofs.Common.{◌≡◌, ℕ, List, [], map, length, Option, Some, refl, sym, ◌∙◌, subst, arith}
 use Rattle.ada_tree.specs.declared.expression.Identifier.{Identifier}
 use Rattle.ada_tree.specs.ExpressionTree.{ExprTree}
 use Rattle.ada_tree.specs.StatementTree.{SubprogramTree}
@@ -105,7 +105,7 @@ module _ (laws : LawsOfNames) (shaped : InitialValuesHaveShape) (t : ProgramTree
     one_word calls p view u sound sees gives =
         let agrees = subst (λ y. Agrees y.scope p) same sees.names.agrees in
         let valued = passed_same function.result (value_with calls p value) u gives in
-        let suited = adds.emits.typed calls p agrees (sound p sees.unit.sound) u valued in
+        let suited = adds.emits.typed calls p agrees (sound.0 p sees.unit.sound) u valued in
         (laws.sized (shape_of adds.later.scope result) u suited).sized ∙ adds.emits.single ∙ sym (results_are ∙ adds.results)
 
     does : DoesFunction laws t legal restricted i well_formed g of_program numbers owner d b v before number s there refl r some value last

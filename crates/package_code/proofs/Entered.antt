@@ -34,7 +34,7 @@ use Rattle.program_soundness.proofs.Callables.{function_by, procedure_by, subpro
 use Rattle.program_soundness.proofs.Formals.{AreNew}
 use Rattle.program_soundness.proofs.Same.{types_with_all}
 use Rattle.expr_code.specs.Coming.{all_words}
-use Rattle.expr_code.specs.Computing.{ArePassed}
+use Rattle.expr_code.specs.Computing.{ArePassed, ArePassedTo}
 use Rattle.expr_code.specs.Seeing.{Package, Sees, SeesPackage, library_of}
 use Rattle.expr_code.specs.Views.{IsSameTask, View}
 use Rattle.step_simulation.specs.part_code.specs.Copying.{held_at, passed_words, taken}
@@ -42,12 +42,13 @@ use Rattle.step_simulation.specs.part_code.specs.Resting.{Framed, RestsWith}
 use Rattle.step_simulation.specs.part_code.specs.Statements.{parameter_subtype}
 use Rattle.stmt_code.proofs.Beginning.{Enters, EntersOne}
 use Rattle.stmt_code.proofs.Bodies.{body_rests}
-use Rattle.stmt_code.proofs.Functions.{EntersFormals, function_sees}
+use Rattle.stmt_code.proofs.Functions.{EntersFormals, function_sees, AreScalarFormals}
 use Rattle.package_code.specs.Package.{FindsNames, HoldsAll, IsPackageOf}
-use Rattle.package_code.proofs.BodyFronts.{IsEntrance, body_suits, formals_in, front_finds, parameters_new}
+use Rattle.package_code.proofs.BodyFronts.{IsEntrance, body_suits, formals_in, front_finds, parameters_new, formals_simple}
 use Rattle.package_code.proofs.HeldParameters.{Reached, all_enter, all_long, end_reached, holds_serves, reserved_same}
 use Rattle.package_code.proofs.InFront.{LawsOfNames, known, memory}
 use Rattle.package_code.proofs.NewParameters.{AreCopiedIn, distinct_names}
+use Rattle.expr_soundness.specs.Lying.{are_between}
 
 -- ---- values of shapes are values of types
 
@@ -242,6 +243,7 @@ module _ (laws : LawsOfNames) (t : ProgramTree) (legal : IsLegal t) (restricted 
       pub function_enters : (p : Place) (view inner : View) (args : List Value) (left : ℕ) (locals : List ℤ)
           → SeesPackage g p view
           → ArePassed (map (shape_of g.scope) (map formal_subtype function.formals)) args
+          → are_between (map formal_subtype function.formals) args ≡ true
           → inner.schedule ≡ view.schedule
           → inner.now ≡ view.now
           → IsSameTask p inner
@@ -251,19 +253,21 @@ module _ (laws : LawsOfNames) (t : ProgramTree) (legal : IsLegal t) (restricted 
           → inner.words regions.Plain ≡ view.words regions.Plain
           → inner.words regions.Object ≡ object_words owner view.memory
           → Sees g last.names (entered p function args left) inner
-      function_enters p view inner args left locals sees passed schedule now task memory words rest plain object =
+      function_enters p view inner args left locals sees passed between schedule now task same_words words rest plain object =
           let long = function_takes args passed in
           let both = length-append (all_words args) locals in
           function_sees (known laws t legal restricted).kept laws.sized program g of_program.scope of_program.laid function v last before.begins
           (formals_enter program.scope program g d.formals v last 0 v.reserved modes all_entered)
-          p view inner args left locals sees passed schedule now task memory words plain object
+          (subst (λ s. AreScalarFormals s function.formals) (sym of_program.scope)
+          (formals_simple laws.scopes t owner v.names.scope d b before.front (memory laws t legal restricted) r some))
+          p view inner args left locals sees passed between schedule now task same_words words plain object
           (omega (arith, long, both, rest, room, small)) (omega (arith, long, both, rest, room))
 
       -- as the code of a function is asked for it
       pub function_code : (s : Subprogram) → s.parameters ≡ top → s.locals ≡ v.room → kind_object s.kind ≡ owner
           → (p : Place) (view inner : View) (args : List Value) (left : ℕ) (locals : List ℤ)
           → (library_of g).shared p view
-          → ArePassed ((library_of g).shapes function) args
+          → ArePassedTo (library_of g) function args
           → inner.schedule ≡ view.schedule
           → inner.now ≡ view.now
           → IsSameTask p inner
@@ -275,5 +279,5 @@ module _ (laws : LawsOfNames) (t : ProgramTree) (legal : IsLegal t) (restricted 
           → inner.left ≡ left
           → Sees g last.names (entered p function args left) inner
       function_code s takes has owned p view inner args left locals sees passed schedule now task memory words rest plain object frames =
-          function_enters p view inner args left locals sees passed schedule now task memory words (rest ∙ (λ j. has j - takes j)) plain
+          function_enters p view inner args left locals sees passed.0 passed.1 schedule now task memory words (rest ∙ (λ j. has j - takes j)) plain
           (object ∙ ap (λ o. object_words o view.memory) owned)

@@ -34,6 +34,7 @@ use Rattle.expr_code.specs.declared.visible.Slot.{Slot}
 use Rattle.step_simulation.specs.part_code.specs.Resting.{IsAt, IsAddressable, StandsFor}
 use Rattle.package_code.specs.Package.{IsPackageOf, first_objects}
 use Rattle.package_code.proofs.InFront.{LawsOfNames, last_is, memory, whole}
+use Rattle.expr_soundness.specs.Lying.{PlaceLies}
 
 -- ---- few words
 
@@ -114,10 +115,10 @@ module _ (laws : LawsOfNames) (t : ProgramTree) (legal : IsLegal t) (restricted 
         let same : b.slot ≡ slot = same_some b.slot slot (sym b.there ∙ told) in
         subst (λ l. Lies l slot.offset x.value) (sym (ap (λ m. m.objects o) words_are)) (subst (λ z. Lies ((initial_words i).objects o) z.offset x.value) same b.lies)
 
-    seen : FunctionsAreSound p → p.now ≡ view.now → p.schedule ≡ view.schedule → IsSameTask p view → IsAddressable view
+    seen : FunctionsAreSound p → PlaceLies p → p.now ≡ view.now → p.schedule ≡ view.schedule → IsSameTask p view → IsAddressable view
         → ((o : ℕ) → length (view.memory.objects o) ≤ 65536)
         → SeesPackage g p view
-    seen sound now schedule task small few = record {
+    seen sound all now schedule task small few = record {
       scope = at.scope ∙ sym of_program.scope;
       functions = at.functions ∙ sym of_program.functions;
       sound = sound;
@@ -126,6 +127,7 @@ module _ (laws : LawsOfNames) (t : ProgramTree) (legal : IsLegal t) (restricted 
         same = λ owner name. ap (λ l. subtype_among l name) (objects_are owner ∙ sym (of_program.first owner));
         suited = λ owner. subst (λ l. AreSuited g.scope l) (sym (objects_are owner)) (first_suited owner);
       };
+      values = all;
       components = parts_lie;
       now = now;
       schedule = schedule;
@@ -139,8 +141,8 @@ module _ (laws : LawsOfNames) (t : ProgramTree) (legal : IsLegal t) (restricted 
       let few = (sizes i well_formed).words in
       let objects : (o : ℕ) → length ((initial_words i).objects o) ≤ 65536 = λ o. let k = row_within i.objects o in omega (arith, few, k) in
       record {
-        shared = λ p view at now schedule task shared plain small sound.
-            seen p view at plain shared sound now schedule task small
+        shared = λ p view at now schedule task shared plain small sound all.
+            seen p view at plain shared sound all now schedule task small
             (λ o. subst (λ m. length (m.objects o) ≤ 65536) (sym shared) (objects o));
         plain = omega (arith, few);
         objects = objects;

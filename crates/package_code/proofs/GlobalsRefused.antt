@@ -1,5 +1,5 @@
 -- Why what declarations tell is not found: what refuses one of them refuses all.
-use Rattle.std.proofs.Common.{◌≡◌, ℕ, ◌+◌, ◌<◌, ◌≤◌, List, [], ◌∷◌, ◌++◌, append-nil, append_assoc, drop, get_or, length, length-append, map, take, inl, inr, sym, ap, ◌∙◌, subst, arith}
+use Rattle.std.proofs.Common.{◌≡◌, ℕ, ◌+◌, ◌<◌, ◌≤◌, List, [], ◌∷◌, ◌++◌, append-nil, append_assoc, drop, get_or, length, length-append, map, take, sym, ap, ◌∙◌, subst, arith}
 use Rattle.std.proofs.lemmas.List.{map-append, take-append-drop}
 use Rattle.base.specs.declared.limits.TheConstants.{WORDS}
 use Rattle.ada_tree.specs.declared.declaration.Item.{Item}
@@ -9,8 +9,10 @@ use Rattle.ada_tree.specs.ProgramTree.{BodyItemTree, ItemTree, OfObject, body_it
 use Rattle.types.specs.Scopes.{Scope}
 use Rattle.expr_soundness.specs.meaning.specs.Programs.{items_among, variables_among}
 use Rattle.expr_code.specs.Refusing.{IsRefused}
+use Rattle.expr_code.specs.declared.refusal.ImageLimit.TheVariants as limits
 use Rattle.expr_code.specs.declared.refusal.Refusal.{Refusal}
 use Rattle.expr_code.specs.declared.refusal.Refusal.TheVariants as refusal
+use Rattle.expr_code.proofs.Refusals.{no_limit}
 use Rattle.step_simulation.specs.part_code.proofs.Lists.{mapped_next}
 use Rattle.package_code.specs.Globals.{AddsItems, RefusesAdding, RefusesGlobals}
 use Rattle.package_code.specs.Package.{first_words_of}
@@ -37,14 +39,16 @@ less_words a b c h k = omega (arith, h, k)
 
 globals_left : (s : Scope) (front xs ys : List ItemTree) (why : Refusal) → RefusesGlobals s front xs why → RefusesGlobals s front (xs ++ ys) why
 globals_left s front xs ys refusal.Memory r = tt
-globals_left s front xs ys refusal.Limit r =
+globals_left s front xs ys (refusal.Limit limits.Words) r =
     less_words WORDS (length (first_words_of (variables_among s (front ++ xs)))) (length (first_words_of (variables_among s (front ++ (xs ++ ys))))) r
     (subst (λ l. length (first_words_of (variables_among s (front ++ xs))) ≤ length (first_words_of (variables_among s l))) (append_assoc front xs ys)
     (fewer s (front ++ xs) ys))
+globals_left s front xs ys why r = absurd r
 
 globals_right : (s : Scope) (front xs ys : List ItemTree) (why : Refusal) → RefusesGlobals s (front ++ xs) ys why → RefusesGlobals s front (xs ++ ys) why
 globals_right s front xs ys refusal.Memory r = tt
-globals_right s front xs ys refusal.Limit r = subst (λ l. WORDS < length (first_words_of (variables_among s l))) (append_assoc front xs ys) r
+globals_right s front xs ys (refusal.Limit limits.Words) r = subst (λ l. WORDS < length (first_words_of (variables_among s l))) (append_assoc front xs ys) r
+globals_right s front xs ys why r = absurd r
 
 pub adding_left : (s : Scope) (a : Globals) (xs ys : List ItemTree) (why : Refusal) → RefusesAdding s a xs why → RefusesAdding s a (xs ++ ys) why
 adding_left s a xs ys why r front are placed = globals_left s front xs ys why (r front are (placed_both s front xs ys placed).0)
@@ -86,12 +90,10 @@ body_item_refuses s a b all n x why less is h r =
 -- what is refused for want of memory alone
 pub memory_refused : (s : Scope) (a : Globals) (items : List ItemTree) (why : Refusal) → IsRefused 0 0 why → RefusesAdding s a items why
 memory_refused s a items refusal.Memory r front are placed = tt
-memory_refused s a items refusal.Limit (inl h) front are placed = absurd (omega (arith, h))
-memory_refused s a items refusal.Limit (inr (inl h)) front are placed = absurd (omega (arith, h))
-memory_refused s a items refusal.Limit (inr (inr h)) front are placed = absurd h
+memory_refused s a items (refusal.Limit limit) h front are placed = absurd (no_limit limit h)
 
 -- the words in front are more than an offset tells
-pub many_refused : (s : Scope) (a : Globals) (n : ℕ) → n ≡ length a.words.items → 65535 < n → RefusesAdding s a [] refusal.Limit
+pub many_refused : (s : Scope) (a : Globals) (n : ℕ) → n ≡ length a.words.items → 65535 < n → RefusesAdding s a [] (refusal.Limit limits.Words)
 many_refused s a n is more front are placed =
     (let e = ap length (are.words ∙ ap (λ l. first_words_of (variables_among s l)) (sym (append-nil front))) in
     under n (length a.words.items) (length (first_words_of (variables_among s (front ++ [])))) is more e)

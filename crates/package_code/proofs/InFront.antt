@@ -15,6 +15,7 @@ use Rattle.image.specs.Sections.{Sections}
 use Rattle.image.specs.declared.subprograms.Subprogram.{Subprogram}
 use Rattle.image.specs.declared.instruction.Region.TheVariants as regions
 use Rattle.types.specs.declared.entity.Role.{Role}
+use Rattle.types.specs.declared.entity.Role.TheVariants as role
 use Rattle.types.specs.declared.entity.Subtype.{Subtype}
 use Rattle.types.specs.Entities.{Entity, ProtectedObject}
 use Rattle.types.specs.Entities as entity
@@ -46,7 +47,7 @@ use Rattle.program_soundness.proofs.WiderScopes.{number_stands, one_named, stand
 use Rattle.program_soundness.proofs.Listing.{or_else_some}
 use Rattle.program_soundness.proofs.PackageBodies.{front_first}
 use Rattle.program_soundness.proofs.Trees.{tree_package}
-use Rattle.program_soundness.proofs.Whole.{IsPackage, kept}
+use Rattle.program_soundness.proofs.Whole.{IsPackage, kept, entity_variable}
 use Rattle.program_soundness.specs.ProgramLaws.{StartsAreSound}
 use Rattle.expr_code.specs.Seeing.{Package, object_named, slot_of}
 use Rattle.expr_code.specs.declared.visible.Slot.{Slot}
@@ -178,10 +179,19 @@ module _ (laws : LawsOfNames) (t : ProgramTree) (legal : IsLegal t) (restricted 
         let object_in : Option Entity → ProtectedObject = λ x. elim x [ Some y ↦ elim y [ entity.Protected z ↦ z | other ↦ q ] | None ↦ q ] in
         inl (ap object_in same)
 
+    -- an object of the package is a variable
+    no_loops : (name : List ℕ) (u : Subtype) → NamesObject s name role.LoopParameter u → ⊥
+    no_loops name u n =
+        let e : Entity = entity.Object role.LoopParameter u in
+        let there = kept_behind place name e (ap (λ z. stands z name) (sym f.scope) ∙ stands_number s name n.number e n.numbered n.stands) in
+        let bad = (entity_variable program start all whole name role.LoopParameter u there).variable_ in
+        cc
+
     pub front_of_package : IsOfPackage g v
     front_of_package = record {
       sound = front_sound;
       first = first_here;
+      no_loops = no_loops;
       plain = plain;
       slots = f.slots;
       calls = f.calls;

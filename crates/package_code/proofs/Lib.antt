@@ -49,6 +49,7 @@ pub mod Counted
 pub mod Seen
 pub mod ItemsTold
 pub mod AsTold
+mod Stops
 pub mod ToldInside
 pub mod ObjectNames
 pub mod SeenInside

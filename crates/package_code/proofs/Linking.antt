@@ -493,7 +493,7 @@ module _ (t : ProgramTree) (i : Sections) (h : HasProgram t i) where
 
     code : HasCode i program g numbers
     code = ada_linkd laws t legal restricted i g of_program numbers bodies quiet views back (h.exceptions ∙ h.are.exceptions) rows_there
-        (λ m words o store stands. barriers_agree laws t legal restricted i h.objects many_objects g ordered of_program m words store stands o)
+        (λ m words o store lying stands. barriers_agree laws t legal restricted i h.objects many_objects g ordered of_program m words store lying stands o)
 
     -- ---- main
 

@@ -1,5 +1,5 @@
 -- Which number is told of the name of a body: how many bodies stand in front of it, since no two bodies of an accepted program have one name.
-use Rattle.std.proofs.Common.{◌≡◌, ℕ, zero, suc, ◌+◌, ◌<◌, List, [], ◌∷◌, ◌++◌, append_assoc, drop, get_or, length, map, take, Bool, true, false, ◌&&◌, inl, inr, Option, Some, None, refl, sym, ap, ◌∙◌, subst, arith}
+use Rattle.std.proofs.Common.{◌≡◌, ℕ, zero, suc, ◌+◌, ◌<◌, List, [], ◌∷◌, ◌++◌, append_assoc, drop, get_or, length, map, take, Bool, true, false, ◌&&◌, Option, Some, None, refl, sym, ap, ◌∙◌, subst, arith}
 use Rattle.std.specs.Prelude.{bytes_eq, if◌then◌else◌, nat_eq, replicate, slice_get, slice_set}
 use Rattle.std.proofs.lemmas.List.{length-replicate}
 use Rattle.std.proofs.lemmas.Option.{slice_get_within}
@@ -17,13 +17,13 @@ use Rattle.program_soundness.proofs.Trees.{tree_package}
 use Rattle.program_soundness.proofs.Whole.{IsPackage}
 use Rattle.program_soundness.proofs.WiderScopes.{bytes_same, same_bytes}
 use Rattle.expr_soundness.proofs.Positions.{found_at, number_place}
-use Rattle.expr_code.specs.Refusing.{IsRefused}
 use Rattle.expr_code.specs.Seeing.{told_of}
+use Rattle.expr_code.specs.declared.refusal.ImageLimit.TheVariants as limits
 use Rattle.expr_code.specs.declared.refusal.Refusal.{Refusal}
 use Rattle.expr_code.specs.declared.refusal.Refusal.TheVariants as refusal
 use Rattle.step_simulation.specs.part_code.proofs.Lists.{mapped_next}
 use Rattle.package_code.specs.Bodies.{BodyName, Coded, bodies_among, bodies_before, bodies_of, names_among, names_in, number_from, number_in, object_number, operation_names}
-use Rattle.package_code.specs.Directory.{HaveBodyNumbers, HasManyBodies, entries_among, entries_of, numbered_item, numbered_once, numbered_with, operation_told}
+use Rattle.package_code.specs.Directory.{HaveBodyNumbers, HasManyBodies, HasNoNumbers, entries_among, entries_of, numbered_item, numbered_once, numbered_with, operation_told}
 use Rattle.package_code.specs.Laws.{BodiesAreNumbered}
 use Rattle.package_code.specs.declared.operations.OperationNumber.{OperationNumber}
 use Rattle.package_code.proofs.Coded.{IsBodyOf, among_joined, body_at, body_of, name_of, names_are, names_many}
@@ -192,10 +192,10 @@ items_numbered s all n x old new next later less is h counted more goes =
 
 -- there are more than numbers
 pub items_refused : (all : List BodyItem) (n : ℕ) (x : BodyItem) (next : ℕ) (why : Refusal) → n < length all → x ≡ get_or all n x
-    → next ≡ bodies_among (map body_item_tree (take n all)) → IsRefused (next + bodies_among (body_item_tree x ∷ [])) 0 why
+    → next ≡ bodies_among (map body_item_tree (take n all)) → HasNoNumbers (next + bodies_among (body_item_tree x ∷ [])) why
     → HasManyBodies (map body_item_tree all) why
 items_refused all n x next refusal.Memory less is counted r = tt
-items_refused all n x next refusal.Limit less is counted (inl r) =
+items_refused all n x next (refusal.Limit limits.Subprograms) less is counted r =
     let front : List BodyItemTree = map body_item_tree (take n all) in
     let one : List BodyItemTree = body_item_tree x ∷ [] in
     let behind : List BodyItemTree = map body_item_tree (drop (n + 1) all) in
@@ -203,8 +203,7 @@ items_refused all n x next refusal.Limit less is counted (inl r) =
     let b = among_joined front one in
     let c = ap bodies_among (split_at body_item_tree all n x less is) in
     omega (arith, r, counted, a, b, c)
-items_refused all n x next refusal.Limit less is counted (inr (inl r)) = absurd (omega (arith, r))
-items_refused all n x next refusal.Limit less is counted (inr (inr r)) = absurd r
+items_refused all n x next why less is counted r = absurd r
 
 -- ---- those of operations
 

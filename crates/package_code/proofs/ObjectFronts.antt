@@ -49,7 +49,7 @@ use Rattle.program_soundness.proofs.ObjectFits as fits
 use Rattle.program_soundness.proofs.ObjectTrees.{components_named}
 use Rattle.program_soundness.proofs.OfObjects as operations
 use Rattle.program_soundness.proofs.Same.{SameTypes}
-use Rattle.program_soundness.proofs.Whole.{variable_entity}
+use Rattle.program_soundness.proofs.Whole.{variable_entity, entity_variable}
 use Rattle.program_soundness.proofs.WiderScopes.{found_in, number_stands, stands, stands_number}
 use Rattle.expr_code.specs.Seeing.{AreSuited, HasObjects, NamesProfile, Package, object_named, slot_of, subprogram_of, subtype_among}
 use Rattle.expr_code.specs.declared.visible.Slot.{Slot}
@@ -681,9 +681,30 @@ module _ (laws : LawsOfNames) (t : ProgramTree) (legal : IsLegal t) (restricted 
         by_came (inr (inr c)) =
             absurd (let e = component_entity is_function object.components x (Subprogram p) c in let bad = e.1 in cc)
 
+    -- an object that is visible is a variable of the package or a component
+    no_loops : (x : List ℕ) (u : Subtype) → NamesObject s x role.LoopParameter u → ⊥
+    no_loops x u n =
+        by_came (came x (entity.Object role.LoopParameter u) (stands_number s x n.number (entity.Object role.LoopParameter u) n.numbered n.stands))
+      where
+        by_component : (f : Bool) (y : Subtype) → entity.Object role.LoopParameter u ≡ entity.Object (component_role f) y → ⊥
+        by_component true y h = cc
+        by_component false y h = cc
+
+        by_came : CameHere x (entity.Object role.LoopParameter u) → ⊥
+        by_came (inl hidden) =
+            let f = hidden_stands (front t place) own_name_number x (entity.Object role.LoopParameter u) hidden in
+            let is = object_before f.before role.LoopParameter u f.same in
+            let there = kept_behind laws t legal restricted place x f.before f.stands_ ∙ ap Some is in
+            let bad = (entity_variable program start all (whole laws t legal restricted) x role.LoopParameter u there).variable_ in
+            cc
+        by_came (inr (inl op)) = absurd (elim op.kinds [ inl h ↦ cc | inr h ↦ cc ])
+        by_came (inr (inr c)) =
+            let z = component_entity is_function object.components x (entity.Object role.LoopParameter u) c in by_component is_function z.0 z.1
+
     front_of_object : IsOfObject g object.number v
     front_of_object = record {
       within = before.within;
+      no_loops = no_loops;
       agrees = agrees_here;
       slots = placed_in;
       calls = calls_own;

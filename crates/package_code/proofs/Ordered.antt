@@ -1,5 +1,6 @@
 -- Names that stand for the same in another order: what a frame knows of the ones it knows of the others.
 use Rattle.std.proofs.Common.{◌≡◌, ℕ, List, Some, sym, ◌∙◌, arith}
+use Rattle.types.specs.declared.entity.Role.TheVariants as role
 use Rattle.types.specs.Entities.{Entity, Profile, Subprogram}
 use Rattle.types.specs.Entities as entity
 use Rattle.types.specs.Places.{Place}
@@ -61,6 +62,10 @@ narrows_same g now later sound types names slots subprograms externals room with
           agrees = agrees_same now.names.scope later.names.scope sound types names p h.sees.names.agrees;
           objects = λ name slot t value told means. h.sees.names.objects name slot t value (sym (slots name) ∙ told) means;
         };
+        loops = λ name number t u z numbered at means.
+            let e : Entity = entity.Object role.LoopParameter t in
+            let n = number_stands now.names.scope name e (sym (names name) ∙ stands_number later.names.scope name number e numbered at) in
+            h.sees.loops name n.0 t u z n.1 n.2 means;
         functions = λ name number f profile result told naming gives means.
             let n = number_stands now.names.scope name (entity.Subprogram profile)
             (sym (names name) ∙ stands_number later.names.scope name naming.number (entity.Subprogram profile) naming.numbered naming.stands) in

@@ -5,6 +5,7 @@ use Rattle.ada_tree.specs.ProgramTree.{BodyItemTree, ProgramTree, ProtectedBody,
 use Rattle.types.specs.Scopes.{Scope, number_of}
 use Rattle.expr_soundness.specs.meaning.specs.Programs.{program_of}
 use Rattle.expr_code.specs.Seeing.{slot_of, subprogram_of, told_of}
+use Rattle.expr_code.specs.declared.refusal.ImageLimit.TheVariants as limits
 use Rattle.expr_code.specs.declared.refusal.Refusal.{Refusal}
 use Rattle.expr_code.specs.declared.refusal.Refusal.TheVariants as refusal
 use Rattle.expr_code.specs.declared.visible.Slot.{Slot}
@@ -141,10 +142,15 @@ abbrev pub entries_among : Scope → (first : ℕ) → List BodyItemTree → Lis
 entries_among s first [] = []
 entries_among s first (x ∷ rest) = entries_in s first x ++ entries_among s (first + bodies_among (x ∷ [])) rest
 
--- there are more of them than numbers
+-- so many have no numbers, for want of memory or because these are fewer
+abbrev pub HasNoNumbers : (many : ℕ) → Refusal → Type 0
+HasNoNumbers many refusal.Memory = ⊤
+HasNoNumbers many (refusal.Limit limits.Subprograms) = 65535 < many
+HasNoNumbers many why = ⊥
+
+-- ... the bodies among these items
 abbrev pub HasManyBodies : List BodyItemTree → Refusal → Type 0
-HasManyBodies items refusal.Memory = ⊤
-HasManyBodies items refusal.Limit = 65535 < bodies_among items
+HasManyBodies items why = HasNoNumbers (bodies_among items) why
 
 -- ---- what is told of the names of a program
 

@@ -11,6 +11,7 @@ use Rattle.types.specs.Shapes.{value_words}
 use Rattle.type_rules.specs.SubtypeNames.{subtype_of}
 use Rattle.expr_soundness.specs.meaning.specs.Programs.{exceptions_among, initial_value, variables_among}
 use Rattle.expr_code.specs.Seeing.{told_of}
+use Rattle.expr_code.specs.declared.refusal.ImageLimit.TheVariants as limits
 use Rattle.expr_code.specs.declared.refusal.Refusal.{Refusal}
 use Rattle.expr_code.specs.declared.refusal.Refusal.TheVariants as refusal
 use Rattle.expr_code.specs.declared.visible.Slot.{Slot}
@@ -61,7 +62,8 @@ pub record AddsVariable (s : Scope) (old : Globals) (d : ObjectTree) (new : Glob
 -- why what declarations tell isn't found: for want of memory, or because variables have too many words
 abbrev pub RefusesGlobals : Scope → (front items : List ItemTree) → Refusal → Type 0
 RefusesGlobals s front items refusal.Memory = ⊤
-RefusesGlobals s front items refusal.Limit = WORDS < length (first_words_of (variables_among s (front ++ items)))
+RefusesGlobals s front items (refusal.Limit limits.Words) = WORDS < length (first_words_of (variables_among s (front ++ items)))
+RefusesGlobals s front items why = ⊥
 
 -- whatever was added in front
 abbrev pub RefusesAdding : Scope → (old : Globals) → (items : List ItemTree) → Refusal → Type 0

@@ -8,6 +8,7 @@ pub mod Providing
 pub mod Globals
 pub mod Directory
 pub mod Walking
+pub mod Stopping
 pub mod BareObjects
 pub mod Objects
 pub mod Tasks

@@ -22,6 +22,7 @@ use Rattle.type_rules.specs.SubtypeNames.{named_entity}
 use Rattle.expr_soundness.specs.meaning.specs.Calls.{is_true}
 use Rattle.expr_soundness.specs.meaning.specs.Programs.{Procedure, component, components_among, package_items, program_of}
 use Rattle.program_soundness.specs.step_soundness.specs.Fitting.{entry_of}
+use Rattle.expr_code.specs.declared.refusal.ImageLimit.TheVariants as limits
 use Rattle.expr_code.specs.declared.refusal.Refusal.{Refusal}
 use Rattle.expr_code.specs.declared.refusal.Refusal.TheVariants as refusal
 use Rattle.expr_code.specs.declared.visible.Slot.{Slot}
@@ -129,14 +130,17 @@ object_words s items = total (map (λ cs. length (first_words_of cs)) (component
 -- why their rows aren't made: for want of memory, or because components have too many words
 abbrev pub RefusesObjects : Scope → List ItemTree → Refusal → Type 0
 RefusesObjects s items refusal.Memory = ⊤
-RefusesObjects s items refusal.Limit = WORDS < object_words s items
+RefusesObjects s items (refusal.Limit limits.Words) = WORDS < object_words s items
+RefusesObjects s items why = ⊥
 
 -- ... of components of one object
 abbrev pub RefusesComponents : Scope → List ProtectedComponentTree → Refusal → Type 0
 RefusesComponents s cs refusal.Memory = ⊤
-RefusesComponents s cs refusal.Limit = WORDS < length (first_words_of (map (component s) cs))
+RefusesComponents s cs (refusal.Limit limits.Words) = WORDS < length (first_words_of (map (component s) cs))
+RefusesComponents s cs why = ⊥
 
 -- ... of one component, behind so many words of others
 abbrev pub RefusesComponent : (words : ℕ) → Refusal → Type 0
 RefusesComponent words refusal.Memory = ⊤
-RefusesComponent words refusal.Limit = WORDS < words
+RefusesComponent words (refusal.Limit limits.Words) = WORDS < words
+RefusesComponent words why = ⊥

@@ -1,5 +1,5 @@
 -- What the sections of an image have that was put together from a program.
-use Rattle.std.specs.Prelude.{◌≡◌, [], ◌∷◌, ◌++◌, ◌+◌, length, sum_by, Bool, ◌&&◌, true, nat_le}
+use Rattle.std.specs.Prelude.{◌≡◌, [], ◌∷◌, ◌++◌, ◌+◌, ◌<◌, length, sum_by, Bool, ◌&&◌, true, nat_le}
 use Rattle.std.specs.List.{list_all}
 use Rattle.base.specs.Names.{is_label, is_name}
 use Rattle.base.specs.declared.limits.TheConstants.{EXCEPTIONS, LABELS, OBJECTS, ROWS, SUBPROGRAMS, TASKS, WORDS}
@@ -9,6 +9,8 @@ use Rattle.image.specs.declared.subprograms.Kind.TheVariants as kinds
 use Rattle.expr_soundness.specs.meaning.specs.Programs.{package_items, program_of}
 use Rattle.program_soundness.specs.Fronts.{declared_in}
 use Rattle.expr_code.specs.Code.{here}
+use Rattle.expr_code.specs.declared.refusal.ImageLimit.{ImageLimit}
+use Rattle.expr_code.specs.declared.refusal.ImageLimit.TheVariants as limits
 use Rattle.stmt_code.specs.Subprograms.{AddsMain, KeepsRules}
 use Rattle.stmt_code.specs.declared.draft.Draft.{Draft}
 use Rattle.stmt_code.specs.declared.subprogram.SubprogramWords.{SubprogramWords}
@@ -56,6 +58,17 @@ is_within_limits i =
     && (nat_le (length i.tasks) TASKS && (nat_le (length i.exceptions) EXCEPTIONS
     && (nat_le (length i.labels) LABELS && (nat_le (length i.plain_words + sum_by (λ o. length o.words) i.objects) WORDS
     && (nat_le (length i.rows) ROWS && nat_le (length i.objects) OBJECTS)))))
+
+-- it has more of something than an image: this limit is passed
+abbrev pub PassesTable : Sections → ImageLimit → Type 0
+PassesTable i limits.Subprograms = SUBPROGRAMS < length i.subprograms
+PassesTable i limits.Tasks = TASKS < length i.tasks
+PassesTable i limits.Exceptions = EXCEPTIONS < length i.exceptions
+PassesTable i limits.Labels = LABELS < length i.labels
+PassesTable i limits.Words = WORDS < length i.plain_words + sum_by (λ o. length o.words) i.objects
+PassesTable i limits.Rows = ROWS < length i.rows
+PassesTable i limits.Objects = OBJECTS < length i.objects
+PassesTable i other = ⊥
 
 pub record KeepsTables (i : Sections) : Type 0 where
   pub texts : has_texts i ≡ true

@@ -9,6 +9,7 @@ use Rattle.types.specs.Layouts.{total}
 use Rattle.types.specs.Scopes.{Scope}
 use Rattle.expr_soundness.specs.meaning.specs.Programs.{components_among, package_items, program_of, returned}
 use Rattle.program_soundness.specs.Fronts.{declared_in, front, start_in}
+use Rattle.expr_code.specs.declared.refusal.ImageLimit.TheVariants as limits
 use Rattle.expr_code.specs.declared.refusal.Refusal.{Refusal}
 use Rattle.expr_code.specs.declared.refusal.Refusal.TheVariants as refusal
 use Rattle.expr_code.specs.declared.visible.Slot.{Slot}
@@ -165,14 +166,15 @@ RefusesCode t why = IsNeeding (program_bound t) (program_needs t) why ⊎ HasMan
 
 -- it has more subprograms or tasks, main's among them, or more exceptions or protected objects than an image
 abbrev pub HasMany : ProgramTree → Refusal → Type 0
-HasMany t refusal.Limit =
-    (SUBPROGRAMS < suc (bodies_among (declared_in t.package_)))
-    ⊎ ((EXCEPTIONS < length (program_of t).exceptions) ⊎ ((TASKS < length (program_of t).tasks) ⊎ (OBJECTS < (program_of t).objects)))
+HasMany t (refusal.Limit limits.Subprograms) = SUBPROGRAMS < suc (bodies_among (declared_in t.package_))
+HasMany t (refusal.Limit limits.Exceptions) = EXCEPTIONS < length (program_of t).exceptions
+HasMany t (refusal.Limit limits.Tasks) = TASKS < length (program_of t).tasks
+HasMany t (refusal.Limit limits.Objects) = OBJECTS < (program_of t).objects
 HasMany t why = ⊥
 
 -- ... or more rows of handlers
 abbrev pub HasManyRows : ProgramTree → Refusal → Type 0
-HasManyRows t refusal.Limit = ROWS < program_rows t
+HasManyRows t (refusal.Limit limits.Rows) = ROWS < program_rows t
 HasManyRows t why = ⊥
 
 -- how many words its variables and the components of its protected objects have
@@ -183,15 +185,15 @@ program_words t =
 
 -- ... or more words of these
 abbrev pub HasManyWords : ProgramTree → Refusal → Type 0
-HasManyWords t refusal.Limit = WORDS < program_words t
+HasManyWords t (refusal.Limit limits.Words) = WORDS < program_words t
 HasManyWords t why = ⊥
 
 -- Why no sections are put together: for want of memory, because of its code, or because an image has fewer of something.
 abbrev pub RefusesSections : ProgramTree → Refusal → Type 0
 RefusesSections t why = RefusesCode t why ⊎ (HasManyWords t why ⊎ (HasMany t why ⊎ HasManyRows t why))
 
--- Why an accepted program is refused. Memory may always be refused. It passes a limit where all its code may have more instructions than an image, where a
--- frame and its operand stack need more words together than a frame has, where an object takes no words, or more than an image has, or where it has more rows
--- of handlers than an image. No legal program has too many labels, words of variables and components, subprograms, exceptions or protected objects.
+-- Why an accepted program is refused. Memory may always be refused. It may pass the limit that is told: all its code may have more instructions than an image,
+-- a frame and its operand stack may need more words together than a frame has, an object takes no words, or more than an image has, or it has more rows of
+-- handlers than an image. No legal program has too many labels, words of variables and components, subprograms, exceptions or protected objects.
 abbrev pub RefusesLinking : ProgramTree → Refusal → Type 0
 RefusesLinking t why = IsNeeding (program_bound t) (program_needs t) why ⊎ HasManyRows t why

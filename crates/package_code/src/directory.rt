@@ -8,13 +8,13 @@ ghost use Rattle.expr_code.specs.Seeing.{told_of};
 ghost use Rattle.package_code.specs.Bodies.{bodies_among};
 ghost use Rattle.types.specs.Entities.{operation_value};
 ghost use Rattle.types.specs.Scopes.{number_of};
-ghost use Rattle.package_code.specs.Directory.{HaveBodyNumbers, HasManyBodies, HasEntriesSoFar, IsUnseen, TellsNext, entries_among, entry_if, first_told, is_next, number_told, numbered_item, numbered_with, operation_told, operations_told, seen_inside, slot_told};
+ghost use Rattle.package_code.specs.Directory.{HaveBodyNumbers, HasManyBodies, HasEntriesSoFar, HasNoNumbers, IsUnseen, TellsNext, entries_among, entry_if, first_told, is_next, number_told, numbered_item, numbered_with, operation_told, operations_told, seen_inside, slot_told};
 ghost use Rattle.package_code.specs.Owners.{component_names, objects_at, offered_names, told_behind_objects, told_inside, told_operation, told_slot};
 
 use crate::components::{ComponentSlot, component_slot};
 use crate::operations::{OperationNumber, number_operations, operation_number};
 use ada_tree::{BodyItem, Package};
-use expr_code::{Entries, OperationNumbers, Refusal, Slot, Visible};
+use expr_code::{Entries, ImageLimit, OperationNumbers, Refusal, Slot, Visible};
 use lexer::Text;
 use std::alloc::Global;
 use types::{Operation, RecordComponent, Scope};
@@ -82,21 +82,26 @@ fn number_item(
 ) -> Result<u16, Refusal>
     ensures numbers { OnOk result (numbers.new.items ≡ numbered_item scope.now numbers.old.items next (body_item_tree item.now)) }
     ensures next { IfOk result (λ number. number ≡ next + bodies_among (body_item_tree item.now ∷ [])) }
-    ensures refused { IfErr result (λ why. IsRefused (next + bodies_among (body_item_tree item.now ∷ [])) 0 why) }
+    ensures refused { IfErr result (λ why. HasNoNumbers (next + bodies_among (body_item_tree item.now ∷ [])) why) }
 {
     match item {
         BodyItem::Subprogram(subprogram, _) => {
             set(numbers, scope.number_of(&subprogram.name.name), next);
-            next.checked_add(1).ok_or(Refusal::Limit)
+            next.checked_add(1)
+                .ok_or(Refusal::Limit(ImageLimit::Subprograms))
         }
         BodyItem::Item(_) => Ok(next),
         BodyItem::Task(name, _) => {
             set(numbers, scope.number_of(&name.name), next);
-            next.checked_add(1).ok_or(Refusal::Limit)
+            next.checked_add(1)
+                .ok_or(Refusal::Limit(ImageLimit::Subprograms))
         }
         BodyItem::Protected(_, items, _) => {
-            let many = u16::try_from(items.len()).map_err(|_| Refusal::Limit)?;
-            next.checked_add(many).ok_or(Refusal::Limit)
+            let many = u16::try_from(items.len()).map_err(|_| Refusal::Limit(
+                ImageLimit::Subprograms,
+            ))?;
+            next.checked_add(many)
+                .ok_or(Refusal::Limit(ImageLimit::Subprograms))
         }
     }
 }

@@ -14,7 +14,7 @@ ghost use Rattle.package_code.specs.Providing.{item_tells, items_tell, tells_wor
 use crate::initial::push_initial;
 use ada_tree::{BodyItem, Identifier, Item, ObjectDeclaration, Package};
 use base::PredefinedException;
-use expr_code::{Refusal, Slot};
+use expr_code::{ImageLimit, Refusal, Slot};
 use image::Region;
 use lexer::Text;
 use std::alloc::Global;
@@ -87,7 +87,9 @@ impl Globals {
         ensures exceptions { OnOk result (self.new.exceptions ≡ self.old.exceptions) }
         ensures refused { IfErr result (λ why. RefusesAdding scope.now self.old [] why) }
     {
-        let offset = u16::try_from(self.words.len()).map_err(|_| Refusal::Limit)?;
+        let offset = u16::try_from(self.words.len()).map_err(|_| Refusal::Limit(
+            ImageLimit::Words,
+        ))?;
         if let Some(number) = scope.number_of(&name.name) {
             if let Some(slot) = self.slots.get_mut(number) {
                 *slot = Some(Slot {

@@ -12,7 +12,7 @@ ghost use Rattle.std.specs.List.{list_all};
 use crate::components::ComponentSlot;
 use crate::initial::push_initial;
 use ada_tree::{BodyItem, Identifier, Item, Package, ProtectedComponent, ProtectedDeclaration};
-use expr_code::{Refusal, Slot};
+use expr_code::{ImageLimit, Refusal, Slot};
 use image::Region;
 use std::alloc::Global;
 use std::marker::Model;
@@ -95,7 +95,7 @@ fn push_component(
     let Some(subtype) = subtype_of(scope, &part.subtype) else {
         unreachable!();
     };
-    let offset = u16::try_from(words.len()).map_err(|_| Refusal::Limit)?;
+    let offset = u16::try_from(words.len()).map_err(|_| Refusal::Limit(ImageLimit::Words))?;
     slots.push(ComponentSlot {
         object,
         name: part.name.name.clone()?,

@@ -3,12 +3,11 @@ ghost use Rattle.std.specs.Prelude.{◌≡◌, ◌+◌, ◌++◌, ◌∷◌, [],
 ghost use Rattle.ada_tree.specs.StatementTree.{optional_tree};
 ghost use Rattle.ada_tree.specs.ProgramTree.{body_item_tree, package_tree, protected_item_tree};
 ghost use Rattle.expr_soundness.specs.meaning.specs.Programs.{package_bodies};
-ghost use Rattle.expr_code.specs.Refusing.{IsRefused};
 ghost use Rattle.package_code.specs.Bodies.{bodies_among, object_number, own_name};
-ghost use Rattle.package_code.specs.Directory.{HasManyBodies, entries_among, entries_in, entries_of, operation_told};
+ghost use Rattle.package_code.specs.Directory.{HasManyBodies, HasNoNumbers, entries_among, entries_in, entries_of, operation_told};
 
 use ada_tree::{BodyItem, Identifier, Package, ProtectedBodyItem};
-use expr_code::Refusal;
+use expr_code::{ImageLimit, Refusal};
 use lexer::Text;
 use std::alloc::Global;
 use type_rules::named_entity;
@@ -51,7 +50,7 @@ fn number_operations_of(
 ) -> Result<u16, Refusal>
     ensures operations { OnOk result (operations.new.items ≡ operations.old.items ++ entries_of object first (map protected_item_tree items.now)) }
     ensures next { IfOk result (λ number. number ≡ first + length items.now) }
-    ensures refused { IfErr result (λ why. IsRefused (first + length items.now) 0 why) }
+    ensures refused { IfErr result (λ why. HasNoNumbers (first + length items.now) why) }
 {
     let mut next = first;
     for item in items {
@@ -60,7 +59,9 @@ fn number_operations_of(
             name: operation_name(item).clone()?,
             number: next,
         })?;
-        next = next.checked_add(1).ok_or(Refusal::Limit)?;
+        next = next
+            .checked_add(1)
+            .ok_or(Refusal::Limit(ImageLimit::Subprograms))?;
     }
     Ok(next)
 }
@@ -74,12 +75,16 @@ fn number_operations_in(
 ) -> Result<u16, Refusal>
     ensures operations { OnOk result (operations.new.items ≡ operations.old.items ++ entries_in scope.now next (body_item_tree item.now)) }
     ensures next { IfOk result (λ number. number ≡ next + bodies_among (body_item_tree item.now ∷ [])) }
-    ensures refused { IfErr result (λ why. IsRefused (next + bodies_among (body_item_tree item.now ∷ [])) 0 why) }
+    ensures refused { IfErr result (λ why. HasNoNumbers (next + bodies_among (body_item_tree item.now ∷ [])) why) }
 {
     match item {
         BodyItem::Item(_) => Ok(next),
-        BodyItem::Subprogram(_, _) => next.checked_add(1).ok_or(Refusal::Limit),
-        BodyItem::Task(_, _) => next.checked_add(1).ok_or(Refusal::Limit),
+        BodyItem::Subprogram(_, _) => next
+            .checked_add(1)
+            .ok_or(Refusal::Limit(ImageLimit::Subprograms)),
+        BodyItem::Task(_, _) => next
+            .checked_add(1)
+            .ok_or(Refusal::Limit(ImageLimit::Subprograms)),
         BodyItem::Protected(name, items, _) => {
             number_operations_of(operations, object_number(scope, name), next, items)
         }

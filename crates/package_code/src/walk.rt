@@ -22,7 +22,7 @@ ghost use Rattle.package_code.specs.Bodies.{components_or_none, of_object, of_op
 ghost use Rattle.package_code.specs.Directory.{IsDirectory, number_told};
 ghost use Rattle.package_code.specs.Providing.{BodiesAreCovered, MayBeAdded};
 ghost use Rattle.package_code.specs.Refusing.{RefusesCode};
-ghost use Rattle.package_code.specs.Walking.{AddsAsTold, AddsBody, AddsOperation, AddsSubprogram, AddsValueFunction, BeginsWalk, HasObjectBody, IsAsTold, IsCalledSubprogram, IsWalked, IsInObjectBody, RefusesBody, StandFrom, first_statement_place, operation_visible, row_of};
+ghost use Rattle.package_code.specs.Walking.{AddsAsTold, AddsBody, AddsOperation, AddsSubprogram, AddsValueFunction, BeginsWalk, HasObjectBody, IsAsTold, IsCalledSubprogram, IsWalked, IsInObjectBody, KeepsMade, RefusesBody, StandFrom, StopsThere, first_statement_place, operation_visible, row_of};
 
 use crate::directory::{Directory, unseen};
 use crate::inside::{see_behind, see_operation};
@@ -33,7 +33,7 @@ use ada_tree::{
 };
 use declaring::laws::object_bodies_end;
 use declaring::{declare_item, enter_object, leave_object};
-use expr_code::{OperationNumbers, Refusal, Visible};
+use expr_code::{ImageLimit, OperationNumbers, Refusal, Visible};
 use expr_soundness::laws::scopes_are_sound;
 use image::Kind;
 use legality::{inside_scope, item_name};
@@ -107,7 +107,9 @@ pub fn row(kind: Kind, words: SubprogramWords, draft: &Draft) -> Result<image::S
     ensures row { IfOk result (λ row. row ≡ row_of kind words (here draft.now.code)) }
     ensures refused { IfErr result (λ why. IsRefused (here draft.now.code) 0 why) }
 {
-    let end_ = u16::try_from(draft.code.instructions.len()).map_err(|_| Refusal::Limit)?;
+    let end_ = u16::try_from(draft.code.instructions.len()).map_err(|_| Refusal::Limit(
+        ImageLimit::Instructions,
+    ))?;
     Ok(image::Subprogram {
         kind,
         end_,
@@ -172,8 +174,8 @@ fn components_of(
 }
 
 impl Walk {
-    // In front of all of them, where these names are visible and operations have these numbers, in a program with these exceptions.
-    fn new(
+    /// In front of all of them, where these names are visible and operations have these numbers, in a program with these exceptions.
+    pub(crate) fn new(
         alloc: Global,
         scope: Scope,
         operations: OperationNumbers,
@@ -210,7 +212,7 @@ impl Walk {
         ensures keeps { IfOk result (λ words. KeepsRules false self.old.visible self.old.draft words self.new.draft) }
         ensures visible { OnOk result (self.new.visible ≡ self.old.visible) }
         ensures place { OnOk result (self.new.place ≡ self.old.place) }
-        ensures subprograms { OnOk result (self.new.subprograms ≡ self.old.subprograms) }
+        ensures subprograms { self.new.subprograms ≡ self.old.subprograms }
         ensures told { OnOk result (AddsAsTold self.old.draft (subprogram_tree subprogram.now) (body_tree body.now) self.new.draft) }
         ensures refused { IfErr result (λ why. RefusesBody self.old.visible self.old.draft
             (subprogram_tree subprogram.now) (body_tree body.now) why) }
@@ -248,7 +250,7 @@ impl Walk {
             self.new.draft) }
         ensures visible { OnOk result (self.new.visible ≡ self.old.visible) }
         ensures place { OnOk result (self.new.place ≡ self.old.place) }
-        ensures subprograms { OnOk result (self.new.subprograms ≡ self.old.subprograms) }
+        ensures subprograms { self.new.subprograms ≡ self.old.subprograms }
         ensures told { OnOk result (AddsAsTold self.old.draft (subprogram_tree subprogram.now) (body_tree body.now) self.new.draft) }
         ensures refused { IfErr result (λ why. RefusesBody self.old.visible self.old.draft
             (subprogram_tree subprogram.now) (body_tree body.now) why) }
@@ -279,6 +281,7 @@ impl Walk {
         ensures told { OnOk result (AddsAsTold self.old.draft (subprogram_tree subprogram.now) (body_tree body.now) self.new.draft) }
         ensures refused { IfErr result (λ why. RefusesBody self.old.visible self.old.draft
             (subprogram_tree subprogram.now) (body_tree body.now) why) }
+        ensures stays { IfErr result (λ why. KeepsMade why self.old.subprograms.items self.new.subprograms.items) }
     {
         let words = self.code(accepted, subprogram, body)?;
         self.subprograms
@@ -306,6 +309,7 @@ impl Walk {
             self.new.draft) }
         ensures refused { IfErr result (λ why. RefusesBody self.old.visible self.old.draft
             (of_task self.old.visible.scope name.now (body_tree body.now)).head (body_tree body.now) why) }
+        ensures stays { IfErr result (λ why. KeepsMade why self.old.subprograms.items self.new.subprograms.items) }
     {
         let words = self.draft.procedure(&mut self.visible, &[], body)?;
         self.subprograms
@@ -331,7 +335,7 @@ impl Walk {
             words self.new.draft) }
         ensures visible { OnOk result (self.new.visible ≡ self.old.visible) }
         ensures place { OnOk result (self.new.place ≡ self.old.place) }
-        ensures subprograms { OnOk result (self.new.subprograms ≡ self.old.subprograms) }
+        ensures subprograms { self.new.subprograms ≡ self.old.subprograms }
         ensures told { OnOk result (AddsAsTold self.old.draft (own_head (protected_item_tree item.now)) (own_body (protected_item_tree item.now))
             self.new.draft) }
         ensures refused { IfErr result (λ why. RefusesBody self.old.visible self.old.draft
@@ -368,6 +372,7 @@ impl Walk {
             self.new.draft) }
         ensures refused { IfErr result (λ why. RefusesBody self.old.visible self.old.draft
             (own_head (protected_item_tree item.now)) (own_body (protected_item_tree item.now)) why) }
+        ensures stays { IfErr result (λ why. KeepsMade why self.old.subprograms.items self.new.subprograms.items) }
     {
         let words = self.inside_code(accepted, item)?;
         let kind = inside_kind(object, item);
@@ -396,6 +401,7 @@ impl Walk {
         ensures refused { IfErr result (λ why. RefusesBody
             (operation_visible (program_of (program_tree accepted.now)).scope directory.now object components.now (protected_item_tree item.now)
             self.old.visible) self.old.draft (own_head (protected_item_tree item.now)) (own_body (protected_item_tree item.now)) why) }
+        ensures stays { IfErr result (λ why. KeepsMade why self.old.subprograms.items self.new.subprograms.items) }
     {
         let whole = accepted.scope();
         let inside = usize::from(object);
@@ -441,7 +447,7 @@ impl Walk {
             (object_body_scope (front (program_tree accepted.now) self.old.place) place) components.now (map protected_item_tree items.now)
             (length items.now) self.new) }
         ensures place { OnOk result (self.new.place ≡ self.old.place) }
-        ensures refused { IfErr result (λ why. RefusesCode (program_tree accepted.now) why) }
+        ensures refused { IfErr result (λ why. StopsThere (program_tree accepted.now) directory.now self.old.place self.new.subprograms.items why) }
     {
         bodies_are_numbered();
         scopes_are_sound();
@@ -474,14 +480,14 @@ impl Walk {
         ensures walked { OnOk result (IsWalked (program_tree accepted.now) directory.now self.new) }
         ensures place { OnOk result (self.new.place ≡ self.old.place + 1) }
         ensures told { OnOk result (IsAsTold (program_tree accepted.now) self.new) }
-        ensures refused { IfErr result (λ why. RefusesCode (program_tree accepted.now) why) }
+        ensures refused { IfErr result (λ why. StopsThere (program_tree accepted.now) directory.now self.old.place self.new.subprograms.items why) }
     {
         scopes_are_sound();
         names_are_known();
         premises_hold();
         object_bodies_end();
         let object = object_number(accepted.scope(), name);
-        let short = u16::try_from(object).map_err(|_| Refusal::Limit)?;
+        let short = u16::try_from(object).map_err(|_| Refusal::Limit(ImageLimit::Objects))?;
         let components = components_of(self.alloc, &self.visible.scope, number)?;
         let len = self.visible.scope.len();
         let operations = enter_object(self.alloc, &mut self.visible.scope, number)?;
@@ -518,7 +524,7 @@ impl Walk {
         ensures walked { OnOk result (IsWalked (program_tree accepted.now) directory.now self.new) }
         ensures place { OnOk result (self.new.place ≡ self.old.place + 1) }
         ensures told { OnOk result (IsAsTold (program_tree accepted.now) self.new) }
-        ensures refused { IfErr result (λ why. RefusesCode (program_tree accepted.now) why) }
+        ensures refused { IfErr result (λ why. StopsThere (program_tree accepted.now) directory.now self.old.place self.new.subprograms.items why) }
     {
         scopes_are_sound();
         names_are_known();
@@ -543,7 +549,7 @@ impl Walk {
         ensures walked { OnOk result (IsWalked (program_tree accepted.now) directory.now self.new) }
         ensures place { OnOk result (self.new.place ≡ self.old.place + 1) }
         ensures told { OnOk result (IsAsTold (program_tree accepted.now) self.new) }
-        ensures refused { IfErr result (λ why. RefusesCode (program_tree accepted.now) why) }
+        ensures refused { IfErr result (λ why. IsRefused 0 0 why) }
     {
         declare_item(self.alloc, &mut self.visible.scope, item)?;
         directory.tell(accepted.scope(), &mut self.visible, &item_name(item).name)?;
@@ -570,7 +576,7 @@ impl Walk {
         ensures walked { OnOk result (IsWalked (program_tree accepted.now) directory.now self.new) }
         ensures place { OnOk result (self.new.place ≡ self.old.place + 1) }
         ensures told { OnOk result (IsAsTold (program_tree accepted.now) self.new) }
-        ensures refused { IfErr result (λ why. RefusesCode (program_tree accepted.now) why) }
+        ensures refused { IfErr result (λ why. StopsThere (program_tree accepted.now) directory.now self.old.place self.new.subprograms.items why) }
     {
         bodies_are_numbered();
         declare_subprogram(self.alloc, &mut self.visible.scope, subprogram)?;
@@ -598,7 +604,7 @@ impl Walk {
         ensures walked { OnOk result (IsWalked (program_tree accepted.now) directory.now self.new) }
         ensures place { OnOk result (self.new.place ≡ self.old.place + 1) }
         ensures told { OnOk result (IsAsTold (program_tree accepted.now) self.new) }
-        ensures refused { IfErr result (λ why. RefusesCode (program_tree accepted.now) why) }
+        ensures refused { IfErr result (λ why. StopsThere (program_tree accepted.now) directory.now self.old.place self.new.subprograms.items why) }
     {
         bodies_are_numbered();
         self.task_body(accepted, directory, name, body)?;
@@ -606,8 +612,8 @@ impl Walk {
         Ok(())
     }
 
-    // Goes on behind declarations.
-    fn declarations(
+    /// Goes on behind declarations.
+    pub(crate) fn declarations(
         &mut self,
         accepted: &Accepted,
         directory: &Directory,
@@ -626,6 +632,40 @@ impl Walk {
             self.declaration(accepted, directory, item)?;
         }
         Ok(())
+    }
+
+    /// Goes on behind a declaration or a body.
+    ///
+    /// # Errors
+    /// `Limit` where the code of a body may pass a limit of images: no subprogram is made of that one, and those in front of it have theirs; `Memory` where
+    /// memory was refused.
+    pub(crate) fn step(
+        &mut self,
+        accepted: &Accepted,
+        directory: &Directory,
+        item: &BodyItem,
+    ) -> Result<(), Refusal>
+        requires legal { IsLegal (program_tree accepted.now) }
+        requires restricted { IsRestricted (program_tree accepted.now) }
+        requires objects { (program_of (program_tree accepted.now)).objects ≤ OBJECTS }
+        requires covered { BodiesAreCovered (program_tree accepted.now) }
+        requires walked { IsWalked (program_tree accepted.now) directory.now self.old }
+        requires directory { IsDirectory (program_tree accepted.now) directory.now }
+        requires told { IsAsTold (program_tree accepted.now) self.old }
+        requires at { slice_get (declared_in (program_tree accepted.now).package_) self.old.place ≡ Some (body_item_tree item.now) }
+        ensures walked { OnOk result (IsWalked (program_tree accepted.now) directory.now self.new) }
+        ensures place { OnOk result (self.new.place ≡ self.old.place + 1) }
+        ensures told { OnOk result (IsAsTold (program_tree accepted.now) self.new) }
+        ensures refused { IfErr result (λ why. StopsThere (program_tree accepted.now) directory.now self.old.place self.new.subprograms.items why) }
+    {
+        match item {
+            BodyItem::Item(item) => self.declaration(accepted, directory, item),
+            BodyItem::Subprogram(subprogram, body) => {
+                self.subprogram(accepted, directory, subprogram, body)
+            }
+            BodyItem::Task(name, body) => self.task(accepted, directory, name, body),
+            BodyItem::Protected(name, items, _) => self.object(accepted, directory, name, items),
+        }
     }
 
     // Goes on behind declarations and bodies.
@@ -649,16 +689,7 @@ impl Walk {
         ensures refused { IfErr result (λ why. RefusesCode (program_tree accepted.now) why) }
     {
         for item in items {
-            match item {
-                BodyItem::Item(item) => self.declaration(accepted, directory, item)?,
-                BodyItem::Subprogram(subprogram, body) => {
-                    self.subprogram(accepted, directory, subprogram, body)?;
-                }
-                BodyItem::Task(name, body) => self.task(accepted, directory, name, body)?,
-                BodyItem::Protected(name, items, _) => {
-                    self.object(accepted, directory, name, items)?;
-                }
-            }
+            self.step(accepted, directory, item)?;
         }
         Ok(())
     }
@@ -696,8 +727,8 @@ fn walk_package(
     Ok(walk)
 }
 
-// That of a program without one.
-fn walk_nothing(
+/// That of a program without one.
+pub(crate) fn walk_nothing(
     alloc: Global,
     accepted: &Accepted,
     directory: &Directory,

@@ -1,6 +1,6 @@
 -- Scopes in which each object, and each formal of what is called, has words, and no more than an image: names that a body adds keep them so.
 use Rattle.std.proofs.Common.{◌≡◌, ℕ, suc, ◌+◌, ◌≤◌, ◌⊎◌, inl, inr, Bool, true, false, cond, not, List, [], ◌∷◌, ◌++◌, length, Option, Some, None, refl, sym, ap, ◌∙◌, subst, arith}
-use Rattle.std.specs.Prelude.{bytes_eq, is_some}
+use Rattle.std.specs.Prelude.{bytes_eq, is_some, option_map}
 use Rattle.std.proofs.lemmas.Bool.{or_from}
 use Rattle.base.specs.declared.limits.TheConstants.{FRAME_WORDS, TASK_PRIORITY, WORDS}
 use Rattle.ada_tree.specs.declared.declaration.Formal.{Formal}
@@ -19,7 +19,7 @@ use Rattle.expr_soundness.specs.expr_rules.specs.Typing.{is_integers, own_of}
 use Rattle.expr_soundness.specs.expr_rules.proofs.TypedLaw.{back_empty, front_empty}
 use Rattle.expr_soundness.specs.type_rules.specs.ObjectRules.{object_entity, role_of}
 use Rattle.expr_soundness.specs.type_rules.specs.SubtypeNames.{subtype_in, subtype_of}
-use Rattle.program_soundness.specs.declaring.specs.BodyNames.{bounds_type, formal_role, formal_scope, formals_scope, if_integers, loop_scope, loop_type, parameter_entity}
+use Rattle.program_soundness.specs.declaring.specs.BodyNames.{bounds_type, formal_role, formal_scope, formals_scope, if_integers, loop_scope, loop_subtype, parameter_entity, turns_subtype}
 use Rattle.program_soundness.specs.declaring.specs.LocalRules.{local_scope, locals_scope}
 use Rattle.program_soundness.specs.declaring.specs.TaskRules.{default_priority, priority_of}
 use Rattle.program_soundness.specs.step_soundness.specs.body_restrictions.specs.BodyRules as restrictions
@@ -41,6 +41,7 @@ use Rattle.part_code.specs.Providing.{is_full}
 use Rattle.source_laws.proofs.AddedNames.{with_behind}
 use Rattle.source_laws.proofs.FullShapes.{full_fit}
 use Rattle.expr_code.proofs.NamedBehind.{operation_told}
+use Rattle.expr_code.proofs.Widths.{words_by_type}
 
 -- wherever the object's name stands for the same, so does what is named behind it
 external_by : (s : Scope) (object operation : List ℕ) (p : Profile) (x : IsBehind s object operation p) (u : Scope)
@@ -305,20 +306,23 @@ formals_inside stay s u inside (f ∷ fs) h =
     (rest_few one rest h)
 
 -- a number takes one word
-integers_few : (s : Scope) (n : ℕ) → form_at s n ≡ Some Integers → IsFew s (base_range_of n)
-integers_few s n h =
-    let x = shape_by_form s n Integers h in
-    record { known = ap is_some h; few = subst (λ y. words y ≤ WORDS) (sym x.1) (omega arith) }
+integers_few : (s : Scope) (t : Subtype) → form_at s t.type_number ≡ Some Integers → IsFew s t
+integers_few s t h =
+    let x = shape_by_form s t.type_number Integers h in
+    let one : words_of s (base_range_of t.type_number) ≡ 1 = ap words x.1 in
+    let same = words_by_type s t in
+    record { known = ap is_some h; few = omega (arith, one, same) }
 
-parameter_local : (s : Scope) (o : Option ℕ) → IsLocal s (parameter_entity (if_integers s o))
-parameter_local s None = tt
-parameter_local s (Some n) = by_form (form_at s n) refl
+parameter_local : (s : Scope) (range : RangeTree) (o : Option ℕ) → IsLocal s (parameter_entity (option_map (turns_subtype s range) (if_integers s o)))
+parameter_local s range None = tt
+parameter_local s range (Some n) = by_form (form_at s n) refl
   where
-    by_form : (f : Option TypeForm) → form_at s n ≡ f → IsLocal s (parameter_entity (elim (is_integers f) [ true ↦ Some n | false ↦ None ]))
-    by_form (Some Integers) h = integers_few s n h
+    by_form : (f : Option TypeForm) → form_at s n ≡ f
+        → IsLocal s (parameter_entity (option_map (turns_subtype s range) (elim (is_integers f) [ true ↦ Some n | false ↦ None ])))
+    by_form (Some Integers) h = integers_few s (turns_subtype s range n) h
     by_form f h = tt
 
 pub loop_inside : ShapesStay → (s u : Scope) → IsInside s u → (parameter : Identifier) (range : RangeTree) → IsInside s (loop_scope u parameter range)
 loop_inside stay s u inside parameter range =
-    inside_next stay s u inside parameter.name (parameter_entity (loop_type u range))
-    (parameter_local u (bounds_type (own_of u range.first) (own_of u range.last)))
+    inside_next stay s u inside parameter.name (parameter_entity (loop_subtype u range))
+    (parameter_local u range (bounds_type (own_of u range.first) (own_of u range.last)))

@@ -1,7 +1,7 @@
 -- What stands in a legal body tells all that its meaning takes from it: objects that it declares name subtypes of the package, and each choice of a `case` has
 -- one value wherever it is evaluated.
 use Rattle.std.proofs.Common.{◌≡◌, ◌++◌, ◌⊎◌, inl, inr, ℕ, List, [], ◌∷◌, Bool, true, false, Option, Some, None, refl, sym, ap, ◌∙◌, subst}
-use Rattle.std.specs.Prelude.{cond, not, ◌||◌, ◌&&◌}
+use Rattle.std.specs.Prelude.{cond, not, ◌||◌, ◌&&◌, option_map}
 use Rattle.base.specs.declared.faults.TheConstants.{DECLARED_TWICE, NO_MEANING, WRONG_CHOICES}
 use Rattle.ada_tree.specs.declared.expression.Identifier.{Identifier}
 use Rattle.ada_tree.specs.ExpressionTree.{ExprTree}
@@ -16,7 +16,7 @@ use Rattle.types.specs.Entities.{Booleans, Doubtful, Entity, Object, TypeForm}
 use Rattle.types.specs.Evaluating.{call, fixed_name, fixed_value}
 use Rattle.types.specs.Evaluations.{Gives}
 use Rattle.types.specs.Places.{Place}
-use Rattle.types.specs.Scopes.{Scope, base_range_of, form_at, integer_type, is_visible, number_of, with_name}
+use Rattle.types.specs.Scopes.{Scope, form_at, integer_type, is_visible, number_of, with_name}
 use Rattle.types.specs.Standings.{select_all, stands_first, stands_for}
 use Rattle.types.specs.Statics.{Keeps, StaticIsValue, start_of, static_value}
 use Rattle.types.specs.Values.{Number, Truth}
@@ -33,7 +33,7 @@ use Rattle.expr_soundness.specs.expr_rules.specs.Typing.{is_booleans, is_integer
 use Rattle.expr_soundness.specs.expr_rules.proofs.TypedLaw.{as_truth, back_empty, front_empty, same_number, unbroken}
 use Rattle.expr_soundness.specs.type_rules.specs.ObjectRules.{local_initial_faults, object_entity, role_of}
 use Rattle.expr_soundness.specs.type_rules.specs.SubtypeNames.{declared_twice, named_entity, subtype_faults, subtype_in, subtype_of}
-use Rattle.program_soundness.specs.declaring.specs.BodyNames.{last_rule, loop_faults, loop_scope, loop_type, parameter_entity}
+use Rattle.program_soundness.specs.declaring.specs.BodyNames.{last_rule, loop_faults, loop_scope, loop_type, parameter_entity, turns_subtype}
 use Rattle.program_soundness.specs.declaring.specs.LocalRules.{local_faults, local_scope, locals_faults, locals_scope}
 use Rattle.program_soundness.specs.stmt_rules.specs.CaseRules.{choice_faults, choice_value, choices_faults, choices_wanted, chosen_by, chosen_with, discrete_rule, is_chosen, is_discrete, no_more, others_rule, selecting_faults, values_faults}
 use Rattle.program_soundness.specs.stmt_rules.specs.HandlerRules.{exception_choices_faults, is_single, named_after}
@@ -228,9 +228,10 @@ module _ (statics : StaticIsValue) (declarations : DeclarationsAreSound) (whole 
       (integral s reads.sound range.last bounds.last) (ap is_integers reads.sound.integer) in
       let hidden = unbroken DECLARED_TWICE parameter.place (is_visible s parameter.name)
       (back_empty (first ++ last ++ beside) (declared_twice s parameter) h) in
-      let e : Entity = Object role.LoopParameter (base_range_of found.0) in
-      let sound = sound_with_object s parameter.name role.LoopParameter (base_range_of found.0) reads.sound found.2 in
-      subst (λ o. ReadsIn whole (with_name s parameter.name (parameter_entity o))) (sym found.1)
+      let t = turns_subtype s range found.0 in
+      let e : Entity = Object role.LoopParameter t in
+      let sound = sound_with_object s parameter.name role.LoopParameter t reads.sound found.2 in
+      subst (λ o. ReadsIn whole (with_name s parameter.name (parameter_entity (option_map (turns_subtype s range) o)))) (sym found.1)
       (read_with s parameter.name e reads refl
       (subst (λ b. SoundScope (cond b s (s ++ record { name = parameter.name; entity = e } ∷ []))) (sym hidden) sound))
 

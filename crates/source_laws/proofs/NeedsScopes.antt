@@ -1,6 +1,6 @@
 -- What is visible in a small source is small also where an object, a loop parameter or formals are visible besides.
 use Rattle.std.proofs.Common.{◌≡◌, ◌≤◌, ◌++◌, inl, inr, ◌+◌, ℕ, [], ◌∷◌, List, Bool, true, false, Option, Some, None, refl, sym, ap, ◌∙◌, subst, arith}
-use Rattle.std.specs.Prelude.{cond}
+use Rattle.std.specs.Prelude.{cond, option_map}
 use Rattle.base.specs.declared.limits.TheConstants.{WORDS}
 use Rattle.ada_tree.specs.declared.expression.Identifier.{Identifier}
 use Rattle.ada_tree.specs.StatementTree.{ObjectTree, RangeTree}
@@ -10,7 +10,7 @@ use Rattle.types.specs.declared.entity.Role.TheVariants as role
 use Rattle.types.specs.declared.entity.Subtype.{Subtype}
 use Rattle.types.specs.Entities.{Entity, Object, Profile, Protected, Subprogram}
 use Rattle.types.specs.Layouts.{words_of}
-use Rattle.types.specs.Scopes.{Scope, base_range_of, entity_at, form_at, integer_type, is_visible, number_of, with_name}
+use Rattle.types.specs.Scopes.{Scope, entity_at, form_at, integer_type, is_visible, number_of, with_name}
 use Rattle.types.specs.Shapes.{words}
 use Rattle.types.specs.Statics.{start_of}
 use Rattle.expr_soundness.specs.expr_rules.specs.declared.own.Own.{Own}
@@ -22,7 +22,7 @@ use Rattle.expr_soundness.specs.expr_rules.specs.Typing.{is_integers, is_integra
 use Rattle.expr_soundness.specs.expr_rules.proofs.TypedLaw.{back_empty, front_empty}
 use Rattle.expr_soundness.specs.type_rules.specs.ObjectRules.{local_object_scope, object_entity, role_of}
 use Rattle.expr_soundness.specs.type_rules.specs.SubtypeNames.{declared_twice, subtype_of}
-use Rattle.program_soundness.specs.declaring.specs.BodyNames.{bounds_type, if_integers, last_rule, loop_faults, loop_scope, loop_type, parameter_entity}
+use Rattle.program_soundness.specs.declaring.specs.BodyNames.{bounds_type, if_integers, last_rule, loop_faults, loop_scope, loop_type, parameter_entity, turns_subtype}
 use Rattle.expr_soundness.specs.SoundScopes.{AreKnown, IsKnown, IsSoundEntity, IsSoundObject, IsSoundProfile, SoundScope}
 use Rattle.expr_soundness.proofs.Goods.{not_empty, object_known, sound_operation, sound_result}
 use Rattle.expr_soundness.proofs.Growing.{form_before, grown, object_named, sound_with_object}
@@ -170,6 +170,8 @@ small_loop s parameter r small h =
     let bounds = bounds_legal s small.sound parameter r h in
     let found = bounds_known s (own_of s r.first) (own_of s r.last) (integral s small.sound r.first bounds.first) (integral s small.sound r.last bounds.last)
     (ap is_integers small.sound.integer) in
-    subst (λ o. IsSmallScope (with_name s parameter.name (parameter_entity o))) (sym found.1)
-    (small_named s parameter.name role.LoopParameter (base_range_of found.0) small found.2
-    (let one = integral_one s (Typed found.0) found.2 in few_words (words_of s (base_range_of found.0)) (omega (arith, one))))
+    let t = turns_subtype s r found.0 in
+    subst (λ o. IsSmallScope (with_name s parameter.name (parameter_entity (option_map (turns_subtype s r) o)))) (sym found.1)
+    (small_named s parameter.name role.LoopParameter t small found.2
+    (let one = integral_one s (Typed found.0) found.2 in
+    let same = words_by_type s t in few_words (words_of s t) (omega (arith, one, same))))

@@ -21,6 +21,8 @@ use Rattle.program_soundness.specs.ravenscar.specs.ProgramRules.{IsRestricted}
 use Rattle.expr_soundness.specs.meaning.specs.Programs.{program_of, returned, subtype_named}
 use Rattle.program_soundness.specs.Fronts.{declared_in, front, start_in}
 use Rattle.program_soundness.proofs.Listing.{same_some}
+use Rattle.expr_code.specs.declared.refusal.ImageLimit.{ImageLimit}
+use Rattle.expr_code.specs.declared.refusal.ImageLimit.TheVariants as limits
 use Rattle.expr_code.specs.declared.refusal.Refusal.TheVariants as refusal
 use Rattle.part_code.specs.Bounds.{body_words, formals_words}
 use Rattle.part_code.specs.Needs.{Needs, both, nothing}
@@ -272,16 +274,18 @@ small_has_room laws fronts covered procedures functions limit t tokens spelled l
         (record { place = k; item = x; index = n; at = at; coded = is })
 
 pub limits_told : SmallHasRoom → NothingIsUnfit → LimitsAreTold
-limits_told has_room unfit limit t tokens spelled legal restricted refused = by_reason refused
+limits_told has_room unfit limit t tokens spelled legal restricted passed refused = by_reason passed refused
   where
     roomy : StaysWithinLimits (program_needs t) → HasLargeFrames t → ⊥
     roomy room deep = let one = room.stack in let two = room.frame in omega (arith, deep, one, two)
 
-    by_reason : RefusesLinking t refusal.Limit → MayPassLimits t
-    by_reason (inl (inl many)) = inl (inl many)
-    by_reason (inl (inr (inl deep))) = inr (deep, λ small. roomy (has_room limit t tokens spelled legal restricted small) deep)
-    by_reason (inl (inr (inr bad))) = let none = unfit limit t tokens spelled legal restricted in absurd (let never = sym none ∙ bad in cc)
-    by_reason (inr many) = inl (inr many)
+    by_reason : (passed : ImageLimit) → RefusesLinking t (refusal.Limit passed) → MayPassLimits t
+    by_reason limits.Instructions (inl many) = inl (inl many)
+    by_reason limits.Frame (inl deep) = inr (deep, λ small. roomy (has_room limit t tokens spelled legal restricted small) deep)
+    by_reason limits.Block (inl bad) = let none = unfit limit t tokens spelled legal restricted in absurd (let never = sym none ∙ bad in cc)
+    by_reason limits.Rows (inr many) = inl (inr many)
+    by_reason other (inl r) = absurd r
+    by_reason other (inr r) = absurd r
 
 pub small_is_unlimited : SmallCodeFits → SmallIsUnlimited
 small_is_unlimited fits limit t tokens spelled legal restricted small (inl (inl many)) =

@@ -7,6 +7,7 @@ use Rattle.ada_tree.specs.Language.{Limit}
 use Rattle.ada_tree.specs.ProgramGrammar.{program}
 use Rattle.checking.specs.ProgramRules.{IsLegal}
 use Rattle.program_soundness.specs.ravenscar.specs.ProgramRules.{IsRestricted}
+use Rattle.expr_code.specs.declared.refusal.ImageLimit.{ImageLimit}
 use Rattle.expr_code.specs.declared.refusal.Refusal.TheVariants as refusal
 use Rattle.package_code.specs.Refusing.{RefusesLinking, program_bound, program_needs, program_rows}
 use Rattle.source_laws.specs.Depths.{StaysWithinLimits}
@@ -32,7 +33,7 @@ MayPassLimits t = IsLong t ⊎ (HasLargeFrames t × (HasSmallBodies t → ⊥))
 -- an accepted text passes no other ones
 abbrev pub LimitsAreTold : Type 0
 LimitsAreTold = (limit : Limit) (t : ProgramTree) (tokens : List Token) → program limit t tokens → IsLegal t → IsRestricted t
-    → RefusesLinking t refusal.Limit → MayPassLimits t
+    → (passed : ImageLimit) → RefusesLinking t (refusal.Limit passed) → MayPassLimits t
 
 -- and a small one passes none
 abbrev pub SmallIsUnlimited : Type 0

@@ -16,4 +16,5 @@ returns c =
       runs = c.runs_are_sound.ensures;
       met = c.steps_are_met.ensures;
       effects = c.effects_are_met.ensures;
+      subtypes = c.programs_keep_subtypes.ensures;
     })

@@ -16,7 +16,7 @@ returns-then-not-is_within_limits-clause-refused c =
       starts = c.starts_are_sound.ensures;
       fronts = c.fronts_fit.ensures;
     }) (program_tree c.args.accepted.now) c.program-program.ensures.legal c.program-program.ensures.restricted c.in_ok-linked.linked.parts c.in_ok-linked.ensures.program)
-    (sym c.is_within_limits.ensures ∙ c.if-not-is_within_limits.true)
+    c.passed_limit.result c.passed_limit.ensures
 
 pub returns-clause-tables : goal.returns-clause-tables
 returns-clause-tables c =

@@ -2,9 +2,9 @@ use Rattle.std.proofs.Common.{map, rules, subst, ◌∙◌, arith}
 use Rattle.ada_tree.specs.ProgramTree.{program_tree, protected_item_tree}
 use Rattle.declaring.specs.BodyNames.{object_body_scope}
 use Rattle.program_soundness.specs.Fronts.{front}
-use Rattle.package_code.specs.Walking.{IsInObjectBody}
+use Rattle.package_code.specs.Walking.{IsInObjectBody, StopsThere}
 use Rattle.package_code.proofs.Declared.{mapped_at}
-use Rattle.package_code.proofs.WalkedInside.{operation_covered, operation_may, operation_number_is, operation_refused, within_next}
+use Rattle.package_code.proofs.WalkedInside.{operation_covered, operation_may, operation_number_is, operation_stops, within_next}
 use Rattle.package_code.proofs.walk.Walk.operations.Goals as goal
 
 pub operation-requires-clause-added : goal.operation-requires-clause-added
@@ -51,9 +51,10 @@ loop-item-preserved c =
 pub returns-in_err-operation-clause-refused : goal.returns-in_err-operation-clause-refused
 returns-in_err-operation-clause-refused c =
     let t = program_tree c.args.accepted.now in
-    let whole = operation_refused c.scopes_are_sound.ensures c.names_are_known.ensures c.premises_hold.ensures t c.requires.legal c.requires.restricted
+    let there = operation_stops c.scopes_are_sound.ensures c.names_are_known.ensures c.premises_hold.ensures t c.requires.legal c.requires.restricted
     c.args.directory.now c.requires.directory c.args.object (object_body_scope (front t c.args.self.now.place) c.args.place) c.args.components.now
     (map protected_item_tree c.args.items.now) c.loop-item.item-index c.loop-item.self c.loop-item.invariant.0 (protected_item_tree c.item-item.result)
     (mapped_at protected_item_tree c.args.items.now c.loop-item.item-index c.item-item.result c.loop-item-test.true c.item-item.is)
-    c.in_err-operation.field-0.0 c.in_err-operation.ensures.refused in
+    c.operation.new.self.subprograms.items c.in_err-operation.field-0.0 c.in_err-operation.ensures.stays c.in_err-operation.ensures.refused in
+    let whole = subst (λ p. StopsThere t c.args.directory.now p c.operation.new.self.subprograms.items c.in_err-operation.field-0.0) c.loop-item.invariant.1 there in
     search (rules, whole)

@@ -5,7 +5,7 @@ use Rattle.expr_soundness.specs.meaning.specs.Programs.{program_of}
 use Rattle.program_soundness.specs.Fronts.{front}
 use Rattle.step_simulation.specs.part_code.specs.Providing.{HasWhatCodeNeeds}
 use Rattle.package_code.specs.Bodies.{bodies_before, of_subprogram}
-use Rattle.package_code.proofs.AsTold.{body_refused, entries_next, number_there, seen_there, subprogram_told}
+use Rattle.package_code.proofs.AsTold.{body_stops, entries_next, number_there, seen_there, subprogram_told}
 use Rattle.package_code.proofs.Told.{Grows, subprogram_grows}
 use Rattle.package_code.proofs.ItemsTold.{plus_none}
 use Rattle.package_code.proofs.Walked.{body_goes, may_be_added}
@@ -73,8 +73,8 @@ returns-in_err-body-clause-refused c =
     (body_tree c.args.body.now) c.declare_subprogram.new.scope c.scope.result.now c.tell.new.visible c.requires.told c.requires.at
     c.in_ok-declare_subprogram.ensures.ok c.scope.ensures c.in_ok-tell.ensures.tells in
     let t = program_tree c.args.accepted.now in
-    let whole = body_refused t c.args.self.now _
+    let whole = body_stops t c.args.directory.now c.args.self.now _
     (of_subprogram (front t (suc c.args.self.now.place)) (subprogram_tree c.args.subprogram.now) (body_tree c.args.body.now))
-    c.tell.new.visible c.args.self.now.draft c.in_err-body.field-0.0 c.requires.told c.requires.at refl seen refl
-    c.in_err-body.ensures.refused in
+    c.tell.new.visible c.body.new.self.subprograms.items c.in_err-body.field-0.0 c.requires.walked c.requires.told c.requires.at refl seen
+    c.in_err-body.ensures.stays c.in_err-body.ensures.refused in
     search (rules, whole)

@@ -5,7 +5,7 @@ use Rattle.program_soundness.specs.Fronts.{front}
 use Rattle.step_simulation.specs.part_code.specs.Providing.{HasWhatCodeNeeds}
 use Rattle.package_code.specs.Bodies.{bodies_before, of_task}
 use Rattle.package_code.specs.Walking.{AddsBody}
-use Rattle.package_code.proofs.AsTold.{body_refused, body_told, task_number, task_seen}
+use Rattle.package_code.proofs.AsTold.{body_stops, body_told, task_number, task_seen}
 use Rattle.package_code.proofs.ItemsTold.{plus_none}
 use Rattle.package_code.proofs.Walked.{task_goes, task_may_be_added}
 use Rattle.package_code.proofs.walk.Walk.task.Goals as goal
@@ -56,8 +56,7 @@ pub returns-in_err-task_body-clause-refused : goal.returns-in_err-task_body-clau
 returns-in_err-task_body-clause-refused c =
     let seen = task_seen (program_tree c.args.accepted.now) c.args.self.now c.args.name.now (body_tree c.args.body.now) c.requires.told c.requires.at in
     let t = program_tree c.args.accepted.now in
-    let whole = body_refused t c.args.self.now _ (of_task (front t (suc c.args.self.now.place)) c.args.name.now (body_tree c.args.body.now))
-    c.args.self.now.visible c.args.self.now.draft c.in_err-task_body.field-0.0 c.requires.told c.requires.at refl seen
-    refl
-    c.in_err-task_body.ensures.refused in
+    let whole = body_stops t c.args.directory.now c.args.self.now _ (of_task (front t (suc c.args.self.now.place)) c.args.name.now (body_tree c.args.body.now))
+    c.args.self.now.visible c.task_body.new.self.subprograms.items c.in_err-task_body.field-0.0 c.requires.walked c.requires.told c.requires.at refl seen
+    c.in_err-task_body.ensures.stays c.in_err-task_body.ensures.refused in
     search (rules, whole)
