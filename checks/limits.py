@@ -84,10 +84,10 @@ def large(declared, bodies):
 
 
 def long(count):
-    """A program with so many procedures with objects of 510 words in blocks beside each other, in one line each, beside Run."""
+    """A program with so many procedures with objects of 510 words in blocks beside each other and two calls, in one line each, beside Run."""
     text = "pragma Profile (Ravenscar);\npackage App is type Line is array (1 .. 255) of Integer; procedure Run; end App;\npackage body App is\n"
     for number in range(count):
-        text += f"procedure P{number} is begin {BLOCK} {BLOCK} end P{number};\n"
+        text += f"procedure P{number} is begin {BLOCK} {BLOCK} Run; Run; end P{number};\n"
     return text + "procedure Run is begin null; end Run;\nend App;\nwith App;\nprocedure Main is begin App.Run; end Main;\n"
 
 

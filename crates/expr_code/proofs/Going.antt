@@ -1,6 +1,7 @@
 -- Code along a path from the address of an object to that of a part: one selector, one behind the other, and the load of what stands there.
 use Rattle.std.proofs.Common.{◌≡◌, ℕ, zero, suc, ◌+◌, ◌<◌, ◌≤◌, ◌++◌, ℤ, pos, List, [], ◌∷◌, length, map, take, drop, Bool, true, false, Option, Some, None, refl, rules, sym, ap, ◌∙◌, subst, arith, inl, inr}
-use Rattle.std.specs.Prelude.{bytes_eq, cond, get_or, is_some, nat_le, not, option_map, slice_get, ◌&&◌}
+use Rattle.std.specs.Prelude.{bytes_eq, cond, get_or, is_some, nat_eq, nat_le, not, option_map, slice_get, ◌+ℤ◌, ◌-ℤ◌, ◌*ℤ◌, ◌&&◌}
+use Rattle.std.proofs.lemmas.Int.{ints}
 use Rattle.std.proofs.Math.Seq.{take-suc}
 use Rattle.std.proofs.lemmas.Bool.{and_parts}
 use Rattle.base.specs.declared.faults.TheConstants.{NAME_NOT_VISIBLE}
@@ -50,9 +51,9 @@ use Rattle.expr_code.specs.Code.{Adds, Extends, here, Holds}
 use Rattle.expr_code.specs.Computing.{Computes}
 use Rattle.expr_code.specs.Emitting.{EmitsChecked, EmitsExpression, IsFit, IsLegalExpression}
 use Rattle.expr_code.specs.Flows.{Flows}
-use Rattle.expr_code.specs.Going.{AddsByWords, AddsLessFirst, AddsOffset, AddsTwo, are_components, EmitsPath, is_component, IsLegalPart, IsLegalPath, path_size, selected, Selects}
-use Rattle.expr_code.specs.Locating.{AreTwo, IsByWords, IsLessFirst, IsOffset, IsPath, shape_in}
-use Rattle.expr_code.specs.Naming.{Lies}
+use Rattle.expr_code.specs.Going.{AddsAtOffset, AddsByWords, AddsLessFirst, AddsOffset, AddsTwo, are_components, EmitsAddress, EmitsPath, is_component, IsLegalPart, IsLegalPath, path_size, selected, Selects}
+use Rattle.expr_code.specs.Locating.{AreTwo, IsAtOffset, IsByWords, IsClose, IsLessFirst, IsNear, IsOffset, IsPath, shape_in}
+use Rattle.expr_code.specs.Naming.{Lies, loaded_at}
 use Rattle.expr_code.specs.Seeing.{library_of, Package, Sees, slot_of, Suits}
 use Rattle.expr_code.specs.declared.code.Code.{Code}
 use Rattle.expr_code.specs.declared.visible.Slot.{Slot}
@@ -62,6 +63,7 @@ use Rattle.expr_code.proofs.Checking.{is_a_number}
 use Rattle.expr_code.proofs.Flowing.{Changes, flows_same, flows_then, instruction_flows}
 use Rattle.expr_code.proofs.Growing.{added_at, added_extends, added_here, extends_self, extends_trans, holds_before, holds_later}
 use Rattle.expr_code.proofs.Names.{legal_here}
+use Rattle.expr_code.proofs.Locating.{near_close}
 use Rattle.expr_code.proofs.Paths.{computes_part, NamesStored}
 
 -- ---- shapes of composites
@@ -161,29 +163,36 @@ size_then : (one two : List SelectorTree) → path_size (one ++ two) ≡ path_si
 size_then [] two = omega arith
 size_then (x ∷ one) two = let more = size_then one two in omega (arith, more)
 
-pub stays_there : (v : Visible) (c : Code) (depth : ℕ) (t : Subtype) → EmitsPath v c depth t [] t c
-stays_there v c depth t = record {
+pub stays_there : (v : Visible) (c : Code) (depth : ℕ) (t : Subtype) (shift : ℤ) → EmitsPath v c depth t shift [] t shift c
+stays_there v c depth t shift = record {
   extends = extends_self c;
   sized = omega arith;
-  goes = λ i h unit to rest final end le path. path;
+  near = λ near. near;
+  goes = λ i h unit to rest final end whole near all_near le path. path;
   flows = flows_same (Suits v) c (depth + 1);
 }
 
-goes_then : (v : Visible) (a b c : Code) (depth : ℕ) (t m l : Subtype) (one two : List SelectorTree) → EmitsPath v a depth t one m b → EmitsPath v b depth m two l c → EmitsPath v a depth t (one ++ two) l c
-goes_then v a b c depth t m l one two p q = record {
+goes_then : (v : Visible) (a b c : Code) (depth : ℕ) (t m l : Subtype) (x y z : ℤ) (one two : List SelectorTree) → EmitsPath v a depth t x one m y b
+    → EmitsPath v b depth m y two l z c → EmitsPath v a depth t x (one ++ two) l z c
+goes_then v a b c depth t m l x y z one two p q = record {
   extends = extends_trans a b c p.extends q.extends;
   sized = let sum = size_then one two in omega (arith, p.sized, q.sized, sum);
-  goes = λ i h unit to rest final end le path.
-      subst (λ all. IsPath i (library_of unit) (Sees unit v) (here a) to t (shape_of v.scope t) all final end) (sym (selected_then one two rest))
-      (p.goes i (holds_before i (here a) b c q.extends h) unit to (selected two rest) final end (let up = q.extends.longer in omega (arith, up, le))
-      (q.goes i (holds_later i (here a) (here b) c p.extends.longer h) unit to rest final end le path));
+  near = λ near. q.near (p.near near);
+  goes = λ i h unit to rest final end whole near all_near le path.
+      subst (λ all. IsPath i (library_of unit) (Sees unit v) (here a) to (whole -ℤ x) t (shape_of v.scope t) all final end) (sym (selected_then one two rest))
+      (p.goes i (holds_before i (here a) b c q.extends h) unit to (selected two rest) final end whole near all_near
+      (let up = q.extends.longer in omega (arith, up, le))
+      (q.goes i (holds_later i (here a) (here b) c p.extends.longer h) unit to rest final end whole (p.near near) all_near le path));
   flows = flows_then (Suits v) a b c (depth + 1) (depth + 1) (depth + 1) p.extends q.extends p.flows q.flows;
 }
 
-pub goes_next : (v : Visible) (start c d : Code) (depth : ℕ) (t m l : Subtype) (all : List Selector) (n : ℕ) (x : Selector) → n < length all → x ≡ get_or all n x
-    → EmitsPath v start depth t (map selector_tree (take n all)) m c → EmitsPath v c depth m (selector_tree x ∷ []) l d → EmitsPath v start depth t (map selector_tree (take (n + 1) all)) l d
-goes_next v start c d depth t m l all n x less is p q =
-    subst (λ l'. EmitsPath v start depth t l' l d) (sym longer) (goes_then v start c d depth t m l (map selector_tree (take n all)) (selector_tree x ∷ []) p q)
+pub goes_next : (v : Visible) (start c d : Code) (depth : ℕ) (t m l : Subtype) (a b e : ℤ) (all : List Selector) (n : ℕ) (x : Selector) → n < length all
+    → x ≡ get_or all n x
+    → EmitsPath v start depth t a (map selector_tree (take n all)) m b c → EmitsPath v c depth m b (selector_tree x ∷ []) l e d
+    → EmitsPath v start depth t a (map selector_tree (take (n + 1) all)) l e d
+goes_next v start c d depth t m l a b e all n x less is p q =
+    subst (λ l'. EmitsPath v start depth t a l' l e d) (sym longer)
+    (goes_then v start c d depth t m l a b e (map selector_tree (take n all)) (selector_tree x ∷ []) p q)
   where
     last : (xs : List Selector) (y : Selector) → map selector_tree (xs ++ y ∷ []) ≡ map selector_tree xs ++ selector_tree y ∷ []
     last [] y = refl
@@ -197,9 +206,9 @@ goes_next v start c d depth t m l all n x less is p q =
         ∙ last (take n all) (get_or all n x)
         ∙ ap (λ y. map selector_tree (take n all) ++ selector_tree y ∷ []) (sym is)
 
-pub all_gone : (v : Visible) (start c : Code) (depth : ℕ) (t l : Subtype) (all : List Selector) (n : ℕ) → length all ≤ n
-    → EmitsPath v start depth t (map selector_tree (take n all)) l c → EmitsPath v start depth t (map selector_tree all) l c
-all_gone v start c depth t l all n up p = subst (λ xs. EmitsPath v start depth t (map selector_tree xs) l c) (take_all all n up) p
+pub all_gone : (v : Visible) (start c : Code) (depth : ℕ) (t l : Subtype) (a b : ℤ) (all : List Selector) (n : ℕ) → length all ≤ n
+    → EmitsPath v start depth t a (map selector_tree (take n all)) l b c → EmitsPath v start depth t a (map selector_tree all) l b c
+all_gone v start c depth t l a b all n up p = subst (λ xs. EmitsPath v start depth t a (map selector_tree xs) l b c) (take_all all n up) p
   where
     take_all : (xs : List Selector) (k : ℕ) → length xs ≤ k → take k xs ≡ xs
     take_all [] zero le = refl
@@ -215,47 +224,110 @@ pushes_word v depth z = record { operands = refl; names = λ i s g. refl; takes 
 takes_two : (v : Visible) (depth : ℕ) → Changes (Suits v) op.Add (depth + 1 + 1) (depth + 1)
 takes_two v depth = record { operands = refl; names = λ i s h. refl; takes = λ i s h. omega arith; leaves = λ i s h. omega arith; stays = refl; is_none = refl }
 
-module _ (v : Visible) (old low new : Code) (depth one two : ℕ) (t u : Subtype) (cs : List RecordComponent) (name : Identifier) (offset : ℕ) (w : ℤ) (p : one ≡ depth + 1) (q : two ≡ one + 1) (z : w ≡ pos offset)
-    (form : form_at v.scope t.type_number ≡ Some (Records cs)) (chosen : component_of cs name.name ≡ Some u) (stands : field_offset (component_shapes (shapes v.scope) cs) name.name ≡ Some offset)
-    (few : offset ≤ 65536) (ax : Adds old one (op.Push w) low) (ay : Adds low two op.Add new) where
-  pushed : Adds old (depth + 1) (op.Push (pos offset)) low
-  pushed = subst (λ n. Adds old n (op.Push (pos offset)) low) p (subst (λ y. Adds old one (op.Push y) low) z ax)
+-- what is left to tell, before and behind what one selector tells
+left_close : (whole next : ℤ) → IsNear whole → IsNear next → IsClose (whole -ℤ next)
+left_close whole next one two = omega (arith, ints, one, two)
 
-  summed : Adds low (depth + 1 + 1) op.Add new
-  summed = subst (λ n. Adds low n op.Add new) (q ∙ ap (λ n. n + 1) p) ay
+left_same : (whole shift next : ℤ) → next ≡ shift → whole -ℤ next ≡ whole -ℤ shift
+left_same whole shift next e = omega (arith, ints, e)
 
-  pub component_goes : EmitsPath v old depth t (Component name ∷ []) u new
-  component_goes =
-      let a = added_here old low (depth + 1) (op.Push (pos offset)) pushed in
-      let b = added_here low new (depth + 1 + 1) op.Add summed in
-      let ea = added_extends old low (depth + 1) (op.Push (pos offset)) pushed in
-      let eb = added_extends low new (depth + 1 + 1) op.Add summed in
-      let next : here low ≡ here old + 1 = omega (arith, a) in
-      let end_ : here new ≡ here old + 2 = omega (arith, a, b) in
-      record {
-        extends = extends_trans old low new ea eb;
-        sized = omega (arith, a, b);
-        goes = λ i h unit to rest final end le path. (
-          cs,
-          component_shapes (shapes v.scope) cs,
-          u,
-          shape_of v.scope u,
-          offset,
-          (λ pl view sees. same_form v.scope pl sees.names.agrees t.type_number (ap is_some form) ∙ form),
-          (λ pl view sees. grouped_shape v.scope sees.names.agrees.sound t cs form),
-          chosen,
-          shape_named (shapes v.scope) cs name.name u chosen,
-          stands,
-          few,
-          added_at old low (depth + 1) (op.Push (pos offset)) pushed i (here old) (omega arith) (holds_before i (here old) low new eb h),
-          subst (λ n. At i n op.Add) next (added_at low new (depth + 1 + 1) op.Add summed i (here old) (omega (arith, a)) h),
-          omega (arith, le, end_),
-          subst (λ n. IsPath i (library_of unit) (Sees unit v) n to u (shape_of v.scope u) rest final end) end_ path,
-        );
-        flows = flows_then (Suits v) old low new (depth + 1) (depth + 1 + 1) (depth + 1) ea eb
-            (instruction_flows (Suits v) old low (depth + 1) (depth + 1 + 1) (op.Push (pos offset)) pushed (pushes_word v (depth + 1) (pos offset)))
-            (instruction_flows (Suits v) low new (depth + 1 + 1) (depth + 1) op.Add summed (takes_two v depth));
-      }
+left_less : (whole shift next part : ℤ) → next ≡ shift +ℤ part → whole -ℤ next ≡ (whole -ℤ shift) -ℤ part
+left_less whole shift next part e = omega (arith, ints, e)
+
+left_more : (whole shift next part : ℤ) → next ≡ shift -ℤ part → whole -ℤ next ≡ (whole -ℤ shift) +ℤ part
+left_more whole shift next part e = omega (arith, ints, e)
+
+-- the offset of a component of a record
+record IsOffsetAdded (v : Visible) (depth offset : ℕ) (shift next : ℤ) (old new : Code) : Type 0 where
+  extends : Extends old new
+  few : here new ≤ here old + 2
+  near : IsNear shift → IsNear next
+  at : (i : Sections) (from : ℕ) (whole : ℤ) → from ≤ here old → Holds i from new → IsAtOffset i (here old) (here new) offset (whole -ℤ shift) (whole -ℤ next)
+  flows : Flows (Suits v) old (depth + 1) new (depth + 1)
+
+-- two instructions that find so many words, of which the first pushes one
+record PushesAnd (v : Visible) (depth : ℕ) (a b : Operation) (old new : Code) : Type 0 where
+  extends : Extends old new
+  long : here new ≡ here old + 2
+  at : (i : Sections) (from : ℕ) → from ≤ here old → Holds i from new → AreTwo i (here old) (here new) a b
+  flows : Flows (Suits v) old depth new depth
+
+pushes_and : (v : Visible) (depth : ℕ) (a b : Operation) (old new : Code) → Changes (Suits v) a depth (depth + 1) → Changes (Suits v) b (depth + 1) depth
+    → AddsTwo old depth a b new → PushesAnd v depth a b old new
+pushes_and v depth a b old new first second x =
+    let one = added_here old x.pushed depth a x.push in
+    let two = added_here x.pushed new (depth + 1) b x.then in
+    let up = added_extends old x.pushed depth a x.push in
+    let on = added_extends x.pushed new (depth + 1) b x.then in
+    let next : here x.pushed ≡ here old + 1 = omega (arith, one) in
+    record {
+      extends = extends_trans old x.pushed new up on;
+      long = omega (arith, one, two);
+      at = λ i from le h. (
+        added_at old x.pushed depth a x.push i from le (holds_before i from x.pushed new on h),
+        subst (λ n. At i n b) next (added_at x.pushed new (depth + 1) b x.then i from (omega (arith, le, next)) h),
+        omega (arith, one, two),
+      );
+      flows =
+          flows_then (Suits v) old x.pushed new depth (depth + 1) depth up on
+          (instruction_flows (Suits v) old x.pushed depth (depth + 1) a x.push first)
+          (instruction_flows (Suits v) x.pushed new (depth + 1) depth b x.then second);
+    }
+
+is_offset : (v : Visible) (depth offset : ℕ) (shift next : ℤ) (old new : Code) → AddsAtOffset old (depth + 1) offset shift next new
+    → IsOffsetAdded v depth offset shift next old new
+is_offset v depth offset shift next old new (inl x) =
+    let two = pushes_and v (depth + 1) (op.Push (pos offset)) op.Add old new (pushes_word v (depth + 1) (pos offset)) (takes_two v depth) x.0 in
+    let long = two.long in
+    record {
+      extends = two.extends;
+      few = omega (arith, long);
+      near = λ near. subst IsNear (sym x.1) near;
+      at = λ i from whole le h. inl (two.at i from le h, left_same whole shift next x.1);
+      flows = two.flows;
+    }
+is_offset v depth offset shift next old new (inr x) = subst (λ c. IsOffsetAdded v depth offset shift next old c) (sym x.0)
+    (record {
+      extends = extends_self old;
+      few = omega arith;
+      near = λ near. x.2;
+      at = λ i from whole le h. inr (refl, left_less whole shift next (pos offset) x.1);
+      flows = flows_same (Suits v) old (depth + 1);
+    })
+
+module _ (v : Visible) (old new : Code) (depth one : ℕ) (t u : Subtype) (shift next : ℤ) (cs : List RecordComponent) (name : Identifier) (offset : ℕ)
+    (p : one ≡ depth + 1) (form : form_at v.scope t.type_number ≡ Some (Records cs)) (chosen : component_of cs name.name ≡ Some u)
+    (stands : field_offset (component_shapes (shapes v.scope) cs) name.name ≡ Some offset)
+    (few : offset ≤ 65536) (adds : AddsAtOffset old one offset shift next new) where
+  added : IsOffsetAdded v depth offset shift next old new
+  added = is_offset v depth offset shift next old new (subst (λ n. AddsAtOffset old n offset shift next new) p adds)
+
+  pub component_goes : EmitsPath v old depth t shift (Component name ∷ []) u next new
+  component_goes = record {
+    extends = added.extends;
+    sized = (let n = added.few in omega (arith, n));
+    near = added.near;
+    goes = λ i h unit to rest final end whole near all_near le path. (
+      cs,
+      component_shapes (shapes v.scope) cs,
+      u,
+      shape_of v.scope u,
+      offset,
+      here new,
+      whole -ℤ next,
+      (λ pl view sees. same_form v.scope pl sees.names.agrees t.type_number (ap is_some form) ∙ form),
+      (λ pl view sees. grouped_shape v.scope sees.names.agrees.sound t cs form),
+      chosen,
+      shape_named (shapes v.scope) cs name.name u chosen,
+      stands,
+      few,
+      added.at i (here old) whole (omega arith) h,
+      left_close whole next all_near (added.near near),
+      le,
+      path,
+    );
+    flows = added.flows;
+  }
 
 -- ---- a component of an array
 
@@ -265,49 +337,35 @@ subtracts v depth = record { operands = refl; names = λ i s h. refl; takes = λ
 multiplies : (v : Visible) (depth : ℕ) → Changes (Suits v) op.Multiply (depth + 1 + 1) (depth + 1)
 multiplies v depth = record { operands = refl; names = λ i s h. refl; takes = λ i s h. omega arith; leaves = λ i s h. omega arith; stays = refl; is_none = refl }
 
--- two instructions that find a number on top, and leave one there
-record ByTwo (v : Visible) (depth : ℕ) (a b : Operation) (old new : Code) : Type 0 where
-  extends : Extends old new
-  long : here new ≡ here old + 2
-  at : (i : Sections) (from : ℕ) → from ≤ here old → Holds i from new → AreTwo i (here old) (here new) a b
-  flows : Flows (Suits v) old (depth + 1 + 1) new (depth + 1 + 1)
-
-by_two : (v : Visible) (depth : ℕ) (a b : Operation) (old new : Code) → Changes (Suits v) a (depth + 1 + 1) (depth + 1 + 1 + 1)
-    → Changes (Suits v) b (depth + 1 + 1 + 1) (depth + 1 + 1) → AddsTwo old (depth + 1 + 1) a b new → ByTwo v depth a b old new
-by_two v depth a b old new first second x =
-    let one = added_here old x.pushed (depth + 1 + 1) a x.push in
-    let two = added_here x.pushed new (depth + 1 + 1 + 1) b x.then in
-    let up = added_extends old x.pushed (depth + 1 + 1) a x.push in
-    let on = added_extends x.pushed new (depth + 1 + 1 + 1) b x.then in
-    let next : here x.pushed ≡ here old + 1 = omega (arith, one) in
-    record {
-      extends = extends_trans old x.pushed new up on;
-      long = omega (arith, one, two);
-      at = λ i from le h. (
-        added_at old x.pushed (depth + 1 + 1) a x.push i from le (holds_before i from x.pushed new on h),
-        subst (λ n. At i n b) next (added_at x.pushed new (depth + 1 + 1 + 1) b x.then i from (omega (arith, le, next)) h),
-        omega (arith, one, two),
-      );
-      flows =
-          flows_then (Suits v) old x.pushed new (depth + 1 + 1) (depth + 1 + 1 + 1) (depth + 1 + 1) up on
-          (instruction_flows (Suits v) old x.pushed (depth + 1 + 1) (depth + 1 + 1 + 1) a x.push first)
-          (instruction_flows (Suits v) x.pushed new (depth + 1 + 1 + 1) (depth + 1 + 1) b x.then second);
-    }
-
 -- an index less the first one
-record IsLess (v : Visible) (depth : ℕ) (first : ℤ) (old new : Code) : Type 0 where
+record IsLess (v : Visible) (depth : ℕ) (first : ℤ) (size : ℕ) (shift next : ℤ) (old new : Code) : Type 0 where
   extends : Extends old new
   few : here new ≤ here old + 2
-  at : (i : Sections) (from : ℕ) → from ≤ here old → Holds i from new → IsLessFirst i (here old) (here new) first
+  near : IsNear shift → IsNear next
+  at : (i : Sections) (from : ℕ) (whole : ℤ) → from ≤ here old → Holds i from new
+      → IsLessFirst i (here old) (here new) first size (whole -ℤ shift) (whole -ℤ next)
   flows : Flows (Suits v) old (depth + 1 + 1) new (depth + 1 + 1)
 
-is_less : (v : Visible) (depth : ℕ) (first : ℤ) (old new : Code) → AddsLessFirst old (depth + 1 + 1) first new → IsLess v depth first old new
-is_less v depth first old new (inl x) =
-    let two = by_two v depth (op.Push first) op.Subtract old new (pushes_word v (depth + 1 + 1) first) (subtracts v (depth + 1)) x in
+is_less : (v : Visible) (depth : ℕ) (first : ℤ) (size : ℕ) (shift next : ℤ) (old new : Code) → AddsLessFirst old (depth + 1 + 1) first size shift next new
+    → IsLess v depth first size shift next old new
+is_less v depth first size shift next old new (inl x) =
+    let two = pushes_and v (depth + 1 + 1) (op.Push first) op.Subtract old new (pushes_word v (depth + 1 + 1) first) (subtracts v (depth + 1)) x.0 in
     let long = two.long in
-    record { extends = two.extends; few = omega (arith, long); at = λ i from le h. inl (two.at i from le h); flows = two.flows }
-is_less v depth first old new (inr x) = subst (λ c. IsLess v depth first old c) (sym x.1)
-    (record { extends = extends_self old; few = omega arith; at = λ i from le h. inr (x.0, refl); flows = flows_same (Suits v) old (depth + 1 + 1) })
+    record {
+      extends = two.extends;
+      few = omega (arith, long);
+      near = λ near. subst IsNear (sym x.1) near;
+      at = λ i from whole le h. inl (two.at i from le h, left_same whole shift next x.1);
+      flows = two.flows;
+    }
+is_less v depth first size shift next old new (inr x) = subst (λ c. IsLess v depth first size shift next old c) (sym x.0)
+    (record {
+      extends = extends_self old;
+      few = omega arith;
+      near = λ near. x.2;
+      at = λ i from whole le h. inr (refl, left_more whole shift next (first *ℤ pos size) x.1);
+      flows = flows_same (Suits v) old (depth + 1 + 1);
+    })
 
 -- ... by the words of a component
 record IsProduct (v : Visible) (depth size : ℕ) (old new : Code) : Type 0 where
@@ -318,22 +376,24 @@ record IsProduct (v : Visible) (depth size : ℕ) (old new : Code) : Type 0 wher
 
 is_product : (v : Visible) (depth size : ℕ) (old new : Code) → AddsByWords old (depth + 1 + 1) size new → IsProduct v depth size old new
 is_product v depth size old new (inl x) =
-    let two = by_two v depth (op.Push (pos size)) op.Multiply old new (pushes_word v (depth + 1 + 1) (pos size)) (multiplies v (depth + 1)) x in
+    let two = pushes_and v (depth + 1 + 1) (op.Push (pos size)) op.Multiply old new (pushes_word v (depth + 1 + 1) (pos size)) (multiplies v (depth + 1)) x in
     let long = two.long in
     record { extends = two.extends; few = omega (arith, long); at = λ i from le h. inl (two.at i from le h); flows = two.flows }
 is_product v depth size old new (inr x) = subst (λ c. IsProduct v depth size old c) (sym x.1)
     (record { extends = extends_self old; few = omega arith; at = λ i from le h. inr (x.0, refl); flows = flows_same (Suits v) old (depth + 1 + 1) })
 
 -- where what makes of an index an address stands
-record IsScaled (v : Visible) (depth : ℕ) (first : ℤ) (size : ℕ) (old new : Code) : Type 0 where
+record IsScaled (v : Visible) (depth : ℕ) (first : ℤ) (size : ℕ) (shift next : ℤ) (old new : Code) : Type 0 where
   extends : Extends old new
   few : here new ≤ here old + 5
-  at : (i : Sections) (from : ℕ) → from ≤ here old → Holds i from new → IsOffset i (here old) (here new) first size
+  near : IsNear shift → IsNear next
+  at : (i : Sections) (from : ℕ) (whole : ℤ) → from ≤ here old → Holds i from new → IsOffset i (here old) (here new) first size (whole -ℤ shift) (whole -ℤ next)
   flows : Flows (Suits v) old (depth + 1 + 1) new (depth + 1)
 
-is_scaled : (v : Visible) (depth : ℕ) (first : ℤ) (size : ℕ) (old new : Code) → AddsOffset old (depth + 1 + 1) first size new → IsScaled v depth first size old new
-is_scaled v depth first size old new x =
-    let less = is_less v depth first old x.counted x.less in
+is_scaled : (v : Visible) (depth : ℕ) (first : ℤ) (size : ℕ) (shift next : ℤ) (old new : Code) → AddsOffset old (depth + 1 + 1) first size shift next new
+    → IsScaled v depth first size shift next old new
+is_scaled v depth first size shift next old new x =
+    let less = is_less v depth first size shift next old x.counted x.less in
     let product = is_product v depth size x.counted x.scaled x.product in
     let last = added_here x.scaled new (depth + 1 + 1) op.Add x.add in
     let grows = added_extends x.scaled new (depth + 1 + 1) op.Add x.add in
@@ -345,10 +405,11 @@ is_scaled v depth first size old new x =
     record {
       extends = extends_trans old x.counted new less.extends rest;
       few = omega (arith, one, two, last);
-      at = λ i from le h. record {
+      near = less.near;
+      at = λ i from whole le h. record {
         counted = here x.counted;
         scaled = here x.scaled;
-        less = less.at i from le (holds_before i from x.counted new rest h);
+        less = less.at i from whole le (holds_before i from x.counted new rest h);
         product = product.at i from (omega (arith, le, low)) (holds_before i from x.scaled new grows h);
         add = added_at x.scaled new (depth + 1 + 1) op.Add x.add i from (omega (arith, le, low, high)) h;
         end = omega (arith, last);
@@ -361,18 +422,23 @@ is_scaled v depth first size old new x =
 
 module _ (quiet : QuietStays) (laws : ExpressionsAreTyped) (v : Visible) (old mid new : Code) (depth one two : ℕ) (t index u : Subtype) (many : ℕ) (e : ExprTree) (w : ℕ) (p : one ≡ depth + 1) (q : two ≡ one + 1)
     (form : form_at v.scope t.type_number ≡ Some (Arrays index many u)) (first : ℤ) (same : first ≡ index.first) (legal : IsLegalPart v.scope t (Arguments (MoreArguments (tree.Value e) NoArguments)))
-    (few : many ≤ 65536) (size : w ≡ words_of v.scope u) (value : EmitsChecked v old one index e mid) (adds : AddsOffset mid two first w new) where
+    (few : many ≤ 65536) (size : w ≡ words_of v.scope u) (shift next : ℤ) (value : EmitsChecked v old one index e mid)
+    (adds : AddsOffset mid two first w shift next new) where
   checked : EmitsChecked v old (depth + 1) index e mid
   checked = subst (λ n. EmitsChecked v old n index e mid) p value
 
-  scaled : IsScaled v depth index.first (words_of v.scope u) mid new
-  scaled = is_scaled v depth index.first (words_of v.scope u) mid new (subst (λ n. AddsOffset mid n index.first (words_of v.scope u) new) (q ∙ ap (λ n. n + 1) p) (subst (λ n. AddsOffset mid two index.first n new) size (subst (λ z. AddsOffset mid two z w new) same adds)))
+  scaled : IsScaled v depth index.first (words_of v.scope u) shift next mid new
+  scaled =
+      is_scaled v depth index.first (words_of v.scope u) shift next mid new
+      (subst (λ n. AddsOffset mid n index.first (words_of v.scope u) shift next new) (q ∙ ap (λ n. n + 1) p)
+      (subst (λ n. AddsOffset mid two index.first n shift next new) size (subst (λ z. AddsOffset mid two z w shift next new) same adds)))
 
-  pub element_goes : EmitsPath v old depth t (Arguments (MoreArguments (tree.Value e) NoArguments) ∷ []) u new
+  pub element_goes : EmitsPath v old depth t shift (Arguments (MoreArguments (tree.Value e) NoArguments) ∷ []) u next new
   element_goes = record {
     extends = extends_trans old mid new checked.extends scaled.extends;
     sized = let n = scaled.few in omega (arith, checked.sized, n);
-    goes = λ i h unit to rest final end le path.
+    near = scaled.near;
+    goes = λ i h unit to rest final end whole near all_near le path.
         let up = checked.extends.longer in (
           index,
           u,
@@ -380,6 +446,7 @@ module _ (quiet : QuietStays) (laws : ExpressionsAreTyped) (v : Visible) (old mi
           shape_of v.scope u,
           here mid,
           here new,
+          whole -ℤ next,
           (λ pl view sees. same_form v.scope pl sees.names.agrees t.type_number (ap is_some form) ∙ form),
           (λ pl view sees. repeated_shape v.scope sees.names.agrees.sound t index many u form),
           few,
@@ -387,7 +454,8 @@ module _ (quiet : QuietStays) (laws : ExpressionsAreTyped) (v : Visible) (old mi
           checked.computes i (holds_before i (here old) mid new scaled.extends h) unit,
           (λ calls pl view x sound sees is.
               is_a_number laws i v unit index e (index_fit v.scope t index u many e form legal) (index_integers v.scope sees.names.agrees.sound t index many u form) calls pl view x sound sees is),
-          scaled.at i (here old) up h,
+          scaled.at i (here old) whole up h,
+          left_close whole next all_near (scaled.near near),
           le,
           path,
         );
@@ -432,16 +500,38 @@ pub path_counts : (all : List Selector) → path_size (map selector_tree all) �
 path_counts [] = refl
 path_counts (x ∷ all) = let more = path_counts all in omega (arith, more)
 
-module _ (quiet : QuietStays) (sized : ValuesHaveWords) (places : PartsHavePlaces) (v : Visible) (old low mid new : Code) (depth one size : ℕ) (first : Identifier) (selectors : List Selector) (r : Role) (t last : Subtype)
-    (slot : Slot) (w : ℤ) (p : one ≡ depth + 1) (z : w ≡ pos slot.offset) (legal : IsLegalExpression v.scope (tree.Named first (selector_trees selectors)))
+module _ (quiet : QuietStays) (sized : ValuesHaveWords) (places : PartsHavePlaces) (v : Visible) (old mid new : Code) (depth one size : ℕ) (first : Identifier) (selectors : List Selector) (r : Role) (t last : Subtype)
+    (slot : Slot) (p : one ≡ depth + 1) (legal : IsLegalExpression v.scope (tree.Named first (selector_trees selectors)))
     (stands : stands_first v.scope (number_of v.scope first.name) ≡ standing.Part r t) (valueless : fixed_value (standing_of v.scope first (selector_trees selectors)) ≡ None)
-    (there : slot_of v first.name ≡ Some slot) (parts : bare_name (tree.Named first (selector_trees selectors)) ≡ None) (many : words_of v.scope last ≡ size) (block : is_block size ≡ true) (ax : Adds old depth (op.Push w) low) (path : EmitsPath v low depth t (map selector_tree selectors) last mid)
-    (ay : Adds mid one (op.LoadBlock slot.region size) new) where
-  pushes : Adds old depth (op.Push (pos slot.offset)) low
-  pushes = subst (λ y. Adds old depth (op.Push y) low) z ax
+    (there : slot_of v first.name ≡ Some slot) (parts : bare_name (tree.Named first (selector_trees selectors)) ≡ None) (many : words_of v.scope last ≡ size) (block : is_block size ≡ true)
+    (address : EmitsAddress v old depth slot.offset t (selector_trees selectors) last mid)
+    (ay : Adds mid one (loaded_at slot.region size) new) where
+  loads : Adds mid (depth + 1) (loaded_at slot.region size) new
+  loads = subst (λ n. Adds mid n (loaded_at slot.region size) new) p ay
 
-  loads : Adds mid (depth + 1) (op.LoadBlock slot.region size) new
-  loads = subst (λ n. Adds mid n (op.LoadBlock slot.region size) new) p ay
+  load_flows : Changes (Suits v) (loaded_at slot.region size) (depth + 1) (depth + size)
+  load_flows = by_count (nat_eq size 1) refl
+    where
+      one_word : (n : ℕ) → nat_eq n 1 ≡ true → n ≡ 1
+      one_word n h = search rules
+
+      by_count : (b : Bool) → nat_eq size 1 ≡ b → Changes (Suits v) (cond b (op.LoadIndexed slot.region) (op.LoadBlock slot.region size)) (depth + 1) (depth + size)
+      by_count true e = (let single = one_word size e in record {
+        operands = refl;
+        names = λ i s g. g.region first.name slot there;
+        takes = λ i s g. omega arith;
+        leaves = λ i s g. omega (arith, single);
+        stays = refl;
+        is_none = refl;
+      })
+      by_count false e = record {
+        operands = block;
+        names = λ i s g. g.region first.name slot there;
+        takes = λ i s g. omega arith;
+        leaves = λ i s g. omega arith;
+        stays = refl;
+        is_none = refl;
+      }
 
   stored : (unit : Package) → NamesStored (Sees unit v) first (selector_trees selectors) t (shape_of v.scope t) slot.region slot.offset
   stored unit pl view sees = by_part here_.denotes
@@ -468,33 +558,25 @@ module _ (quiet : QuietStays) (sized : ValuesHaveWords) (places : PartsHavePlace
 
   pub part_emits : EmitsExpression v old depth size (tree.Named first (selector_trees selectors)) new
   part_emits =
-      let a = added_here old low depth (op.Push (pos slot.offset)) pushes in
-      let b = added_here mid new (depth + 1) (op.LoadBlock slot.region size) loads in
-      let ea = added_extends old low depth (op.Push (pos slot.offset)) pushes in
-      let eb = added_extends mid new (depth + 1) (op.LoadBlock slot.region size) loads in
-      let up = path.extends.longer in
-      let next : here low ≡ here old + 1 = omega (arith, a) in
-      let whole = extends_trans low mid new path.extends eb in
-      let all : selected (map selector_tree selectors) NoSelectors ≡ selector_trees selectors = selected_all selectors in
+      let b = added_here mid new (depth + 1) (loaded_at slot.region size) loads in
+      let eb = added_extends mid new (depth + 1) (loaded_at slot.region size) loads in
+      let up = address.longer in
+      let next : suc (here old) ≡ here old + 1 = omega arith in
       record {
-        extends = extends_trans old low new ea whole;
-        sized = let same = path_counts selectors in omega (arith, a, b, path.sized, same);
+        extends = extends_trans old mid new address.extends eb;
+        sized = (let n = address.sized in omega (arith, b, n));
         computes = λ i h unit.
             let in_mid = holds_before i (here old) mid new eb h in
-            let along : IsPath i (library_of unit) (Sees unit v) (here low) (here mid) t (shape_of v.scope t) (selected (map selector_tree selectors) NoSelectors) last (shape_of v.scope last) =
-            path.goes i (holds_later i (here old) (here low) mid (omega (arith, a)) in_mid) unit (here mid) NoSelectors last (shape_of v.scope last) (omega arith) (refl, refl, refl) in
             subst (λ n. Computes i (library_of unit) (Sees unit v) (here old) n (tree.Named first (selector_trees selectors))) (sym b)
-            (computes_part quiet sized places i (library_of unit) (Sees unit v) slot.region (here old) (here mid) slot.offset first (selector_trees selectors) t last (shape_of v.scope t) (shape_of v.scope last)
-            (omega (arith, a, up)) (stored unit)
-            (added_at old low depth (op.Push (pos slot.offset)) pushes i (here old) (omega arith) (holds_before i (here old) low mid path.extends in_mid))
-            (subst (λ xs. IsPath i (library_of unit) (Sees unit v) (here old + 1) (here mid) t (shape_of v.scope t) xs last (shape_of v.scope last)) all
-            (subst (λ n. IsPath i (library_of unit) (Sees unit v) n (here mid) t (shape_of v.scope t) (selected (map selector_tree selectors) NoSelectors) last (shape_of v.scope last)) next along))
-            (subst (λ n. At i (here mid) (op.LoadBlock slot.region n)) (sym many) (added_at mid new (depth + 1) (op.LoadBlock slot.region size) loads i (here old) (omega (arith, a, up)) h)));
-        flows = flows_then (Suits v) old low new depth (depth + 1) (depth + size) ea whole
-            (instruction_flows (Suits v) old low depth (depth + 1) (op.Push (pos slot.offset)) pushes (pushes_word v depth (pos slot.offset)))
-            (flows_then (Suits v) low mid new (depth + 1) (depth + 1) (depth + size) path.extends eb path.flows
-            (instruction_flows (Suits v) mid new (depth + 1) (depth + size) (op.LoadBlock slot.region size) loads
-            (record { operands = block; names = λ i s g. g.region first.name slot there; takes = λ i s g. omega arith; leaves = λ i s g. omega arith; stays = refl; is_none = refl })));
+            (computes_part quiet sized places i (library_of unit) (Sees unit v) slot.region (here old) (here mid) slot.offset address.shift first
+            (selector_trees selectors) t last (shape_of v.scope t) (shape_of v.scope last) up (stored unit) (near_close address.shift address.near)
+            (address.pushes i in_mid)
+            (subst (λ n. IsPath i (library_of unit) (Sees unit v) n (here mid) address.shift t (shape_of v.scope t) (selector_trees selectors) last (shape_of v.scope last))
+            next (address.goes i in_mid unit))
+            (subst (λ n. At i (here mid) (loaded_at slot.region n)) (sym many)
+            (added_at mid new (depth + 1) (loaded_at slot.region size) loads i (here old) (omega (arith, up)) h)));
+        flows = flows_then (Suits v) old mid new depth (depth + 1) (depth + size) address.extends eb address.flows
+            (instruction_flows (Suits v) mid new (depth + 1) (depth + size) (loaded_at slot.region size) loads load_flows);
       }
 
 -- ---- lists of one argument

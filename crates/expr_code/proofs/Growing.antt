@@ -7,7 +7,7 @@ use Rattle.image.specs.declared.instruction.Operation.TheVariants as op
 use Rattle.expr_code.specs.Views.{At}
 use Rattle.expr_code.specs.Branches.{Closes}
 use Rattle.expr_code.specs.Code.{Holds, Extends, Adds, IsAsBefore, Patches, here}
-use Rattle.expr_code.specs.Going.{AddsByWords, AddsLessFirst, AddsTwo}
+use Rattle.expr_code.specs.Going.{AddsAtOffset, AddsByWords, AddsLessFirst, AddsOffset, AddsTwo}
 use Rattle.expr_code.specs.declared.code.Code.{Code}
 use Rattle.expr_code.specs.declared.refusal.Refusal.{Refusal}
 
@@ -84,12 +84,27 @@ added_kept p q = extends_trans _ _ _ (added_extends _ _ _ _ p) q
 two_kept : {a b : Code} {depth : ℕ} {x y : Operation} → AddsTwo a depth x y b → Extends a b
 two_kept p = added_kept p.push (added_extends _ _ _ _ p.then)
 
-pub less_kept : {a b : Code} {depth : ℕ} {first : ℤ} → AddsLessFirst a depth first b → Extends a b
-less_kept (inl p) = two_kept p
-less_kept {a = a} (inr h) = subst (λ c. Extends a c) (sym h.1) (extends_self a)
+pub less_kept : {a b : Code} {depth : ℕ} {first : ℤ} (words : ℕ) {shift next : ℤ} → AddsLessFirst a depth first words shift next b → Extends a b
+less_kept words (inl p) = two_kept p.0
+less_kept {a = a} words (inr h) = subst (λ c. Extends a c) (sym h.0) (extends_self a)
 
-pub less_same : (old new : Code) (depth : ℕ) (x y : ℤ) → x ≡ y → AddsLessFirst old depth x new → AddsLessFirst old depth y new
-less_same old new depth x y same a = subst (λ z. AddsLessFirst old depth z new) same a
+pub less_same : (old new : Code) (depth : ℕ) (x y : ℤ) (words : ℕ) (a b next : ℤ) → x ≡ y → a ≡ b → AddsLessFirst old depth x words a next new
+    → AddsLessFirst old depth y words b next new
+less_same old new depth x y words a b next same told p =
+    subst (λ z. AddsLessFirst old depth z words b next new) same (subst (λ z. AddsLessFirst old depth x words z next new) told p)
+
+pub at_offset_same : (old new : Code) (depth offset : ℕ) (a b next : ℤ) → a ≡ b → AddsAtOffset old depth offset a next new → AddsAtOffset old depth offset b next new
+at_offset_same old new depth offset a b next told p = subst (λ z. AddsAtOffset old depth offset z next new) told p
+
+pub offset_same : (old new : Code) (depth : ℕ) (x y : ℤ) (words : ℕ) (a b next : ℤ) → x ≡ y → a ≡ b → AddsOffset old depth x words a next new
+    → AddsOffset old depth y words b next new
+offset_same old new depth x y words a b next same told p =
+    subst (λ z. AddsOffset old depth z words b next new) same (subst (λ z. AddsOffset old depth x words z next new) told p)
+
+-- to a component of a record
+pub at_offset_kept : {a b : Code} {depth offset : ℕ} {shift next : ℤ} → AddsAtOffset a depth offset shift next b → Extends a b
+at_offset_kept (inl p) = two_kept p.0
+at_offset_kept {a = a} (inr h) = subst (λ c. Extends a c) (sym h.0) (extends_self a)
 
 pub product_kept : {a b : Code} {depth words : ℕ} → AddsByWords a depth words b → Extends a b
 product_kept (inl p) = two_kept p

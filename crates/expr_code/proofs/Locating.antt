@@ -1,9 +1,10 @@
 -- Parts of arrays at a checked index: their addresses, and their words.
+use Rattle.std.proofs.Math.IntN.{+ℤ-suc_ℤ, +ℤ_idr, suc_ℤ, suc_ℤ-*ℤ}
 use Rattle.std.proofs.Common.{◌≡◌, ℕ, zero, suc, inl, inr, ◌+◌, ◌-◌, ◌*◌, ◌≤◌, ◌<◌, ℤ, List, [], ◌∷◌, ◌++◌, cond, length, Option, None, Some, Ok, Bool, true, false, refl, sym, ap, ◌∙◌, subst, arith, rules}
 use Rattle.std.proofs.lemmas.Int.{ints}
 use Rattle.std.proofs.lemmas.Bool.{and_parts}
 use Rattle.std.proofs.lemmas.Slice.Eq.{bytes_eq-Decides}
-use Rattle.std.specs.Prelude.{pos, negsuc, int_le, ◌-ℤ◌, ◌*ℤ◌, ◌≤ℤ◌, nat_le, nat_lt, ◌^◌, ◌&&◌, take, drop, unsigned_abs, bytes_eq, if◌then◌else◌}
+use Rattle.std.specs.Prelude.{pos, negsuc, int_le, ◌+ℤ◌, ◌-ℤ◌, ◌*ℤ◌, ◌≤ℤ◌, nat_le, nat_lt, ◌^◌, ◌&&◌, take, drop, unsigned_abs, bytes_eq, if◌then◌else◌}
 use Rattle.base.specs.Arithmetic.{in_range, constraint_error}
 use Rattle.base.specs.declared.exceptions.PredefinedException.TheVariants.{ConstraintError}
 use Rattle.base.specs.declared.schedule.ScheduleLine.{ScheduleLine}
@@ -19,6 +20,7 @@ use Rattle.ada_tree.specs.ExpressionTree.{Arguments, Component, ExprTree, MoreAr
 use Rattle.image.specs.Sections.{Sections}
 use Rattle.image.specs.Frames.{Words, Frame, region_words}
 use Rattle.image.specs.Steps.{act, behaviour, does, gives}
+use Rattle.image.specs.declared.instruction.Operation.{Operation}
 use Rattle.image.specs.declared.instruction.Operation.TheVariants as op
 use Rattle.image.specs.declared.instruction.Region.{Region}
 use Rattle.types.specs.Laws.{PartsHavePlaces, ValuesHaveWords}
@@ -35,10 +37,10 @@ use Rattle.types.specs.Places.{IsObject, Meaning, Place}
 use Rattle.types.specs.Values.{Value, Values, NoValues, MoreValues, Fields, NoFields, MoreFields, Array, Record, Number, element_at, field_of}
 use Rattle.expr_soundness.specs.meaning.specs.MeetingLaws.{takes_more}
 use Rattle.expr_soundness.specs.meaning.specs.SameMeaning.{frames_of}
-use Rattle.expr_code.specs.Views.{At, frames_above, in_frame, placed, Sight, view_of}
+use Rattle.expr_code.specs.Views.{frames_above, in_frame, placed, Sight, view_of}
 use Rattle.expr_code.specs.Coming.{Comes, most_steps, on}
 use Rattle.expr_code.specs.Computing.{Answers, ComputesChecked, ComesToNumber, Library}
-use Rattle.expr_code.specs.Locating.{Finds, IsByWords, IsLessFirst, IsOffset, shape_in}
+use Rattle.expr_code.specs.Locating.{AreTwo, Finds, IsAtOffset, IsByWords, IsClose, IsLessFirst, IsNear, IsOffset, shape_in}
 use Rattle.expr_code.specs.Naming.{Lies}
 use Rattle.expr_code.proofs.Coming.{acts, after_first, steps, pushes}
 use Rattle.expr_code.proofs.Naming.{same_words}
@@ -60,25 +62,67 @@ in_base n h = ap (λ c. cond c (Ok (pos n)) constraint_error) (small n (2 ^ 63) 
 times : (n size : ℕ) → pos n *ℤ pos size ≡ pos (n * size)
 times n size = grind (arith, ints)
 
-minus_none : (z : ℤ) → z -ℤ pos 0 ≡ z
-minus_none z = grind (arith, ints)
+-- a number that is not far from 0 is of the base range
+in_base_range : (z : ℤ) → unsigned_abs z < 2 ^ 63 → in_range z ≡ Ok z
+in_base_range (pos n) h = in_base n h
+in_base_range (negsuc n) h = ap (λ c. cond c (Ok (negsuc n)) constraint_error) (small n (2 ^ 63) (omega (arith, h)))
 
-once : (n size : ℕ) → size ≡ 1 → n ≡ n * size
-once n size one = (let e : n ≡ n * 1 = omega arith in e) ∙ ap (λ s. n * s) (sym one)
+once : (y e : ℤ) (size : ℕ) → size ≡ 1 → y *ℤ pos size ≡ e → y ≡ e
+once y e size one is = sym (alone y) ∙ ap (λ n. y *ℤ pos n) (sym one) ∙ is
+  where
+    alone : (z : ℤ) → z *ℤ pos 1 ≡ z
+    alone z = grind (arith, ints)
+
+next_size : (n w : ℕ) → suc n * w ≡ w + n * w
+next_size n w = omega arith
+
+-- the words up to an index are those up to the first one and those from there on
+spread : (a : ℤ) (n size : ℕ) → (a +ℤ pos n) *ℤ pos size ≡ a *ℤ pos size +ℤ pos (n * size)
+spread a zero size = ap (λ z. z *ℤ pos size) (+ℤ_idr a) ∙ sym (+ℤ_idr (a *ℤ pos size))
+    ∙ ap (λ n. a *ℤ pos size +ℤ pos n) (no_times size)
+  where
+    no_times : (w : ℕ) → 0 ≡ 0 * w
+    no_times w = omega arith
+spread a (suc n) size =
+    ap (λ z. z *ℤ pos size) (next a n) ∙ suc_ℤ-*ℤ (a +ℤ pos n) (pos size) ∙ ap (λ z. z +ℤ pos size) (spread a n size)
+    ∙ last (a *ℤ pos size) (n * size) size (suc n * size) (next_size n size)
+  where
+    next : (z : ℤ) (k : ℕ) → z +ℤ pos (suc k) ≡ suc_ℤ (z +ℤ pos k)
+    next z k = +ℤ-suc_ℤ z (pos k)
+
+    last : (z : ℤ) (k w m : ℕ) → m ≡ w + k → (z +ℤ pos k) +ℤ pos w ≡ z +ℤ pos m
+    last z k w m e = omega (arith, ints, e)
+
+-- a number near to an address of a program, and the distance of two such numbers with so many words
+near_sum : (a : ℕ) (z : ℤ) → a ≤ 65536 → IsClose z → unsigned_abs (pos a +ℤ z) < 2 ^ 63
+near_sum a z few close = omega (arith, ints, few, close)
+
+near_more : (n : ℕ) (a b : ℤ) → n ≤ 65536 → IsClose a → IsClose b → unsigned_abs (pos n +ℤ (b -ℤ a)) < 2 ^ 63
+near_more n a b few one two = omega (arith, ints, few, one, two)
+
+pub near_close : (z : ℤ) → IsNear z → IsClose z
+near_close z near = omega (arith, near)
+
+pub shift_none : (a : ℕ) (shift : ℤ) → shift ≡ pos 0 → pos a +ℤ shift ≡ pos a
+shift_none a shift is = omega (arith, ints, is)
 
 -- ---- code from an index to an address goes on
 
-less_up : (i : Sections) (from to : ℕ) (first : ℤ) → IsLessFirst i from to first → from ≤ to
-less_up i from to first (inl h) = let next = h.2 in omega (arith, next)
-less_up i from to first (inr h) = let next = h.1 in omega (arith, next)
+less_up : (i : Sections) (from to : ℕ) (first : ℤ) (size : ℕ) (shift next : ℤ) → IsLessFirst i from to first size shift next → from ≤ to
+less_up i from to first size shift next (inl h) = let there = h.0.2 in omega (arith, there)
+less_up i from to first size shift next (inr h) = let there = h.0 in omega (arith, there)
+
+pub at_offset_up : (i : Sections) (from to offset : ℕ) (shift next : ℤ) → IsAtOffset i from to offset shift next → from ≤ to
+at_offset_up i from to offset shift next (inl h) = let there = h.0.2 in omega (arith, there)
+at_offset_up i from to offset shift next (inr h) = let there = h.0 in omega (arith, there)
 
 product_up : (i : Sections) (from to size : ℕ) → IsByWords i from to size → from ≤ to
 product_up i from to size (inl h) = let next = h.2 in omega (arith, next)
 product_up i from to size (inr h) = let next = h.1 in omega (arith, next)
 
-pub offset_up : (i : Sections) (from to : ℕ) (first : ℤ) (size : ℕ) → IsOffset i from to first size → from ≤ to
-offset_up i from to first size h =
-    let low = less_up i from h.counted first h.less in
+pub offset_up : (i : Sections) (from to : ℕ) (first : ℤ) (size : ℕ) (shift next : ℤ) → IsOffset i from to first size shift next → from ≤ to
+offset_up i from to first size shift next h =
+    let low = less_up i from h.counted first size shift next h.less in
     let high = product_up i h.counted h.scaled size h.product in
     let end = h.end in
     omega (arith, low, high, end)
@@ -118,9 +162,6 @@ window (w ∷ ws) (suc o) l (suc n) le = window ws o l n (omega (arith, le))
 joined : (xs ys : List ℤ) → length (xs ++ ys) ≡ length xs + length ys
 joined [] ys = omega arith
 joined (x ∷ xs) ys = let h = joined xs ys in omega (arith, h)
-
-next_size : (n w : ℕ) → suc n * w ≡ w + n * w
-next_size n w = omega arith
 
 -- a component stands within its array
 fits_in : (sized : ValuesHaveWords) (x : Shape) (vs : Values) (n : ℕ) (w : Value) → all_values (has_shape x) vs ≡ true → element_at vs n ≡ Some w → n * words x + words x ≤ length (values_words vs)
@@ -186,78 +227,118 @@ module _ (quiet : QuietStays) (i : Sections) (schedule : List ScheduleLine) (k :
   after_two : (from : ℕ) → (from + 1) + 1 ≡ from + 2
   after_two from = omega arith
 
-  -- the distance of an index from the first one
-  less_first : (from to : ℕ) (first z : ℤ) (n : ℕ) (base : List ℤ) → z -ℤ first ≡ pos n → n < 2 ^ 63 → IsLessFirst i from to first
-      → Spends (behaviour i schedule) t frames_of (most_steps i) (suc (length fs)) (to - from) k (in_frame m (placed f from (z ∷ base)) fs) k
-      (in_frame m (placed f to (pos n ∷ base)) fs)
-  less_first from to first z n base far few (inl h) =
-      let s1 : List ℤ = first ∷ z ∷ base in
-      let s2 : List ℤ = pos n ∷ base in
-      subst
-      (λ q. Spends (behaviour i schedule) t frames_of (most_steps i) (suc (length fs)) (q - from) k (in_frame m (placed f from (z ∷ base)) fs) k
-      (in_frame m (placed f q s2) fs)) (sym h.2)
-      (spends_more (behaviour i schedule) t frames_of (most_steps i) ((from + 2) - from) (omega arith)
-      (spends_trans (behaviour i schedule) t frames_of (most_steps i) 1 k (in_frame m (placed f (from + 2) s2) fs)
-      (pushes quiet i schedule k t m calm from first h.0 f fs (z ∷ base) (from + 1) refl)
-      (one (from + 1) (from + 2) s1 s2
-      (acts quiet i (from + 1) op.Subtract h.1 schedule k t m f fs s1
-      ∙ ap (λ x. gives i schedule k t m (placed f (from + 1) s1) fs x base) (ap in_range far ∙ in_base n few)
-      ∙ ap (λ q. does Quiet m (placed f q s2) fs None None) (after_two from)))))
-  less_first from to first z n base far few (inr h) =
-      subst
-      (λ q. Spends (behaviour i schedule) t frames_of (most_steps i) (suc (length fs)) (q - from) k (in_frame m (placed f from (z ∷ base)) fs) k
-      (in_frame m (placed f q (pos n ∷ base)) fs)) (sym h.1)
-      (subst
-      (λ y. Spends (behaviour i schedule) t frames_of (most_steps i) (suc (length fs)) (from - from) k (in_frame m (placed f from (z ∷ base)) fs) k
-      (in_frame m (placed f from (y ∷ base)) fs)) (sym (minus_none z) ∙ ap (λ y. z -ℤ y) (sym h.0) ∙ far) Done)
+  -- a number on top of others, after so many steps
+  abbrev Comes_on : (from to : ℕ) → (s s' : List ℤ) → Type 0
+  Comes_on from to s s' =
+      Spends (behaviour i schedule) t frames_of (most_steps i) (suc (length fs)) (to - from) k (in_frame m (placed f from s) fs) k (in_frame m (placed f to s') fs)
 
-  -- the words of so many components
-  by_words : (from to size n : ℕ) (base : List ℤ) → n * size < 2 ^ 63 → IsByWords i from to size
-      → Spends (behaviour i schedule) t frames_of (most_steps i) (suc (length fs)) (to - from) k (in_frame m (placed f from (pos n ∷ base)) fs) k
-      (in_frame m (placed f to (pos (n * size) ∷ base)) fs)
-  by_words from to size n base few (inl h) =
-      let s1 : List ℤ = pos size ∷ pos n ∷ base in
-      let s2 : List ℤ = pos (n * size) ∷ base in
-      subst
-      (λ q. Spends (behaviour i schedule) t frames_of (most_steps i) (suc (length fs)) (q - from) k (in_frame m (placed f from (pos n ∷ base)) fs) k
-      (in_frame m (placed f q s2) fs)) (sym h.2)
-      (spends_more (behaviour i schedule) t frames_of (most_steps i) ((from + 2) - from) (omega arith)
-      (spends_trans (behaviour i schedule) t frames_of (most_steps i) 1 k (in_frame m (placed f (from + 2) s2) fs)
-      (pushes quiet i schedule k t m calm from (pos size) h.0 f fs (pos n ∷ base) (from + 1) refl)
-      (one (from + 1) (from + 2) s1 s2
-      (acts quiet i (from + 1) op.Multiply h.1 schedule k t m f fs s1
-      ∙ ap (λ x. gives i schedule k t m (placed f (from + 1) s1) fs x base) (ap in_range (times n size) ∙ in_base (n * size) few)
-      ∙ ap (λ q. does Quiet m (placed f q s2) fs None None) (after_two from)))))
-  by_words from to size n base few (inr h) =
-      subst
-      (λ q. Spends (behaviour i schedule) t frames_of (most_steps i) (suc (length fs)) (q - from) k (in_frame m (placed f from (pos n ∷ base)) fs) k
-      (in_frame m (placed f q (pos (n * size) ∷ base)) fs)) (sym h.1)
+  stays : (from to : ℕ) (s s' : List ℤ) → to ≡ from → s ≡ s' → Comes_on from to s s'
+  stays from to s s' there same =
+      subst (λ q. Comes_on from q s s') (sym there)
       (subst
-      (λ y. Spends (behaviour i schedule) t frames_of (most_steps i) (suc (length fs)) (from - from) k (in_frame m (placed f from (pos n ∷ base)) fs) k
-      (in_frame m (placed f from (pos y ∷ base)) fs)) (once n size h.0) Done)
+      (λ x. Spends (behaviour i schedule) t frames_of (most_steps i) (suc (length fs)) (from - from) k (in_frame m (placed f from s) fs) k
+      (in_frame m (placed f from x) fs)) same Done)
 
-  -- above the address of an array and a checked index: the distance from the first index, the words of so many components, and the address of the component
-  pub indexes : (from to : ℕ) (first z : ℤ) (size address n : ℕ) (base : List ℤ)
-      → z -ℤ first ≡ pos n → n < 2 ^ 63 → n * size < 2 ^ 63 → address + n * size < 2 ^ 63 → IsOffset i from to first size
-      → Spends (behaviour i schedule) t frames_of (most_steps i) (suc (length fs)) (to - from) k (in_frame m (placed f from (z ∷ pos address ∷ base)) fs) k
-      (in_frame m (placed f to (pos (address + n * size) ∷ base)) fs)
-  indexes from to first z size address n base far few small_product small_sum x =
-      let low = less_up i from x.counted first x.less in
+  -- two instructions, of which the second makes one number of two
+  by_two : (from to : ℕ) (z e : ℤ) (o : Operation) (base : List ℤ) (rest : List ℤ) → AreTwo i from to (op.Push z) o
+      → act i schedule k t (in_frame m (placed f (from + 1) (z ∷ base)) fs) ≡ does Quiet m (placed f ((from + 1) + 1) (e ∷ rest)) fs None None
+      → Comes_on from to base (e ∷ rest)
+  by_two from to z e o base rest h is =
+      subst (λ q. Comes_on from q base (e ∷ rest)) (sym h.2)
+      (spends_more (behaviour i schedule) t frames_of (most_steps i) ((from + 2) - from) (omega arith)
+      (spends_trans (behaviour i schedule) t frames_of (most_steps i) 1 k (in_frame m (placed f (from + 2) (e ∷ rest)) fs)
+      (pushes quiet i schedule k t m calm from z h.0 f fs base (from + 1) refl)
+      (one (from + 1) (from + 2) (z ∷ base) (e ∷ rest) (is ∙ ap (λ q. does Quiet m (placed f q (e ∷ rest)) fs None None) (after_two from)))))
+
+  -- an index less the first one, or the index: by the words of each it leads to the component's, with what the number has more
+  record Counts (from to : ℕ) (z : ℤ) (size n : ℕ) (shift next : ℤ) (base : List ℤ) : Type 0 where
+    y : ℤ
+    words_are : y *ℤ pos size ≡ pos (n * size) +ℤ (next -ℤ shift)
+    comes : Comes_on from to (z ∷ base) (y ∷ base)
+
+  none_more : (p shift next : ℤ) → next ≡ shift → p ≡ p +ℤ (next -ℤ shift)
+  none_more p shift next e = omega (arith, ints, e)
+
+  front_more : (p : ℕ) (front shift next : ℤ) → next ≡ shift +ℤ front → front +ℤ pos p ≡ pos p +ℤ (next -ℤ shift)
+  front_more p front shift next e = omega (arith, ints, e)
+
+  index_is : (z first : ℤ) (n : ℕ) → z -ℤ first ≡ pos n → z ≡ first +ℤ pos n
+  index_is z first n e = omega (arith, ints, e)
+
+  less_first : (from to : ℕ) (first z : ℤ) (size n : ℕ) (shift next : ℤ) (base : List ℤ) → z -ℤ first ≡ pos n → n < 2 ^ 63
+      → IsLessFirst i from to first size shift next → Counts from to z size n shift next base
+  less_first from to first z size n shift next base far few (inl h) = record {
+    y = pos n;
+    words_are = times n size ∙ none_more (pos (n * size)) shift next h.1;
+    comes = by_two from to first (pos n) op.Subtract (z ∷ base) base h.0
+        (acts quiet i (from + 1) op.Subtract h.0.1 schedule k t m f fs (first ∷ z ∷ base)
+        ∙ ap (λ x. gives i schedule k t m (placed f (from + 1) (first ∷ z ∷ base)) fs x base) (ap in_range far ∙ in_base n few));
+  }
+  less_first from to first z size n shift next base far few (inr h) = record {
+    y = z;
+    words_are = ap (λ x. x *ℤ pos size) (index_is z first n far) ∙ spread first n size ∙ front_more (n * size) (first *ℤ pos size) shift next h.1;
+    comes = stays from to (z ∷ base) (z ∷ base) h.0 refl;
+  }
+
+  -- by the words of each
+  by_words : (from to size : ℕ) (y e : ℤ) (base : List ℤ) → y *ℤ pos size ≡ e → unsigned_abs e < 2 ^ 63 → IsByWords i from to size
+      → Comes_on from to (y ∷ base) (e ∷ base)
+  by_words from to size y e base is few (inl h) =
+      by_two from to (pos size) e op.Multiply (y ∷ base) base h
+      (acts quiet i (from + 1) op.Multiply h.1 schedule k t m f fs (pos size ∷ y ∷ base)
+      ∙ ap (λ x. gives i schedule k t m (placed f (from + 1) (pos size ∷ y ∷ base)) fs x base) (ap in_range is ∙ in_base_range e few))
+  by_words from to size y e base is few (inr h) = stays from to (y ∷ base) (e ∷ base) h.1 (ap (λ x. x ∷ base) (once y e size h.0 is))
+
+  sum_is : (a p : ℕ) (shift next : ℤ) → (pos a +ℤ shift) +ℤ (pos p +ℤ (next -ℤ shift)) ≡ pos (a + p) +ℤ next
+  sum_is a p shift next = omega (arith, ints)
+
+  -- Above the number of an array and a checked index: the words of so many components, added, lead to the number of the component.
+  pub indexes : (from to : ℕ) (first z : ℤ) (size address n : ℕ) (shift next : ℤ) (base : List ℤ)
+      → z -ℤ first ≡ pos n → n < 2 ^ 63 → address + n * size ≤ 65536 → IsClose shift → IsClose next → IsOffset i from to first size shift next
+      → Spends (behaviour i schedule) t frames_of (most_steps i) (suc (length fs)) (to - from) k
+      (in_frame m (placed f from (z ∷ (pos address +ℤ shift) ∷ base)) fs) k
+      (in_frame m (placed f to ((pos (address + n * size) +ℤ next) ∷ base)) fs)
+  indexes from to first z size address n shift next base far few small_sum close closer x =
+      let low = less_up i from x.counted first size shift next x.less in
       let high = product_up i x.counted x.scaled size x.product in
-      let s2 : List ℤ = pos (n * size) ∷ pos address ∷ base in
-      let s3 : List ℤ = pos (address + n * size) ∷ base in
-      let end = in_frame m (placed f (x.scaled + 1) s3) fs in
-      subst
-      (λ q. Spends (behaviour i schedule) t frames_of (most_steps i) (suc (length fs)) (q - from) k (in_frame m (placed f from (z ∷ pos address ∷ base)) fs) k
-      (in_frame m (placed f q s3) fs)) (sym x.end)
+      let number : ℤ = pos address +ℤ shift in
+      let more : ℤ = pos (n * size) +ℤ (next -ℤ shift) in
+      let s2 : List ℤ = more ∷ number ∷ base in
+      let s3 : List ℤ = (pos (address + n * size) +ℤ next) ∷ base in
+      let end_ = in_frame m (placed f (x.scaled + 1) s3) fs in
+      let counts = less_first from x.counted first z size n shift next (number ∷ base) far few x.less in
+      subst (λ q. Comes_on from q (z ∷ number ∷ base) s3) (sym x.end)
       (spends_more (behaviour i schedule) t frames_of (most_steps i) ((x.scaled + 1) - from) (omega (arith, low, high))
-      (spends_trans (behaviour i schedule) t frames_of (most_steps i) ((x.scaled - x.counted) + 1) k end
-      (less_first from x.counted first z n (pos address ∷ base) far few x.less)
-      (spends_trans (behaviour i schedule) t frames_of (most_steps i) 1 k end
-      (by_words x.counted x.scaled size n (pos address ∷ base) small_product x.product)
+      (spends_trans (behaviour i schedule) t frames_of (most_steps i) ((x.scaled - x.counted) + 1) k end_
+      counts.comes
+      (spends_trans (behaviour i schedule) t frames_of (most_steps i) 1 k end_
+      (by_words x.counted x.scaled size counts.y more (number ∷ base) counts.words_are
+      (near_more (n * size) shift next (omega (arith, small_sum)) close closer) x.product)
       (one x.scaled (x.scaled + 1) s2 s3
       (acts quiet i x.scaled op.Add x.add schedule k t m f fs s2
-      ∙ ap (λ y. gives i schedule k t m (placed f x.scaled s2) fs y base) (in_base (address + n * size) small_sum))))))
+      ∙ ap (λ y. gives i schedule k t m (placed f x.scaled s2) fs y base)
+      (ap in_range (sum_is address (n * size) shift next) ∙ in_base_range (pos (address + n * size) +ℤ next) (near_sum (address + n * size) next small_sum closer)))))))
+
+  offset_is : (a o : ℕ) (shift next : ℤ) → next ≡ shift → (pos a +ℤ shift) +ℤ pos o ≡ pos (a + o) +ℤ next
+  offset_is a o shift next e = omega (arith, ints, e)
+
+  offset_told : (a o : ℕ) (shift next : ℤ) → next ≡ shift -ℤ pos o → pos a +ℤ shift ≡ pos (a + o) +ℤ next
+  offset_told a o shift next e = omega (arith, ints, e)
+
+  -- From the number of a record to that of its component.
+  pub moves_on : (from to offset address : ℕ) (shift next : ℤ) (base : List ℤ) → address + offset ≤ 65536 → IsClose next
+      → IsAtOffset i from to offset shift next
+      → Spends (behaviour i schedule) t frames_of (most_steps i) (suc (length fs)) (to - from) k (in_frame m (placed f from ((pos address +ℤ shift) ∷ base)) fs) k
+      (in_frame m (placed f to ((pos (address + offset) +ℤ next) ∷ base)) fs)
+  moves_on from to offset address shift next base small_sum close (inl h) =
+      by_two from to (pos offset) (pos (address + offset) +ℤ next) op.Add ((pos address +ℤ shift) ∷ base) base h.0
+      (acts quiet i (from + 1) op.Add h.0.1 schedule k t m f fs (pos offset ∷ (pos address +ℤ shift) ∷ base)
+      ∙ ap (λ y. gives i schedule k t m (placed f (from + 1) (pos offset ∷ (pos address +ℤ shift) ∷ base)) fs y base)
+      (ap in_range (offset_is address offset shift next h.1)
+      ∙ in_base_range (pos (address + offset) +ℤ next) (near_sum (address + offset) next small_sum close)))
+  moves_on from to offset address shift next base small_sum close (inr h) =
+      stays from to ((pos address +ℤ shift) ∷ base) ((pos (address + offset) +ℤ next) ∷ base) h.0
+      (ap (λ y. y ∷ base) (offset_told address offset shift next h.1))
 
 -- ---- a value, and then an address
 
@@ -276,6 +357,20 @@ passed_number s z a e = by (int_le s.first z) (int_le z s.last) refl refl e
     by true false is above e = absurd cc
     by false c is above e = absurd cc
 
+module _ (i : Sections) (schedule : List ScheduleLine) (k : Kernel) (t : ℕ) (m : Words) where
+  -- the same as `Finds`, where the number on the operand stack has so many more than the address
+  abbrev pub FindsNear : Frame → List Frame → Region → Subtype → Shape → (n to : ℕ) → (shift : ℤ) → (base : List ℤ) → Val Meaning → Type 0
+  FindsNear f fs region r x n to shift base (Gives (IsObject s v)) =
+      (address : ℕ)
+      × Lies (region_words i region m f) address v
+      × (has_shape x v ≡ true)
+      × (s ≡ r)
+      × Spends (behaviour i schedule) t frames_of (most_steps i) (suc (length fs)) n k (in_frame m f fs) k
+      (in_frame m (placed f to ((pos address +ℤ shift) ∷ base)) fs)
+  FindsNear f fs region r x n to shift base (Gives meaning) = ⊥
+  FindsNear f fs region r x n to shift base (Raises e) = Comes i schedule k t m f fs n to (λ (meaning : Meaning). base) (Raises e)
+  FindsNear f fs region r x n to shift base Meaningless = Unit {0}
+
 module _ (quiet : QuietStays) (i : Sections) (schedule : List ScheduleLine) (k : Kernel) (t : ℕ) (m : Words) (calm : Calm k t) (fs : List Frame) (region : Region) (r : Subtype) (x : Shape) where
   -- steps, and then what finds an address
   found_after : (f : Frame) (n n' mid to : ℕ) (st base : List ℤ) (v : Val Meaning)
@@ -289,31 +384,51 @@ module _ (quiet : QuietStays) (i : Sections) (schedule : List ScheduleLine) (k :
   found_after f n n' mid to st base Meaningless le h g = tt
   found_after f n n' mid to st base v le h g = absurd g
 
-  pub then_finds : (f : Frame) (n n' mid to : ℕ) (st : Value → List ℤ) (base : List ℤ) (v : Val Value) (go : Value → Val Meaning)
+  near_after : (f : Frame) (n n' mid to : ℕ) (shift : ℤ) (st base : List ℤ) (v : Val Meaning)
+      → f.place ≤ mid
+      → Spends (behaviour i schedule) t frames_of (most_steps i) (suc (length fs)) n k (in_frame m f fs) k (in_frame m (placed f mid st) fs)
+      → FindsNear i schedule k t m (placed f mid st) fs region r x n' to shift base v
+      → FindsNear i schedule k t m f fs region r x (n + n') to shift base v
+  near_after f n n' mid to shift st base (Gives (IsObject s v)) le h g = (
+    g.0,
+    subst (λ ws. Lies ws g.0 v) (same_words i m region f mid st) g.1,
+    g.2,
+    g.3,
+    spends_trans (behaviour i schedule) t frames_of (most_steps i) n' k (in_frame m (placed f to ((pos g.0 +ℤ shift) ∷ base)) fs) h g.4,
+  )
+  near_after f n n' mid to shift st base (Raises e) le h g =
+      after_first quiet i schedule k t m calm f fs n n' mid to st (λ (meaning : Meaning). base) (Raises e) le h g
+  near_after f n n' mid to shift st base Meaningless le h g = tt
+  near_after f n n' mid to shift st base v le h g = absurd g
+
+  pub then_finds : (f : Frame) (n n' mid to : ℕ) (shift : ℤ) (st : Value → List ℤ) (base : List ℤ) (v : Val Value) (go : Value → Val Meaning)
       → f.place ≤ mid
       → mid ≤ to
       → Comes i schedule k t m f fs n mid st v
-      → ((a : Value) → v ≡ Gives a → Finds i schedule k t m (placed f mid (st a)) fs region r x n' to base (go a))
-      → Finds i schedule k t m f fs region r x (n + n') to base (and_then v go)
-  then_finds f n n' mid to st base (Gives a) go le up h g = found_after f n n' mid to (st a) base (go a) le h (g a refl)
-  then_finds f n n' mid to st base (Raises e) go le up h g =
+      → ((a : Value) → v ≡ Gives a → FindsNear i schedule k t m (placed f mid (st a)) fs region r x n' to shift base (go a))
+      → FindsNear i schedule k t m f fs region r x (n + n') to shift base (and_then v go)
+  then_finds f n n' mid to shift st base (Gives a) go le up h g = near_after f n n' mid to shift (st a) base (go a) le h (g a refl)
+  then_finds f n n' mid to shift st base (Raises e) go le up h g =
       let below = h.5 in
       (h.0, h.1, h.2, takes_more (behaviour i schedule) t frames_of (most_steps i) (suc (n + n')) (omega arith) h.3, h.4, omega (arith, below, up), h.6)
-  then_finds f n n' mid to st base Meaningless go le up h g = tt
+  then_finds f n n' mid to shift st base Meaningless go le up h g = tt
 
-  -- an address, and then another one
-  pub then_found : (q : Subtype) (y : Shape) (f : Frame) (n n' mid to : ℕ) (base : List ℤ) (v : Val Meaning) (go : Meaning → Val Meaning)
+  -- the number of a part, and then an address
+  pub then_found : (q : Subtype) (y : Shape) (f : Frame) (n n' mid to : ℕ) (shift : ℤ) (base : List ℤ) (v : Val Meaning) (go : Meaning → Val Meaning)
       → f.place ≤ mid
       → mid ≤ to
-      → Finds i schedule k t m f fs region q y n mid base v
-      → ((a : Value) (address : ℕ) → Lies (region_words i region m f) address a → has_shape y a ≡ true → Finds i schedule k t m (placed f mid (pos address ∷ base)) fs region r x n' to base (go (IsObject q a)))
+      → FindsNear i schedule k t m f fs region q y n mid shift base v
+      → ((a : Value) (address : ℕ) → Lies (region_words i region m f) address a → has_shape y a ≡ true
+      → Finds i schedule k t m (placed f mid ((pos address +ℤ shift) ∷ base)) fs region r x n' to base (go (IsObject q a)))
       → Finds i schedule k t m f fs region r x (n + n') to base (and_then v go)
-  then_found q y f n n' mid to base (Gives (IsObject s a)) go le up h g = found_after f n n' mid to (pos h.0 ∷ base) base (go (IsObject s a)) le h.4 (subst (λ z. Finds i schedule k t m (placed f mid (pos h.0 ∷ base)) fs region r x n' to base (go (IsObject z a))) (sym h.3) (g a h.0 h.1 h.2))
-  then_found q y f n n' mid to base (Raises e) go le up h g =
+  then_found q y f n n' mid to shift base (Gives (IsObject s a)) go le up h g =
+      found_after f n n' mid to ((pos h.0 +ℤ shift) ∷ base) base (go (IsObject s a)) le h.4
+      (subst (λ z. Finds i schedule k t m (placed f mid ((pos h.0 +ℤ shift) ∷ base)) fs region r x n' to base (go (IsObject z a))) (sym h.3) (g a h.0 h.1 h.2))
+  then_found q y f n n' mid to shift base (Raises e) go le up h g =
       let below = h.5 in
       (h.0, h.1, h.2, takes_more (behaviour i schedule) t frames_of (most_steps i) (suc (n + n')) (omega arith) h.3, h.4, omega (arith, below, up), h.6)
-  then_found q y f n n' mid to base Meaningless go le up h g = tt
-  then_found q y f n n' mid to base v go le up h g = absurd h
+  then_found q y f n n' mid to shift base Meaningless go le up h g = tt
+  then_found q y f n n' mid to shift base v go le up h g = absurd h
 
 -- ---- a component of an array at an index
 
@@ -350,7 +465,10 @@ module _ (quiet : QuietStays) (sized : ValuesHaveWords) (places : PartsHavePlace
       → from ≤ mid
       → ComputesChecked i library sight from mid index e
       → ComesToNumber i library sight e
-      → IsOffset i mid after index.first (words x)
+      → (shift next : ℤ)
+      → IsClose shift
+      → IsClose next
+      → IsOffset i mid after index.first (words x) shift next
       → (calls : Calls) (left : ℕ)
       → Answers i library calls left
       → (schedule : List ScheduleLine) (k : Kernel) (t : ℕ) (m : Words) (f : Frame) (fs : List Frame) (p : Place) (base : List ℤ)
@@ -360,11 +478,11 @@ module _ (quiet : QuietStays) (sized : ValuesHaveWords) (places : PartsHavePlace
       → form_at p.scope s.type_number ≡ Some (Arrays index many element)
       → (vs : Values) (address : ℕ)
       → StandsAsArray (region_words i region m f) address x vs
-      → Finds i schedule k t m (placed f from (pos address ∷ base)) fs region element x ((mid - from) + (after - mid)) after base (part_with calls p (IsObject s (Array vs)) (index_of e))
-  finds_element from mid after e s index element many x le inner number offset calls left answers schedule k t m f fs p base calm sees is form vs address stands =
-      subst (λ v. Finds i schedule k t m (placed f from (pos address ∷ base)) fs region element x ((mid - from) + (after - mid)) after base v) (sym (part_is calls p s index element many vs e form))
-      (then_finds quiet i schedule k t m calm fs region element x (placed f from (pos address ∷ base)) (mid - from) (after - mid) mid after (on (pos address ∷ base)) base (and_then (value_with calls p e) (passed index)) go le (offset_up i mid after index.first (words x) offset)
-      (inner calls left answers schedule k t m f fs p (pos address ∷ base) calm sees is)
+      → FindsNear i schedule k t m (placed f from ((pos address +ℤ shift) ∷ base)) fs region element x ((mid - from) + (after - mid)) after next base (part_with calls p (IsObject s (Array vs)) (index_of e))
+  finds_element from mid after e s index element many x le inner number shift next close closer offset calls left answers schedule k t m f fs p base calm sees is form vs address stands =
+      subst (λ v. FindsNear i schedule k t m (placed f from ((pos address +ℤ shift) ∷ base)) fs region element x ((mid - from) + (after - mid)) after next base v) (sym (part_is calls p s index element many vs e form))
+      (then_finds quiet i schedule k t m calm fs region element x (placed f from ((pos address +ℤ shift) ∷ base)) (mid - from) (after - mid) mid after next (on ((pos address +ℤ shift) ∷ base)) base (and_then (value_with calls p e) (passed index)) go le (offset_up i mid after index.first (words x) shift next offset)
+      (inner calls left answers schedule k t m f fs p ((pos address +ℤ shift) ∷ base) calm sees is)
       (λ v ev. at_value v ev))
     where
       go : Value → Val Meaning
@@ -373,14 +491,14 @@ module _ (quiet : QuietStays) (sized : ValuesHaveWords) (places : PartsHavePlace
       W : List ℤ
       W = region_words i region m f
 
-      at_number : (z : ℤ) → int_le index.first z ≡ true → Finds i schedule k t m (placed f mid (z ∷ pos address ∷ base)) fs region element x (after - mid) after base (go (Number z))
+      at_number : (z : ℤ) → int_le index.first z ≡ true → FindsNear i schedule k t m (placed f mid (z ∷ (pos address +ℤ shift) ∷ base)) fs region element x (after - mid) after next base (go (Number z))
       at_number z above =
           let far = distance index.first z (z -ℤ index.first) above refl in
-          subst (λ o. Finds i schedule k t m (placed f mid (z ∷ pos address ∷ base)) fs region element x (after - mid) after base (element_meaning o (Array vs) z)) (sym form)
-          (subst (λ y. Finds i schedule k t m (placed f mid (z ∷ pos address ∷ base)) fs region element x (after - mid) after base (object_or_nothing (Some element) (element_at vs (unsigned_abs y)))) (sym far.1)
+          subst (λ o. FindsNear i schedule k t m (placed f mid (z ∷ (pos address +ℤ shift) ∷ base)) fs region element x (after - mid) after next base (element_meaning o (Array vs) z)) (sym form)
+          (subst (λ y. FindsNear i schedule k t m (placed f mid (z ∷ (pos address +ℤ shift) ∷ base)) fs region element x (after - mid) after next base (object_or_nothing (Some element) (element_at vs (unsigned_abs y)))) (sym far.1)
           (there far.0 far.1 (element_at vs far.0) refl))
         where
-          there : (n : ℕ) → z -ℤ index.first ≡ pos n → (o : Option Value) → element_at vs n ≡ o → Finds i schedule k t m (placed f mid (z ∷ pos address ∷ base)) fs region element x (after - mid) after base (object_or_nothing (Some element) o)
+          there : (n : ℕ) → z -ℤ index.first ≡ pos n → (o : Option Value) → element_at vs n ≡ o → FindsNear i schedule k t m (placed f mid (z ∷ (pos address +ℤ shift) ∷ base)) fs region element x (after - mid) after next base (object_or_nothing (Some element) o)
           there n far None is = tt
           there n far (Some w) is =
               let lies = stands.lies in
@@ -391,18 +509,19 @@ module _ (quiet : QuietStays) (sized : ValuesHaveWords) (places : PartsHavePlace
               let few = stands.few in
               let small = stands.small in (
                 address + n * words x,
-                subst (λ ws. Lies ws (address + n * words x) w) (sym (same_words i m region f mid (z ∷ pos address ∷ base))) (element_lies sized places W address x vs n w stands.shaped is lies),
+                subst (λ ws. Lies ws (address + n * words x) w) (sym (same_words i m region f mid (z ∷ (pos address +ℤ shift) ∷ base))) (element_lies sized places W address x vs n w stands.shaped is lies),
                 element_shape x vs n w stands.shaped is,
                 refl,
-                indexes quiet i schedule k t m calm f fs mid after index.first z (words x) address n base far (omega (arith, below, few)) (omega (arith, fit, room, small)) (omega (arith, fit, room, small)) offset,
+                indexes quiet i schedule k t m calm f fs mid after index.first z (words x) address n shift next base far (omega (arith, below, few))
+                    (omega (arith, fit, room, small)) close closer offset,
               )
 
-      at_value : (v : Value) → and_then (value_with calls p e) (passed index) ≡ Gives v → Finds i schedule k t m (placed f mid (on (pos address ∷ base) v)) fs region element x (after - mid) after base (go v)
+      at_value : (v : Value) → and_then (value_with calls p e) (passed index) ≡ Gives v → FindsNear i schedule k t m (placed f mid (on ((pos address +ℤ shift) ∷ base) v)) fs region element x (after - mid) after next base (go v)
       at_value v ev =
           let first = given (value_with calls p e) (passed index) v ev in
           let it = number calls p (view_of i schedule k t m f fs) first.0 answers.sound sees first.1 in
           let checked = passed_number index it.0 v (ap (passed index) (sym it.1) ∙ first.2) in
-          subst (λ u. Finds i schedule k t m (placed f mid (on (pos address ∷ base) u)) fs region element x (after - mid) after base (go u)) (sym checked.0) (at_number it.0 checked.1)
+          subst (λ u. FindsNear i schedule k t m (placed f mid (on ((pos address +ℤ shift) ∷ base) u)) fs region element x (after - mid) after next base (go u)) (sym checked.0) (at_number it.0 checked.1)
 
 -- ---- a component of a record
 
@@ -458,20 +577,20 @@ module _ (quiet : QuietStays) (sized : ValuesHaveWords) (places : PartsHavePlace
     abbrev W : List ℤ
     W = region_words i region m f
 
-    -- above the address of a record stand an offset and a sum: then the address of the component stands there
-    pub finds_field : (from offset address : ℕ) (s : Subtype) (fields : Fields) (parts : Shapes) (components : List RecordComponent) (part : Subtype) (inner : Shape) (name : Identifier) (calls : Calls) (p : Place)
+    -- From the number of a record to that of its component.
+    pub finds_field : (from after offset address : ℕ) (shift next : ℤ) (s : Subtype) (fields : Fields) (parts : Shapes) (components : List RecordComponent) (part : Subtype) (inner : Shape) (name : Identifier) (calls : Calls) (p : Place)
         → form_at p.scope s.type_number ≡ Some (Records components)
         → component_of components name.name ≡ Some part
         → shape_in parts name.name ≡ Some inner
         → field_offset parts name.name ≡ Some offset
-        → At i from (op.Push (pos offset)) → At i (from + 1) op.Add
+        → IsAtOffset i from after offset shift next → IsClose next
         → Lies W address (Record fields) → have_shapes parts fields ≡ true → length W ≤ 65536
-        → Finds i schedule k t m (placed f from (pos address ∷ base)) fs region part inner 2 (from + 2) base (part_with calls p (IsObject s (Record fields)) (Component name))
-    finds_field from offset address s fields parts components part inner name calls p form chosen shaped at push add lies all small =
-        subst (λ o. Finds i schedule k t m (placed f from (pos address ∷ base)) fs region part inner 2 (from + 2) base (field_meaning o (Record fields) name.name)) (sym form)
-        (subst (λ o. Finds i schedule k t m (placed f from (pos address ∷ base)) fs region part inner 2 (from + 2) base (object_or_nothing o (field_of fields name.name))) (sym chosen) (there (field_of fields name.name) refl))
+        → FindsNear i schedule k t m (placed f from ((pos address +ℤ shift) ∷ base)) fs region part inner (after - from) after next base (part_with calls p (IsObject s (Record fields)) (Component name))
+    finds_field from after offset address shift next s fields parts components part inner name calls p form chosen shaped at moves close lies all small =
+        subst (λ o. FindsNear i schedule k t m (placed f from ((pos address +ℤ shift) ∷ base)) fs region part inner (after - from) after next base (field_meaning o (Record fields) name.name)) (sym form)
+        (subst (λ o. FindsNear i schedule k t m (placed f from ((pos address +ℤ shift) ∷ base)) fs region part inner (after - from) after next base (object_or_nothing o (field_of fields name.name))) (sym chosen) (there (field_of fields name.name) refl))
       where
-        there : (o : Option Value) → field_of fields name.name ≡ o → Finds i schedule k t m (placed f from (pos address ∷ base)) fs region part inner 2 (from + 2) base (object_or_nothing (Some part) o)
+        there : (o : Option Value) → field_of fields name.name ≡ o → FindsNear i schedule k t m (placed f from ((pos address +ℤ shift) ∷ base)) fs region part inner (after - from) after next base (object_or_nothing (Some part) o)
         there None is = tt
         there (Some w) is =
             let fit = field_fits sized parts fields name.name w inner offset all is shaped at in
@@ -479,19 +598,13 @@ module _ (quiet : QuietStays) (sized : ValuesHaveWords) (places : PartsHavePlace
             let room = within (address + length (fields_words fields)) (length W) held.0 in
             let inside = fit.0 in
             let law = places.fields parts fields name.name w offset all is at in
-            let l = length (value_words w) in
-            let two : (from + 1) + 1 ≡ from + 2 = omega arith in (
+            let l = length (value_words w) in (
               address + offset,
-              subst (λ ws. Lies ws (address + offset) w) (sym (same_words i m region f from (pos address ∷ base)))
+              subst (λ ws. Lies ws (address + offset) w) (sym (same_words i m region f from ((pos address +ℤ shift) ∷ base)))
                   (ap (λ b. cond b (Some (take l (drop (address + offset) W))) None) (below ((address + offset) + l) (length W) (omega (arith, room, inside)))
                   ∙ ap Some
                   (ap (take l) (sym (drop_more W address offset)) ∙ sym (window (drop address W) offset l (length (fields_words fields)) inside) ∙ ap (λ y. take l (drop offset y)) held.1 ∙ law)),
               fit.1,
               refl,
-              spends_trans (behaviour i schedule) t frames_of (most_steps i) 1 k (in_frame m (placed f (from + 2) (pos (address + offset) ∷ base)) fs)
-                  (pushes quiet i schedule k t m calm from (pos offset) push f fs (pos address ∷ base) (from + 1) refl)
-                  (steps quiet i schedule k t m calm (placed f (from + 1) (pos offset ∷ pos address ∷ base)) (placed f (from + 2) (pos (address + offset) ∷ base)) fs
-                  (acts quiet i (from + 1) op.Add add schedule k t m f fs (pos offset ∷ pos address ∷ base)
-                  ∙ ap (λ z. gives i schedule k t m (placed f (from + 1) (pos offset ∷ pos address ∷ base)) fs z base) (in_base (address + offset) (omega (arith, room, inside, small)))
-                  ∙ ap (λ q. does Quiet m (placed f q (pos (address + offset) ∷ base)) fs None None) two)),
+              moves_on quiet i schedule k t m calm f fs from after offset address shift next base (omega (arith, room, inside, small)) close moves,
             )

@@ -1,5 +1,5 @@
 -- What refuses the code of what stands behind a name, and in the parentheses of a part or a conversion, refuses that of the name.
-use Rattle.std.proofs.Common.{◌≡◌, ◌<◌, ◌≤◌, ◌+◌, ◌*◌, ◌⊎◌, inl, inr, ℕ, zero, suc, List, [], ◌∷◌, length, map, take, false, Some, sym, subst, arith}
+use Rattle.std.proofs.Common.{◌≡◌, ◌<◌, ◌≤◌, ◌+◌, ◌*◌, ◌⊎◌, inl, inr, ℕ, zero, suc, List, [], ◌∷◌, length, map, take, false, Some, sym, ap, subst, arith}
 use Rattle.std.specs.Prelude.{get_or, max}
 use Rattle.std.proofs.Math.Nat.{le-max_right}
 use Rattle.ada_tree.specs.declared.expression.Identifier.{Identifier}
@@ -16,7 +16,7 @@ use Rattle.types.specs.Standings.{stands_first}
 use Rattle.image.specs.Rules.{is_block}
 use Rattle.expr_code.specs.Code.{here}
 use Rattle.expr_code.specs.Going.{path_size}
-use Rattle.expr_code.specs.Refusing.{checked_peak, HasUnfitObject, IsRefusedBeside, IsUnfit, peak, RefusesChecked, RefusesExpression, RefusesPath, selector_peak, selectors_peak, words_below}
+use Rattle.expr_code.specs.Refusing.{checked_peak, HasUnfitObject, IsRefusedBeside, IsUnfit, peak, RefusesAddress, RefusesChecked, RefusesExpression, RefusesPath, selector_peak, selectors_peak, words_below}
 use Rattle.expr_code.specs.Seeing.{slot_of}
 use Rattle.expr_code.specs.Widths.{width_of}
 use Rattle.expr_code.specs.declared.code.Code.{Code}
@@ -48,6 +48,17 @@ module _ (v : Visible) (first : Identifier) (slot : Slot) (r : Role) (t : Subtyp
     (there : slot_of v first.name ≡ Some slot) where
   unfit_object : IsUnfit v.scope t → HasUnfitObject v
   unfit_object h = record { name = first.name; slot = slot; role = r; subtype = t; there = there; stands = stands; unfit = h }
+
+  -- the address of a part
+  pub whole_refused : (selectors : SelectorTrees) (old : Code) (depth : ℕ) (why : Refusal) → RefusesAddress v old depth t selectors why
+      → RefusesExpression v old depth (tree.Named first selectors) why
+  whole_refused selectors old depth why refused =
+      let same = ap (λ w. selectors_peak v.scope (words_below v.scope w) selectors) stands in
+      name_refused v first selectors old depth _ _ why unfit (omega arith) (omega (arith, same)) refused
+    where
+      unfit : HasUnfitObject v ⊎ IsUnfit v.scope t → HasUnfitObject v
+      unfit (inl h) = h
+      unfit (inr h) = unfit_object h
 
   -- the load of a part
   pub load_refused : (selectors : SelectorTrees) (old : Code) (depth m l told : ℕ) (last : Subtype) (why : Refusal) → told ≡ capped (words_of v.scope last)

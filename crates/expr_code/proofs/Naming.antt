@@ -54,7 +54,7 @@ first_word [] (suc a) w e = absurd cc
 first_word (x ∷ words) zero w e = let same : x ≡ w = cc in ap Some same
 first_word (x ∷ words) (suc a) w e = first_word words a w e
 
-single : (ws : List ℤ) → length ws ≡ 1 → (w : ℤ) × (ws ≡ w ∷ [])
+pub single : (ws : List ℤ) → length ws ≡ 1 → (w : ℤ) × (ws ≡ w ∷ [])
 single [] e = absurd (omega (arith, e))
 single (w ∷ []) e = (w, refl)
 single (w ∷ x ∷ ws) e = absurd (omega (arith, e))

@@ -1,7 +1,7 @@
 -- Names with selectors: along a path of components and indexes to a part, whose words are loaded.
-use Rattle.std.proofs.Common.{◌≡◌, ℕ, suc, ◌+◌, ◌-◌, ◌≤◌, ℤ, List, ◌∷◌, length, None, Some, true, refl, sym, ap, ◌∙◌, subst, arith, rules}
+use Rattle.std.proofs.Common.{◌≡◌, ℕ, suc, ◌+◌, ◌-◌, ◌≤◌, ℤ, List, ◌∷◌, ◌++◌, length, None, Some, Bool, true, false, refl, sym, ap, ◌∙◌, subst, arith, rules}
 use Rattle.std.proofs.lemmas.Bool.{and_parts}
-use Rattle.std.specs.Prelude.{pos, nat_eq, ◌&&◌}
+use Rattle.std.specs.Prelude.{cond, pos, nat_eq, reverse, ◌+ℤ◌, ◌&&◌}
 use Rattle.base.specs.declared.schedule.ScheduleLine.{ScheduleLine}
 use Rattle.kernel.specs.State.{Kernel}
 use Rattle.kernel.specs.Effects.{Quiet}
@@ -14,12 +14,12 @@ use Rattle.ada_tree.specs.ExpressionTree as tree
 use Rattle.ada_tree.specs.ExpressionTree.{Arguments, Component, ExprTree, MoreArguments, MoreSelectors, NoArguments, NoSelectors, SelectorTrees}
 use Rattle.image.specs.Sections.{Sections}
 use Rattle.image.specs.Frames.{Words, Frame, region_words}
-use Rattle.image.specs.Steps.{behaviour, block_loaded, does}
+use Rattle.image.specs.Steps.{behaviour, block_loaded, does, loaded}
 use Rattle.image.specs.declared.instruction.Operation.TheVariants as op
 use Rattle.image.specs.declared.instruction.Region.{Region}
 use Rattle.types.specs.Laws.{PartsHavePlaces, ValuesHaveWords}
 use Rattle.types.specs.Layouts.{field_offset}
-use Rattle.types.specs.Shapes.{Shape, Shapes, Grouped, Repeated, all_values, count_values, has_shape, have_shapes, words}
+use Rattle.types.specs.Shapes.{Shape, Shapes, Grouped, Repeated, all_values, count_values, has_shape, have_shapes, value_words, words}
 use Rattle.types.specs.declared.entity.Subtype.{Subtype}
 use Rattle.types.specs.Evaluations.{Val, Gives, Raises, Meaningless, and_then}
 use Rattle.types.specs.declared.entity.RecordComponent.{RecordComponent}
@@ -31,19 +31,19 @@ use Rattle.types.specs.Places.{IsObject, Meaning, Place, meaning_of}
 use Rattle.types.specs.Values.{Value, Values, Fields, Array, Record, Number, Truth}
 use Rattle.expr_soundness.specs.meaning.specs.MeetingLaws.{takes_more}
 use Rattle.expr_soundness.specs.meaning.specs.SameMeaning.{frames_of}
-use Rattle.image.specs.Frames.{words_at}
+use Rattle.image.specs.Frames.{word_at, words_at}
 use Rattle.expr_code.specs.Views.{At, frames_above, in_frame, placed, Sight, View, view_of}
 use Rattle.expr_code.specs.Coming.{Comes, most_steps, on}
 use Rattle.expr_code.specs.Computing.{Answers, Computes, ComputesChecked, ComesToNumber, Library}
 use Rattle.expr_code.specs.Locating.{Finds, shape_in}
-use Rattle.expr_code.specs.Naming.{Lies}
+use Rattle.expr_code.specs.Naming.{Lies, loaded_at}
 use Rattle.expr_code.proofs.Coming.{acts, after_first, steps, pushes}
 use Rattle.expr_code.proofs.Coming.{more}
 use Rattle.expr_code.proofs.Expressions.{and_then_again}
-use Rattle.expr_code.proofs.Naming.{same_words}
+use Rattle.expr_code.proofs.Naming.{same_words, single, word_there}
 use Rattle.expr_code.proofs.Passing.{named_value}
-use Rattle.expr_code.specs.Locating.{IsOffset, IsPath, located}
-use Rattle.expr_code.proofs.Locating.{finds_element, finds_field, offset_up, then_found}
+use Rattle.expr_code.specs.Locating.{IsAtOffset, IsClose, IsOffset, IsPath, located}
+use Rattle.expr_code.proofs.Locating.{FindsNear, at_offset_up, finds_element, finds_field, offset_up, shift_none, then_found}
 
 -- a value of the shape of a record has fields, and one of the shape of an array components
 pub as_record : (x : Shape) (parts : Shapes) (v : Value) → x ≡ Grouped parts → has_shape x v ≡ true → (fields : Fields) × (v ≡ Record fields) × (have_shapes parts fields ≡ true)
@@ -85,55 +85,82 @@ module _ (quiet : QuietStays) (sized : ValuesHaveWords) (places : PartsHavePlace
 
   module _ (calls : Calls) (left : ℕ) (answers : Answers i library calls left) (schedule : List ScheduleLine) (k : Kernel) (t : ℕ) (m : Words) (f : Frame) (fs : List Frame) (p : Place) (base : List ℤ)
       (calm : Calm k t) (sees : sight p (view_of i schedule k t m f fs)) (is : left ≡ frames_above fs) (small : length (region_words i region m f) ≤ 65536) where
-    abbrev At_part : (from to : ℕ) (last : Subtype) (end : Shape) (address : ℕ) → Val Meaning → Type 0
-    At_part from to last end address v = Finds i schedule k t m (placed f from (pos address ∷ base)) fs region last end (to - from) to base v
+    abbrev At_part : (from to : ℕ) (shift : ℤ) (last : Subtype) (end : Shape) (address : ℕ) → Val Meaning → Type 0
+    At_part from to shift last end address v =
+        Finds i schedule k t m (placed f from ((pos address +ℤ shift) ∷ base)) fs region last end (to - from) to base v
 
-    along_field : (name : Identifier) (rest : SelectorTrees) (from to : ℕ) (s last : Subtype) (x end : Shape) (components : List RecordComponent) (parts : Shapes) (part : Subtype) (inner : Shape) (offset : ℕ)
-        → form_at p.scope s.type_number ≡ Some (Records components) → x ≡ Grouped parts → component_of components name.name ≡ Some part → shape_in parts name.name ≡ Some inner
-        → field_offset parts name.name ≡ Some offset → At i from (op.Push (pos offset)) → At i (from + 1) op.Add → from + 2 ≤ to
-        → ((v : Value) (address : ℕ) → Lies (region_words i region m f) address v → has_shape inner v ≡ true → At_part (from + 2) to last end address (located calls p (IsObject part v) rest))
+    along_field : (name : Identifier) (rest : SelectorTrees) (from after to : ℕ) (shift next : ℤ) (s last : Subtype) (x end : Shape) (components : List RecordComponent)
+        (parts : Shapes) (part : Subtype) (inner : Shape) (offset : ℕ)
+        → form_at p.scope s.type_number ≡ Some (Records components) → x ≡ Grouped parts → component_of components name.name ≡ Some part
+        → shape_in parts name.name ≡ Some inner → field_offset parts name.name ≡ Some offset
+        → IsAtOffset i from after offset shift next → IsClose next → after ≤ to
+        → ((v : Value) (address : ℕ) → Lies (region_words i region m f) address v → has_shape inner v ≡ true
+        → At_part after to next last end address (located calls p (IsObject part v) rest))
         → (v : Value) (address : ℕ) → Lies (region_words i region m f) address v → has_shape x v ≡ true
-        → At_part from to last end address (located calls p (IsObject s v) (MoreSelectors (Component name) rest))
-    along_field name rest from to s last x end components parts part inner offset form grouped chosen shaped at push add up again v address lies has =
+        → At_part from to shift last end address (located calls p (IsObject s v) (MoreSelectors (Component name) rest))
+    along_field name rest from after to shift next s last x end components parts part inner offset form grouped chosen shaped at moves close up again v address
+        lies has =
+        let far = at_offset_up i from after offset shift next moves in
         let it = as_record x parts v grouped has in
-        more_finds schedule k t m calm f fs base from (2 + (to - (from + 2))) (to - from) to (pos address ∷ base) last end (located calls p (IsObject s v) (MoreSelectors (Component name) rest)) (omega (arith, up))
-        (then_found quiet i schedule k t m calm fs region last end part inner (placed f from (pos address ∷ base)) 2 (to - (from + 2)) (from + 2) to base (part_with calls p (IsObject s v) (Component name)) (λ n. located calls p n rest) (omega arith) up
-        (subst (λ u. Finds i schedule k t m (placed f from (pos address ∷ base)) fs region part inner 2 (from + 2) base (part_with calls p (IsObject s u) (Component name))) (sym it.1)
-        (finds_field quiet sized places i library sight region schedule k t m calm f fs base from offset address s it.0 parts components part inner name calls p form chosen shaped at push add
-        (subst (λ u. Lies (region_words i region m f) address u) it.1 lies) it.2 small))
-        (λ a b l h. again a b (subst (λ ws. Lies ws b a) (same_words i m region f from (pos address ∷ base)) l) h))
+        let st : List ℤ = (pos address +ℤ shift) ∷ base in
+        more_finds schedule k t m calm f fs base from ((after - from) + (to - after)) (to - from) to st last end
+        (located calls p (IsObject s v) (MoreSelectors (Component name) rest)) (omega (arith, far, up))
+        (then_found quiet i schedule k t m calm fs region last end part inner (placed f from st) (after - from) (to - after) after to next base
+        (part_with calls p (IsObject s v) (Component name)) (λ n. located calls p n rest) far up
+        (subst
+        (λ u. FindsNear i schedule k t m (placed f from st) fs region part inner (after - from) after next base (part_with calls p (IsObject s u) (Component name)))
+        (sym it.1)
+        (finds_field quiet sized places i library sight region schedule k t m calm f fs base from after offset address shift next s it.0 parts components part inner
+        name calls p form chosen shaped at moves close (subst (λ u. Lies (region_words i region m f) address u) it.1 lies) it.2 small))
+        (λ a b l h. again a b (subst (λ ws. Lies ws b a) (same_words i m region f from st) l) h))
 
-    along_index : (e : ExprTree) (rest : SelectorTrees) (from mid after to : ℕ) (s last index element : Subtype) (many : ℕ) (x inner end : Shape)
+    along_index : (e : ExprTree) (rest : SelectorTrees) (from mid after to : ℕ) (shift next : ℤ) (s last index element : Subtype) (many : ℕ) (x inner end : Shape)
         → form_at p.scope s.type_number ≡ Some (Arrays index many element) → x ≡ Repeated many inner → many ≤ 65536 → from ≤ mid
         → ComputesChecked i library sight from mid index e → ComesToNumber i library sight e
-        → IsOffset i mid after index.first (words inner) → after ≤ to
-        → ((v : Value) (address : ℕ) → Lies (region_words i region m f) address v → has_shape inner v ≡ true → At_part after to last end address (located calls p (IsObject element v) rest))
+        → IsClose shift → IsOffset i mid after index.first (words inner) shift next → IsClose next → after ≤ to
+        → ((v : Value) (address : ℕ) → Lies (region_words i region m f) address v → has_shape inner v ≡ true
+        → At_part after to next last end address (located calls p (IsObject element v) rest))
         → (v : Value) (address : ℕ) → Lies (region_words i region m f) address v → has_shape x v ≡ true
-        → At_part from to last end address (located calls p (IsObject s v) (MoreSelectors (Arguments (MoreArguments (tree.Value e) NoArguments)) rest))
-    along_index e rest from mid after to s last index element many x inner end form repeated few le code number offset up again v address lies has =
-        let far = offset_up i mid after index.first (words inner) offset in
+        → At_part from to shift last end address (located calls p (IsObject s v) (MoreSelectors (Arguments (MoreArguments (tree.Value e) NoArguments)) rest))
+    along_index e rest from mid after to shift next s last index element many x inner end form repeated few le code number close offset closer up again v address
+        lies has =
+        let far = offset_up i mid after index.first (words inner) shift next offset in
         let it = as_array x inner many v repeated has in
         let count = same_count (count_values it.0) many it.2 in
         let selector = Arguments (MoreArguments (tree.Value e) NoArguments) in
-        more_finds schedule k t m calm f fs base from (((mid - from) + (after - mid)) + (to - after)) (to - from) to (pos address ∷ base) last end (located calls p (IsObject s v) (MoreSelectors selector rest)) (omega (arith, le, far, up))
-        (then_found quiet i schedule k t m calm fs region last end element inner (placed f from (pos address ∷ base)) ((mid - from) + (after - mid)) (to - after) after to base (part_with calls p (IsObject s v) selector) (λ n. located calls p n rest) (omega (arith, le, far)) up
-        (subst (λ u. Finds i schedule k t m (placed f from (pos address ∷ base)) fs region element inner ((mid - from) + (after - mid)) after base (part_with calls p (IsObject s u) selector)) (sym it.1)
-        (finds_element quiet sized places i library sight region from mid after e s index element many inner le code number offset calls left answers schedule k t m f fs p base calm sees is form it.0 address
+        let st : List ℤ = (pos address +ℤ shift) ∷ base in
+        more_finds schedule k t m calm f fs base from (((mid - from) + (after - mid)) + (to - after)) (to - from) to st last end
+        (located calls p (IsObject s v) (MoreSelectors selector rest)) (omega (arith, le, far, up))
+        (then_found quiet i schedule k t m calm fs region last end element inner (placed f from st) ((mid - from) + (after - mid)) (to - after) after to next base
+        (part_with calls p (IsObject s v) selector) (λ n. located calls p n rest) (omega (arith, le, far)) up
+        (subst
+        (λ u. FindsNear i schedule k t m (placed f from st) fs region element inner ((mid - from) + (after - mid)) after next base
+        (part_with calls p (IsObject s u) selector)) (sym it.1)
+        (finds_element quiet sized places i library sight region from mid after e s index element many inner le code number shift next close closer offset calls left
+        answers schedule k t m f fs p base calm sees is form it.0 address
         (record { lies = subst (λ u. Lies (region_words i region m f) address u) it.1 lies; shaped = it.3; few = omega (arith, count, few); small = small })))
-        (λ u q l h. again u q (subst (λ ws. Lies ws q u) (same_words i m region f from (pos address ∷ base)) l) h))
+        (λ u q l h. again u q (subst (λ ws. Lies ws q u) (same_words i m region f from st) l) h))
 
-    -- along a path from the address of an object or part to that of the part at its end
-    pub finds_path : (selectors : SelectorTrees) (from to : ℕ) (s last : Subtype) (x end : Shape) → IsPath i library sight from to s x selectors last end
-        → (v : Value) (address : ℕ) → Lies (region_words i region m f) address v → has_shape x v ≡ true → At_part from to last end address (located calls p (IsObject s v) selectors)
-    finds_path NoSelectors from to s last x end code v address lies shaped =
-        subst (λ z. At_part from to z end address (Gives (IsObject s v))) code.2 (ends_there schedule k t m calm f fs base from to address s x end v code.0 code.1 lies shaped)
-    finds_path (MoreSelectors (Component name) rest) from to s last x end code v address lies shaped =
-        along_field name rest from to s last x end code.0 code.1 code.2 code.3 code.4 (code.5 p (view_of i schedule k t m f fs) sees) (code.6 p (view_of i schedule k t m f fs) sees) code.7 code.8 code.9 code.11 code.12 code.13
-        (λ a b l h. finds_path rest (from + 2) to code.2 last code.3 end code.14 a b l h) v address lies shaped
-    finds_path (MoreSelectors (Arguments (MoreArguments (tree.Value e) NoArguments)) rest) from to s last x end code v address lies shaped =
-        along_index e rest from code.4 code.5 to s last code.0 code.1 code.2 x code.3 end (code.6 p (view_of i schedule k t m f fs) sees) (code.7 p (view_of i schedule k t m f fs) sees) code.8 code.9 code.10 code.11 code.12 code.13
-        (λ a b l h. finds_path rest code.5 to code.1 last code.3 end code.14 a b l h) v address lies shaped
-    finds_path (MoreSelectors other rest) from to s last x end code v address lies shaped = absurd code
+    -- along a path from the number of an object or part to the address of the part at its end
+    pub finds_path : (selectors : SelectorTrees) (from to : ℕ) (shift : ℤ) (s last : Subtype) (x end : Shape) → IsClose shift
+        → IsPath i library sight from to shift s x selectors last end
+        → (v : Value) (address : ℕ) → Lies (region_words i region m f) address v → has_shape x v ≡ true
+        → At_part from to shift last end address (located calls p (IsObject s v) selectors)
+    finds_path NoSelectors from to shift s last x end close code v address lies shaped =
+        subst
+        (λ w. Finds i schedule k t m (placed f from (w ∷ base)) fs region last end (to - from) to base (Gives (IsObject s v)))
+        (sym (shift_none address shift code.3))
+        (subst (λ z. Finds i schedule k t m (placed f from (pos address ∷ base)) fs region z end (to - from) to base (Gives (IsObject s v))) code.2
+        (ends_there schedule k t m calm f fs base from to address s x end v code.0 code.1 lies shaped))
+    finds_path (MoreSelectors (Component name) rest) from to shift s last x end close code v address lies shaped =
+        along_field name rest from code.5 to shift code.6 s last x end code.0 code.1 code.2 code.3 code.4 (code.7 p (view_of i schedule k t m f fs) sees)
+        (code.8 p (view_of i schedule k t m f fs) sees) code.9 code.10 code.11 code.13 code.14 code.15
+        (λ a b l h. finds_path rest code.5 to code.6 code.2 last code.3 end code.14 code.16 a b l h) v address lies shaped
+    finds_path (MoreSelectors (Arguments (MoreArguments (tree.Value e) NoArguments)) rest) from to shift s last x end close code v address lies shaped =
+        along_index e rest from code.4 code.5 to shift code.6 s last code.0 code.1 code.2 x code.3 end (code.7 p (view_of i schedule k t m f fs) sees)
+        (code.8 p (view_of i schedule k t m f fs) sees) code.9 code.10 code.11 code.12 close code.13 code.14 code.15
+        (λ a b l h. finds_path rest code.5 to code.6 code.1 last code.3 end code.14 code.16 a b l h) v address lies shaped
+    finds_path (MoreSelectors other rest) from to shift s last x end close code v address lies shaped = absurd code
 
 -- ---- the words of the part at the end of a path
 
@@ -157,20 +184,39 @@ NamesStored sight first selectors s x region address =
 
 module _ (quiet : QuietStays) (sized : ValuesHaveWords) (places : PartsHavePlaces) (i : Sections) (library : Library) (sight : Sight) (region : Region) where
   module _ (schedule : List ScheduleLine) (k : Kernel) (t : ℕ) (m : Words) (calm : Calm k t) (f : Frame) (fs : List Frame) (base : List ℤ) where
-    loads_part : (mid address : ℕ) (x : Shape) → At i mid (op.LoadBlock region (words x)) → (a : Value) → Lies (region_words i region m f) address a → has_shape x a ≡ true
+    loads_part : (mid address : ℕ) (x : Shape) → At i mid (loaded_at region (words x)) → (a : Value) → Lies (region_words i region m f) address a → has_shape x a ≡ true
         → Comes i schedule k t m (placed f mid (pos address ∷ base)) fs 1 (suc mid) (on base) (Gives a)
-    loads_part mid address x here a lies shaped =
-        let next : mid + 1 ≡ suc mid = omega arith in
-        let size = (sized x a shaped).sized in
-        let st : List ℤ = pos address ∷ base in
-        steps quiet i schedule k t m calm (placed f mid st) (placed f (suc mid) (on base a)) fs
-        (acts quiet i mid (op.LoadBlock region (words x)) here schedule k t m f fs st
-        ∙ ap (λ ws. block_loaded i schedule k t m (placed f mid st) fs (words_at ws (pos address) (words x)) base) (same_words i m region f mid st)
-        ∙ ap (λ n. block_loaded i schedule k t m (placed f mid st) fs (words_at (region_words i region m f) (pos address) n) base) (sym size)
-        ∙ ap (λ o. block_loaded i schedule k t m (placed f mid st) fs o base) lies
-        ∙ ap (λ n. does Quiet m (placed f n (on base a)) fs None None) next)
+    loads_part mid address x here a lies shaped = by_count (nat_eq (words x) 1) refl here
+      where
+        next : mid + 1 ≡ suc mid
+        next = omega arith
 
-    then_loads : (from n mid : ℕ) (last : Subtype) (x : Shape) (calls : Calls) (p : Place) (st : List ℤ) (v : Val Meaning) → from ≤ mid → At i mid (op.LoadBlock region (words x))
+        size : length (value_words a) ≡ words x
+        size = (sized x a shaped).sized
+
+        by_count : (b : Bool) → nat_eq (words x) 1 ≡ b → At i mid (cond b (op.LoadIndexed region) (op.LoadBlock region (words x)))
+            → Comes i schedule k t m (placed f mid (pos address ∷ base)) fs 1 (suc mid) (on base) (Gives a)
+        by_count true e at =
+            let it = single (value_words a) (size ∙ same_count (words x) 1 e) in
+            subst
+            (λ ws. Spends (behaviour i schedule) t frames_of (most_steps i) (suc (length fs)) 1 k (in_frame m (placed f mid (pos address ∷ base)) fs) k
+            (in_frame m (placed f (suc mid) (reverse ws ++ base)) fs)) (sym it.1)
+            (steps quiet i schedule k t m calm (placed f mid (pos address ∷ base)) (placed f (suc mid) (it.0 ∷ base)) fs
+            (acts quiet i mid (op.LoadIndexed region) at schedule k t m f fs (pos address ∷ base)
+            ∙ ap (λ ws. loaded i schedule k t m (placed f mid (pos address ∷ base)) fs (word_at ws (pos address)) base)
+            (same_words i m region f mid (pos address ∷ base))
+            ∙ ap (λ o. loaded i schedule k t m (placed f mid (pos address ∷ base)) fs o base) (word_there (region_words i region m f) address a it.0 lies it.1)
+            ∙ ap (λ n. does Quiet m (placed f n (it.0 ∷ base)) fs None None) next))
+        by_count false e at =
+            steps quiet i schedule k t m calm (placed f mid (pos address ∷ base)) (placed f (suc mid) (on base a)) fs
+            (acts quiet i mid (op.LoadBlock region (words x)) at schedule k t m f fs (pos address ∷ base)
+            ∙ ap (λ ws. block_loaded i schedule k t m (placed f mid (pos address ∷ base)) fs (words_at ws (pos address) (words x)) base)
+            (same_words i m region f mid (pos address ∷ base))
+            ∙ ap (λ n. block_loaded i schedule k t m (placed f mid (pos address ∷ base)) fs (words_at (region_words i region m f) (pos address) n) base) (sym size)
+            ∙ ap (λ o. block_loaded i schedule k t m (placed f mid (pos address ∷ base)) fs o base) lies
+            ∙ ap (λ n. does Quiet m (placed f n (on base a)) fs None None) next)
+
+    then_loads : (from n mid : ℕ) (last : Subtype) (x : Shape) (calls : Calls) (p : Place) (st : List ℤ) (v : Val Meaning) → from ≤ mid → At i mid (loaded_at region (words x))
         → Finds i schedule k t m (placed f from st) fs region last x n mid base v
         → Comes i schedule k t m (placed f from st) fs (n + 1) (suc mid) (on base) (and_then v (ended calls p))
     then_loads from n mid last x calls p st (Gives (IsObject s a)) le here h =
@@ -183,20 +229,21 @@ module _ (quiet : QuietStays) (sized : ValuesHaveWords) (places : PartsHavePlace
     then_loads from n mid last x calls p st v le here h = absurd h
 
   -- a name with selectors: the address of the object, the path, and the words of the part
-  pub computes_part : (from mid address : ℕ) (first : Identifier) (selectors : SelectorTrees) (s last : Subtype) (x end : Shape) → suc from ≤ mid
+  pub computes_part : (from mid address : ℕ) (shift : ℤ) (first : Identifier) (selectors : SelectorTrees) (s last : Subtype) (x end : Shape) → suc from ≤ mid
       → NamesStored sight first selectors s x region address
-      → At i from (op.Push (pos address))
-      → IsPath i library sight (from + 1) mid s x selectors last end
-      → At i mid (op.LoadBlock region (words end))
+      → IsClose shift
+      → At i from (op.Push (pos address +ℤ shift))
+      → IsPath i library sight (from + 1) mid shift s x selectors last end
+      → At i mid (loaded_at region (words end))
       → Computes i library sight from (suc mid) (tree.Named first selectors)
-  computes_part from mid address first selectors s last x end le names push path load calls left answers schedule k t m f fs p base calm sees is =
+  computes_part from mid address shift first selectors s last x end le names close push path load calls left answers schedule k t m f fs p base calm sees is =
       let it = names p (view_of i schedule k t m f fs) sees in
       let meaning = IsObject s it.0 in
       let found = located calls p meaning selectors in
       subst (λ v. Comes i schedule k t m (placed f from base) fs (suc mid - from) (suc mid) (on base) v)
       (sym (named_value calls p first selectors meaning it.1 it.2 ∙ located_value calls p selectors meaning))
       (more quiet i schedule k t m calm (placed f from base) fs (1 + ((mid - (from + 1)) + 1)) (suc mid - from) (suc mid) (on base) (and_then found (ended calls p)) (omega (arith, le))
-      (after_first quiet i schedule k t m calm (placed f from base) fs 1 ((mid - (from + 1)) + 1) (from + 1) (suc mid) (pos address ∷ base) (on base) (and_then found (ended calls p)) (omega arith)
-      (pushes quiet i schedule k t m calm from (pos address) push f fs base (from + 1) refl)
-      (then_loads schedule k t m calm f fs base (from + 1) (mid - (from + 1)) mid last end calls p (pos address ∷ base) found (omega (arith, le)) load
-      (finds_path quiet sized places i library sight region calls left answers schedule k t m f fs p base calm sees is it.5 selectors (from + 1) mid s last x end path it.0 address it.3 it.4))))
+      (after_first quiet i schedule k t m calm (placed f from base) fs 1 ((mid - (from + 1)) + 1) (from + 1) (suc mid) ((pos address +ℤ shift) ∷ base) (on base) (and_then found (ended calls p)) (omega arith)
+      (pushes quiet i schedule k t m calm from (pos address +ℤ shift) push f fs base (from + 1) refl)
+      (then_loads schedule k t m calm f fs base (from + 1) (mid - (from + 1)) mid last end calls p ((pos address +ℤ shift) ∷ base) found (omega (arith, le)) load
+      (finds_path quiet sized places i library sight region calls left answers schedule k t m f fs p base calm sees is it.5 selectors (from + 1) mid shift s last x end close path it.0 address it.3 it.4))))

@@ -19,7 +19,7 @@ use Rattle.types.specs.Standings.{stands_first}
 use Rattle.expr_soundness.proofs.Positions.{same_some}
 use Rattle.expr_code.specs.Branches.{Branch, Closes, branch_of, in_front}
 use Rattle.expr_code.specs.Code.{IsShallow}
-use Rattle.expr_code.specs.Going.{AddsByWords, AddsLessFirst, AddsOffset, AddsTwo}
+use Rattle.expr_code.specs.Going.{AddsAtOffset, AddsByWords, AddsLessFirst, AddsOffset, AddsTwo}
 use Rattle.expr_code.specs.OperatorCode.{binary_operation}
 use Rattle.expr_code.specs.Refusing.{argument_peak, arguments_peak, branches_peak, checked_peak, operand_peak, operands_peak, peak, selectors_peak, words_below}
 use Rattle.expr_code.specs.Widths.{width_of}
@@ -74,18 +74,24 @@ two_shallow : (old : Code) (depth : ℕ) (first second : Operation) (new : Code)
 two_shallow old depth first second new p =
     shallow_then old p.pushed new (depth + 1) (shallow_more old p.pushed depth (depth + 1) (omega arith) p.push.shallow) p.then.shallow
 
-less_shallow : (old : Code) (depth : ℕ) (first : ℤ) (new : Code) → AddsLessFirst old depth first new → IsShallow old new (depth + 1)
-less_shallow old depth first new (inl p) = two_shallow old depth (op.Push first) op.Subtract new p
-less_shallow old depth first new (inr h) = subst (λ c. IsShallow old c (depth + 1)) (sym h.1) (shallow_self old (depth + 1))
+less_shallow : (old : Code) (depth : ℕ) (first : ℤ) (words : ℕ) (shift next : ℤ) (new : Code) → AddsLessFirst old depth first words shift next new
+    → IsShallow old new (depth + 1)
+less_shallow old depth first words shift next new (inl p) = two_shallow old depth (op.Push first) op.Subtract new p.0
+less_shallow old depth first words shift next new (inr h) = subst (λ c. IsShallow old c (depth + 1)) (sym h.0) (shallow_self old (depth + 1))
+
+at_offset_shallow : (old : Code) (depth offset : ℕ) (shift next : ℤ) (new : Code) → AddsAtOffset old depth offset shift next new → IsShallow old new (depth + 1)
+at_offset_shallow old depth offset shift next new (inl p) = two_shallow old depth (op.Push (pos offset)) op.Add new p.0
+at_offset_shallow old depth offset shift next new (inr h) = subst (λ c. IsShallow old c (depth + 1)) (sym h.0) (shallow_self old (depth + 1))
 
 product_shallow : (old : Code) (depth words : ℕ) (new : Code) → AddsByWords old depth words new → IsShallow old new (depth + 1)
 product_shallow old depth words new (inl p) = two_shallow old depth (op.Push (pos words)) op.Multiply new p
 product_shallow old depth words new (inr h) = subst (λ c. IsShallow old c (depth + 1)) (sym h.1) (shallow_self old (depth + 1))
 
-pub offset_shallow : (old : Code) (depth : ℕ) (first : ℤ) (words : ℕ) (new : Code) → AddsOffset old depth first words new → IsShallow old new (depth + 1)
-offset_shallow old depth first words new p =
+pub offset_shallow : (old : Code) (depth : ℕ) (first : ℤ) (words : ℕ) (shift next : ℤ) (new : Code) → AddsOffset old depth first words shift next new
+    → IsShallow old new (depth + 1)
+offset_shallow old depth first words shift next new p =
     shallow_next old p.scaled new depth (depth + 1) (omega arith)
-    (shallow_then old p.counted p.scaled (depth + 1) (less_shallow old depth first p.counted p.less) (product_shallow p.counted depth words p.scaled p.product))
+    (shallow_then old p.counted p.scaled (depth + 1) (less_shallow old depth first words shift next p.counted p.less) (product_shallow p.counted depth words p.scaled p.product))
     p.add.shallow
 
 module _ (v : Visible) (depth : ℕ) where
@@ -343,20 +349,20 @@ module _ (v : Visible) (depth : ℕ) where
       let some = selectors_some v.scope 1 all in
       shallow_then a b c (depth + selectors_peak v.scope 1 all) (shallow_more a b h (depth + selectors_peak v.scope 1 all) (omega (arith, up, some)) p) q
 
-  pub part_shallow : (first : Identifier) (all : SelectorTrees) (r : Role) (t : Subtype) (a b c d : Code) (one : ℕ)
-      → stands_first v.scope (number_of v.scope first.name) ≡ standing.Part r t → one ≡ depth + 1 → IsShallow a b depth
-      → IsShallow b c (depth + selectors_peak v.scope 1 all) → IsShallow c d one → IsShallow a d (depth + peak v.scope (tree.Named first all))
-  part_shallow first all r t a b c d one stands is p q s =
+  pub part_shallow : (first : Identifier) (all : SelectorTrees) (r : Role) (t : Subtype) (a c d : Code) (one : ℕ)
+      → stands_first v.scope (number_of v.scope first.name) ≡ standing.Part r t → one ≡ depth + 1
+      → IsShallow a c (depth + selectors_peak v.scope 1 all) → IsShallow c d one → IsShallow a d (depth + peak v.scope (tree.Named first all))
+  part_shallow first all r t a c d one stands is q s =
       let some = selectors_some v.scope 1 all in
       let n = depth + selectors_peak v.scope 1 all in
       named_shallow first all a d n
       (let same = ap (λ w. selectors_peak v.scope (words_below v.scope w) all) stands in omega (arith, same))
-      (shallow_next a c d one n (omega (arith, is, some)) (address_shallow all a b c depth (omega arith) p q) s)
+      (shallow_next a c d one n (omega (arith, is, some)) q s)
 
-  pub component_shallow : (name : Identifier) (a b c : Code) (one two : ℕ) → one ≡ depth + 1 → two ≡ one + 1 → IsShallow a b one → IsShallow b c two
-      → IsShallow a c (depth + selectors_peak v.scope 1 (MoreSelectors (Component name) NoSelectors))
-  component_shallow name a b c one two first second p q =
-      shallow_next a b c two (depth + 2) (omega (arith, first, second)) (shallow_more a b one (depth + 2) (omega (arith, first)) p) q
+  pub component_shallow : (name : Identifier) (a b : Code) (one offset : ℕ) (shift next : ℤ) → one ≡ depth + 1 → AddsAtOffset a one offset shift next b
+      → IsShallow a b (depth + selectors_peak v.scope 1 (MoreSelectors (Component name) NoSelectors))
+  component_shallow name a b one offset shift next first p =
+      shallow_more a b (one + 1) (depth + 2) (omega (arith, first)) (at_offset_shallow a one offset shift next b p)
 
   pub element_shallow : (e : ExprTree) (a b c : Code) (one two : ℕ) → one ≡ depth + 1 → two ≡ one + 1
       → IsShallow a b (one + checked_peak (peak v.scope e)) → IsShallow b c (two + 1)

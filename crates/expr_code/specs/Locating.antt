@@ -1,5 +1,5 @@
 -- What it is that code finds a part of an object (RM 4.1.1, 4.1.3): its address stands on the operand stack.
-use Rattle.std.specs.Prelude.{◌≡◌, ◌⊎◌, ℕ, suc, ◌+◌, ◌≤◌, pos, ℤ, List, ◌∷◌, length, true, Option, None, Some, bytes_eq, if◌then◌else◌}
+use Rattle.std.specs.Prelude.{◌≡◌, ◌⊎◌, ℕ, suc, ◌+◌, ◌*◌, ◌≤◌, pos, ℤ, ◌+ℤ◌, ◌-ℤ◌, ◌*ℤ◌, unsigned_abs, List, ◌∷◌, length, true, Option, None, Some, bytes_eq, if◌then◌else◌}
 use Rattle.base.specs.declared.schedule.ScheduleLine.{ScheduleLine}
 use Rattle.kernel.specs.State.{Kernel}
 use Rattle.kernel.specs.Counting.{Spends}
@@ -25,6 +25,7 @@ use Rattle.expr_code.specs.Views.{At, in_frame, placed, Sight, View}
 use Rattle.expr_code.specs.Coming.{Comes, most_steps}
 use Rattle.expr_code.specs.Computing.{ComputesChecked, ComesToNumber, Library}
 use Rattle.expr_code.specs.Naming.{Lies}
+use Rattle.expr_code.specs.declared.part.TheConstants.{NEAR}
 
 -- what a name means before it ends: that of its parts, from left to right
 abbrev pub located : Calls → Place → Meaning → SelectorTrees → Val Meaning
@@ -50,66 +51,85 @@ module _ (i : Sections) (schedule : List ScheduleLine) (k : Kernel) (t : ℕ) (m
   Finds f fs region r x n to base (Raises e) = Comes i schedule k t m f fs n to (λ (meaning : Meaning). base) (Raises e)
   Finds f fs region r x n to base Meaningless = Unit {0}
 
--- ---- from an index to an address
+-- ---- numbers near to addresses
+
+-- What is added to an address in front of a path is this near to 0, so that no sum on the way passes the base range.
+abbrev pub IsNear : ℤ → Type 0
+IsNear z = unsigned_abs z ≤ NEAR
+
+-- ... the distance of two such numbers
+abbrev pub IsClose : ℤ → Type 0
+IsClose z = unsigned_abs z ≤ 2 * NEAR
+
+-- ---- from the address of an object to that of its part, where the number on the operand stack has so many more, `shift` in front and `next` behind
 
 module _ (i : Sections) where
   -- two instructions, one behind the other
   abbrev pub AreTwo : (from to : ℕ) → (first second : Operation) → Type 0
   AreTwo from to first second = At i from first × At i (from + 1) second × (to ≡ from + 2)
 
-  -- an index less the first one: nothing where that is 0
-  abbrev pub IsLessFirst : (from to : ℕ) → (first : ℤ) → Type 0
-  IsLessFirst from to first = AreTwo from to (op.Push first) op.Subtract ⊎ ((first ≡ pos 0) × (to ≡ from))
+  -- the offset of a component of a record, added; or nothing, where the number on the operand stack has it already
+  abbrev pub IsAtOffset : (from to offset : ℕ) → (shift next : ℤ) → Type 0
+  IsAtOffset from to offset shift next = (AreTwo from to (op.Push (pos offset)) op.Add × (next ≡ shift)) ⊎ ((to ≡ from) × (next ≡ shift -ℤ pos offset))
+
+  -- an index less the first one; or the index itself, where the number has less by the words in front of the first one
+  abbrev pub IsLessFirst : (from to : ℕ) → (first : ℤ) → (size : ℕ) → (shift next : ℤ) → Type 0
+  IsLessFirst from to first size shift next =
+      (AreTwo from to (op.Push first) op.Subtract × (next ≡ shift)) ⊎ ((to ≡ from) × (next ≡ shift +ℤ first *ℤ pos size))
 
   -- ... by the words of a component: nothing where it has one
   abbrev pub IsByWords : (from to : ℕ) → (size : ℕ) → Type 0
   IsByWords from to size = AreTwo from to (op.Push (pos size)) op.Multiply ⊎ ((size ≡ 1) × (to ≡ from))
 
   -- what makes of the address of an array and a checked index above it the address of the component
-  pub record IsOffset (from to : ℕ) (first : ℤ) (size : ℕ) : Type 0 where
+  pub record IsOffset (from to : ℕ) (first : ℤ) (size : ℕ) (shift next : ℤ) : Type 0 where
     pub counted : ℕ
     pub scaled : ℕ
-    pub less : IsLessFirst from counted first
+    pub less : IsLessFirst from counted first size shift next
     pub product : IsByWords counted scaled size
     pub add : At i scaled op.Add
     pub end : to ≡ scaled + 1
 
 -- ---- paths
 
--- Code that goes from the address of an object or part of this subtype and shape along selectors: for a component of a record its offset and a sum; for one
--- of an array its index, checked, and what makes of it an address.
+-- Code that goes from the address of an object or part of this subtype and shape along selectors, above which the number on the operand stack lies by `shift`:
+-- for a component of a record its offset, for one of an array its index, checked, and what makes of it an address. At the end the number is the address.
 module _ (i : Sections) (library : Library) (sight : Sight) where
-  abbrev pub IsPath : (from to : ℕ) → Subtype → Shape → SelectorTrees → (last : Subtype) → (end : Shape) → Type 0
-  IsPath from to s x NoSelectors last end = (from ≡ to) × (x ≡ end) × (s ≡ last)
-  IsPath from to s x (MoreSelectors (Component name) rest) last end =
+  abbrev pub IsPath : (from to : ℕ) → (shift : ℤ) → Subtype → Shape → SelectorTrees → (last : Subtype) → (end : Shape) → Type 0
+  IsPath from to shift s x NoSelectors last end = (from ≡ to) × (x ≡ end) × (s ≡ last) × (shift ≡ pos 0)
+  IsPath from to shift s x (MoreSelectors (Component name) rest) last end =
       (components : List RecordComponent)
       × (parts : Shapes)
       × (part : Subtype)
       × (inner : Shape)
       × (offset : ℕ)
+      × (after : ℕ)
+      × (next : ℤ)
       × ((p : Place) (view : View) → sight p view → form_at p.scope s.type_number ≡ Some (Records components))
       × ((p : Place) (view : View) → sight p view → x ≡ Grouped parts)
       × (component_of components name.name ≡ Some part)
       × (shape_in parts name.name ≡ Some inner)
       × (field_offset parts name.name ≡ Some offset)
       × (offset ≤ 65536)
-      × At i from (op.Push (pos offset))
-      × At i (from + 1) op.Add
-      × (from + 2 ≤ to)
-      × IsPath (from + 2) to part inner rest last end
-  IsPath from to s x (MoreSelectors (Arguments (MoreArguments (Value e) NoArguments)) rest) last end =
+      × IsAtOffset i from after offset shift next
+      × IsClose next
+      × (after ≤ to)
+      × IsPath after to next part inner rest last end
+  IsPath from to shift s x (MoreSelectors (Arguments (MoreArguments (Value e) NoArguments)) rest) last end =
       (index element : Subtype)
       × (many : ℕ)
       × (inner : Shape)
       × (mid : ℕ)
       × (after : ℕ)
+      × (next : ℤ)
       × ((p : Place) (view : View) → sight p view → form_at p.scope s.type_number ≡ Some (Arrays index many element))
       × ((p : Place) (view : View) → sight p view → x ≡ Repeated many inner)
       × (many ≤ 65536)
       × (from ≤ mid)
       × ComputesChecked i library sight from mid index e
       × ComesToNumber i library sight e
-      × IsOffset i mid after index.first (words inner)
+      × IsOffset i mid after index.first (words inner) shift next
+      × IsClose next
       × (after ≤ to)
-      × IsPath after to element inner rest last end
-  IsPath from to s x (MoreSelectors other rest) last end = ⊥
+      × IsPath after to next element inner rest last end
+  IsPath from to shift s x (MoreSelectors other rest) last end = ⊥

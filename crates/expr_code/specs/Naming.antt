@@ -1,5 +1,5 @@
 -- What it is that words are those of a name's value, and which instructions load them.
-use Rattle.std.specs.Prelude.{◌≡◌, ℕ, ℤ, pos, List, length, Some, None}
+use Rattle.std.specs.Prelude.{◌≡◌, ℕ, nat_eq, ℤ, pos, cond, List, length, Some, None}
 use Rattle.ada_tree.specs.declared.expression.Identifier.{Identifier}
 use Rattle.ada_tree.specs.ExpressionTree.{ExprTree, SelectorTrees}
 use Rattle.image.specs.Frames.{words_at}
@@ -35,6 +35,10 @@ abbrev pub load_operation : Region → ℕ → Operation
 load_operation regions.Locals address = op.LoadLocal address
 load_operation regions.Plain address = op.LoadPlain address
 load_operation regions.Object address = op.LoadObject address
+
+-- what loads so many words from the address on top of the operand stack
+abbrev pub loaded_at : Region → (words : ℕ) → Operation
+loaded_at r n = cond (nat_eq n 1) (op.LoadIndexed r) (op.LoadBlock r n)
 
 -- the word of a value that is known
 abbrev pub scalar_word : Scalar → ℤ

@@ -15,6 +15,6 @@ mod refusal;
 mod visible;
 
 pub use code::{Code, above, raised};
-pub use name::scalar_word;
+pub use name::{loaded_at, scalar_word};
 pub use refusal::{ImageLimit, Refusal};
 pub use visible::{Entries, OperationNumbers, Slot, Visible};

@@ -11,7 +11,7 @@ ghost use Rattle.types.specs.Standings.{standing_of, stands_first};
 ghost use Rattle.types.specs.declared.standing.Standing.TheVariants as standing;
 ghost use Rattle.expr_code.specs.Code.{Adds, Extends, here, IsShallow};
 ghost use Rattle.expr_code.specs.Emitting.{EmitsExpression, IsLegalExpression};
-ghost use Rattle.expr_code.specs.Naming.{load_operation, scalar_word};
+ghost use Rattle.expr_code.specs.Naming.{load_operation, loaded_at, scalar_word};
 ghost use Rattle.expr_code.specs.Seeing.{slot_of};
 ghost use Rattle.expr_code.specs.Providing.{HasWhatExpressionsNeed};
 ghost use Rattle.expr_code.specs.Refusing.{IsRefusedBeside, RefusesExpression, peak};
@@ -60,6 +60,17 @@ fn load_operation(slot: Slot) -> Operation
         Region::Locals => Operation::LoadLocal(slot.offset),
         Region::Plain => Operation::LoadPlain(slot.offset),
         Region::Object => Operation::LoadObject(slot.offset),
+    }
+}
+
+/// What loads so many words from the address on top of the operand stack.
+pub fn loaded_at(region: Region, words: u16) -> Operation
+    ensures { result ≡ loaded_at region words }
+{
+    if words == 1 {
+        Operation::LoadIndexed(region)
+    } else {
+        Operation::LoadBlock { region, words }
     }
 }
 
@@ -296,5 +307,23 @@ impl Code {
             return Err(Refusal::Limit(ImageLimit::Block));
         }
         self.emit(height, Operation::LoadBlock { region, words })
+    }
+
+    /// The same of a part, which may have one word.
+    pub(crate) fn load_part(
+        &mut self,
+        height: u16,
+        region: Region,
+        words: u16,
+    ) -> Result<(), Refusal>
+        ensures refused { IfErr result (λ why. IsRefusedBeside (is_block words ≡ false) (here self.old + 1) height why) }
+        ensures kept { IfErr result (λ why. Extends self.old self.new) }
+        ensures adds { OnOk result (Adds self.old height (loaded_at region words) self.new) }
+        ensures block { OnOk result (is_block words ≡ true) }
+    {
+        if words == 0 || WORDS < usize::from(words) {
+            return Err(Refusal::Limit(ImageLimit::Block));
+        }
+        self.emit(height, loaded_at(region, words))
     }
 }

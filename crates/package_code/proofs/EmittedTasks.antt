@@ -30,7 +30,7 @@ use Rattle.stmt_code.specs.Emitting.{HasLabels, IsHandled, Serves, TellPlaces}
 use Rattle.stmt_code.specs.Placing.{sequence_within}
 use Rattle.step_simulation.specs.part_code.specs.Formals.{AreInitial, AreReturned, StandInTurn, slot_for, no_subprogram, words_returned}
 use Rattle.step_simulation.specs.part_code.specs.Handling.{unhandled}
-use Rattle.step_simulation.specs.part_code.specs.Jumping.{Here, Jumps, There}
+use Rattle.step_simulation.specs.part_code.specs.Jumping.{Here, Jumps}
 use Rattle.step_simulation.specs.part_code.specs.Layout.{EndsBelow}
 use Rattle.step_simulation.specs.part_code.specs.Resting.{Framed, RestsWith}
 use Rattle.step_simulation.specs.part_code.specs.Statements.{IsRun, Numbers}
@@ -53,7 +53,7 @@ module _ (i : Sections) (program : Program) (g : Package) (numbers : Numbers) (v
   abbrev pub around_task : Around i program g numbers
   around_task = record {
     visible = v;
-    ways = record { exit = None; return = Some (runs.mid + 1); handled = None };
+    ways = record { exit = None; return = Some runs.out; handled = None };
     raised = unhandled;
     held = [];
     behind = v;
@@ -67,8 +67,6 @@ module _ (i : Sections) (program : Program) (g : Package) (numbers : Numbers) (v
   all_in : (place : ℕ) → first_place i number ≤ place → place ≤ stop → In place
   all_in place low high =
       let ended : end_of (called i number) ≡ s.end_ = ap end_of there in
-      let up = runs.up in
-      let over = runs.over in
       (low, omega (arith, low, high, within, ended))
 
   -- the return is reached from all places in front of it
@@ -81,26 +79,28 @@ module _ (i : Sections) (program : Program) (g : Package) (numbers : Numbers) (v
     results = ap results_of there ∙ results;
     outermost = record { exit = refl; handled = refl; raised = λ x. refl };
     from_inside = inside;
-    to_inside = all_in stop (let up = runs.up in let over = runs.over in omega (arith, up, over)) (omega arith);
+    to_inside = all_in stop (let up = runs.up in let down = runs.down in let over = runs.over in omega (arith, up, down, over)) (omega arith);
   }
 
   pub task_follows : (note : Note) → Follows i program g numbers note around_task number (first_place i number) (duty_items (OfBody b)) Inner [] []
   task_follows note =
       let up = runs.up in
+      let down = runs.down in
       let over = runs.over in
-      let first_in = all_in (first_place i number) (omega arith) (omega (arith, up, over)) in
-      let mid_in = all_in runs.mid up (omega (arith, over)) in
-      let way_in = all_in (runs.mid + 1) (omega (arith, up)) (omega (arith, over)) in
-      let stop_in = all_in stop (omega (arith, up, over)) (omega arith) in
+      let below = runs.below in
+      let first_in = all_in (first_place i number) (omega arith) (omega (arith, up, down, over)) in
+      let mid_in = all_in runs.mid up (omega (arith, down, over)) in
+      let way_in = all_in runs.out (omega (arith, up, below)) runs.high in
+      let stop_in = all_in stop (omega (arith, up, down, over)) (omega arith) in
       let shown = (narrows_same g v).shows in
       declares_follow i program g numbers note b.declarations around_task v runs.later number (first_place i number) runs.mid
       (Sequence b.statements b.handlers ∷ []) Inner [] [] runs.declared runs.uncovered up first_in mid_in (shown, shown, shown)
       (λ nar. (
-        runs.mid + 2,
+        runs.start,
         stop,
         runs.later,
         (record {
-          jumps = There runs.skip (omega arith) Here;
+          jumps = runs.skip;
           narrows = narrows_same g runs.later;
           reaches = (nar.shows, nar.shows, nar.shows);
           from_inside = mid_in;
@@ -113,8 +113,8 @@ module _ (i : Sections) (program : Program) (g : Package) (numbers : Numbers) (v
           (λ ret is.
               subst
               (λ n. (runs.later.reserved ≡ v.reserved) × LeadsOut i program g numbers (with_visible i program g numbers runs.later around_task) number n)
-              (same_some (runs.mid + 1) ret is)
-              (nar.reserved, leads_out runs.later (runs.mid + 1) (There runs.way (omega (arith, over)) Here) way_in)),
+              (same_some runs.out ret is)
+              (nar.reserved, leads_out runs.later runs.out runs.way way_in)),
           refl,
         ),
       ))

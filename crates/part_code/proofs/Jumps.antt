@@ -1,5 +1,5 @@
 -- Instructions that were added or patched, and jumps.
-use Rattle.std.proofs.Common.{◌≡◌, ℕ, suc, true, Some, refl, sym, ap, ◌∙◌, arith}
+use Rattle.std.proofs.Common.{◌≡◌, ℕ, suc, ◌+◌, true, Some, refl, sym, ap, ◌∙◌, arith}
 use Rattle.std.specs.Prelude.{nat_eq, slice_get}
 use Rattle.image.specs.Sections.{Sections}
 use Rattle.image.specs.Operations.{jump_target}
@@ -11,9 +11,9 @@ use Rattle.expr_code.specs.Code.{Adds, here, Patches}
 use Rattle.expr_code.specs.Flows.{AreKeptBetween}
 use Rattle.expr_code.specs.declared.code.Code.{Code}
 use Rattle.expr_code.proofs.Flowing.{kept_one}
-use Rattle.part_code.specs.Emitting.{IsReachable}
+use Rattle.part_code.specs.Emitting.{IsReachable, SkipsWay}
 use Rattle.image.specs.declared.instruction.Instr.{Instr}
-use Rattle.expr_code.proofs.Growing.{get_last, patched_there}
+use Rattle.expr_code.proofs.Growing.{added_here, get_last, patched_there}
 use Rattle.part_code.proofs.Lists.{some_same, same_self}
 
 -- ---- instructions of an image
@@ -27,6 +27,16 @@ same_place o place a is e = some_same a place (sym e ∙ is)
   where
     some_same : (x y : ℕ) → Some x ≡ Some y → x ≡ y
     some_same x y e = cc
+
+-- ---- the way out of a loop or a body
+
+pub way_here : (old new : Code) → SkipsWay old new → here new ≡ here old + 2
+way_here old new p =
+    let one = added_here old p.skipped 0 (op.Jump (here old + 2)) p.skips in
+    let two = added_here p.skipped new 0 (op.Jump 0) p.leaves in
+    omega (arith, one, two)
+
+-- ---- jumps that keep the rules
 
 -- a jump from an empty operand stack to a place that is reached
 pub jump_kept : (i : Sections) (s : Subprogram) (low high place to : ℕ) → slice_get i.instructions place ≡ Some (record { depth = 0; operation = op.Jump to })

@@ -1,5 +1,6 @@
 pub mod Handling
 pub mod Holding
+pub mod OpenWays
 pub mod Words
 pub mod Names
 pub mod OperationNames

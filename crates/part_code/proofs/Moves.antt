@@ -102,9 +102,11 @@ module _ (v : Visible) (to : Moved) where
             mid = here mid;
             up = q.longer;
             next = next;
+            shift = q.shift;
+            near = q.near;
             push = q.pushes i in_mid;
             path = subst
-                (λ k. IsPath i (library_of g) (Sees g v) k (here mid) x.whole (shape_of v.scope x.whole) name.selectors last (shape_of v.scope last)) one
+                (λ k. IsPath i (library_of g) (Sees g v) k (here mid) q.shift x.whole (shape_of v.scope x.whole) name.selectors last (shape_of v.scope last)) one
                 (q.goes i in_mid g);
             copies = added_at mid new 2 (op.Copy to.region x.slot.region to.words) y i (here old) q.extends.longer h;
           };

@@ -1,6 +1,6 @@
 -- Code that leads to the address of a variable, or of a part of it: what its name names there, where its words stand, and what is copied back to it.
 use Rattle.std.proofs.Common.{◌≡◌, ℕ, suc, ◌+◌, ◌-◌, ◌≤◌, ℤ, List, [], ◌∷◌, length, Option, Some, None, true, refl, sym, ap, ◌∙◌, subst, arith}
-use Rattle.std.specs.Prelude.{is_some, pos}
+use Rattle.std.specs.Prelude.{is_some, pos, ◌+ℤ◌}
 use Rattle.kernel.specs.Counting.{Spends}
 use Rattle.kernel.specs.Laws.{QuietStays}
 use Rattle.ada_tree.specs.declared.expression.Identifier.{Identifier}
@@ -29,12 +29,13 @@ use Rattle.expr_soundness.specs.meaning.specs.Works.{Home, InActivation, InObjec
 use Rattle.expr_soundness.specs.meaning.specs.SameMeaning.{frames_of}
 use Rattle.expr_code.specs.Coming.{Comes, most_steps}
 use Rattle.expr_code.specs.Computing.{Everywhere}
-use Rattle.expr_code.specs.Locating.{IsPath}
+use Rattle.expr_code.specs.Locating.{IsNear, IsPath}
 use Rattle.expr_code.specs.Naming.{Lies}
 use Rattle.expr_code.specs.Seeing.{Package, Sees, library_of, slot_of}
 use Rattle.expr_code.specs.Views.{At, View, in_frame, placed, view_of}
 use Rattle.expr_code.specs.declared.visible.Slot.{Slot}
 use Rattle.expr_code.specs.declared.visible.Visible.{Visible}
+use Rattle.expr_code.proofs.Locating.{near_close}
 use Rattle.expr_code.proofs.Coming.{after_first, more, pushes}
 use Rattle.part_code.specs.Copying.{IsHomeOf, IsPlacedTarget, address_of, objects_at, offset_or_none, shape_named}
 use Rattle.part_code.specs.Layout.{IsVariable, NamesObject}
@@ -129,10 +130,12 @@ pub record PointsTo (i : Sections) (g : Package) (names : Visible) (first : Iden
   pub named : NamesObject names.scope first.name role whole
   pub variable : IsVariable role
   pub up : suc from ≤ to
-  pub push : At i from (op.Push (pos slot.offset))
+  pub shift : ℤ
+  pub near : IsNear shift
+  pub push : At i from (op.Push (pos slot.offset +ℤ shift))
   pub end : Shape
   pub ends : end ≡ shape_of names.scope last
-  pub path : IsPath i (library_of g) (Sees g names) (suc from) to whole (shape_of names.scope whole) selectors last end
+  pub path : IsPath i (library_of g) (Sees g names) (suc from) to shift whole (shape_of names.scope whole) selectors last end
 
 module _ {i : Sections} {g : Package} {names : Visible} {first : Identifier} {selectors : SelectorTrees} {last : Subtype} {from to : ℕ}
     (sized : ValuesHaveWords) (way : PointsTo i g names first selectors last from to) where
@@ -180,7 +183,7 @@ module _ {i : Sections} {g : Package} {names : Visible} {first : Identifier} {se
       let up = way.up in
       let none = ap (part_offset whole_shape) n.parts in
       let begins : way.slot.offset ≡ place_in y0 = omega (arith, none) in
-      let start : ℤ = pos (place_in y0) in
+      let start : ℤ = pos (place_in y0) +ℤ way.shift in
       let next : from + 1 ≡ suc from = omega arith in
       let stack : Target → List ℤ = λ z. pos (place_in z) ∷ base in
       subst (λ (q : Val Target). Comes i schedule k task m (placed f from base) fs (to - from) to stack q)
@@ -191,10 +194,10 @@ module _ {i : Sections} {g : Package} {names : Visible} {first : Identifier} {se
       (omega arith)
       (subst
       (λ a. Spends (behaviour i schedule) task frames_of (most_steps i) (suc (length fs)) 1 k (in_frame m (placed f from base) fs) k
-      (in_frame m (placed f (suc from) (pos a ∷ base)) fs)) begins
-      (pushes quiet i schedule k task m calm from (pos way.slot.offset) way.push f fs base (suc from) next))
+      (in_frame m (placed f (suc from) ((pos a +ℤ way.shift) ∷ base)) fs)) begins
+      (pushes quiet i schedule k task m calm from (pos way.slot.offset +ℤ way.shift) way.push f fs base (suc from) next))
       (path_comes whole_shape way.slot.offset quiet i (library_of g) (Sees g names) scope_sound (small_here p (view_of i schedule k task m f fs) sees) c left
-      answers schedule k task m f fs p calm sees is selectors (suc from) to way.whole whole_shape last way.end way.path y0 (partly_whole y0 n.parts n.same) base)))
+      answers schedule k task m f fs p calm sees is selectors (suc from) to way.shift way.whole whole_shape last way.end (near_close way.shift way.near) way.path y0 (partly_whole y0 n.parts n.same) base)))
 
   -- ---- what is named, where something is
 
@@ -207,7 +210,7 @@ module _ {i : Sections} {g : Package} {names : Visible} {first : Identifier} {se
       pub part_here : IsPartly whole_shape last way.end z × SameWhole start_here.target z
       part_here =
           let n = start_here in
-          path_part whole_shape way.slot.offset i (library_of g) (Sees g names) scope_sound c good p view sees selectors (suc from) to way.whole whole_shape
+          path_part whole_shape way.slot.offset i (library_of g) (Sees g names) scope_sound c good p view sees selectors (suc from) to way.shift way.whole whole_shape
           last way.end
           way.path n.target (partly_whole n.target n.parts n.same) z (sym (ap (λ o. and_then (target_or_nothing o) (all_selected c p selectors)) n.is) ∙ gives)
 

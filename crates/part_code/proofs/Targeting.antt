@@ -1,21 +1,18 @@
 -- Code that goes from the address of a variable to that of a part of it: the part is the one that the selectors behind the name name.
-use Rattle.std.proofs.Common.{◌≡◌, ℕ, suc, ◌+◌, ◌-◌, ◌*◌, ◌≤◌, ◌<◌, ℤ, List, [], ◌∷◌, ◌++◌, length, None, Some, true, refl, sym, ap, ◌∙◌, subst, arith}
+use Rattle.std.proofs.Common.{◌≡◌, ℕ, suc, ◌+◌, ◌-◌, ◌*◌, ◌≤◌, ◌<◌, ℤ, List, [], ◌∷◌, ◌++◌, length, Some, true, refl, sym, ap, ◌∙◌, subst, arith}
 use Rattle.std.proofs.lemmas.Int.{ints}
-use Rattle.std.specs.Prelude.{pos, int_le, ◌-ℤ◌, ◌^◌, unsigned_abs}
+use Rattle.std.specs.Prelude.{pos, int_le, ◌+ℤ◌, ◌-ℤ◌, unsigned_abs}
 use Rattle.base.specs.declared.schedule.ScheduleLine.{ScheduleLine}
 use Rattle.kernel.specs.State.{Kernel}
-use Rattle.kernel.specs.Effects.{Quiet}
 use Rattle.kernel.specs.Calm.{Calm}
 use Rattle.kernel.specs.Counting.{Spends, Done}
 use Rattle.kernel.specs.Laws.{QuietStays}
-use Rattle.kernel.specs.RunLaws.{spends_trans}
 use Rattle.ada_tree.specs.declared.expression.Identifier.{Identifier}
 use Rattle.ada_tree.specs.ExpressionTree as tree
 use Rattle.ada_tree.specs.ExpressionTree.{Arguments, Component, ExprTree, MoreArguments, MoreSelectors, NoArguments, NoSelectors, SelectorTree, SelectorTrees}
 use Rattle.image.specs.Sections.{Sections}
 use Rattle.image.specs.Frames.{Words, Frame}
-use Rattle.image.specs.Steps.{behaviour, does, gives}
-use Rattle.image.specs.declared.instruction.Operation.TheVariants as op
+use Rattle.image.specs.Steps.{behaviour}
 use Rattle.types.specs.declared.entity.RecordComponent.{RecordComponent}
 use Rattle.types.specs.declared.entity.Subtype.{Subtype}
 use Rattle.types.specs.Entities.{Arrays, Records}
@@ -32,12 +29,12 @@ use Rattle.expr_soundness.proofs.Goods.{sound_form}
 use Rattle.expr_soundness.specs.meaning.specs.SameMeaning.{frames_of}
 use Rattle.expr_soundness.specs.meaning.specs.Targets.{all_selected, element_of, part_of, selected}
 use Rattle.expr_soundness.specs.meaning.specs.Works.{Part, Element, Field, Target}
-use Rattle.expr_code.specs.Views.{At, frames_above, in_frame, placed, Sight, View, view_of}
+use Rattle.expr_code.specs.Views.{frames_above, in_frame, placed, Sight, View, view_of}
 use Rattle.expr_code.specs.Coming.{Comes, most_steps, on}
 use Rattle.expr_code.specs.Computing.{Answers, ComesToNumber, Library}
-use Rattle.expr_code.specs.Locating.{IsPath, shape_in}
-use Rattle.expr_code.proofs.Coming.{acts, after_first, more, steps, pushes, then_comes}
-use Rattle.expr_code.proofs.Locating.{distance, given, in_base, indexes, offset_up, passed_number}
+use Rattle.expr_code.specs.Locating.{IsClose, IsPath, shape_in}
+use Rattle.expr_code.proofs.Coming.{after_first, more, then_comes}
+use Rattle.expr_code.proofs.Locating.{at_offset_up, distance, given, indexes, moves_on, offset_up, passed_number, shift_none}
 use Rattle.part_code.specs.Parts.{HasParts, part_offset, part_shape, place_or_none}
 use Rattle.part_code.specs.Parts as shapes
 use Rattle.part_code.proofs.PartWords.{further_offset, further_part, further_shape, part_fits}
@@ -148,33 +145,34 @@ module _ (W : Shape) (offset : ℕ) where
         ∙ two_then (and_then (value_with calls p e) (passed index)) (element_of y index element) (all_selected calls p rest)
 
     -- the part that the selectors name is one of the same variable, of the subtype and shape to which the code leads
-    pub path_part : (selectors : SelectorTrees) (from to : ℕ) (s : Subtype) (x : Shape) (last : Subtype) (end : Shape) → IsPath i library sight from to s x selectors last end
+    pub path_part : (selectors : SelectorTrees) (from to : ℕ) (shift : ℤ) (s : Subtype) (x : Shape) (last : Subtype) (end : Shape)
+        → IsPath i library sight from to shift s x selectors last end
         → (y : Target) → IsPartly W s x y → (z : Target) → all_selected calls p selectors y ≡ Gives z → IsPartly W last end z × SameWhole y z
-    path_part NoSelectors from to s x last end h y partly z named =
+    path_part NoSelectors from to shift s x last end h y partly z named =
         let same : y ≡ z = same_given y z named in (
           subst (λ q. IsPartly W last end q) same (record { has = partly.has; shape = partly.shape ∙ h.1; subtype = partly.subtype ∙ h.2 }),
           subst (λ q. SameWhole y q) same (record { home = refl; name = refl }),
         )
-    path_part (MoreSelectors (Component name) rest) from to s x last end h y partly z named =
-        let form = h.5 p view sees in
-        let shape = h.6 p view sees in
+    path_part (MoreSelectors (Component name) rest) from to shift s x last end h y partly z named =
+        let form = h.7 p view sees in
+        let shape = h.8 p view sees in
         let next = with_one y (Field name.name) h.2 in
-        let r = path_part rest (from + 2) to h.2 h.3 last end h.14 next (field_partly y s x h.3 h.1 name.name h.4 h.2 partly shape h.8 h.9) z
-        (sym (ap (λ v. and_then v (all_selected calls p rest)) (field_is y s h.0 name h.2 partly.subtype form h.7)) ∙ named) in
+        let r = path_part rest h.5 to h.6 h.2 h.3 last end h.16 next (field_partly y s x h.3 h.1 name.name h.4 h.2 partly shape h.10 h.11) z
+        (sym (ap (λ v. and_then v (all_selected calls p rest)) (field_is y s h.0 name h.2 partly.subtype form h.9)) ∙ named) in
         (r.0, record { home = r.1.home; name = r.1.name })
-    path_part (MoreSelectors (Arguments (MoreArguments (tree.Value e) NoArguments)) rest) from to s x last end h y partly z named =
-        let form = h.6 p view sees in
-        let shape = h.7 p view sees in
+    path_part (MoreSelectors (Arguments (MoreArguments (tree.Value e) NoArguments)) rest) from to shift s x last end h y partly z named =
+        let form = h.7 p view sees in
+        let shape = h.8 p view sees in
         let found = given (and_then (value_with calls p e) (passed h.0)) (λ v. and_then (element_of y h.0 h.1 (v ∷ [])) (all_selected calls p rest)) z
         (sym (index_is y s h.0 h.1 h.2 e rest partly.subtype form) ∙ named) in
-        let it = index_value s h.0 h.1 h.2 e h.11 form found.0 found.1 in
+        let it = index_value s h.0 h.1 h.2 e h.12 form found.0 found.1 in
         let next = with_one y (Element it.1) h.1 in
-        let r = path_part rest h.5 to h.1 h.3 last end h.14 next (element_partly y s x h.3 h.2 it.1 h.1 partly shape it.4) z
+        let r = path_part rest h.5 to h.6 h.1 h.3 last end h.16 next (element_partly y s x h.3 h.2 it.1 h.1 partly shape it.4) z
         (sym (ap (λ v. and_then (element_of y h.0 h.1 (v ∷ [])) (all_selected calls p rest)) it.2
         ∙ ap (λ v. and_then v (all_selected calls p rest)) (element_is y h.0 h.1 it.0 it.1 it.3))
         ∙ found.2) in
         (r.0, record { home = r.1.home; name = r.1.name })
-    path_part (MoreSelectors other rest) from to s x last end h y partly z named = absurd h
+    path_part (MoreSelectors other rest) from to shift s x last end h y partly z named = absurd h
 
   module _ (quiet : QuietStays) (i : Sections) (library : Library) (sight : Sight) (sound : (p : Place) (view : View) → sight p view → SoundScope p.scope)
       (small_whole : offset + words W ≤ 65536) (calls : Calls) (left : ℕ) (answers : Answers i library calls left) (schedule : List ScheduleLine) (k : Kernel)
@@ -183,81 +181,79 @@ module _ (W : Shape) (offset : ℕ) where
     abbrev here : View
     here = view_of i schedule k t m f fs
 
-    -- an offset and a sum
-    adds : (from a o : ℕ) (base : List ℤ) → a + o < 2 ^ 63 → At i from (op.Push (pos o)) → At i (from + 1) op.Add
-        → Spends (behaviour i schedule) t frames_of (most_steps i) (suc (length fs)) 2 k (in_frame m (placed f from (pos a ∷ base)) fs) k
-        (in_frame m (placed f (from + 2) (pos (a + o) ∷ base)) fs)
-    adds from a o base few push add =
-        let two : (from + 1) + 1 ≡ from + 2 = omega arith in
-        spends_trans (behaviour i schedule) t frames_of (most_steps i) 1 k (in_frame m (placed f (from + 2) (pos (a + o) ∷ base)) fs)
-        (pushes quiet i schedule k t m calm from (pos o) push f fs (pos a ∷ base) (from + 1) refl)
-        (steps quiet i schedule k t m calm (placed f (from + 1) (pos o ∷ pos a ∷ base)) (placed f (from + 2) (pos (a + o) ∷ base)) fs
-        (acts quiet i (from + 1) op.Add add schedule k t m f fs (pos o ∷ pos a ∷ base)
-        ∙ ap (λ z. gives i schedule k t m (placed f (from + 1) (pos o ∷ pos a ∷ base)) fs z base) (in_base (a + o) few)
-        ∙ ap (λ q. does Quiet m (placed f q (pos (a + o) ∷ base)) fs None None) two))
+    -- the number of the variable, or of the part of it so far
+    abbrev number : Target → ℤ → ℤ
+    number y shift = pos (address y) +ℤ shift
 
-    -- The code leads from the address of the variable, or of the part of it so far, to the part's.
-    pub path_comes : (selectors : SelectorTrees) (from to : ℕ) (s : Subtype) (x : Shape) (last : Subtype) (end : Shape) → IsPath i library sight from to s x selectors last end
+    -- The code leads from there to the part's address.
+    pub path_comes : (selectors : SelectorTrees) (from to : ℕ) (shift : ℤ) (s : Subtype) (x : Shape) (last : Subtype) (end : Shape) → IsClose shift
+        → IsPath i library sight from to shift s x selectors last end
         → (y : Target) → IsPartly W s x y → (base : List ℤ)
-        → Comes i schedule k t m (placed f from (pos (address y) ∷ base)) fs (to - from) to (λ (z : Target). pos (address z) ∷ base) (all_selected calls p selectors y)
-    path_comes NoSelectors from to s x last end h y partly base =
-        subst (λ q. Comes i schedule k t m (placed f from (pos (address y) ∷ base)) fs (q - from) q (λ (z : Target). pos (address z) ∷ base) (Gives y)) h.0 Done
-    path_comes (MoreSelectors (Component name) rest) from to s x last end h y partly base =
-        let form = h.5 p (view_of i schedule k t m f fs) sees in
-        let shape = h.6 p (view_of i schedule k t m f fs) sees in
+        → Comes i schedule k t m (placed f from (number y shift ∷ base)) fs (to - from) to (λ (z : Target). pos (address z) ∷ base) (all_selected calls p selectors y)
+    path_comes NoSelectors from to shift s x last end close h y partly base =
+        subst (λ w. Comes i schedule k t m (placed f from (w ∷ base)) fs (to - from) to (λ (z : Target). pos (address z) ∷ base) (Gives y))
+        (sym (shift_none (address y) shift h.3))
+        (subst (λ q. Comes i schedule k t m (placed f from (pos (address y) ∷ base)) fs (q - from) q (λ (z : Target). pos (address z) ∷ base) (Gives y)) h.0 Done)
+    path_comes (MoreSelectors (Component name) rest) from to shift s x last end close h y partly base =
+        let form = h.7 p (view_of i schedule k t m f fs) sees in
+        let shape = h.8 p (view_of i schedule k t m f fs) sees in
         let next = with_one y (Field name.name) h.2 in
-        let inside = field_partly y s x h.3 h.1 name.name h.4 h.2 partly shape h.8 h.9 in
-        let at = field_address y s x h.1 name.name h.4 h.2 partly shape h.9 in
+        let inside = field_partly y s x h.3 h.1 name.name h.4 h.2 partly shape h.10 h.11 in
+        let at = field_address y s x h.1 name.name h.4 h.2 partly shape h.11 in
         let fits = part_fits W next.parts inside.has in
-        let up = h.13 in
+        let after = h.5 in
+        let up = h.15 in
+        let far = at_offset_up i from after h.4 shift h.6 h.13 in
         let stack : Target → List ℤ = λ z. pos (address z) ∷ base in
-        subst (λ v. Comes i schedule k t m (placed f from (pos (address y) ∷ base)) fs (to - from) to stack v)
-        (sym (ap (λ v. and_then v (all_selected calls p rest)) (field_is i library sight sound calls answers.sound p here sees y s h.0 name h.2 partly.subtype form h.7)))
-        (more quiet i schedule k t m calm (placed f from (pos (address y) ∷ base)) fs (2 + (to - (from + 2))) (to - from) to stack (all_selected calls p rest next)
-        (omega (arith, up))
-        (after_first quiet i schedule k t m calm (placed f from (pos (address y) ∷ base)) fs 2 (to - (from + 2)) (from + 2) to (pos (address next) ∷ base) stack
-        (all_selected calls p rest next) (omega arith)
+        let st : List ℤ = number y shift ∷ base in
+        subst (λ v. Comes i schedule k t m (placed f from st) fs (to - from) to stack v)
+        (sym (ap (λ v. and_then v (all_selected calls p rest)) (field_is i library sight sound calls answers.sound p here sees y s h.0 name h.2 partly.subtype form h.9)))
+        (more quiet i schedule k t m calm (placed f from st) fs ((after - from) + (to - after)) (to - from) to stack (all_selected calls p rest next)
+        (omega (arith, far, up))
+        (after_first quiet i schedule k t m calm (placed f from st) fs (after - from) (to - after) after to (number next h.6 ∷ base) stack
+        (all_selected calls p rest next) far
         (subst
-        (λ a. Spends (behaviour i schedule) t frames_of (most_steps i) (suc (length fs)) 2 k (in_frame m (placed f from (pos (address y) ∷ base)) fs) k
-        (in_frame m (placed f (from + 2) (pos a ∷ base)) fs)) (sym at)
-        (adds from (address y) h.4 base (omega (arith, at, fits, small_whole)) h.11 h.12))
-        (path_comes rest (from + 2) to h.2 h.3 last end h.14 next inside base)))
-    path_comes (MoreSelectors (Arguments (MoreArguments (tree.Value e) NoArguments)) rest) from to s x last end h y partly base =
-        let form = h.6 p (view_of i schedule k t m f fs) sees in
-        let shape = h.7 p (view_of i schedule k t m f fs) sees in
+        (λ a. Spends (behaviour i schedule) t frames_of (most_steps i) (suc (length fs)) (after - from) k (in_frame m (placed f from st) fs) k
+        (in_frame m (placed f after ((pos a +ℤ h.6) ∷ base)) fs)) (sym at)
+        (moves_on quiet i schedule k t m calm f fs from after h.4 (address y) shift h.6 base (omega (arith, at, fits, small_whole)) h.14 h.13))
+        (path_comes rest after to h.6 h.2 h.3 last end h.14 h.16 next inside base)))
+    path_comes (MoreSelectors (Arguments (MoreArguments (tree.Value e) NoArguments)) rest) from to shift s x last end close h y partly base =
+        let form = h.7 p (view_of i schedule k t m f fs) sees in
+        let shape = h.8 p (view_of i schedule k t m f fs) sees in
         let mid = h.4 in
         let after = h.5 in
-        let le = h.9 in
-        let far = offset_up i mid after h.0.first (words h.3) h.12 in
-        let up = h.13 in
+        let le = h.10 in
+        let far = offset_up i mid after h.0.first (words h.3) shift h.6 h.13 in
+        let up = h.15 in
         let stack : Target → List ℤ = λ z. pos (address z) ∷ base in
+        let st : List ℤ = number y shift ∷ base in
         let value = and_then (value_with calls p e) (passed h.0) in
         let go : Value → Val Target = λ v. and_then (element_of y h.0 h.1 (v ∷ [])) (all_selected calls p rest) in
-        subst (λ v. Comes i schedule k t m (placed f from (pos (address y) ∷ base)) fs (to - from) to stack v) (sym (index_is i library sight sound calls answers.sound p here sees y s h.0 h.1 h.2 e rest partly.subtype form))
-        (more quiet i schedule k t m calm (placed f from (pos (address y) ∷ base)) fs ((mid - from) + (to - mid)) (to - from) to stack (and_then value go) (omega (arith, le, far, up))
-        (then_comes quiet i schedule k t m calm (placed f from (pos (address y) ∷ base)) fs (mid - from) (to - mid) mid to (on (pos (address y) ∷ base)) stack value go le
-        (omega (arith, far, up))
-        (h.10 calls left answers schedule k t m f fs p (pos (address y) ∷ base) calm sees is)
+        subst (λ v. Comes i schedule k t m (placed f from st) fs (to - from) to stack v)
+        (sym (index_is i library sight sound calls answers.sound p here sees y s h.0 h.1 h.2 e rest partly.subtype form))
+        (more quiet i schedule k t m calm (placed f from st) fs ((mid - from) + (to - mid)) (to - from) to stack (and_then value go) (omega (arith, le, far, up))
+        (then_comes quiet i schedule k t m calm (placed f from st) fs (mid - from) (to - mid) mid to (on st) stack value go le (omega (arith, far, up))
+        (h.11 calls left answers schedule k t m f fs p st calm sees is)
         (λ v ev.
-        let it = index_value i library sight sound calls answers.sound p here sees s h.0 h.1 h.2 e h.11 form v ev in
+        let it = index_value i library sight sound calls answers.sound p here sees s h.0 h.1 h.2 e h.12 form v ev in
         let next = with_one y (Element it.1) h.1 in
         let inside = element_partly y s x h.3 h.2 it.1 h.1 partly shape it.4 in
         let at = element_address y s x h.3 h.2 it.1 h.1 partly shape in
         let fits = part_fits W next.parts inside.has in
-        let few = h.8 in
+        let few = h.9 in
         let less = it.4 in
         let is_next : go v ≡ all_selected calls p rest next =
         ap go it.2 ∙ ap (λ w. and_then w (all_selected calls p rest)) (element_is i library sight sound calls answers.sound p here sees y h.0 h.1 it.0 it.1 it.3) in
-        subst (λ w. Comes i schedule k t m (placed f mid (on (pos (address y) ∷ base) w)) fs (to - mid) to stack (go v)) (sym it.2)
-        (subst (λ w. Comes i schedule k t m (placed f mid (it.0 ∷ pos (address y) ∷ base)) fs (to - mid) to stack w) (sym is_next)
-        (more quiet i schedule k t m calm (placed f mid (it.0 ∷ pos (address y) ∷ base)) fs ((after - mid) + (to - after)) (to - mid) to stack (all_selected calls p rest next)
+        subst (λ w. Comes i schedule k t m (placed f mid (on st w)) fs (to - mid) to stack (go v)) (sym it.2)
+        (subst (λ w. Comes i schedule k t m (placed f mid (it.0 ∷ st)) fs (to - mid) to stack w) (sym is_next)
+        (more quiet i schedule k t m calm (placed f mid (it.0 ∷ st)) fs ((after - mid) + (to - after)) (to - mid) to stack (all_selected calls p rest next)
         (omega (arith, far, up))
-        (after_first quiet i schedule k t m calm (placed f mid (it.0 ∷ pos (address y) ∷ base)) fs (after - mid) (to - after) after to (pos (address next) ∷ base) stack
+        (after_first quiet i schedule k t m calm (placed f mid (it.0 ∷ st)) fs (after - mid) (to - after) after to (number next h.6 ∷ base) stack
         (all_selected calls p rest next) far
         (subst
-        (λ a. Spends (behaviour i schedule) t frames_of (most_steps i) (suc (length fs)) (after - mid) k (in_frame m (placed f mid (it.0 ∷ pos (address y) ∷ base)) fs) k
-        (in_frame m (placed f after (pos a ∷ base)) fs)) (sym at)
-        (indexes quiet i schedule k t m calm f fs mid after h.0.first it.0 (words h.3) (address y) it.1 base it.3 (omega (arith, less, few)) (omega (arith, at, fits, small_whole))
-        (omega (arith, at, fits, small_whole)) h.12))
-        (path_comes rest after to h.1 h.3 last end h.14 next inside base)))))))
-    path_comes (MoreSelectors other rest) from to s x last end h y partly base = absurd h
+        (λ a. Spends (behaviour i schedule) t frames_of (most_steps i) (suc (length fs)) (after - mid) k (in_frame m (placed f mid (it.0 ∷ st)) fs) k
+        (in_frame m (placed f after ((pos a +ℤ h.6) ∷ base)) fs)) (sym at)
+        (indexes quiet i schedule k t m calm f fs mid after h.0.first it.0 (words h.3) (address y) it.1 shift h.6 base it.3 (omega (arith, less, few))
+        (omega (arith, at, fits, small_whole)) close h.14 h.13))
+        (path_comes rest after to h.6 h.1 h.3 last end h.14 h.16 next inside base)))))))
+    path_comes (MoreSelectors other rest) from to shift s x last end close h y partly base = absurd h

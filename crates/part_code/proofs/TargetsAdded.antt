@@ -39,6 +39,7 @@ use Rattle.expr_code.specs.Emitting as expressions
 use Rattle.expr_code.specs.Flows.{Flows}
 use Rattle.expr_code.specs.Locating.{IsPath}
 use Rattle.expr_code.specs.Providing.{HasWhatExpressionsNeed}
+use Rattle.expr_code.specs.Naming.{loaded_at}
 use Rattle.expr_code.specs.Seeing.{Package, Sees, Suits, library_of, slot_of}
 use Rattle.expr_code.specs.Views.{At}
 use Rattle.expr_code.specs.declared.code.Code.{Code}
@@ -48,7 +49,7 @@ use Rattle.expr_code.proofs.Growing.{added_at, added_extends, added_here, extend
 use Rattle.expr_code.proofs.Widths.{words_by_type}
 use Rattle.part_code.specs.Layout.{IsVariable, NamesObject}
 use Rattle.part_code.specs.Needs.{names_object as is_named}
-use Rattle.part_code.specs.Passing.{AddsValue, ArePassedInFront, EmitsPassedActuals, EmitsTarget, loaded_at}
+use Rattle.part_code.specs.Passing.{AddsValue, ArePassedInFront, EmitsPassedActuals, EmitsTarget}
 use Rattle.part_code.specs.Suiting.{returned_width}
 use Rattle.part_code.specs.declared.call.Destination.{Destination}
 use Rattle.part_code.proofs.ChecksAdded.{IsChecked, is_checked}
@@ -158,11 +159,13 @@ module _ (sized : ValuesHaveWords) (quiet : QuietStays) (v : Visible) (old low :
         (names_object v.scope target.first.name target.role target.whole target.stands);
     variable = typed.variable;
     up = target.emits.longer;
+    shift = target.emits.shift;
+    near = target.emits.near;
     push = target.emits.pushes i h;
     end = shape_of y.scope d.subtype;
     ends = refl;
     path = subst
-        (λ x. IsPath i (library_of g) (Sees g x) (suc (here old)) (here low) target.whole (shape_of x.scope target.whole) target.selectors d.subtype
+        (λ x. IsPath i (library_of g) (Sees g x) (suc (here old)) (here low) target.emits.shift target.whole (shape_of x.scope target.whole) target.selectors d.subtype
         (shape_of x.scope d.subtype)) (sym is) (target.emits.goes i h g);
   }
 

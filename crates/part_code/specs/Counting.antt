@@ -129,7 +129,7 @@ module _ (i : Sections) (g : Package) where
         → is_within subtype.first subtype.last next ≡ true
         → GoesOn schedule k t m (placed f mid (stack next)) fs (turn - mid) turn inner (in_turn counter limit next last held) (with_parameter parameter next a)
 
-  -- a jump over the way out, the way out, the bounds, the statements of a turn, its end, and a jump back to the statements
+  -- the bounds, the statements of a turn, its end, and a jump back to the statements
   pub record IsCounted (v : Framed) (from to : ℕ) (parameter : List ℕ) (reversed : Bool) : Type 0 where
     pub counter : ℕ
     pub limit : ℕ
@@ -139,12 +139,10 @@ module _ (i : Sections) (g : Package) where
     pub start : ℕ
     pub back : ℕ
     pub turn : ℕ
-    pub up : from + 2 ≤ start
+    pub up : from ≤ start
     pub over : start ≤ back
     pub on : back ≤ turn
     pub end : to ≡ suc turn
-    pub skip : At i from (op.Jump (from + 2))
-    pub out : At i (from + 1) (op.Jump to)
     pub next : IsTurnEnd inner counter limit back turn to parameter reversed subtype
     pub jump : At i turn (op.Jump start)
     pub shows : Shows g inner v

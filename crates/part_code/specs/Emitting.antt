@@ -124,13 +124,23 @@ pub record HasEntries (v : Visible) : Type 0 where
 -- ---- loops
 
 -- a jump over the way out, and the way out, whose place waits for the end
-pub record BeginsLoop (old : Code) (new : Code) : Type 0 where
+pub record SkipsWay (old : Code) (new : Code) : Type 0 where
   pub skipped : Code
   pub skips : Adds old 0 (op.Jump (here old + 2)) skipped
   pub leaves : Adds skipped 0 (op.Jump 0) new
 
+-- ... or nothing, where no statement of the loop leads there
+abbrev pub BeginsLoop : (old : Code) → (exit : Option ℕ) → (new : Code) → Type 0
+BeginsLoop old (Some out) new = SkipsWay old new × (out ≡ here old + 1)
+BeginsLoop old None new = new ≡ old
+
+-- the way out, if there is one, leads to the end
+abbrev pub EndsWay : (old : Code) → (exit : Option ℕ) → (new : Code) → Type 0
+EndsWay old (Some out) new = Patches old out (op.Jump (here old)) new
+EndsWay old None new = new ≡ old
+
 -- the jump back, and the way out leads behind it
-pub record EndsLoop (old : Code) (out back : ℕ) (new : Code) : Type 0 where
+pub record EndsLoop (old : Code) (exit : Option ℕ) (back : ℕ) (new : Code) : Type 0 where
   pub turned : Code
   pub turns : Adds old 0 (op.Jump back) turned
-  pub patches : Patches turned out (op.Jump (here turned)) new
+  pub ends : EndsWay turned exit new

@@ -1,6 +1,6 @@
 -- Arrays and records that are assigned from variables or parts of them, one of which an if expression may choose: what is moved, from where, and by which code
 -- (RM 4.5.7, 5.2).
-use Rattle.std.specs.Prelude.{◌≡◌, ◌≤◌, ℕ, suc, ◌+◌, pos, true, false, Bool, ◌&&◌, Option, None, Some, is_some, if◌then◌else◌}
+use Rattle.std.specs.Prelude.{◌≡◌, ◌≤◌, ℕ, suc, ◌+◌, ℤ, ◌+ℤ◌, pos, true, false, Bool, ◌&&◌, Option, None, Some, is_some, if◌then◌else◌}
 use Rattle.image.specs.Sections.{Sections}
 use Rattle.image.specs.declared.instruction.Operation.TheVariants as op
 use Rattle.image.specs.declared.instruction.Region.{Region}
@@ -16,7 +16,7 @@ use Rattle.types.specs.Standings.{standing_of, stands_first}
 use Rattle.types.specs.Shapes.{Shape, shape_of}
 use Rattle.expr_code.specs.Computing.{Computes}
 use Rattle.expr_code.specs.Emitting.{IsLegalExpression, is_composite}
-use Rattle.expr_code.specs.Locating.{IsPath}
+use Rattle.expr_code.specs.Locating.{IsNear, IsPath}
 use Rattle.expr_code.specs.Seeing.{library_of, Package, Sees, slot_of}
 use Rattle.expr_code.specs.Views.{At}
 use Rattle.expr_code.specs.declared.visible.Slot.{Slot}
@@ -91,8 +91,10 @@ module _ (i : Sections) (g : Package) (v : Visible) (region : Region) (words : �
     pub mid : ℕ
     pub up : suc from ≤ mid
     pub next : to ≡ suc mid
-    pub push : At i from (op.Push (pos source.slot.offset))
-    pub path : IsPath i (library_of g) (Sees g v) (from + 1) mid source.whole (shape_of v.scope source.whole) selectors last end
+    pub shift : ℤ
+    pub near : IsNear shift
+    pub push : At i from (op.Push (pos source.slot.offset +ℤ shift))
+    pub path : IsPath i (library_of g) (Sees g v) (from + 1) mid shift source.whole (shape_of v.scope source.whole) selectors last end
     pub copies : At i mid (op.Copy region source.slot.region words)
 
   -- a condition, a jump behind what moves the value for it where it does not hold, and a jump to the end behind that

@@ -29,6 +29,7 @@ use Rattle.expr_code.specs.Code.{Adds, Extends, Holds, here}
 use Rattle.expr_code.specs.Computing.{ArePassed, Everywhere}
 use Rattle.expr_code.specs.Flows.{Flows}
 use Rattle.expr_code.specs.Going.{EmitsAddress, EndsAt}
+use Rattle.expr_code.specs.Naming.{loaded_at}
 use Rattle.expr_code.specs.Seeing.{Package, Sees, Suits, library_of, slot_of}
 use Rattle.expr_code.specs.Views.{View}
 use Rattle.expr_code.specs.declared.code.Code.{Code}
@@ -107,10 +108,6 @@ pub record AddsActuals (v : Visible) (old : Code) (depth : ℕ) (fs : List Forma
   pub emits : EmitsPassedActuals v old depth fs all destinations height new
 
 -- ---- targets
-
--- what loads so many words from the address on top of the operand stack
-abbrev pub loaded_at : Region → (words : ℕ) → Operation
-loaded_at r n = cond (nat_eq n 1) (op.LoadIndexed r) (op.LoadBlock r n)
 
 -- the address of a variable, or of a part of one, was added, to which it is copied back
 pub record EmitsTarget (v : Visible) (old : Code) (depth : ℕ) (e : ExprTree) (d : Destination) (new : Code) : Type 0 where

@@ -42,6 +42,7 @@ use Rattle.part_code.specs.Resting.{Framed, Knows, NarrowsFrame, RestsWith}
 use Rattle.part_code.specs.Copying.{AreCopies, ArePlaced, GivesBack, actuals_on, held_at, left_out, passed_actuals, passed_words, taken}
 use Rattle.part_code.specs.declared.call.Destination.{Destination}
 use Rattle.part_code.specs.Counting.{IsCounted, IsRange}
+use Rattle.part_code.specs.Jumping.{Jumps}
 use Rattle.part_code.specs.Handling.{GoesBy, Handling, KeepsException, unhandled}
 use Rattle.part_code.specs.Storing.{Assigns, Stores, assigned, declared, object_declared}
 use Rattle.expr_soundness.specs.meaning.specs.Targets.{activation_with, store_with}
@@ -53,8 +54,11 @@ pub record Ways : Type 0 where
   pub return : Option ℕ
   pub handled : Option ℕ
 
+abbrev pub with_exit : Option ℕ → Ways → Ways
+with_exit exit w = record w { exit = exit }
+
 abbrev pub within_loop : ℕ → Ways → Ways
-within_loop exit w = record w { exit = Some exit }
+within_loop exit w = with_exit (Some exit) w
 
 abbrev pub within_handler : ℕ → Ways → Ways
 within_handler word w = record w { handled = Some word }
@@ -218,33 +222,36 @@ module _ (i : Sections) (program : Program) (g : Package) (numbers : Numbers) wh
 
   -- ---- statements by their parts
 
-  -- a condition, a jump behind the statements for it where it does not hold, and a jump to the end behind them
+  -- a condition, a jump behind the statements for it where it does not hold, and behind them jumps to the end, however many
   abbrev pub IsBranch : Framed → Handling → (from to : ℕ) → ExprTree → (holds fails : ℕ → ℕ → Type 0) → Type 0
   IsBranch v r from to e holds fails =
-      (mid : ℕ) × (joint : ℕ) × (from ≤ mid) × (suc mid ≤ joint) × (suc joint ≤ to) × IsValue v from mid e × At i mid (op.JumpIfZero (suc joint))
+      (mid : ℕ) × (joint : ℕ) × (next : ℕ) × (from ≤ mid) × (suc mid ≤ joint) × (joint ≤ next) × (next ≤ to) × IsValue v from mid e
+      × At i mid (op.JumpIfZero next)
       × holds (suc mid) joint
-      × At i joint (op.Jump to)
-      × fails (suc joint) to
+      × Jumps i joint to
+      × fails next to
       × GoesBy i r from mid
 
-  -- a jump over the way out, the way out, the statements of a turn, and a jump back to them
+  -- Jumps to the statements of a turn, these, a jump back to them, and from the way out jumps to the end, however many.
   abbrev pub IsForever : (from to : ℕ) → (turn : (exit from to : ℕ) → Type 0) → Type 0
   IsForever from to turn =
-      (back : ℕ) × (from + 2 ≤ back) × At i from (op.Jump (from + 2)) × At i (from + 1) (op.Jump to)
-      × turn (from + 1) (from + 2) back
-      × At i back (op.Jump (from + 2))
+      (start : ℕ) × (out : ℕ) × (back : ℕ) × (from ≤ start) × (start ≤ back) × (from ≤ out) × (out ≤ to) × Jumps i from start × Jumps i out to
+      × turn out start back
+      × At i back (op.Jump start)
       × (to ≡ suc back)
 
-  -- a jump over the way out, the way out, the condition, a jump to the end where it does not hold, the statements of a turn, and a jump back to the condition
+  -- Jumps to the condition, this, a jump to the end where it does not hold, the statements of a turn, a jump back to the condition, and from the way out
+  -- jumps to the end.
   abbrev pub IsWhile : Framed → Handling → (from to : ℕ) → ExprTree → (turn : (exit from to : ℕ) → Type 0) → Type 0
   IsWhile v r from to e turn =
-      (mid : ℕ) × (back : ℕ) × (from + 2 ≤ mid) × (suc mid ≤ back) × At i from (op.Jump (from + 2)) × At i (from + 1) (op.Jump to)
-      × IsValue v (from + 2) mid e
+      (start : ℕ) × (out : ℕ) × (mid : ℕ) × (back : ℕ) × (from ≤ start) × (start ≤ mid) × (suc mid ≤ back) × (from ≤ out) × (out ≤ to) × Jumps i from start
+      × Jumps i out to
+      × IsValue v start mid e
       × At i mid (op.JumpIfZero to)
-      × turn (from + 1) (suc mid) back
-      × At i back (op.Jump (from + 2))
+      × turn out (suc mid) back
+      × At i back (op.Jump start)
       × (to ≡ suc back)
-      × GoesBy i r (from + 2) mid
+      × GoesBy i r start mid
 
   -- declarations, and statements that see them
   abbrev pub IsBlock : Framed → Handling → (from to : ℕ) → List DeclarationTree → (body : Framed → ℕ → ℕ → Type 0) → Type 0
@@ -301,10 +308,11 @@ module _ (i : Sections) (program : Program) (g : Package) (numbers : Numbers) wh
     IsStatement v w r from to (Loop place Forever body) = IsForever from to (λ exit a b. AreStatements v (within_loop exit w) r a b body)
     IsStatement v w r from to (Loop place (While e) body) = IsWhile v r from to e (λ exit a b. AreStatements v (within_loop exit w) r a b body)
     IsStatement v w r from to (Loop place (For parameter reversed range) body) =
-        (c : IsCounted i g v from to parameter.name reversed)
-        × IsRange i g v c.inner c.counter c.limit (from + 2) c.start to parameter.name reversed range c.subtype
-        × AreStatements c.inner (within_loop (from + 1) w) r c.start c.back body
-        × GoesBy i r (from + 2) c.start
+        (start : ℕ) × (out : ℕ) × (from ≤ start) × (from ≤ out) × (out ≤ to) × Jumps i from start × Jumps i out to
+        × (c : IsCounted i g v start to parameter.name reversed)
+        × IsRange i g v c.inner c.counter c.limit start c.start to parameter.name reversed range c.subtype
+        × AreStatements c.inner (within_loop out w) r c.start c.back body
+        × GoesBy i r start c.start
         × GoesBy i r c.back to
     IsStatement v w r from to (Block place ds body hs) =
         IsBlock v r from to ds
@@ -346,18 +354,23 @@ module _ (i : Sections) (program : Program) (g : Package) (numbers : Numbers) wh
 
   -- ---- bodies
 
-  -- Declarations, a jump over the way out, the way out, which leads to the end, and statements that see the declarations, of which a return leads to the way
-  -- out. Their handlers cover the statements alone; what the declarations raise goes on at the call.
+  -- Declarations, jumps to statements that see them, and the way out of these, to which a return leads, and from there jumps to the end. Their handlers cover
+  -- the statements alone; what the declarations raise goes on at the call.
   pub record IsRun (v : Framed) (from to : ℕ) (ds : List DeclarationTree) (body : StmtTrees) (hs : HandlerTrees) : Type 0 where
     pub later : Framed
     pub mid : ℕ
+    pub start : ℕ
+    pub out : ℕ
     pub up : from ≤ mid
-    pub over : mid + 2 ≤ to
+    pub down : mid ≤ start
+    pub over : start ≤ to
+    pub below : mid ≤ out
+    pub high : out ≤ to
     pub declared : AreDeclared v from mid later ds
     pub uncovered : GoesBy i unhandled from mid
-    pub skip : At i mid (op.Jump (mid + 2))
-    pub way : At i (mid + 1) (op.Jump to)
-    pub statements : IsSequence later (record { exit = None; return = Some (mid + 1); handled = None }) unhandled (mid + 2) to body hs
+    pub skip : Jumps i mid start
+    pub way : Jumps i out to
+    pub statements : IsSequence later (record { exit = None; return = Some out; handled = None }) unhandled start to body hs
 
   -- the code of a procedure of the package or of a protected object, or of the body of an entry: its `out` parameters, its declarations and statements, and
   -- what it gives back

@@ -1,5 +1,5 @@
 -- What methods that add parts of the code of loops over ranges promise (RM 5.5).
-use Rattle.std.specs.Prelude.{◌≡◌, ℕ, pos, Bool, true, false, List, [], ◌∷◌, if◌then◌else◌}
+use Rattle.std.specs.Prelude.{◌≡◌, ℕ, pos, Bool, true, false, List, [], ◌∷◌, Option, Some, None, if◌then◌else◌}
 use Rattle.image.specs.declared.instruction.Instr.{Instr}
 use Rattle.image.specs.declared.instruction.Operation.{Operation}
 use Rattle.image.specs.declared.instruction.Operation.TheVariants as op
@@ -32,7 +32,11 @@ next_operation false = op.Add
 
 -- ---- the first turn
 
--- both bounds are stored, and compared again
+-- both bounds are stored
+abbrev pub bounds_stored : Turns → List Instr
+bounds_stored t = instruction 2 (op.StoreLocal (word_of_last t)) ∷ instruction 1 (op.StoreLocal (word_of_first t)) ∷ []
+
+-- ... and compared again
 abbrev pub bounds_compared : Turns → List Instr
 bounds_compared t =
     instruction 2 (op.StoreLocal (word_of_last t)) ∷ instruction 1 (op.StoreLocal (word_of_first t)) ∷ instruction 0 (op.LoadLocal (word_of_last t))
@@ -46,6 +50,11 @@ pub record BeginsTurns (old : Code) (t : Turns) (null : ℕ) (new : Code) : Type
   pub compares : AddsAll old (bounds_compared t) compared
   pub place : null ≡ here compared
   pub jumps : Adds compared 1 (op.JumpIfNotZero 0) new
+
+-- ... but no jump, and nothing compared, where the range is full: it has a value whatever its bounds are worth
+abbrev pub StartsTurns : (old : Code) → Turns → (full : Bool) → (null : Option ℕ) → (new : Code) → Type 0
+StartsTurns old t full (Some null) new = BeginsTurns old t null new
+StartsTurns old t full None new = (full ≡ true) × AddsAll old (bounds_stored t) new
 
 -- ---- the end of a turn
 

@@ -10,7 +10,7 @@ ghost use Rattle.expr_code.specs.Providing.{HasWhatExpressionsNeed};
 ghost use Rattle.expr_code.specs.Refusing.{IsRefused, IsRefusedBeside, IsUnfit};
 ghost use Rattle.image.specs.Rules.{is_block};
 ghost use Rattle.part_code.specs.EntryNames.{entry_behind, is_own_entry};
-ghost use Rattle.part_code.specs.Passing.{actuals_behind, AddsActuals, AddsCheck, AddsCopy, AddsRange, AddsValue, copied_width, EmitsCopies, EmitsTarget, loaded_at, operation_behind};
+ghost use Rattle.part_code.specs.Passing.{actuals_behind, AddsActuals, AddsCheck, AddsCopy, AddsRange, AddsValue, copied_width, EmitsCopies, EmitsTarget, operation_behind};
 ghost use Rattle.part_code.specs.Needs.{actual_needs, actuals_needs, check_words, copied_needs, copies_needs, copy_needs, destinations_for, destinations_of, IsNeeding, IsPartFit, is_taken, names_object, target_needs};
 ghost use Rattle.step_soundness.specs.Fitting.{entity_named};
 ghost use Rattle.types.specs.Layouts.{words_of};
@@ -21,7 +21,7 @@ use crate::storing::stored_at;
 use ada_tree::laws::{arguments_by_parts, chains_by_parts, conditional_by_parts, names_by_parts};
 use ada_tree::{Argument, Expr, Identifier, Mode, NameExpr, Selector};
 use base::limits::WORDS;
-use expr_code::{Code, ImageLimit, Refusal, Visible, raised};
+use expr_code::{Code, ImageLimit, Refusal, Visible, loaded_at, raised};
 use expr_soundness::laws::agreement_is_kept;
 use image::{Operation, Region};
 use kernel::laws::quiet_stays;
@@ -95,17 +95,6 @@ pub fn is_own_entry(visible: &Visible, name: &Text) -> bool
     match visible.scope.number_of(name) {
         Some(number) => matches!(visible.scope.entity(number), Some(Entity::Entry(_))),
         None => false,
-    }
-}
-
-// What loads so many words from the address on top of the operand stack.
-fn loaded_at(region: Region, words: u16) -> Operation
-    ensures { result ≡ loaded_at region words }
-{
-    if words == 1 {
-        Operation::LoadIndexed(region)
-    } else {
-        Operation::LoadBlock { region, words }
     }
 }
 

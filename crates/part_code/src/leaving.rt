@@ -1,7 +1,7 @@
 //! Where statements leave what stands around them.
 ghost use Rattle.std.specs.Prelude.{◌≡◌};
 ghost use Rattle.part_code.specs.Emitting.{ways_of};
-ghost use Rattle.part_code.specs.Statements.{within_handler, within_loop};
+ghost use Rattle.part_code.specs.Statements.{with_exit, within_handler};
 
 /// The ways out of a statement, as places of code: behind the innermost loop (RM 5.7), and to the end of the body (RM 6.5); and the word of the frame that
 /// holds the exception of the innermost handler (RM 11.3). Each is None where there is none.
@@ -13,12 +13,12 @@ pub struct Leaving {
 }
 
 impl Leaving {
-    /// Those in a loop with this way out.
-    pub fn in_loop(self, exit: u16) -> Leaving
-        ensures { ways_of result ≡ within_loop exit (ways_of self) }
+    /// Those in a loop with this way out, if it has one.
+    pub fn in_loop(self, exit: Option<u16>) -> Leaving
+        ensures { ways_of result ≡ with_exit exit (ways_of self) }
     {
         Leaving {
-            exit: Some(exit),
+            exit,
             return_: self.return_,
             handled: self.handled,
         }

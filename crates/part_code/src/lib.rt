@@ -32,7 +32,7 @@ pub use formals::{PlacedFormal, PlacedFormals, place_all, show, take_passed};
 pub use frame_words::{FrameWords, behind};
 pub use leaving::Leaving;
 pub use line::line_of;
-pub use looping::{Head, begin_loop, end_loop};
+pub use looping::{Head, begin_loop, begin_way, end_loop};
 pub use main_calls::add_calls;
 pub use moving::{Moved, Source, add_move, is_composite, is_moved, names_composite};
 pub use storing::{store_operation, stored_at};

@@ -1,24 +1,23 @@
 //! The jumps of loops (RM 5.5).
-ghost use Rattle.std.specs.Prelude.{◌≡◌, ◌+◌, ◌<◌, IfErr, IfOk, OnOk};
+ghost use Rattle.std.specs.Prelude.{◌≡◌, ◌+◌, ◌<◌, ℕ, IfErr, IfOk, is_some, OnOk, Some, true};
 ghost use Rattle.expr_code.specs.Code.{here};
 ghost use Rattle.expr_code.specs.Refusing.{IsRefused};
-ghost use Rattle.part_code.specs.Emitting.{BeginsLoop, EndsLoop};
+ghost use Rattle.part_code.specs.Emitting.{BeginsLoop, EndsLoop, SkipsWay};
 
 use expr_code::{Code, ImageLimit, Refusal};
 use image::Operation;
 
-/// The places at the head of a loop: its way out, and where each turn begins.
+/// The places at the head of a loop: its way out, if one of its statements leads there, and where each turn begins.
 #[derive(Clone, Copy, PartialEq, Eq, Debug)]
 pub struct Head {
-    pub exit: u16,
+    pub exit: Option<u16>,
     pub turn: u16,
 }
 
-/// Adds a jump over the way out of a loop, and the way out, whose place isn't known yet.
-pub fn begin_loop(code: &mut Code) -> Result<Head, Refusal>
-    ensures exit { IfOk result (λ head. head.exit ≡ here code.old + 1) }
-    ensures turn { IfOk result (λ head. head.turn ≡ here code.old + 2) }
-    ensures begins { OnOk result (BeginsLoop code.old code.new) }
+/// Adds a jump over a way out, and the way out, whose place isn't known yet; and tells where it stands.
+pub fn begin_way(code: &mut Code) -> Result<u16, Refusal>
+    ensures exit { IfOk result (λ exit. exit ≡ here code.old + 1) }
+    ensures begins { OnOk result (SkipsWay code.old code.new) }
     ensures refused { IfErr result (λ why. IsRefused (here code.old + 2) 0 why) }
 {
     let (exit, turn) = match code.end()?.checked_add(1) {
@@ -30,18 +29,40 @@ pub fn begin_loop(code: &mut Code) -> Result<Head, Refusal>
     };
     code.emit(0, Operation::Jump(turn))?;
     code.emit(0, Operation::Jump(0))?;
-    Ok(Head { exit, turn })
+    Ok(exit)
 }
 
-/// Adds the jump back to the next turn, and makes the way out lead behind it, whose place is told.
+/// Adds the way out of a loop and a jump over it, where one of its statements leads there.
+pub fn begin_loop(code: &mut Code, leaves: bool) -> Result<Head, Refusal>
+    ensures exit { IfOk result (λ head. leaves ≡ true → is_some head.exit ≡ true) }
+    ensures turn { IfOk result (λ head. head.turn ≡ here code.new) }
+    ensures begins { IfOk result (λ head. BeginsLoop code.old head.exit code.new) }
+    ensures refused { IfErr result (λ why. IsRefused (here code.old + 2) 0 why) }
+{
+    if !leaves {
+        let turn = code.end()?;
+        return Ok(Head { exit: None, turn });
+    }
+    let exit = begin_way(code)?;
+    let turn = code.end()?;
+    Ok(Head {
+        exit: Some(exit),
+        turn,
+    })
+}
+
+/// Adds the jump back to the next turn, and makes the way out, if there is one, lead behind it, whose place is told.
 pub fn end_loop(code: &mut Code, head: Head) -> Result<u16, Refusal>
-    requires there { head.exit < here code.old }
+    requires there { (out : ℕ) → head.exit ≡ Some out → out < here code.old }
     ensures end { IfOk result (λ end. end ≡ here code.new) }
     ensures ends { OnOk result (EndsLoop code.old head.exit head.turn code.new) }
     ensures refused { IfErr result (λ why. IsRefused (here code.old + 1) 0 why) }
 {
     code.emit(0, Operation::Jump(head.turn))?;
     let end = code.end()?;
-    code.patch(usize::from(head.exit), Operation::Jump(end));
+    let Some(exit) = head.exit else {
+        return Ok(end);
+    };
+    code.patch(usize::from(exit), Operation::Jump(end));
     Ok(end)
 }

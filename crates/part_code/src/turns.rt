@@ -2,7 +2,7 @@
 ghost use Rattle.std.specs.Prelude.{◌≡◌, ◌+◌, IfErr, IfOk};
 ghost use Rattle.expr_code.specs.Code.{here};
 ghost use Rattle.expr_code.specs.Refusing.{IsRefused};
-ghost use Rattle.part_code.specs.Turns.{BeginsTurns, EndsTurn, next_operation, word_of_first, word_of_last};
+ghost use Rattle.part_code.specs.Turns.{EndsTurn, next_operation, StartsTurns, word_of_first, word_of_last};
 
 use expr_code::{Code, Refusal};
 use image::Operation;
@@ -49,21 +49,25 @@ impl Turns {
         }
     }
 
-    /// Adds what stores the bounds, the last one on top, and a jump where the range is null, whose place is told and waits for the end.
-    pub fn begin(self, code: &mut Code) -> Result<usize, Refusal>
-        ensures begins { IfOk result (λ null. BeginsTurns code.old self null code.new) }
+    /// Adds what stores the bounds, the last one on top, and a jump where the range is null, whose place is told and waits for the end; but no jump where the
+    /// range is full, whatever its bounds are worth.
+    pub fn begin(self, code: &mut Code, full: bool) -> Result<Option<usize>, Refusal>
+        ensures begins { IfOk result (λ null. StartsTurns code.old self full null code.new) }
         ensures refused { IfErr result (λ why. IsRefused (here code.old + 6) 2 why) }
     {
         let first = self.of_first();
         let last = self.of_last();
         code.emit(2, Operation::StoreLocal(last))?;
         code.emit(1, Operation::StoreLocal(first))?;
+        if full {
+            return Ok(None);
+        }
         code.emit(0, Operation::LoadLocal(last))?;
         code.emit(1, Operation::LoadLocal(first))?;
         code.emit(2, Operation::Less)?;
         let null = code.instructions.len();
         code.emit(1, Operation::JumpIfNotZero(0))?;
-        Ok(null)
+        Ok(Some(null))
     }
 
     /// Adds a jump where the parameter has its last value, whose place is told and waits for the end, and what gives it the next one.

@@ -318,22 +318,22 @@ module _ (i : Sections) (program : Program) (g : Package) (numbers : Numbers) (n
       let r = h.follows in
       let a = h.around in
       let outer = r.2 in
-      let held : a.held ≡ outer.held = ap (λ q. q.held) r.3.loop in
+      let held : a.held ≡ outer.held = ap (λ q. q.held) r.4.loop in
       catches items x f fs own os room
-      (drop_outer x f fs own os (Repeats body) items h outer r.1 (ap (λ q. q.raised x) r.3.loop)
-      (shows_as a.handling outer.handling (ap (λ q. q.handling) r.3.loop))
+      (drop_outer x f fs own os (Repeats body) items h outer r.1 (ap (λ q. q.raised x) r.4.loop)
+      (shows_as a.handling outer.handling (ap (λ q. q.handling) r.4.loop))
       (λ z. subst (λ q. AreHeld f.locals q) held z)
-      (λ z. ap (λ q. map held_offset q) (sym held) ∙ z ∙ r.3.narrows.reserved) refl r.5)
+      (λ z. ap (λ q. map held_offset q) (sym held) ∙ z ∙ r.4.narrows.reserved) refl r.5)
   catches (RepeatsWhile e body ∷ items) x f fs own os room h =
       let r = h.follows in
       let a = h.around in
       let outer = r.2 in
-      let held : a.held ≡ outer.held = ap (λ q. q.held) r.3.loop in
+      let held : a.held ≡ outer.held = ap (λ q. q.held) r.4.loop in
       catches items x f fs own os room
-      (drop_outer x f fs own os (RepeatsWhile e body) items h outer r.1 (ap (λ q. q.raised x) r.3.loop)
-      (shows_as a.handling outer.handling (ap (λ q. q.handling) r.3.loop))
+      (drop_outer x f fs own os (RepeatsWhile e body) items h outer r.1 (ap (λ q. q.raised x) r.4.loop)
+      (shows_as a.handling outer.handling (ap (λ q. q.handling) r.4.loop))
       (λ z. subst (λ q. AreHeld f.locals q) held z)
-      (λ z. ap (λ q. map held_offset q) (sym held) ∙ z ∙ r.3.narrows.reserved) refl r.5)
+      (λ z. ap (λ q. map held_offset q) (sym held) ∙ z ∙ r.4.narrows.reserved) refl r.5)
   catches (RepeatsFor parameter reversed now last body ∷ items) x f fs own os room h =
       let r = h.follows in
       let a = h.around in
@@ -400,11 +400,11 @@ module _ (i : Sections) (program : Program) (g : Package) (numbers : Numbers) (n
       let there = subst (λ q. AreHeld locals q) (ap (λ q. q.held) follows.3.handler) held in
       (x, refl, subst (λ q. slice_get locals q ≡ Some (pos x)) (same_Some follows.1 word e) there.0)
   handling_here (Repeats body ∷ items) a n from word locals role fs os follows is held =
-      handling_here items follows.2 n follows.1 word locals role fs os follows.5 (sym (ap (λ q. q.ways.handled) follows.3.loop) ∙ is)
-      (subst (λ q. AreHeld locals q) (ap (λ q. q.held) follows.3.loop) held)
+      handling_here items follows.2 n follows.1 word locals role fs os follows.5 (sym (ap (λ q. q.ways.handled) follows.4.loop) ∙ is)
+      (subst (λ q. AreHeld locals q) (ap (λ q. q.held) follows.4.loop) held)
   handling_here (RepeatsWhile e body ∷ items) a n from word locals role fs os follows is held =
-      handling_here items follows.2 n follows.1 word locals role fs os follows.5 (sym (ap (λ q. q.ways.handled) follows.3.loop) ∙ is)
-      (subst (λ q. AreHeld locals q) (ap (λ q. q.held) follows.3.loop) held)
+      handling_here items follows.2 n follows.1 word locals role fs os follows.5 (sym (ap (λ q. q.ways.handled) follows.4.loop) ∙ is)
+      (subst (λ q. AreHeld locals q) (ap (λ q. q.held) follows.4.loop) held)
   handling_here (RepeatsFor parameter reversed now last body ∷ items) a n from word locals role fs os follows is held =
       handling_here items follows.2 n follows.1 word locals role fs os follows.6 (sym (ap (λ q. q.ways.handled) follows.4.loop) ∙ is)
       (subst (λ q. AreHeld locals q) (ap (λ q. q.held) follows.4.loop) held).1.1

@@ -33,11 +33,11 @@ use Rattle.part_code.specs.expr_code.proofs.Coming.{acts}
 use Rattle.part_code.specs.Resting.{Framed, RestsWith, StandsFor}
 use Rattle.part_code.specs.Counting.{Bounds, GoesOn, IsCounted, IsRange, bounds, in_turn, number_bounds, turn_first, turn_last, with_last, with_parameter, are_turns_inside}
 use Rattle.part_code.specs.Statements.{Numbers}
-use Rattle.part_code.specs.Jumping.{Here}
+use Rattle.part_code.specs.Jumping.{Here, Jumps}
+use Rattle.part_code.proofs.Jumping.{jumps_both}
 use Rattle.step_simulation.specs.Standing.{CodeStands, Going, frames_in, in_range, items_size, work_size}
 use Rattle.step_simulation.proofs.Going.{before_ends, before_follows, jumps_up, narrows_same, rest_of}
 use Rattle.step_simulation.proofs.Sizes.{before_size, item_counts}
-use Rattle.step_simulation.proofs.Turning as turn
 use Rattle.part_code.proofs.Handling.{goes_within}
 use Rattle.step_simulation.proofs.Scenes.{Scene}
 use Rattle.step_simulation.proofs.Scenes as scene
@@ -184,21 +184,21 @@ module _ (this : Scene) where
         let u6 = begin.over in
         let x = r.3.from_inside in
         let y = r.3.to_inside in
-        let up = jumps_up i program g numbers f.place r.0 r.3.jumps in
+        let up = jumps_up i program g numbers f.place first come in
         let p = place_of now items in
         subst Meet (sym (scene.going_is this s h.stack h.going))
-        (scene.met_value this f fs ((r.0 - f.place) + 1) (r.0 + 2) (begin.mid - (r.0 + 2)) begin.mid (begin.stack [])
+        (scene.met_value this f fs (first - f.place) first (begin.mid - first) begin.mid (begin.stack [])
         (bounds range (call (frames_left items)) p)
         items
         (λ b. source.for_range now parameter reversed body items b.first b.last)
-        (turn.reaches_head this s r.0 r.0 r.3.jumps c.skip)
-        (scene.evaluates this r.2 (r.0 + 2) begin.mid begin.stack (bounds range) items f fs begin.computes here h.object h.depth)
+        (scene.jumps_spend this f fs f.place first come)
+        (scene.evaluates this r.2 first begin.mid begin.stack (bounds range) items f fs begin.computes here h.object h.depth)
         (omega (arith, x.0, y.1, up, u1, u2, u3, u4, u5, u6))
         (ap (λ q. work_step now q) is ∙ range_is range (source.for_range now parameter reversed body items) items p)
         (subst (λ q. items_size items < work_size q) (sym is)
         (let e = item_counts (Does (Loop place (For parameter reversed range) body)) items in omega (arith, e)))
-        (scene.handled_by this s outer r.2 r.1 items (bounds range (call (frames_left items)) p) (r.0 + 2) begin.mid r.5
-        (goes_within i outer.raised (r.0 + 2) (r.0 + 2) begin.mid c.start r.4.3 (omega arith) u6) here refl r.3.reaches.2 h.object h.depth)
+        (scene.handled_by this s outer r.2 r.1 items (bounds range (call (frames_left items)) p) first begin.mid r.5
+        (goes_within i outer.raised first first begin.mid c.start r.4.10 (omega arith) u6) here refl r.3.reaches.2 h.object h.depth)
         (λ b eb there spends. by_bounds b.first b.last eb there spends))
       where
         r : Follow h.around f.subprogram f.place (Does (Loop place (For parameter reversed range) body) ∷ items) f.role fs w.callers
@@ -207,11 +207,21 @@ module _ (this : Scene) where
         outer : Setting
         outer = seeing r.2 h.around
 
-        c : IsCounted i g r.2 r.0 r.1 parameter.name reversed
-        c = r.4.0
+        -- where the bounds are evaluated, and the way out
+        first : ℕ
+        first = r.4.0
 
-        begin : IsRange i g r.2 c.inner c.counter c.limit (r.0 + 2) c.start r.1 parameter.name reversed range c.subtype
-        begin = r.4.1
+        out : ℕ
+        out = r.4.1
+
+        come : Jumps i f.place first
+        come = jumps_both i r.3.jumps r.4.5
+
+        c : IsCounted i g r.2 first r.1 parameter.name reversed
+        c = r.4.7
+
+        begin : IsRange i g r.2 c.inner c.counter c.limit first c.start r.1 parameter.name reversed range c.subtype
+        begin = r.4.8
 
         here : RestsWith g r.2 h.around.held w.own f.locals
         here = scene.narrowed this s h.around.visible r.2 w.own f.locals r.3.narrows h.rests
@@ -223,11 +233,11 @@ module _ (this : Scene) where
             let up = jumps_up i program g numbers f.place r.0 r.3.jumps in
             (omega (arith, x.0, up, low), omega (arith, y.1, high))
 
-        few : ⊤ → (((r.0 - f.place) + 1) + (begin.mid - (r.0 + 2))) + ((c.start - begin.mid) + 1) < most_steps i (in_frame m f fs).task
+        few : ⊤ → ((first - f.place) + (begin.mid - first)) + ((c.start - begin.mid) + 1) < most_steps i (in_frame m f fs).task
         few u =
             let x = r.3.from_inside in
             let y = r.3.to_inside in
-            let up = jumps_up i program g numbers f.place r.0 r.3.jumps in
+            let up = jumps_up i program g numbers f.place first come in
             let u1 = c.up in
             let u2 = c.over in
             let u3 = c.on in
@@ -237,7 +247,7 @@ module _ (this : Scene) where
             omega (arith, x.0, y.1, up, u1, u2, u3, u4, u5, u6)
 
         ComesTo : Bounds → Type 0
-        ComesTo b = Spent (((r.0 - f.place) + 1) + (begin.mid - (r.0 + 2))) (placed f f.place []) (placed f begin.mid (begin.stack [] b))
+        ComesTo b = Spent ((first - f.place) + (begin.mid - first)) (placed f f.place []) (placed f begin.mid (begin.stack [] b))
 
         -- the first turn
         turns : (now' last : ℤ) (b : Bounds) → are_turns_inside c.subtype reversed now' last ≡ true → work_step now w.work ≡ source.for_turn now parameter.name reversed now' last body items → ComesTo b
@@ -250,22 +260,27 @@ module _ (this : Scene) where
             let u3 = c.on in
             let u4 = c.end in
             let loop = RepeatsFor parameter.name reversed now' last body ∷ items in
-            let turn_setting = in_range i program g numbers (r.0 + 1) c.counter c.limit now' last c.inner outer in
-            let start_in = inside c.start (omega (arith, u1)) (omega (arith, u2, u3, u4)) in
-            let back_in = inside c.back (omega (arith, u1, u2)) (omega (arith, u3, u4)) in
-            let head_in = inside r.0 (omega arith) (omega (arith, u1, u2, u3, u4)) in
+            let turn_setting = in_range i program g numbers out c.counter c.limit now' last c.inner outer in
+            let down = r.4.2 in
+            let start_in = inside c.start (omega (arith, down, u1)) (omega (arith, u2, u3, u4)) in
+            let back_in = inside c.back (omega (arith, down, u1, u2)) (omega (arith, u3, u4)) in
+            let head_in = inside first down (omega (arith, u1, u2, u3, u4)) in
+            let out_in = inside out r.4.3 r.4.4 in
             let total = before_size body loop in
-            met_goes_on (((r.0 - f.place) + 1) + (begin.mid - (r.0 + 2))) (c.start - begin.mid) begin.mid c.start (begin.stack [] b) on.locals
+            met_goes_on ((first - f.place) + (begin.mid - first)) (c.start - begin.mid) begin.mid c.start (begin.stack [] b) on.locals
             (source.before body loop) (with_parameter parameter.name now' w.own) turn_setting there spends on.spends (few tt)
-            (before_follows i program g numbers this.note body turn_setting c.inner f.subprogram c.start c.back loop f.role fs w.callers r.4.2
+            (before_follows i program g numbers this.note body turn_setting c.inner f.subprogram c.start c.back loop f.role fs w.callers r.4.9
             u2 start_in back_in
             (c.shows, (λ q view z. r.3.reaches.1 q view (c.shows q view z)), λ q view z. r.3.reaches.2 q view (c.shows q view z)) (
-              r.0,
+              first,
               r.1,
               outer,
               c,
               record {
                 jumps = Here;
+                out = out;
+                way = r.4.6;
+                out_inside = out_in;
                 loop = refl;
                 narrows = narrows_same g c.inner;
                 reaches = r.3.reaches.1;
@@ -274,9 +289,9 @@ module _ (this : Scene) where
                 head_inside = head_in;
                 to_inside = r.3.to_inside;
               },
-              r.4.2,
+              r.4.9,
               r.5,
-              r.4.4,
+              r.4.11,
               inside_it,
             ))
             on.rests h.object (h.depth ∙ sym (before_ends i program g numbers body loop))
@@ -291,7 +306,7 @@ module _ (this : Scene) where
             by_null true null =
                 let on = begin.null schedule k t m f fs h.around.held w.own (place_of now items) x y calm refl
                 (scene.sees_here this r.2 items f fs here h.object) here eb null in
-                met_goes_on (((r.0 - f.place) + 1) + (begin.mid - (r.0 + 2))) (c.start - begin.mid) begin.mid r.1 (begin.stack [] (number_bounds x y)) on.locals
+                met_goes_on ((first - f.place) + (begin.mid - first)) (c.start - begin.mid) begin.mid r.1 (begin.stack [] (number_bounds x y)) on.locals
                 items w.own outer (there ∙ ap (λ q. if q then source.goes now items else started) null) spends on.spends (few tt) r.5 on.rests h.object h.depth
                 (subst (λ q. suc (items_size items) < work_size q) (sym is)
                 (let e = item_counts (Does (Loop place (For parameter reversed range) body)) items in omega (arith, e)))
@@ -394,7 +409,7 @@ module _ (this : Scene) where
             let on = c.next.goes schedule k t m f fs outer.held w.own now' last next calm here (turn_within c.subtype reversed next last next_in) in
             let own' = with_parameter parameter next w.own in
             let loop = RepeatsFor parameter reversed next last body ∷ items in
-            let turn_setting = in_range i program g numbers (r.0 + 1) c.counter c.limit next last c.inner outer in
+            let turn_setting = in_range i program g numbers r.4.out c.counter c.limit next last c.inner outer in
             let z = r.4.head_inside in
             let start_in : In f.subprogram c.start = (omega (arith, z.0, u1), omega (arith, y.1, u2, u3, u4)) in
             let back_in : In f.subprogram c.back = (omega (arith, z.0, u1, u2), omega (arith, y.1, u3, u4)) in
@@ -418,6 +433,9 @@ module _ (this : Scene) where
                     c,
                     record {
                       jumps = Here;
+                      out = r.4.out;
+                      way = r.4.way;
+                      out_inside = r.4.out_inside;
                       loop = refl;
                       narrows = narrows_same g c.inner;
                       reaches = r.4.reaches;

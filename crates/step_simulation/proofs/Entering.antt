@@ -17,7 +17,7 @@ use Rattle.part_code.specs.Resting.{Framed, NarrowsFrame}
 use Rattle.part_code.specs.Copying.{held_at, left_out, passed_words}
 use Rattle.part_code.specs.Handling.{unhandled}
 use Rattle.part_code.specs.Statements.{IsProcedureCode, Numbers, shapes_of}
-use Rattle.part_code.specs.Jumping.{Here, Jumps, There}
+use Rattle.part_code.specs.Jumping.{Here, Jumps}
 use Rattle.step_simulation.specs.Standing.{Around, Follows, Inside, IsGoingOn, LeadsEnd, Note, frames_in, with_visible}
 use Rattle.step_simulation.proofs.Going.{declares_end, declares_follow, earlier, narrows_same, parameters_end, parameters_follow, same_end}
 use Rattle.step_simulation.proofs.Opening.{object_is}
@@ -106,8 +106,8 @@ module _ (i : Sections) (program : Program) (g : Package) (numbers : Numbers) (n
         u1 : proc.first ≤ proc.runs.mid
         u1 = proc.runs.up
 
-        u2 : proc.runs.mid + 2 ≤ proc.stop
-        u2 = proc.runs.over
+        u2 : proc.runs.mid ≤ proc.stop
+        u2 = (let low = proc.runs.down in let over = proc.runs.over in omega (arith, low, over))
 
         u3 : proc.stop ≤ proc.gives.back
         u3 = proc.gives.up
@@ -127,8 +127,8 @@ module _ (i : Sections) (program : Program) (g : Package) (numbers : Numbers) (n
         mid_in : Inside i program g numbers number proc.runs.mid
         mid_in = all_in proc.runs.mid (omega (arith, u0, u1)) (omega (arith, u2, u3))
 
-        way_in : Inside i program g numbers number (proc.runs.mid + 1)
-        way_in = all_in (proc.runs.mid + 1) (omega (arith, u0, u1)) (omega (arith, u2, u3))
+        way_in : Inside i program g numbers number proc.runs.out
+        way_in = (let below = proc.runs.below in let high = proc.runs.high in all_in proc.runs.out (omega (arith, u0, u1, below)) (omega (arith, high, u3)))
 
         stop_in : Inside i program g numbers number proc.stop
         stop_in = all_in proc.stop (omega (arith, u0, u1, u2)) u3
@@ -139,7 +139,7 @@ module _ (i : Sections) (program : Program) (g : Package) (numbers : Numbers) (n
         around : Setting
         around = record {
           visible = proc.begins;
-          ways = record { exit = None; return = Some (proc.runs.mid + 1); handled = None };
+          ways = record { exit = None; return = Some proc.runs.out; handled = None };
           raised = unhandled;
           held = held_at proc.begins.reserved addresses;
           behind = proc.middle;
@@ -167,23 +167,23 @@ module _ (i : Sections) (program : Program) (g : Package) (numbers : Numbers) (n
             → Follow (seeing proc.runs.later around) number proc.runs.mid (statements_of q end items) role fs os
         last begun nar =
             let same : proc.begins.reserved ≡ proc.middle.reserved = sym begun.reserved ∙ proc.orders.reserved in (
-              proc.runs.mid + 2,
+              proc.runs.start,
               proc.stop,
               proc.runs.later,
               (record {
-                jumps = There proc.runs.skip (omega arith) Here;
+                jumps = proc.runs.skip;
                 narrows = narrows_same g proc.runs.later;
                 reaches = (nar.shows, nar.shows, nar.shows);
                 from_inside = mid_in;
-                up = u2;
+                up = proc.runs.over;
                 to_inside = stop_in;
               }),
               proc.runs.statements,
-              follows (seeing proc.runs.later around) number proc.stop (proc.runs.mid + 1) refl nar.reserved
+              follows (seeing proc.runs.later around) number proc.stop proc.runs.out refl nar.reserved
                   (ending proc.runs.later proc.stop Here stop_in nar same)
-                  (same_end i program g numbers (seeing proc.middle around) proc.runs.later proc.middle number (proc.runs.mid + 1)
+                  (same_end i program g numbers (seeing proc.middle around) proc.runs.later proc.middle number proc.runs.out
                   (results q.parameters) addresses
-                  (ending proc.middle (proc.runs.mid + 1) (There proc.runs.way (omega (arith, u2)) Here) way_in (narrows_same g proc.middle) same)),
+                  (ending proc.middle proc.runs.out proc.runs.way way_in (narrows_same g proc.middle) same)),
             )
 
         middle : NarrowsFrame g proc.begun proc.begins

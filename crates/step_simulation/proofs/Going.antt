@@ -123,23 +123,9 @@ module _ (i : Sections) (program : Program) (g : Package) (numbers : Numbers) wh
     to_inside = h.to_inside;
   }
 
-  earlier_next : (a : Setting) (more : Framed) (n x y head to back counter limit : ℕ) (now last : ℤ) (inner : Framed) (outer : Setting) → Jump x y
-      → NarrowsFrame g more a.visible → In n x → LeadsNext i program g numbers a n y head to back counter limit now last inner outer
-      → LeadsNext i program g numbers (seeing more a) n x head to back counter limit now last inner outer
-  earlier_next a more n x y head to back counter limit now last inner outer j nar ins h = record {
-    jumps = jumps_both i j h.jumps;
-    loop = ap (λ q. seeing more q) h.loop;
-    narrows = narrows_both g more a.visible inner nar h.narrows;
-    reaches = h.reaches;
-    handles = h.handles;
-    from_inside = ins;
-    head_inside = h.head_inside;
-    to_inside = h.to_inside;
-  }
-
-  earlier_back : (a : Setting) (more : Framed) (n x y head to : ℕ) (outer : Setting) → Jump x y → NarrowsFrame g more a.visible
-      → In n x → LeadsBack i program g numbers a n y head to outer → LeadsBack i program g numbers (seeing more a) n x head to outer
-  earlier_back a more n x y head to outer j nar ins h = record {
+  earlier_back : (a : Setting) (more : Framed) (n x y head start out to : ℕ) (outer : Setting) → Jump x y → NarrowsFrame g more a.visible
+      → In n x → LeadsBack i program g numbers a n y head start out to outer → LeadsBack i program g numbers (seeing more a) n x head start out to outer
+  earlier_back a more n x y head start out to outer j nar ins h = record {
     back = h.back;
     jumps = jumps_both i j h.jumps;
     jump = h.jump;
@@ -197,8 +183,9 @@ module _ (i : Sections) (program : Program) (g : Package) (numbers : Numbers) wh
   drops_seeing : (a : Setting) (v : Framed) (b : Setting) → a.visible.reserved ≡ v.reserved → Drops (seeing v a) b → Drops a b
   drops_seeing a v b e d = record { held = d.held; apart = λ h. d.apart (h ∙ e) }
 
-  drops_loop : (a : Setting) (n from head to : ℕ) (outer : Setting) → LeadsBack i program g numbers a n from head to outer → Drops a outer
-  drops_loop a n from head to outer back =
+  drops_loop : (a : Setting) (n from head start out to : ℕ) (outer : Setting) → LeadsBack i program g numbers a n from head start out to outer
+      → Drops a outer
+  drops_loop a n from head start out to outer back =
       let same : a.held ≡ outer.held = ap (λ q. q.held) back.loop in record {
         held = λ locals h. subst (λ q. AreHeld locals q) same h;
         apart = λ h. ap (λ q. map held_offset q) (sym same) ∙ h ∙ back.narrows.reserved;
@@ -255,15 +242,29 @@ module _ (i : Sections) (program : Program) (g : Package) (numbers : Numbers) wh
     earlier (Handles (MoreHandlers choices body rest) ∷ items) a more n x y role fs os j nar ins h =
         (h.0, h.1, h.2, earlier_over a more n x y h.0 h.1 h.2 j nar ins h.3, h.4, h.5)
     earlier (EndsHandler z ∷ items) a more n x y role fs os j nar ins h = (h.0, h.1, h.2, earlier_behind a more n x y h.0 h.1 z h.2 j nar ins h.3, h.4)
-    earlier (Repeats body ∷ items) a more n x y role fs os j nar ins h = (h.0, h.1, h.2, earlier_back a more n x y h.0 h.1 h.2 j nar ins h.3, h.4, h.5)
-    earlier (RepeatsWhile e body ∷ items) a more n x y role fs os j nar ins h = (h.0, h.1, h.2, earlier_back a more n x y h.0 h.1 h.2 j nar ins h.3, h.4, h.5)
+    earlier (Repeats body ∷ items) a more n x y role fs os j nar ins h =
+        let code = h.3 in (h.0, h.1, h.2, h.3, earlier_back a more n x y h.0 code.0 code.1 h.1 h.2 j nar ins h.4, h.5)
+    earlier (RepeatsWhile e body ∷ items) a more n x y role fs os j nar ins h =
+        let code = h.3 in (h.0, h.1, h.2, h.3, earlier_back a more n x y h.0 code.0 code.1 h.1 h.2 j nar ins h.4, h.5)
     earlier (RepeatsFor parameter reversed now last body ∷ items) a more n x y role fs os j nar ins h =
         let c = h.3 in (
           h.0,
           h.1,
           h.2,
           h.3,
-          earlier_next a more n x y h.0 h.1 c.back c.counter c.limit now last c.inner h.2 j nar ins h.4,
+          record {
+            jumps = jumps_both i j h.4.jumps;
+            out = h.4.out;
+            way = h.4.way;
+            out_inside = h.4.out_inside;
+            loop = ap (λ q. seeing more q) h.4.loop;
+            narrows = narrows_both g more a.visible c.inner nar h.4.narrows;
+            reaches = h.4.reaches;
+            handles = h.4.handles;
+            from_inside = ins;
+            head_inside = h.4.head_inside;
+            to_inside = h.4.to_inside;
+          },
           h.5,
           h.6,
           h.7,
@@ -455,42 +456,41 @@ module _ (i : Sections) (program : Program) (g : Package) (numbers : Numbers) wh
         let head = h.0 in
         let to = h.1 in
         let outer = h.2 in
-        let back = h.3 in
-        let there : Some (head + 1) ≡ Some e = sym (ap (λ q. q.ways.exit) back.loop) ∙ is in
-        let same : head + 1 ≡ e = cc in
-        let code = h.4 in
+        let code = h.3 in
+        let back = h.4 in
+        let there : Some code.1 ≡ Some e = sym (ap (λ q. q.ways.exit) back.loop) ∙ is in
+        let same : code.1 ≡ e = cc in
         let x = back.head_inside in
         let y = back.to_inside in
-        let up = code.1 in
-        let end = code.6 in record {
+        let up = code.5 in
+        let over = code.6 in record {
           outer = outer;
           visible = ap (λ q. q.behind) back.loop;
           follows = subst (λ q. Follow outer n q items role fs os) same
-              (earlier items outer outer.visible n (head + 1) to role fs os (There code.3 (omega (arith, up, end)) Here) (narrows_same g outer.visible)
-              (omega (arith, x.0), omega (arith, y.1, up, end)) h.5);
+              (earlier items outer outer.visible n code.1 to role fs os code.8 (narrows_same g outer.visible)
+              (omega (arith, x.0, up), omega (arith, y.1, over)) h.5);
           ends = refl;
-          drops = drops_loop a n from head to outer back;
+          drops = drops_loop a n from head code.0 code.1 to outer back;
         }
     way_out (RepeatsWhile c body ∷ items) a n from e role fs os h is =
         let head = h.0 in
         let to = h.1 in
         let outer = h.2 in
-        let back = h.3 in
-        let there : Some (head + 1) ≡ Some e = sym (ap (λ q. q.ways.exit) back.loop) ∙ is in
-        let same : head + 1 ≡ e = cc in
-        let code = h.4 in
+        let code = h.3 in
+        let back = h.4 in
+        let there : Some code.1 ≡ Some e = sym (ap (λ q. q.ways.exit) back.loop) ∙ is in
+        let same : code.1 ≡ e = cc in
         let x = back.head_inside in
         let y = back.to_inside in
-        let up = code.2 in
-        let over = code.3 in
-        let end = code.10 in record {
+        let up = code.7 in
+        let over = code.8 in record {
           outer = outer;
           visible = ap (λ q. q.behind) back.loop;
           follows = subst (λ q. Follow outer n q items role fs os) same
-              (earlier items outer outer.visible n (head + 1) to role fs os (There code.5 (omega (arith, up, over, end)) Here) (narrows_same g outer.visible)
-              (omega (arith, x.0), omega (arith, y.1, up, over, end)) h.5);
+              (earlier items outer outer.visible n code.1 to role fs os code.10 (narrows_same g outer.visible)
+              (omega (arith, x.0, up), omega (arith, y.1, over)) h.5);
           ends = refl;
-          drops = drops_loop a n from head to outer back;
+          drops = drops_loop a n from head code.0 code.1 to outer back;
         }
     way_out (RepeatsFor parameter reversed now last body ∷ items) a n from e role fs os h is =
         let head = h.0 in
@@ -498,19 +498,12 @@ module _ (i : Sections) (program : Program) (g : Package) (numbers : Numbers) wh
         let outer = h.2 in
         let c = h.3 in
         let next = h.4 in
-        let there : Some (head + 1) ≡ Some e = sym (ap (λ q. q.ways.exit) next.loop) ∙ is in
-        let same : head + 1 ≡ e = cc in
-        let x = next.head_inside in
-        let y = next.to_inside in
-        let up = c.up in
-        let over = c.over in
-        let on = c.on in
-        let end = c.end in record {
+        let there : Some next.out ≡ Some e = sym (ap (λ q. q.ways.exit) next.loop) ∙ is in
+        let same : next.out ≡ e = cc in record {
           outer = outer;
           visible = ap (λ q. q.behind) next.loop;
           follows = subst (λ q. Follow outer n q items role fs os) same
-              (earlier items outer outer.visible n (head + 1) to role fs os (There c.out (omega (arith, up, over, on, end)) Here) (narrows_same g outer.visible)
-              (omega (arith, x.0), omega (arith, y.1, up, over, on, end)) h.6);
+              (earlier items outer outer.visible n next.out to role fs os next.way (narrows_same g outer.visible) next.out_inside h.6);
           ends = refl;
           drops = drops_turn a n from head to parameter reversed now last outer c next;
         }
@@ -586,11 +579,13 @@ module _ (i : Sections) (program : Program) (g : Package) (numbers : Numbers) wh
         back_outer a h.2 n e items (EndsHandler x) role fs os (ap (λ q. q.ending) h.3.handler) (drops_handler a n from h.0 h.1 x h.2 h.3) refl refl
         (way_back items h.2 n h.0 e role fs os h.4 (sym (ap (λ q. q.ways.return) h.3.handler) ∙ is))
     way_back (Repeats body ∷ items) a n from e role fs os h is =
-        back_outer a h.2 n e items (Repeats body) role fs os (ap (λ q. q.ending) h.3.loop) (drops_loop a n from h.0 h.1 h.2 h.3) refl refl
-        (way_back items h.2 n h.1 e role fs os h.5 (sym (ap (λ q. q.ways.return) h.3.loop) ∙ is))
+        let code = h.3 in
+        back_outer a h.2 n e items (Repeats body) role fs os (ap (λ q. q.ending) h.4.loop) (drops_loop a n from h.0 code.0 code.1 h.1 h.2 h.4) refl refl
+        (way_back items h.2 n h.1 e role fs os h.5 (sym (ap (λ q. q.ways.return) h.4.loop) ∙ is))
     way_back (RepeatsWhile c body ∷ items) a n from e role fs os h is =
-        back_outer a h.2 n e items (RepeatsWhile c body) role fs os (ap (λ q. q.ending) h.3.loop) (drops_loop a n from h.0 h.1 h.2 h.3) refl refl
-        (way_back items h.2 n h.1 e role fs os h.5 (sym (ap (λ q. q.ways.return) h.3.loop) ∙ is))
+        let code = h.3 in
+        back_outer a h.2 n e items (RepeatsWhile c body) role fs os (ap (λ q. q.ending) h.4.loop) (drops_loop a n from h.0 code.0 code.1 h.1 h.2 h.4) refl refl
+        (way_back items h.2 n h.1 e role fs os h.5 (sym (ap (λ q. q.ways.return) h.4.loop) ∙ is))
     way_back (RepeatsFor parameter reversed now last body ∷ items) a n from e role fs os h is =
         back_outer a h.2 n e items (RepeatsFor parameter reversed now last body) role fs os (ap (λ q. q.ending) h.4.loop)
         (drops_turn a n from h.0 h.1 parameter reversed now last h.2 h.3 h.4) refl refl

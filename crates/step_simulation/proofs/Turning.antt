@@ -40,9 +40,10 @@ use Rattle.part_code.specs.Handling.{GoesBy}
 use Rattle.part_code.specs.Storing.{Arrives, Assigned, Assigns, Puts, assigned, assigned_to, declared, declared_from, object_declared}
 use Rattle.part_code.specs.Statements.{AreStatements, IsOtherwise, IsPutCode, IsWhile, Numbers, within_loop}
 use Rattle.part_code.specs.Jumping.{Here, Jumps, There}
+use Rattle.part_code.proofs.Jumping.{jumps_both}
 use Rattle.step_simulation.specs.Standing.{Going, LeadsByWays, LeadsInto, ReachesWays, frames_in, in_loop, items_size, work_size}
 use Rattle.step_simulation.proofs.Going.{before_ends, before_follows, earlier, into, jumps_up, narrows_same, way_out}
-use Rattle.step_simulation.proofs.Sizes.{item_counts}
+use Rattle.step_simulation.proofs.Sizes.{before_size, item_counts}
 use Rattle.part_code.proofs.Handling.{goes_within}
 use Rattle.part_code.proofs.StoringCode.{same_given}
 use Rattle.part_code.proofs.Arriving.{by_evaluation, stores_assign}
@@ -256,34 +257,36 @@ module _ (this : Scene) where
         let code = r.4 in
         let mid = code.0 in
         let joint = code.1 in
-        let le = code.2 in
-        let between = code.3 in
-        let above = code.4 in
+        let next = code.2 in
+        let le = code.3 in
+        let between = code.4 in
+        let after = code.5 in
+        let above = code.6 in
         let x = leads.from_inside in
         let y = leads.to_inside in
         let up = jumps_up i program g numbers f.place r.0 leads.jumps in
         let rests = scene.narrowed this s h.around.visible r.2 w.own f.locals leads.narrows h.rests in
         let a = seeing r.2 h.around in
         let one : suc mid ≡ mid + 1 = omega arith in
-        let then_in : In f.subprogram (mid + 1) = (omega (arith, x.0, up, le), omega (arith, y.1, between, above)) in
-        let joint_in : In f.subprogram joint = (omega (arith, x.0, up, le, between), omega (arith, y.1, above)) in
-        let else_in : In f.subprogram (suc joint) = (omega (arith, x.0, up, le, between), omega (arith, y.1, above)) in
-        met_test (op.JumpIfZero (suc joint)) false items (source.otherwise place elsifs others items) (source.before body items) h.stack h.going r.2 r.0 mid
-        (r.0 - f.place) (suc joint) e
+        let then_in : In f.subprogram (mid + 1) = (omega (arith, x.0, up, le), omega (arith, y.1, between, after, above)) in
+        let joint_in : In f.subprogram joint = (omega (arith, x.0, up, le, between), omega (arith, y.1, after, above)) in
+        let else_in : In f.subprogram next = (omega (arith, x.0, up, le, between, after), omega (arith, y.1, above)) in
+        met_test (op.JumpIfZero next) false items (source.otherwise place elsifs others items) (source.before body items) h.stack h.going r.2 r.0 mid
+        (r.0 - f.place) next e
         (ap (λ q. work_step now q) is)
         (subst (λ q. items_size items < work_size q) (sym is) (let c = item_counts (Does (If place e body elsifs others)) items in omega (arith, c)))
-        (scene.handled_by this s a r.2 r.1 items (source.condition now items e) r.0 mid r.5 code.10 rests refl leads.reaches.2 h.object h.depth)
-        (scene.jumps_spend this f fs f.place r.0 leads.jumps) (scene.evaluates this r.2 r.0 mid on (λ calls p. value_with calls p e) items f fs code.5 rests
+        (scene.handled_by this s a r.2 r.1 items (source.condition now items e) r.0 mid r.5 code.12 rests refl leads.reaches.2 h.object h.depth)
+        (scene.jumps_spend this f fs f.place r.0 leads.jumps) (scene.evaluates this r.2 r.0 mid on (λ calls p. value_with calls p e) items f fs code.7 rests
         h.object h.depth)
-        (omega (arith, x.0, y.1, up, le, between, above)) code.6 (on_zero mid (suc joint))
-        (scene.goes_to this s (source.otherwise place elsifs others items) a (suc joint)
-        (otherwise_follows place elsifs others h.around r.2 (suc joint) r.1 items code.9 above else_in y leads.reaches r.5) rests h.object
+        (omega (arith, x.0, y.1, up, le, between, after, above)) code.8 (on_zero mid next)
+        (scene.goes_to this s (source.otherwise place elsifs others items) a next
+        (otherwise_follows place elsifs others h.around r.2 next r.1 items code.11 above else_in y leads.reaches r.5) rests h.object
         (h.depth ∙ sym (otherwise_ends place elsifs others items)))
         (scene.goes_to this s (source.before body items) a (mid + 1)
         (before_follows i program g numbers this.note body h.around r.2 f.subprogram (mid + 1) joint items f.role fs w.callers
-        (subst (λ q. AreStatements i program g numbers r.2 h.around.ways h.around.raised q joint body) one code.7) (omega (arith, between)) then_in joint_in
+        (subst (λ q. AreStatements i program g numbers r.2 h.around.ways h.around.raised q joint body) one code.9) (omega (arith, between)) then_in joint_in
         leads.reaches
-        (earlier i program g numbers this.note items a r.2 f.subprogram joint r.1 f.role fs w.callers (There code.8 above Here)
+        (earlier i program g numbers this.note items a r.2 f.subprogram joint r.1 f.role fs w.callers code.10
         (narrows_same g r.2) joint_in r.5)) rests
         h.object
         (h.depth ∙ sym (before_ends i program g numbers body items)))
@@ -297,35 +300,39 @@ module _ (this : Scene) where
         let leads = r.3 in
         let code = r.4 in
         let at = r.0 in
-        let back = code.0 in
-        let le = code.1 in
-        let end = code.6 in
+        let start = code.0 in
+        let back = code.2 in
+        let down = code.3 in
+        let le = code.4 in
+        let end = code.11 in
         let x = leads.from_inside in
         let y = leads.to_inside in
         let up = jumps_up i program g numbers f.place at leads.jumps in
-        let rests = scene.narrowed this s h.around.visible r.2 w.own f.locals leads.narrows h.rests in
         let outer = seeing r.2 h.around in
-        let inner = in_loop i program g numbers (at + 1) r.2 outer in
+        let inner = in_loop i program g numbers code.1 r.2 outer in
         let all = source.before body (Repeats body ∷ items) in
-        let head_in : In f.subprogram at = (omega (arith, x.0, up), omega (arith, y.1, le, end)) in
-        let turn_in : In f.subprogram (at + 2) = (omega (arith, x.0, up), omega (arith, y.1, le, end)) in
-        let back_in : In f.subprogram back = (omega (arith, x.0, up, le), omega (arith, y.1, end)) in
-        scene.met_plain this s (op.Jump (at + 2)) (source.goes now all) (steps.does Quiet m (goes_at f (at + 2) f.locals) fs None None) at items
-        (ap (λ q. work_step now q) is) h.stack h.going
-        leads.jumps x (omega (arith, x.0, up), omega (arith, y.1, le, end)) code.2 refl
-        (scene.goes_to this s all inner (at + 2)
-        (before_follows i program g numbers this.note body inner r.2 f.subprogram (at + 2) back
-        (Repeats body ∷ items) f.role fs w.callers code.4 le turn_in back_in
+        let total = before_size body (Repeats body ∷ items) in
+        let head_in : In f.subprogram at = (omega (arith, x.0, up), omega (arith, y.1, down, le, end)) in
+        let turn_in : In f.subprogram start = (omega (arith, x.0, up, down), omega (arith, y.1, le, end)) in
+        let back_in : In f.subprogram back = (omega (arith, x.0, up, down, le), omega (arith, y.1, end)) in
+        scene.met_items this s (source.goes now all) all (ap (λ q. work_step now q) is)
+        (subst (λ q. suc (items_size all) < work_size q) (sym is) (omega (arith, total))) h.stack h.going
+        (seeing h.around.visible inner)
+        (earlier i program g numbers this.note all inner h.around.visible f.subprogram f.place start f.role fs w.callers
+        (jumps_both i leads.jumps code.7) leads.narrows x
+        (before_follows i program g numbers this.note body inner r.2 f.subprogram start back
+        (Repeats body ∷ items) f.role fs w.callers code.9 le turn_in back_in
         ((narrows_same g r.2).shows, leads.reaches.1, leads.reaches.2) (
           at,
           r.1,
           outer,
+          code,
           record {
             back = back;
             jumps = Here;
-            jump = code.5;
+            jump = code.10;
             end = end;
-            up = omega (arith, le);
+            up = omega (arith, down, le);
             loop = refl;
             narrows = narrows_same g r.2;
             reaches = leads.reaches.1;
@@ -334,10 +341,9 @@ module _ (this : Scene) where
             head_inside = head_in;
             to_inside = y;
           },
-          code,
           r.5,
-        ))
-        rests h.object (h.depth ∙ sym (before_ends i program g numbers body (Repeats body ∷ items))))
+        )))
+        h.rests h.object (h.depth ∙ sym (before_ends i program g numbers body (Repeats body ∷ items)))
 
     -- a loop holds the same words as what is around it
     turned : (v : Framed) (one other : List HeldWord) → one ≡ other → RestsWith g v one w.own f.locals → RestsWith g v other w.own f.locals
@@ -348,11 +354,13 @@ module _ (this : Scene) where
         let r = h.follows in
         let head = r.0 in
         let outer = r.2 in
-        let leads = r.3 in
-        let code = r.4 in
-        let last = code.0 in
-        let le = code.1 in
-        let end = code.6 in
+        let code = r.3 in
+        let leads = r.4 in
+        let start = code.0 in
+        let last = code.2 in
+        let down = code.3 in
+        let le = code.4 in
+        let end = code.11 in
         let x = leads.from_inside in
         let y = leads.to_inside in
         let z = leads.head_inside in
@@ -360,26 +368,27 @@ module _ (this : Scene) where
         let up = jumps_up i program g numbers f.place leads.back leads.jumps in
         let rests = turned outer.visible h.around.held outer.held (ap (λ q. q.held) leads.loop)
         (scene.narrowed this s h.around.visible outer.visible w.own f.locals leads.narrows h.rests) in
-        let inner = in_loop i program g numbers (head + 1) outer.visible outer in
+        let inner = in_loop i program g numbers code.1 outer.visible outer in
         let all = source.before body (Repeats body ∷ items) in
-        let turn_in : In f.subprogram (head + 2) = (omega (arith, z.0), omega (arith, y.1, le, end)) in
-        let back_in : In f.subprogram last = (omega (arith, z.0, le), omega (arith, y.1, end)) in
-        scene.met_plain this s (op.Jump (head + 2)) (source.goes now all) (steps.does Quiet m (goes_at f (head + 2) f.locals) fs None None) leads.back items
+        let turn_in : In f.subprogram start = (omega (arith, z.0, down), omega (arith, y.1, le, end)) in
+        let back_in : In f.subprogram last = (omega (arith, z.0, down, le), omega (arith, y.1, end)) in
+        scene.met_plain this s (op.Jump start) (source.goes now all) (steps.does Quiet m (goes_at f start f.locals) fs None None) leads.back items
         (ap (λ q. work_step now q) is) h.stack h.going
         leads.jumps x (omega (arith, x.0, up), omega (arith, y.1, there)) leads.jump refl
-        (scene.goes_to this s all inner (head + 2)
-        (before_follows i program g numbers this.note body inner outer.visible f.subprogram (head + 2) last
-        (Repeats body ∷ items) f.role fs w.callers code.4 le turn_in
+        (scene.goes_to this s all inner start
+        (before_follows i program g numbers this.note body inner outer.visible f.subprogram start last
+        (Repeats body ∷ items) f.role fs w.callers code.9 le turn_in
         back_in ((narrows_same g outer.visible).shows, leads.reaches, leads.handles) (
           head,
           r.1,
           outer,
+          code,
           record {
             back = last;
             jumps = Here;
-            jump = code.5;
+            jump = code.10;
             end = end;
-            up = omega (arith, le);
+            up = omega (arith, down, le);
             loop = refl;
             narrows = narrows_same g outer.visible;
             reaches = leads.reaches;
@@ -388,7 +397,6 @@ module _ (this : Scene) where
             head_inside = z;
             to_inside = y;
           },
-          code,
           r.5,
         ))
         rests h.object (h.depth ∙ sym (before_ends i program g numbers body (Repeats body ∷ items))))
@@ -408,41 +416,44 @@ module _ (this : Scene) where
         → length fs ≡ frames_in items
         → In f.subprogram head
         → In f.subprogram to
-        → Reaching f fs n f.place (head + 2)
-        → n + (code.0 - (head + 2)) < size_of i f.subprogram + size_of i f.subprogram
+        → Reaching f fs n f.place code.0
+        → n + (code.2 - code.0) < size_of i f.subprogram + size_of i f.subprogram
         → Meet s
     met_turn i' e body items is same stack going head to n outer code reaches handles rest rests object depth z y first low =
-        let mid = code.0 in
-        let back = code.1 in
-        let le = code.2 in
-        let between = code.3 in
-        let end = code.10 in
+        let start = code.0 in
+        let mid = code.2 in
+        let back = code.3 in
+        let down = code.4 in
+        let le = code.5 in
+        let between = code.6 in
+        let end = code.15 in
         let one : suc mid ≡ mid + 1 = omega arith in
-        let loop = in_loop i program g numbers (head + 1) outer.visible outer in
+        let loop = in_loop i program g numbers code.1 outer.visible outer in
         let all = source.before body (RepeatsWhile e body ∷ items) in
-        let turn_in : In f.subprogram (mid + 1) = (omega (arith, z.0, le), omega (arith, y.1, between, end)) in
-        let back_in : In f.subprogram back = (omega (arith, z.0, le, between), omega (arith, y.1, end)) in
-        met_test (op.JumpIfZero to) false items items all stack going outer.visible (head + 2) mid n to e
+        let turn_in : In f.subprogram (mid + 1) = (omega (arith, z.0, down, le), omega (arith, y.1, between, end)) in
+        let back_in : In f.subprogram back = (omega (arith, z.0, down, le, between), omega (arith, y.1, end)) in
+        met_test (op.JumpIfZero to) false items items all stack going outer.visible start mid n to e
         (ap (λ q. work_step now q) is ∙ same)
         (subst (λ q. items_size items < work_size q) (sym is) (let c = item_counts i' items in omega (arith, c)))
-        (scene.handled_by this s outer outer.visible to items (source.condition now items e) (head + 2) mid rest code.11 rests refl handles object depth) first
-        (scene.evaluates this outer.visible (head + 2) mid on (λ calls p. value_with calls p e) items f fs code.6 rests object depth) low code.7
+        (scene.handled_by this s outer outer.visible to items (source.condition now items e) start mid rest code.16 rests refl handles object depth) first
+        (scene.evaluates this outer.visible start mid on (λ calls p. value_with calls p e) items f fs code.11 rests object depth) low code.12
         (on_zero mid to)
         (scene.goes_to this s items outer to rest rests object depth)
         (scene.goes_to this s all loop (mid + 1)
         (before_follows i program g numbers this.note body loop outer.visible f.subprogram (mid + 1) back (RepeatsWhile e body ∷ items) f.role fs w.callers
-        (subst (λ q. AreStatements i program g numbers outer.visible (within_loop (head + 1) outer.ways) outer.raised q back body) one code.8)
+        (subst (λ q. AreStatements i program g numbers outer.visible (within_loop code.1 outer.ways) outer.raised q back body) one code.13)
         (omega (arith, between))
         turn_in back_in ((narrows_same g outer.visible).shows, reaches, handles) (
           head,
           to,
           outer,
+          code,
           record {
             back = back;
             jumps = Here;
-            jump = code.9;
+            jump = code.14;
             end = end;
-            up = omega (arith, le, between);
+            up = omega (arith, down, le, between);
             loop = refl;
             narrows = narrows_same g outer.visible;
             reaches = reaches;
@@ -451,19 +462,17 @@ module _ (this : Scene) where
             head_inside = z;
             to_inside = y;
           },
-          code,
           rest,
         ))
         rests object (depth ∙ sym (before_ends i program g numbers body (RepeatsWhile e body ∷ items))))
 
     -- jumps, and one more jump to the condition of a loop
-    pub reaches_head : (at head : ℕ) → Jumps i f.place at → At i at (op.Jump (head + 2))
-        → Reaching f fs ((at - f.place) + 1) f.place (head + 2)
+    pub reaches_head : (at head : ℕ) → Jumps i f.place at → At i at (op.Jump head) → Reaching f fs ((at - f.place) + 1) f.place head
     reaches_head at head jumps here =
-        spends_trans (behaviour i schedule) t frames_of (most_steps i) 1 k (in_frame m (placed f (head + 2) []) fs)
+        spends_trans (behaviour i schedule) t frames_of (most_steps i) 1 k (in_frame m (placed f head []) fs)
         (scene.jumps_spend this f fs f.place at jumps)
-        (coming.steps quiet i schedule k t m calm (placed f at []) (placed f (head + 2) []) fs
-        (acts quiet i at (op.Jump (head + 2)) here schedule k t m f fs []))
+        (coming.steps quiet i schedule k t m calm (placed f at []) (placed f head []) fs
+        (acts quiet i at (op.Jump head) here schedule k t m f fs []))
 
     pub met_while : (place : ℕ) (e : ExprTree) (body : StmtTrees) (items : List Item) → w.work ≡ Goes (Does (Loop place (While e) body) ∷ items)
         → (h : IsAtItems (Does (Loop place (While e) body) ∷ items)) → Meet s
@@ -472,30 +481,34 @@ module _ (this : Scene) where
         let leads = r.3 in
         let code = r.4 in
         let at = r.0 in
-        let mid = code.0 in
-        let le = code.2 in
-        let between = code.3 in
-        let end = code.10 in
+        let start = code.0 in
+        let mid = code.2 in
+        let down = code.4 in
+        let le = code.5 in
+        let between = code.6 in
+        let end = code.15 in
         let x = leads.from_inside in
         let y = leads.to_inside in
         let up = jumps_up i program g numbers f.place at leads.jumps in
-        let head_in : In f.subprogram at = (omega (arith, x.0, up), omega (arith, y.1, le, between, end)) in
-        met_turn (Does (Loop place (While e) body)) e body items is refl h.stack h.going at r.1 ((at - f.place) + 1) (seeing r.2 h.around) code
+        let head_in : In f.subprogram at = (omega (arith, x.0, up), omega (arith, y.1, down, le, between, end)) in
+        met_turn (Does (Loop place (While e) body)) e body items is refl h.stack h.going at r.1 (start - f.place) (seeing r.2 h.around) code
         leads.reaches.1 leads.reaches.2 r.5
         (scene.narrowed this s h.around.visible r.2 w.own f.locals leads.narrows h.rests) h.object h.depth head_in y
-        (reaches_head at at leads.jumps code.4)
-        (omega (arith, x.0, y.1, up, le, between, end))
+        (scene.jumps_spend this f fs f.place start (jumps_both i leads.jumps code.9))
+        (omega (arith, x.0, y.1, up, down, le, between, end))
 
     pub met_repeats_while : (e : ExprTree) (body : StmtTrees) (items : List Item) → w.work ≡ Goes (RepeatsWhile e body ∷ items)
         → (h : IsAtItems (RepeatsWhile e body ∷ items)) → Meet s
     met_repeats_while e body items is h =
         let r = h.follows in
-        let leads = r.3 in
-        let code = r.4 in
-        let mid = code.0 in
-        let le = code.2 in
-        let between = code.3 in
-        let end = code.10 in
+        let code = r.3 in
+        let leads = r.4 in
+        let start = code.0 in
+        let mid = code.2 in
+        let down = code.4 in
+        let le = code.5 in
+        let between = code.6 in
+        let end = code.15 in
         let x = leads.from_inside in
         let y = leads.to_inside in
         let z = leads.head_inside in
@@ -504,8 +517,8 @@ module _ (this : Scene) where
         met_turn (RepeatsWhile e body) e body items is refl h.stack h.going r.0 r.1 ((leads.back - f.place) + 1) r.2 code leads.reaches leads.handles r.5
         (turned r.2.visible h.around.held r.2.held (ap (λ q. q.held) leads.loop)
         (scene.narrowed this s h.around.visible r.2.visible w.own f.locals leads.narrows h.rests)) h.object h.depth z y
-        (reaches_head leads.back r.0 leads.jumps leads.jump)
-        (omega (arith, x.0, y.1, z.0, up, le, between, end, there))
+        (reaches_head leads.back start leads.jumps leads.jump)
+        (omega (arith, x.0, y.1, z.0, up, down, le, between, end, there))
 
     -- ---- values that are stored
 

@@ -134,14 +134,14 @@ module _ (i : Sections) (program : Program) (g : Package) (numbers : Numbers) wh
     pub up : at ≤ to
     pub to_inside : Inside n to
 
-  -- the jump back to the head of a loop, whose code ends behind it
-  pub record LeadsBack (a : Around) (n from head to : ℕ) (outer : Around) : Type 0 where
+  -- the jump back to the place at which each turn of a loop starts; the loop's code ends behind it, and its way out is this
+  pub record LeadsBack (a : Around) (n from head start out to : ℕ) (outer : Around) : Type 0 where
     pub back : ℕ
     pub jumps : Jumps i from back
-    pub jump : At i back (op.Jump (head + 2))
+    pub jump : At i back (op.Jump start)
     pub end : to ≡ suc back
     pub up : head ≤ back
-    pub loop : a ≡ in_loop (head + 1) a.visible outer
+    pub loop : a ≡ in_loop out a.visible outer
     pub narrows : NarrowsFrame g a.visible outer.visible
     pub reaches : Shows g outer.visible outer.ending
     pub handles : Shows g outer.visible outer.handling
@@ -149,10 +149,13 @@ module _ (i : Sections) (program : Program) (g : Package) (numbers : Numbers) wh
     pub head_inside : Inside n head
     pub to_inside : Inside n to
 
-  -- forward jumps to the end of a turn of a loop over a range
+  -- forward jumps to the end of a turn of a loop over a range, from whose way out forward jumps lead to the end
   pub record LeadsNext (a : Around) (n from head to back counter limit : ℕ) (now last : ℤ) (inner : Framed) (outer : Around) : Type 0 where
     pub jumps : Jumps i from back
-    pub loop : a ≡ in_range (head + 1) counter limit now last a.visible outer
+    pub out : ℕ
+    pub way : Jumps i out to
+    pub out_inside : Inside n out
+    pub loop : a ≡ in_range out counter limit now last a.visible outer
     pub narrows : NarrowsFrame g a.visible inner
     pub reaches : Shows g outer.visible outer.ending
     pub handles : Shows g outer.visible outer.handling
@@ -326,19 +329,21 @@ module _ (i : Sections) (program : Program) (g : Package) (numbers : Numbers) wh
     Follows a n from (EndsHandler x ∷ items) role fs os =
         (to : ℕ) × (word : ℕ) × (outer : Around) × LeadsBehind a n from to word x outer × Follows outer n to items role fs os
     Follows a n from (Repeats body ∷ items) role fs os =
-        (head : ℕ) × (to : ℕ) × (outer : Around) × LeadsBack a n from head to outer
-        × IsForever i program g numbers head to
-        (λ exit x y. AreStatements i program g numbers outer.visible (within_loop exit outer.ways) outer.raised x y body)
+        (head : ℕ) × (to : ℕ) × (outer : Around)
+        × (code : IsForever i program g numbers head to
+        (λ exit x y. AreStatements i program g numbers outer.visible (within_loop exit outer.ways) outer.raised x y body))
+        × LeadsBack a n from head code.0 code.1 to outer
         × Follows outer n to items role fs os
     Follows a n from (RepeatsWhile e body ∷ items) role fs os =
-        (head : ℕ) × (to : ℕ) × (outer : Around) × LeadsBack a n from head to outer
-        × IsWhile i program g numbers outer.visible outer.raised head to e
-        (λ exit x y. AreStatements i program g numbers outer.visible (within_loop exit outer.ways) outer.raised x y body)
+        (head : ℕ) × (to : ℕ) × (outer : Around)
+        × (code : IsWhile i program g numbers outer.visible outer.raised head to e
+        (λ exit x y. AreStatements i program g numbers outer.visible (within_loop exit outer.ways) outer.raised x y body))
+        × LeadsBack a n from head code.0 code.1 to outer
         × Follows outer n to items role fs os
     Follows a n from (RepeatsFor parameter reversed now last body ∷ items) role fs os =
         (head : ℕ) × (to : ℕ) × (outer : Around) × (c : IsCounted i g outer.visible head to parameter reversed)
-        × LeadsNext a n from head to c.back c.counter c.limit now last c.inner outer
-        × AreStatements i program g numbers c.inner (within_loop (head + 1) outer.ways) outer.raised c.start c.back body
+        × (leads : LeadsNext a n from head to c.back c.counter c.limit now last c.inner outer)
+        × AreStatements i program g numbers c.inner (within_loop leads.out outer.ways) outer.raised c.start c.back body
         × Follows outer n to items role fs os
         × GoesBy i outer.raised c.back to
         × (are_turns_inside c.subtype reversed now last ≡ true)

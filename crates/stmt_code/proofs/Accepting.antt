@@ -1,7 +1,7 @@
 -- What statements that break no rule and no restriction have where they stand in loops, handlers and bodies: ways out; and exceptions with numbers.
-use Rattle.std.proofs.Common.{◌≡◌, ◌++◌, ℕ, [], ◌∷◌, List, Bool, true, not, Option, Some, None, refl, sym, subst}
+use Rattle.std.proofs.Common.{◌≡◌, ◌++◌, ℕ, [], ◌∷◌, List, Bool, true, ◌||◌, ◌&&◌, not, Option, Some, None, refl, sym, subst}
 use Rattle.std.specs.Prelude.{◌≢◌, is_some}
-use Rattle.std.proofs.lemmas.Bool.{and_from}
+use Rattle.std.proofs.lemmas.Bool.{and_from, or_left, or_right}
 use Rattle.base.specs.declared.faults.TheConstants.{MISPLACED_STATEMENT}
 use Rattle.ada_tree.specs.declared.expression.Identifier.{Identifier}
 use Rattle.ada_tree.specs.declared.statement.ExceptionChoice.{ExceptionChoice}
@@ -25,9 +25,12 @@ use Rattle.part_code.specs.stmt_rules.specs.SimpleRules.{raised_rule}
 use Rattle.part_code.specs.stmt_rules.specs.StatementRules.{in_body, in_handler, in_loop}
 use Rattle.part_code.specs.Providing.{HasWhatCodeNeeds}
 use Rattle.part_code.specs.Raising.{are_numbered, choice_number, loaded, number_among, pushed, raised_by}
-use Rattle.part_code.specs.Statements.{Ways, within_handler, within_loop}
+use Rattle.part_code.specs.Statements.{Ways, with_exit, within_handler}
 use Rattle.expr_code.specs.declared.visible.Visible.{Visible}
 use Rattle.stmt_code.specs.Emitting.{AreAcceptedHandlers, AreAcceptedStatements, HasWays, IsAcceptedRun, IsAcceptedStatement}
+use Rattle.stmt_code.specs.Leaves.{any_leave, handlers_leave, is_return}
+use Rattle.stmt_code.specs.declared.leaves.WayOut.{WayOut}
+use Rattle.stmt_code.specs.declared.leaves.WayOut.TheVariants as way
 use Rattle.stmt_code.specs.declared.draft.Draft.{Draft}
 
 -- what is visible has what code needs also where the draft has the same exceptions
@@ -38,16 +41,36 @@ covered_still v later old new kept same h =
 
 -- ---- ways out
 
-pub ways_in_loop : (w : Ways) (a : Around) (exit : ℕ) → HasWays w a → HasWays (within_loop exit w) (in_loop a)
-ways_in_loop w a exit h = record { exit = λ is. refl; return = h.return; handled = h.handled; gives_nothing = h.gives_nothing }
+-- of a loop, whose own exits lead behind it
+pub ways_in_loop : (w : Ways) (a : Around) (taken : WayOut → Bool) (exit : Option ℕ) → (taken way.Exit ≡ true → is_some exit ≡ true)
+    → HasWays w a (λ q. is_return q && taken q) → HasWays (with_exit exit w) (in_loop a) taken
+ways_in_loop w a taken exit there h =
+    record { exit = λ inside is. there is; return = λ is. h.return is; handled = h.handled; gives_nothing = h.gives_nothing }
 
-pub ways_in_handler : (w : Ways) (a : Around) (word : ℕ) → HasWays w a → HasWays (within_handler word w) (in_handler a)
-ways_in_handler w a word h = record { exit = h.exit; return = h.return; handled = λ is. refl; gives_nothing = h.gives_nothing }
+pub ways_in_handler : (w : Ways) (a : Around) (taken : WayOut → Bool) (word : ℕ) → HasWays w a taken → HasWays (within_handler word w) (in_handler a) taken
+ways_in_handler w a taken word h = record { exit = h.exit; return = h.return; handled = λ is. refl; gives_nothing = h.gives_nothing }
+
+-- a part takes only what the whole does
+pub ways_for : (w : Ways) (a : Around) (whole part : WayOut → Bool) → ((q : WayOut) → part q ≡ true → whole q ≡ true) → HasWays w a whole → HasWays w a part
+ways_for w a whole part up h = record {
+  exit = λ inside is. h.exit inside (up way.Exit is);
+  return = λ is. h.return (up way.Return is);
+  handled = h.handled;
+  gives_nothing = h.gives_nothing;
+}
+
+pub ways_left : (w : Ways) (a : Around) (x y : WayOut → Bool) → HasWays w a (λ q. x q || y q) → HasWays w a x
+ways_left w a x y h = ways_for w a (λ q. x q || y q) x (λ q. or_left (x q) (y q)) h
+
+pub ways_right : (w : Ways) (a : Around) (x y : WayOut → Bool) → HasWays w a (λ q. x q || y q) → HasWays w a y
+ways_right w a x y h = ways_for w a (λ q. x q || y q) y (λ q. or_right (x q) (y q)) h
 
 -- in a body nothing else is around
-pub ways_in_body : (kind : BodyKind) (out : ℕ) → ((t : Option ℕ) → kind ≢ kinds.Function t)
-    → HasWays (record { exit = None; return = Some out; handled = None }) (in_body kind)
-ways_in_body kind out gives_nothing = record { exit = λ is. absurd cc; return = refl; handled = λ is. absurd cc; gives_nothing = gives_nothing }
+pub ways_in_body : (kind : BodyKind) (taken : WayOut → Bool) (out : Option ℕ) → ((t : Option ℕ) → kind ≢ kinds.Function t)
+    → (taken way.Return ≡ true → is_some out ≡ true)
+    → HasWays (record { exit = None; return = out; handled = None }) (in_body kind) taken
+ways_in_body kind taken out gives_nothing there =
+    record { exit = λ inside is. absurd cc; return = there; handled = λ is. absurd cc; gives_nothing = gives_nothing }
 
 -- ---- exceptions
 
@@ -117,14 +140,14 @@ module _ (s : Scope) (ds : List DeclarationTree) (body : StmtTrees) (all : Handl
   pub run_allowed : restrictions.locals_faults ds ≡ []
   run_allowed = front_empty (restrictions.locals_faults ds) (restrictions.stmts_faults body) two_allowed
 
-  module _ (out : ℕ) where
+  module _ (out : Option ℕ) (there : (any_leave body way.Return || handlers_leave all way.Return) ≡ true → is_some out ≡ true) where
     abbrev inside : Ways
-    inside = record { exit = None; return = Some out; handled = None }
+    inside = record { exit = None; return = out; handled = None }
 
     pub run_statements : AreAcceptedStatements (locals_scope s ds) inside body
     run_statements = record {
       around = in_body h.kind;
-      ways = ways_in_body h.kind out h.gives_nothing;
+      ways = ways_in_body h.kind (any_leave body) out h.gives_nothing (λ is. there (or_left (any_leave body way.Return) (handlers_leave all way.Return) is));
       unbroken = h.statements;
       restricted = back_empty (restrictions.locals_faults ds) (restrictions.stmts_faults body) two_allowed;
     }
@@ -132,7 +155,7 @@ module _ (s : Scope) (ds : List DeclarationTree) (body : StmtTrees) (all : Handl
     pub run_handlers : AreAcceptedHandlers (locals_scope s ds) inside all
     run_handlers = record {
       around = in_body h.kind;
-      ways = ways_in_body h.kind out h.gives_nothing;
+      ways = ways_in_body h.kind (handlers_leave all) out h.gives_nothing (λ is. there (or_right (any_leave body way.Return) (handlers_leave all way.Return) is));
       before = [];
       unbroken = h.handled;
       restricted = back_empty forbidden (restrictions.handlers_faults all) h.restricted;

@@ -40,7 +40,9 @@ use Rattle.part_code.specs.Handling.{Handling}
 use Rattle.part_code.specs.Bounds.{handlers_words, sequence_bound, stmt_bound, stmts_bound, stmts_words}
 use Rattle.stmt_code.specs.Covering.{EmitsSequence}
 use Rattle.part_code.specs.Suiting.{SuitsStatements}
-use Rattle.stmt_code.specs.Emitting.{Allows, AreAcceptedHandlers, AreAcceptedStatements, Emits, EmitsDeclarations, EmitsMarkedStatement, EmitsStatement, EmitsStatements, HasLabels, IsAcceptedStatement, Meant, Serves, TellPlaces, seeing}
+use Rattle.stmt_code.specs.Emitting.{Allows, AreAcceptedHandlers, AreAcceptedStatements, Emits, EmitsDeclarations, EmitsMarkedStatement, EmitsStatement, EmitsStatements, HasLabels, HasWays, IsAcceptedStatement, Meant, Serves, TellPlaces, seeing}
+use Rattle.stmt_code.specs.Leaves.{any_leave, handlers_leave, leaves}
+use Rattle.stmt_code.proofs.Accepting.{ways_left, ways_right}
 use Rattle.stmt_code.specs.Placing.{stmt_place, stmt_within, stmts_within}
 use Rattle.part_code.specs.Emitting.{IsReachable}
 use Rattle.part_code.specs.Resting.{Framed}
@@ -418,7 +420,7 @@ module _ (s : Scope) (w : Ways) (place : ℕ) (ds : List DeclarationTree) (body 
   pub block_body : AreAcceptedStatements (locals_scope s ds) w body
   block_body = record {
     around = h.around;
-    ways = h.ways;
+    ways = ways_left w h.around (any_leave body) (handlers_leave all) h.ways;
     unbroken = back_empty (locals_faults s ds) (stmts_faults (locals_scope s ds) h.around body) both;
     restricted = back_empty (restrictions.locals_faults ds) (restrictions.stmts_faults body) both_allowed;
   }
@@ -426,7 +428,7 @@ module _ (s : Scope) (w : Ways) (place : ℕ) (ds : List DeclarationTree) (body 
   pub block_handlers : AreAcceptedHandlers (locals_scope s ds) w all
   block_handlers = record {
     around = h.around;
-    ways = h.ways;
+    ways = ways_right w h.around (any_leave body) (handlers_leave all) h.ways;
     before = [];
     unbroken = back_empty own_faults handler_faults h.unbroken;
     restricted = back_empty forbidden (restrictions.handlers_faults all) h.restricted;
@@ -434,19 +436,20 @@ module _ (s : Scope) (w : Ways) (place : ℕ) (ds : List DeclarationTree) (body 
 
 pub statement_accepted : (s : Scope) (w : Ways) (all : List Stmt) (n : ℕ) (x : Stmt) → n < length all → x ≡ get_or all n x
     → AreAcceptedStatements s w (stmt_trees all) → IsAcceptedStatement s w (stmt_tree x)
-statement_accepted s w all n x less is h = at all n less is h.unbroken h.restricted
+statement_accepted s w all n x less is h = at all n less is h.ways h.unbroken h.restricted
   where
-    at : (all : List Stmt) (n : ℕ) → n < length all → x ≡ get_or all n x → stmts_faults s h.around (stmt_trees all) ≡ []
+    at : (all : List Stmt) (n : ℕ) → n < length all → x ≡ get_or all n x → HasWays w h.around (any_leave (stmt_trees all))
+        → stmts_faults s h.around (stmt_trees all) ≡ []
         → restrictions.stmts_faults (stmt_trees all) ≡ [] → IsAcceptedStatement s w (stmt_tree x)
-    at [] n less is e r = absurd (omega (arith, less))
-    at (y ∷ all) zero less is e r =
+    at [] n less is ways e r = absurd (omega (arith, less))
+    at (y ∷ all) zero less is ways e r =
         subst (λ z. IsAcceptedStatement s w (stmt_tree z)) (sym is)
         (record {
           around = h.around;
-          ways = h.ways;
+          ways = ways_left w h.around (leaves (stmt_tree y)) (any_leave (stmt_trees all)) ways;
           unbroken = front_empty (stmt_faults s h.around (stmt_tree y)) (stmts_faults s h.around (stmt_trees all)) e;
           restricted = front_empty (restrictions.stmt_faults (stmt_tree y)) (restrictions.stmts_faults (stmt_trees all)) r;
         })
-    at (y ∷ all) (suc n) less is e r =
-        at all n (omega (arith, less)) is (back_empty (stmt_faults s h.around (stmt_tree y)) (stmts_faults s h.around (stmt_trees all)) e)
+    at (y ∷ all) (suc n) less is ways e r =
+        at all n (omega (arith, less)) is (ways_right w h.around (leaves (stmt_tree y)) (any_leave (stmt_trees all)) ways) (back_empty (stmt_faults s h.around (stmt_tree y)) (stmts_faults s h.around (stmt_trees all)) e)
         (back_empty (restrictions.stmt_faults (stmt_tree y)) (restrictions.stmts_faults (stmt_trees all)) r)

@@ -32,7 +32,9 @@ use Rattle.expr_code.proofs.Growing.{added_extends, added_here, extends_trans}
 use Rattle.stmt_code.specs.Alternatives.{AddsAlternatives, AreAcceptedAlternatives, AreSelected, in_front}
 use Rattle.part_code.specs.Choices.{AreLegalChoices}
 use Rattle.part_code.specs.Bounds.{alternatives_bound, stmt_bound}
-use Rattle.stmt_code.specs.Emitting.{AreAcceptedStatements, EmitsOpen, EmitsStatement, EmitsStatements, IsAcceptedStatement, MeantTo, Serves, TellPlaces}
+use Rattle.stmt_code.specs.Emitting.{AreAcceptedStatements, EmitsOpen, EmitsStatement, EmitsStatements, HasWays, IsAcceptedStatement, MeantTo, Serves, TellPlaces}
+use Rattle.stmt_code.specs.Leaves.{alternatives_leave, any_leave}
+use Rattle.stmt_code.proofs.Accepting.{ways_left, ways_right}
 use Rattle.stmt_code.specs.Placing.{alternatives_within, stmts_within}
 use Rattle.part_code.specs.Statements.{AreAlternatives, IsChoice, IsStatement, Ways}
 use Rattle.stmt_code.specs.declared.draft.Draft.{Draft}
@@ -383,14 +385,15 @@ pub record AlternativeIsAccepted (s : Scope) (w : Ways) (e : ExprTree) (x : Alte
 pub alternative_accepted : (s : Scope) (w : Ways) (e : ExprTree) (all : List Alternative) (n : ℕ) (x : Alternative) → n < length all → x ≡ get_or all n x
     → AreAcceptedAlternatives s w e (alternative_trees all)
     → AlternativeIsAccepted s w e x
-alternative_accepted s w e all n x less is h = at all n h.before less is h.unbroken h.restricted
+alternative_accepted s w e all n x less is h = at all n h.before less is h.ways h.unbroken h.restricted
   where
     at : (all : List Alternative) (n : ℕ) (before : List Scalar) → n < length all → x ≡ get_or all n x
+        → HasWays w h.around (alternatives_leave (alternative_trees all))
         → alternatives_faults s h.around (choices_wanted s (own_of s e)) before (alternative_trees all) ≡ []
         → restrictions.alternatives_faults (alternative_trees all) ≡ []
         → AlternativeIsAccepted s w e x
-    at [] n before less is g r = absurd (omega (arith, less))
-    at (y ∷ all) zero before less is g r =
+    at [] n before less is ways g r = absurd (omega (arith, less))
+    at (y ∷ all) zero before less is ways g r =
         let wanted = choices_wanted s (own_of s e) in
         let last = rules.no_more (alternative_trees all) in
         let c = choices_faults s wanted before last (choices_tree y.choices) in
@@ -401,16 +404,17 @@ alternative_accepted s w e all n x less is h = at all n h.before less is h.unbro
           choices = record { before = before; is_last = last; unbroken = front_empty c b two };
           body = record {
             around = h.around;
-            ways = h.ways;
+            ways = ways_left w h.around (any_leave (stmt_trees y.statements.items)) (alternatives_leave (alternative_trees all)) ways;
             unbroken = back_empty c b two;
             restricted = front_empty (restrictions.stmts_faults (stmt_trees y.statements.items)) (restrictions.alternatives_faults (alternative_trees all)) r;
           };
         })
-    at (y ∷ all) (suc n) before less is g r =
+    at (y ∷ all) (suc n) before less is ways g r =
         let wanted = choices_wanted s (own_of s e) in
         let last = rules.no_more (alternative_trees all) in
         let c = choices_faults s wanted before last (choices_tree y.choices) in
         let b = stmts_faults s h.around (stmt_trees y.statements.items) in
         let later = chosen_by s wanted before (choices_tree y.choices) in
-        at all n later (omega (arith, less)) is (back_empty (c ++ b) (alternatives_faults s h.around wanted later (alternative_trees all)) g)
+        at all n later (omega (arith, less)) is
+        (ways_right w h.around (any_leave (stmt_trees y.statements.items)) (alternatives_leave (alternative_trees all)) ways) (back_empty (c ++ b) (alternatives_faults s h.around wanted later (alternative_trees all)) g)
         (back_empty (restrictions.stmts_faults (stmt_trees y.statements.items)) (restrictions.alternatives_faults (alternative_trees all)) r)

@@ -1,6 +1,6 @@
 -- The code of assignments to parts of objects stores what they assign: of objects of the running activation, and of variables of the package.
 use Rattle.std.proofs.Common.{◌≡◌, ℕ, suc, ◌+◌, ◌-◌, ◌≤◌, ℤ, List, [], ◌∷◌, Some, refl, sym, ap, ◌∙◌, subst, arith}
-use Rattle.std.specs.Prelude.{pos}
+use Rattle.std.specs.Prelude.{pos, ◌+ℤ◌}
 use Rattle.base.specs.declared.schedule.ScheduleLine.{ScheduleLine}
 use Rattle.kernel.specs.State.{Kernel}
 use Rattle.kernel.specs.Laws.{QuietStays}
@@ -24,7 +24,7 @@ use Rattle.expr_soundness.specs.meaning.specs.Targets.{activation_with, store_wi
 use Rattle.expr_soundness.specs.meaning.specs.Works.{Activation, Store, Target}
 use Rattle.expr_code.specs.Coming.{Comes, on}
 use Rattle.expr_code.specs.Computing.{ComputesChecked, Everywhere}
-use Rattle.expr_code.specs.Locating.{IsPath}
+use Rattle.expr_code.specs.Locating.{IsNear, IsPath}
 use Rattle.expr_code.specs.Seeing.{Package, Sees, library_of, slot_of}
 use Rattle.expr_code.specs.Views.{At, placed, view_of}
 use Rattle.expr_code.specs.declared.visible.Slot.{Slot}
@@ -47,9 +47,9 @@ module _ (kept : AgreementIsKept) (sized : ValuesHaveWords) (calls : CallsAreTyp
     (numbers : Numbers) (v : Framed) (name : NameTree) (e : ExprTree) (r : Role) (t last : Subtype) (slot : Slot) (laid : IsLaidOut g v)
     (named : NamesObject v.names.scope name.first.name r t) (variable : IsVariable r)
     (there : slot_of v.names name.first.name ≡ Some slot) (known : IsKnown v.names.scope t) (typed : IsTypedAs v.names last e)
-    (from low : ℕ) (end : Shape) (ends : end ≡ shape_of v.names.scope last)
-    (path : IsPath i (library_of g) (Sees g v.names) (suc from) low t (shape_of v.names.scope t) name.selectors last end) where
-  module _ (mid : ℕ) (le : suc from ≤ low) (up : low ≤ mid) (push : At i from (op.Push (pos slot.offset)))
+    (from low : ℕ) (end : Shape) (ends : end ≡ shape_of v.names.scope last) (shift : ℤ) (near : IsNear shift)
+    (path : IsPath i (library_of g) (Sees g v.names) (suc from) low shift t (shape_of v.names.scope t) name.selectors last end) where
+  module _ (mid : ℕ) (le : suc from ≤ low) (up : low ≤ mid) (push : At i from (op.Push (pos slot.offset +ℤ shift)))
       (computes : ComputesChecked i (library_of g) (Sees g v.names) low mid last e) where
     abbrev way : PointsTo i g v.names name.first name.selectors last from low
     way = record {
@@ -60,6 +60,8 @@ module _ (kept : AgreementIsKept) (sized : ValuesHaveWords) (calls : CallsAreTyp
       named = named;
       variable = variable;
       up = le;
+      shift = shift;
+      near = near;
       push = push;
       end = end;
       ends = ends;

@@ -1,7 +1,7 @@
 -- What is known of a loop over a range that breaks no rule: its bounds are of integer types, and its parameter is visible in its statements, with the first of
 -- two words of the frame.
 use Rattle.std.proofs.Common.{◌≡◌, ℕ, suc, ◌<◌, ◌≤◌, ◌++◌, List, [], ◌∷◌, length, take, Bool, true, false, not, ◌&&◌, Option, Some, None, inl, inr, refl, sym, ap, ◌∙◌, subst, arith, ℤ}
-use Rattle.std.specs.Prelude.{pos, int_le, option_map}
+use Rattle.std.specs.Prelude.{pos, int_le, int_lt, is_some, option_map}
 use Rattle.base.specs.declared.faults.TheConstants.{NO_MEANING}
 use Rattle.ada_tree.specs.declared.expression.Identifier.{Identifier}
 use Rattle.ada_tree.specs.ExpressionTree.{ExprTree}
@@ -42,17 +42,19 @@ use Rattle.expr_code.specs.declared.visible.Slot.{Slot}
 use Rattle.expr_code.specs.declared.visible.Visible.{Visible}
 use Rattle.expr_code.proofs.Widths.{integral_one, known}
 use Rattle.stmt_code.specs.Emitting.{AreAcceptedStatements, IsAcceptedStatement, Serves, seeing}
+use Rattle.stmt_code.specs.Leaves.{any_leave}
+use Rattle.stmt_code.specs.declared.leaves.WayOut.TheVariants as way
 use Rattle.part_code.specs.Emitting.{HasEntries}
 use Rattle.part_code.specs.Layout.{EndsBelow}
 use Rattle.part_code.specs.Resting.{Framed, Knows}
-use Rattle.stmt_code.specs.Turns.{BeginsRange}
+use Rattle.stmt_code.specs.Turns.{BeginsRange, is_full}
 use Rattle.stmt_code.specs.declared.draft.Draft.{Draft}
 use Rattle.part_code.specs.declared.turns.Turns.{Turns}
 use Rattle.stmt_code.proofs.Adding.{wanted_legal}
 use Rattle.stmt_code.proofs.Laying.{AddsObject}
 use Rattle.part_code.proofs.Names.{single_number, is_told, profile_without}
 use Rattle.stmt_code.proofs.Parameters.{AreBelow, HoldsRange, holds_behind, parameter_below, parameter_ends, parameter_laid}
-use Rattle.part_code.specs.Statements.{Numbers, Ways, within_loop}
+use Rattle.part_code.specs.Statements.{Numbers, Ways, with_exit}
 use Rattle.part_code.specs.Suiting.{SuitsStatements}
 use Rattle.stmt_code.proofs.Accepting.{ways_in_loop}
 use Rattle.stmt_code.proofs.Suiting.{entries_wider, entry_wider, external_wider, number_wider, slots_first, stands_wider, subprograms_first, suits_wider}
@@ -75,10 +77,11 @@ module _ (s : Scope) (w : Ways) (place : ℕ) (parameter : Identifier) (reversed
   pub loop_range : loop_faults s parameter range ≡ []
   loop_range = front_empty (loop_faults s parameter range) (stmts_faults (loop_scope s parameter range) (in_loop h.around) body) h.unbroken
 
-  pub loop_body : (exit : ℕ) → AreAcceptedStatements (loop_scope s parameter range) (within_loop exit w) body
-  loop_body exit = record {
+  pub loop_body : (exit : Option ℕ) → (any_leave body way.Exit ≡ true → is_some exit ≡ true)
+      → AreAcceptedStatements (loop_scope s parameter range) (with_exit exit w) body
+  loop_body exit there = record {
     around = in_loop h.around;
-    ways = ways_in_loop w h.around exit h.ways;
+    ways = ways_in_loop w h.around (any_leave body) exit there h.ways;
     unbroken = back_empty (loop_faults s parameter range) (stmts_faults (loop_scope s parameter range) (in_loop h.around) body) h.unbroken;
     restricted = h.restricted;
   }
@@ -175,28 +178,47 @@ two_given (Gives v) Meaningless x y h = cc
 two_given (Raises n) b x y h = cc
 two_given Meaningless b x y h = cc
 
--- wherever the frame stands the range goes within the parameter's subtype
-pub range_fits : ValuesAreBounded → VisibleValuesLie → (g : Package) (v : Framed) (parameter : Identifier) (range : RangeTree)
-    → loop_faults v.names.scope parameter range ≡ [] → (number : ℕ) (p : Place) (view : View) (x y : ℤ) → Knows g v p view
-    → bounds range (call p.frames_left) p ≡ Gives (number_bounds x y)
-    → (let t = turns_subtype v.names.scope range number in (int_le t.first x && int_le y t.last) ≡ true)
-range_fits bounded visible g v parameter range legal number p view x y knows gives =
-    let s = v.names.scope in
-    let agrees = knows.sees.names.agrees in
-    let all = visible s p agrees knows.sees.unit.values knows.sees.loops in
-    let two = two_given (value_with (call p.frames_left) p range.first) (value_with (call p.frames_left) p range.last) x y gives in
-    let lies : (e : ExprTree) → faults_of s AnyInteger e ≡ [] → comes_between (bounds_of s e) (val p e) ≡ true =
-    λ e h. bounded s p agrees knows.sees.unit.sound all e AnyInteger
-    (front_empty (faults_in s AnyInteger e) (mismatch s AnyInteger (own_of s e) (start_of e)) h) in
-    both_at_least (int_le (bounds_of s range.first).0 x) (int_le y (bounds_of s range.last).1)
-    (least_of (bounds_of s range.first) x
-    (subst (λ v. comes_between (bounds_of s range.first) v ≡ true) two.0 (lies range.first (first_legal s parameter range legal))))
-    (greatest_of (bounds_of s range.last) y
-    (subst (λ v. comes_between (bounds_of s range.last) v ≡ true) two.1 (lies range.last (last_legal s parameter range legal))))
+-- wherever the frame stands both lie between what is known of them
+module _ (bounded : ValuesAreBounded) (visible : VisibleValuesLie) (g : Package) (v : Framed) (parameter : Identifier) (range : RangeTree)
+    (legal : loop_faults v.names.scope parameter range ≡ []) (p : Place) (view : View) (x y : ℤ) (knows : Knows g v p view)
+    (gives : bounds range (call p.frames_left) p ≡ Gives (number_bounds x y)) where
+  abbrev here_seen : Scope
+  here_seen = v.names.scope
+
+  lies : (e : ExprTree) → faults_of here_seen AnyInteger e ≡ [] → comes_between (bounds_of here_seen e) (val p e) ≡ true
+  lies e h =
+      let agrees = knows.sees.names.agrees in
+      bounded here_seen p agrees knows.sees.unit.sound (visible here_seen p agrees knows.sees.unit.values knows.sees.loops) e AnyInteger
+      (front_empty (faults_in here_seen AnyInteger e) (mismatch here_seen AnyInteger (own_of here_seen e) (start_of e)) h)
+
+  both_come : (value_with (call p.frames_left) p range.first ≡ Gives (Number x)) × (value_with (call p.frames_left) p range.last ≡ Gives (Number y))
+  both_come = two_given (value_with (call p.frames_left) p range.first) (value_with (call p.frames_left) p range.last) x y gives
+
+  first_lies : comes_between (bounds_of here_seen range.first) (Gives (Number x)) ≡ true
+  first_lies =
+      subst (λ v. comes_between (bounds_of here_seen range.first) v ≡ true) both_come.0 (lies range.first (first_legal here_seen parameter range legal))
+
+  last_lies : comes_between (bounds_of here_seen range.last) (Gives (Number y)) ≡ true
+  last_lies = subst (λ v. comes_between (bounds_of here_seen range.last) v ≡ true) both_come.1 (lies range.last (last_legal here_seen parameter range legal))
+
+  -- the range goes within the parameter's subtype
+  pub range_fits : (number : ℕ) → (let t = turns_subtype v.names.scope range number in (int_le t.first x && int_le y t.last) ≡ true)
+  range_fits number =
+      both_at_least (int_le (bounds_of here_seen range.first).0 x) (int_le y (bounds_of here_seen range.last).1)
+      (least_of (bounds_of here_seen range.first) x first_lies) (greatest_of (bounds_of here_seen range.last) y last_lies)
+
+  -- it is never null where the one is never greater than the other
+  pub never_null : is_full v.names.scope range ≡ true → int_lt y x ≡ false
+  never_null full =
+      between (bounds_of here_seen range.first).1 (bounds_of here_seen range.last).0 (greatest_of (bounds_of here_seen range.first) x first_lies) full
+      (least_of (bounds_of here_seen range.last) y last_lies)
+    where
+      between : (a b : ℤ) → int_le x a ≡ true → int_le a b ≡ true → int_le b y ≡ true → int_lt y x ≡ false
+      between a b low mid high = grind (arith, low, mid, high)
 
 -- ---- what is visible in the loop
 
-module _ (stay : ShapesStay) (v later : Visible) (start opened : Draft) (parameter : Identifier) (reversed : Bool) (range : RangeTree) (t : Turns) (null : ℕ)
+module _ (stay : ShapesStay) (v later : Visible) (start opened : Draft) (parameter : Identifier) (reversed : Bool) (range : RangeTree) (t : Turns) (null : Option ℕ)
     (sound : SoundScope v.scope) (entries : HasEntries v) (legal : loop_faults v.scope parameter range ≡ []) (of_type : IsOfIntegers v.scope range)
     (r : BeginsRange v start parameter reversed range t null later opened) where
   abbrev pub slot : Slot

@@ -34,7 +34,8 @@ use Rattle.expr_code.proofs.Flowing.{kept_one, kept_then}
 use Rattle.expr_code.proofs.Growing.{added_at, added_extends, added_here, added_there, extends_self, extends_trans, holds_before, holds_later}
 use Rattle.stmt_code.specs.Covering.{AddsHandlers, AreEachKept, AreHandling, EmitsApart, IsOwn, bound_of, first_for, in_front}
 use Rattle.part_code.specs.ChoiceRows.{choice_rows}
-use Rattle.stmt_code.specs.Emitting.{Allows, AreAcceptedHandlers, AreAcceptedStatements, EmitsStatements, HasLabels, IsHandled, MeantTo, Serves, TellPlaces}
+use Rattle.stmt_code.specs.Emitting.{Allows, AreAcceptedHandlers, AreAcceptedStatements, EmitsStatements, HasLabels, HasWays, IsHandled, MeantTo, Serves, TellPlaces}
+use Rattle.stmt_code.specs.Leaves.{any_leave, handlers_leave}
 use Rattle.stmt_code.specs.Placing.{handlers_within, stmts_within}
 use Rattle.part_code.specs.Emitting.{TakesWords}
 use Rattle.part_code.specs.Handling.{Handling, or_answer}
@@ -45,7 +46,7 @@ use Rattle.part_code.specs.Suiting.{SuitsStatements}
 use Rattle.part_code.specs.Statements.{AreHandlers, AreStatements, IsHandler, Numbers, Ways, within_handler}
 use Rattle.stmt_code.specs.declared.draft.Draft.{Draft}
 use Rattle.part_code.proofs.Jumps.{jump_kept}
-use Rattle.stmt_code.proofs.Accepting.{ways_in_handler}
+use Rattle.stmt_code.proofs.Accepting.{ways_in_handler, ways_left, ways_right}
 use Rattle.stmt_code.proofs.Adding.{labels_before, labels_stay, labels_then}
 use Rattle.part_code.proofs.Lists.{mapped_next, take_all}
 use Rattle.stmt_code.proofs.ChoiceRows.{each_choice, first_choices, first_then, if_or}
@@ -520,13 +521,14 @@ pub record HandlerIsAccepted (s : Scope) (w : Ways) (h : Handler) : Type 0 where
 
 pub handler_accepted : (s : Scope) (w : Ways) (all : List Handler) (n : ℕ) (h : Handler) → n < length all → h ≡ get_or all n h
     → AreAcceptedHandlers s w (handler_trees all) → HandlerIsAccepted s w h
-handler_accepted s w all n h less is legal = at all n legal.before less is legal.unbroken legal.restricted
+handler_accepted s w all n h less is legal = at all n legal.before less is legal.ways legal.unbroken legal.restricted
   where
     at : (all : List Handler) (n : ℕ) (before : List (List ℕ)) → n < length all → h ≡ get_or all n h
+        → HasWays w legal.around (handlers_leave (handler_trees all))
         → more_handlers_faults s legal.around before (handler_trees all) ≡ [] → restrictions.handlers_faults (handler_trees all) ≡ []
         → HandlerIsAccepted s w h
-    at [] n before less is g r = absurd (omega (arith, less))
-    at (y ∷ all) zero before less is g r =
+    at [] n before less is ways g r = absurd (omega (arith, less))
+    at (y ∷ all) zero before less is ways g r =
         let single = is_single y.choices.items && rules.no_more (handler_trees all) in
         let c = exception_choices_faults s before single y.choices.items in
         let b = stmts_faults s (in_handler legal.around) (stmt_trees y.statements.items) in
@@ -538,14 +540,16 @@ handler_accepted s w all n h less is legal = at all n legal.before less is legal
           choices = front_empty c b two;
           body = λ word. record {
             around = in_handler legal.around;
-            ways = ways_in_handler w legal.around word legal.ways;
+            ways = ways_in_handler w legal.around (any_leave (stmt_trees y.statements.items)) word
+                (ways_left w legal.around (any_leave (stmt_trees y.statements.items)) (handlers_leave (handler_trees all)) ways);
             unbroken = back_empty c b two;
             restricted = front_empty (restrictions.stmts_faults (stmt_trees y.statements.items)) (restrictions.handlers_faults (handler_trees all)) r;
           };
         })
-    at (y ∷ all) (suc n) before less is g r =
+    at (y ∷ all) (suc n) before less is ways g r =
         let c = exception_choices_faults s before (is_single y.choices.items && rules.no_more (handler_trees all)) y.choices.items in
         let b = stmts_faults s (in_handler legal.around) (stmt_trees y.statements.items) in
         at all n (named_after before y.choices.items) (omega (arith, less)) is
+        (ways_right w legal.around (any_leave (stmt_trees y.statements.items)) (handlers_leave (handler_trees all)) ways)
         (back_empty (c ++ b) (more_handlers_faults s legal.around (named_after before y.choices.items) (handler_trees all)) g)
         (back_empty (restrictions.stmts_faults (stmt_trees y.statements.items)) (restrictions.handlers_faults (handler_trees all)) r)

@@ -17,6 +17,7 @@ mod Widening
 mod Accepting
 mod Adding
 mod Opening
+mod Heads
 mod Repeating
 mod Testing
 pub mod Putting
@@ -36,6 +37,7 @@ mod Alternatives
 mod CallsAdded
 mod EntryCalls
 mod Turned
+mod FirstTurns
 mod Bounded
 mod Ranged
 mod WholeBounds

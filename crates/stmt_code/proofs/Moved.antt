@@ -90,6 +90,8 @@ module _ (kept : AgreementIsKept) (sized : ValuesHaveWords) (places : PartsHaveP
         named = named;
         variable = variable;
         up = p.longer;
+        shift = p.shift;
+        near = p.near;
         push = p.pushes i in_target;
         end = shape_of v.scope last;
         ends = refl;

@@ -1,6 +1,6 @@
 -- The code of assignments from one object, or part of one, to another: both addresses stand on the operand stack, and one instruction moves the words.
 use Rattle.std.proofs.Common.{◌≡◌, ℕ, suc, ◌+◌, ◌-◌, ◌≤◌, ℤ, List, [], ◌∷◌, length, Option, Some, None, Bool, true, false, refl, sym, ap, ◌∙◌, subst, arith}
-use Rattle.std.specs.Prelude.{pos}
+use Rattle.std.specs.Prelude.{pos, ◌+ℤ◌}
 use Rattle.base.specs.declared.schedule.ScheduleLine.{ScheduleLine}
 use Rattle.kernel.specs.State.{Kernel}
 use Rattle.kernel.specs.Calm.{Calm}
@@ -40,6 +40,7 @@ use Rattle.expr_code.specs.Seeing.{Package, Sees, library_of}
 use Rattle.expr_code.specs.Views.{At, View, frames_above, in_frame, placed, view_of}
 use Rattle.expr_code.specs.declared.visible.Slot.{Slot}
 use Rattle.expr_code.specs.declared.visible.Visible.{Visible}
+use Rattle.expr_code.proofs.Locating.{near_close}
 use Rattle.expr_code.proofs.Coming.{acts, pushes, steps}
 use Rattle.expr_code.proofs.Names.{legal_here}
 use Rattle.expr_code.proofs.Naming.{same_words}
@@ -283,29 +284,29 @@ module _ (kept : AgreementIsKept) (sized : ValuesHaveWords) (places : PartsHaveP
         ends : end ≡ suc mid
         ends = moving.next
 
-        begun : Reached from (start + 1) ((start - from) + 1) [] (pos slot.offset ∷ base)
+        begun : Reached from (start + 1) ((start - from) + 1) [] ((pos slot.offset +ℤ moving.shift) ∷ base)
         begun =
-            spends_trans (behaviour i schedule) task frames_of (most_steps i) 1 k (in_frame m (placed f (start + 1) (pos slot.offset ∷ base)) fs) comes
-            (pushes quiet i schedule k task m calm start (pos slot.offset) moving.push f fs base (start + 1) refl)
+            spends_trans (behaviour i schedule) task frames_of (most_steps i) 1 k (in_frame m (placed f (start + 1) ((pos slot.offset +ℤ moving.shift) ∷ base)) fs) comes
+            (pushes quiet i schedule k task m calm start (pos slot.offset +ℤ moving.shift) moving.push f fs base (start + 1) refl)
 
         abbrev own : Val Value
         own = value_with c p (Named first_name selectors)
 
         from_source : (u : Val Meaning) → own ≡ and_then u (ended c p) → Suited own
-            → Finds i schedule k task m (placed f (start + 1) (pos slot.offset ∷ base)) fs slot.region moving.last moving.end (mid - (start + 1)) mid base u
+            → Finds i schedule k task m (placed f (start + 1) ((pos slot.offset +ℤ moving.shift) ∷ base)) fs slot.region moving.last moving.end (mid - (start + 1)) mid base u
             → Arrived end (stored_value own)
         from_source (Gives (IsObject s x)) is suited finds =
             subst (λ n. Arrived n (stored_value own)) (sym ends)
             (subst (λ u. Arrived (suc mid) (stored_value u)) (sym is)
             (moved x (suited x is) slot.region mid finds.0
-            (subst (λ ws. Lies ws finds.0 x) (same_words i m slot.region f (start + 1) (pos slot.offset ∷ base)) finds.1) moving.copies
+            (subst (λ ws. Lies ws finds.0 x) (same_words i m slot.region f (start + 1) ((pos slot.offset +ℤ moving.shift) ∷ base)) finds.1) moving.copies
             (omega (arith, le, over))
             (spends_more (behaviour i schedule) task frames_of (most_steps i) (mid - from) (omega (arith, le, over))
             (spends_trans (behaviour i schedule) task frames_of (most_steps i) (mid - (start + 1)) k (in_frame m (placed f mid (pos finds.0 ∷ base)) fs) begun
             finds.4))))
         from_source (Raises x) is suited finds =
             subst (λ u. Arrived end (stored_value u)) (sym is)
-            (raised x (start + 1) (mid - (start + 1)) mid end (pos slot.offset ∷ base) (omega (arith, le)) (omega (arith, over)) (omega (arith, ends))
+            (raised x (start + 1) (mid - (start + 1)) mid end ((pos slot.offset +ℤ moving.shift) ∷ base) (omega (arith, le)) (omega (arith, over)) (omega (arith, ends))
             (spends_more (behaviour i schedule) task frames_of (most_steps i) ((start + 1) - from) (omega (arith, le)) begun) finds (omega arith))
         from_source Meaningless is suited finds = subst (λ u. Arrived end (stored_value u)) (sym is) tt
         from_source u is suited finds = absurd finds
@@ -317,8 +318,8 @@ module _ (kept : AgreementIsKept) (sized : ValuesHaveWords) (places : PartsHaveP
             from_source (located c p meaning selectors)
             (named_value c p first_name selectors meaning it.1 it.2 ∙ located_value c p selectors meaning) suited
             (finds_path quiet sized places i (library_of g) (Sees g v.names) slot.region c p.frames_left (answers p.frames_left) schedule k task m f fs p base
-            calm knows.sees left it.5 selectors (start + 1) mid moving.source.whole moving.last (shape_of v.names.scope moving.source.whole) moving.end
-            moving.path it.0 slot.offset it.3 it.4)
+            calm knows.sees left it.5 selectors (start + 1) mid moving.shift moving.source.whole moving.last (shape_of v.names.scope moving.source.whole) moving.end
+            (near_close moving.shift moving.near) moving.path it.0 slot.offset it.3 it.4)
 
       -- one of two values, by a condition
       passes_at_one : (place next : ℕ) → At i place (op.JumpIfZero next) → Reached place (place + 1) 1 (pos 1 ∷ base) base

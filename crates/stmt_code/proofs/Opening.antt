@@ -5,7 +5,7 @@ use Rattle.std.proofs.lemmas.List.{append-nil}
 use Rattle.ada_tree.specs.declared.statement.ElsifPart.{ElsifPart}
 use Rattle.ada_tree.specs.ExpressionTree.{ExprTree, expr_tree}
 use Rattle.ada_tree.specs.StatementTree as statements
-use Rattle.ada_tree.specs.StatementTree.{ElsifTrees, MoreElsifs, NoElsifs, StmtTree, StmtTrees, elsif_tree, elsif_trees, elsifs_of, stmt_trees}
+use Rattle.ada_tree.specs.StatementTree.{ElsifTrees, MoreElsifs, NoElsifs, NoStmts, StmtTree, StmtTrees, elsif_tree, elsif_trees, elsifs_of, stmt_trees}
 use Rattle.image.specs.Sections.{Sections}
 use Rattle.image.specs.Rules.{has_depth}
 use Rattle.image.specs.declared.instruction.Operation.TheVariants as op
@@ -30,8 +30,11 @@ use Rattle.expr_code.proofs.Flowing.{kept_one, kept_then, widened}
 use Rattle.expr_code.proofs.Growing.{added_extends, added_here, extends_trans, patched_extends, patched_here, patched_other}
 use Rattle.part_code.specs.Handling.{Handling}
 use Rattle.part_code.specs.Bounds.{elsifs_bound, stmt_bound, stmts_bound}
-use Rattle.stmt_code.specs.Emitting.{AddsParts, AreAcceptedElsifs, AreAcceptedStatements, AreParts, Emits, EmitsOpen, EmitsStatement, EmitsStatements, IsAcceptedStatement, Meant, MeantTo, Serves, TellPlaces, in_front}
+use Rattle.stmt_code.specs.Emitting.{AddsParts, AreAcceptedElsifs, AreAcceptedStatements, AreParts, Emits, EmitsOpen, EmitsStatement, EmitsStatements, HasWays, IsAcceptedStatement, Meant, MeantTo, Serves, TellPlaces, in_front}
+use Rattle.stmt_code.specs.Leaves.{any_leave, elsifs_leave, leaves}
+use Rattle.stmt_code.proofs.Accepting.{ways_left, ways_right}
 use Rattle.stmt_code.specs.Placing.{elsifs_within, stmts_within}
+use Rattle.part_code.specs.Jumping.{Here, Jumps, There}
 use Rattle.part_code.specs.Resting.{Framed}
 use Rattle.part_code.specs.Statements.{AreStatements, IsOtherwise, IsStatement, Numbers, Ways}
 use Rattle.stmt_code.specs.declared.draft.Draft.{Draft}
@@ -272,8 +275,10 @@ module _ (v : Visible) (w : Ways) where
           let next : n ≡ suc (here valued.code) = four in (
             here tested,
             here valued.code,
+            suc (here valued.code),
             first.extends.longer,
             omega (arith, two, second.extends.longer),
+            omega arith,
             omega (arith, four, up_is i end up j),
             subst (λ x. Computes i (library_of g) (Sees g x) (here start.code) (here tested) e) (sym names) (first.computes i (in_tested i end up j) g),
             subst (λ m. At i (here tested) (op.JumpIfZero m)) next (1, at_test i end up j),
@@ -282,7 +287,7 @@ module _ (v : Visible) (w : Ways) where
                 (labels_before i valued.labels new.labels (labels_beside valued new still) l) program g numbers f names
                 (subst (Serves program g numbers f) (sym (taken_beside start jumped same)) serves) (let m = most_beside valued new still in omega (arith, m, room)) handling
                 (handled_inside start jumped valued new around second.rows i program handling goes)),
-            (0, at_close i end up j),
+            There (0, at_close i end up j) (omega (arith, four, up_is i end up j)) Here,
             subst (λ m. IsOtherwise i program g numbers f w handling m end rest (λ x y. AreStatements i program g numbers f w handling x y others)) (end_is ∙ four) code,
             goes_within i handling (here start.code) (here start.code) (here tested) (here jumped.code)
                 (goes_front start jumped valued new around second.rows i program handling goes) (omega arith) (omega (arith, two)),
@@ -317,6 +322,108 @@ module _ (v : Visible) (w : Ways) where
           (kept_then i s low high (here start.code) (here jumped.code) (here valued.code) 0 0
           (kept_then i s low high (here start.code) (here tested) (here jumped.code) 0 1 test_kept
           (subst (λ m. AreKeptBetween i s low high (here tested) m 1) (sym two) testing)) in_body) closes);
+    }
+
+  -- ---- an `if` with this part alone: nothing stands behind its statements, and so no jump
+  module _ (start jumped valued new : Draft) (tested : Code) (e : ExprTree) (body : StmtTrees) (place : ℕ)
+      (first : EmitsExpression v start.code 0 1 e tested) (jump : Adds tested 1 (op.JumpIfZero 0) jumped.code) (same : IsBeside start jumped)
+      (second : EmitsStatements v w jumped body valued) (patch : Patches valued.code (here tested) (op.JumpIfZero (here valued.code)) new.code)
+      (still : IsBeside valued new) where
+    abbrev alone_tree : statements.StmtTree
+    alone_tree = statements.If place e body NoElsifs NoStmts
+
+    tested_at : here jumped.code ≡ suc (here tested)
+    tested_at = added_here tested jumped.code 1 (op.JumpIfZero 0) jump
+
+    end_at : here new.code ≡ here valued.code
+    end_at = patched_here valued.code new.code (here tested) (op.JumpIfZero (here valued.code)) patch
+
+    tested_stays : Extends tested new.code
+    tested_stays = patched_extends valued.code new.code (here tested) (op.JumpIfZero (here valued.code)) patch tested (omega arith)
+        (extends_trans tested jumped.code valued.code (added_extends tested jumped.code 1 (op.JumpIfZero 0) jump) second.extends)
+
+    jump_there : slice_get new.code.instructions.items (here tested) ≡ Some (record { depth = 1; operation = op.JumpIfZero (here valued.code) })
+    jump_there = patched_is valued.code new.code (here tested) (op.JumpIfZero (here valued.code)) patch (record { depth = 1; operation = op.JumpIfZero 0 })
+        (second.extends.instructions (here tested) _ (omega arith) (added_is tested jumped.code 1 (op.JumpIfZero 0) jump))
+
+    labels_alone : StandsFrom 0 start.labels valued.labels
+    labels_alone = labels_then start.labels jumped.labels valued.labels (labels_beside start jumped same) second.labels
+
+    module _ (i : Sections) (h : Holds i (here start.code) new.code) where
+      alone_tested : Holds i (here start.code) tested
+      alone_tested = λ k y le is. h k y le (tested_stays.instructions k y (omega arith) is)
+
+      alone_valued : Holds i (here jumped.code) valued.code
+      alone_valued = λ k y le is.
+          h k y (omega (arith, le, tested_at, first.extends.longer))
+          (patched_other valued.code new.code (here tested) (op.JumpIfZero (here valued.code)) patch k (λ x. absurd (omega (arith, x, le, tested_at))) ∙ is)
+
+      alone_jump : slice_get i.instructions (here tested) ≡ Some (record { depth = 1; operation = op.JumpIfZero (here valued.code) })
+      alone_jump = h (here tested) _ first.extends.longer jump_there
+
+    alone_around : Surrounds start jumped valued new
+    alone_around = record {
+      begun = same.2;
+      ended = still.2;
+      up = omega (arith, tested_at, first.extends.longer);
+      mid = second.extends.longer;
+      over = omega (arith, end_at);
+      still = finds_patched valued.code new.code (here tested) (op.JumpIfZero (here valued.code)) patch;
+    }
+
+    pub alone_emits : EmitsStatement v w start (statements.If place e body NoElsifs NoStmts) new
+    alone_emits = record {
+      extends = extends_trans start.code tested new.code first.extends tested_stays;
+      labels = labels_then start.labels valued.labels new.labels labels_alone (labels_beside valued new still);
+      taken = taken_beside valued new still ∙ second.taken ∙ taken_beside start jumped same;
+      most = (let m = most_beside start jumped same in let n = most_beside valued new still in omega (arith, m, second.most, n));
+      sized = omega (arith, first.sized, second.sized, tested_at, end_at);
+      rows = rows_around start jumped valued new alone_around second.rows;
+      stands = λ i h l program g numbers f names serves room handling goes. (
+        here tested,
+        here valued.code,
+        here valued.code,
+        first.extends.longer,
+        omega (arith, tested_at, second.extends.longer),
+        omega arith,
+        omega (arith, end_at),
+        subst (λ x. Computes i (library_of g) (Sees g x) (here start.code) (here tested) e) (sym names) (first.computes i (alone_tested i h) g),
+        (1, alone_jump i h),
+        subst (λ m. AreStatements i program g numbers f w handling m (here valued.code) body) tested_at
+            (second.stands i (alone_valued i h) (labels_before i valued.labels new.labels (labels_beside valued new still) l) program g numbers f names
+            (subst (Serves program g numbers f) (sym (taken_beside start jumped same)) serves) (let m = most_beside valued new still in omega (arith, m, room)) handling
+            (handled_inside start jumped valued new alone_around second.rows i program handling goes)),
+        subst (λ n. Jumps i (here valued.code) n) (sym end_at) Here,
+        sym end_at,
+        goes_within i handling (here start.code) (here start.code) (here tested) (here jumped.code)
+            (goes_front start jumped valued new alone_around second.rows i program handling goes) (omega arith) (omega (arith, tested_at)),
+      );
+      tells = λ i h l program g numbers f names serves room handling goes.
+          subst (TellPlaces i program g numbers second.rows.placed) (sym (append-nil (stmts_within body ++ []) ∙ append-nil (stmts_within body)))
+          (second.tells i (alone_valued i h) (labels_before i valued.labels new.labels (labels_beside valued new still) l) program g numbers f names
+          (subst (Serves program g numbers f) (sym (taken_beside start jumped same)) serves)
+          (let m = most_beside valued new still in omega (arith, m, room)) handling
+          (handled_inside start jumped valued new alone_around second.rows i program handling goes));
+      flows = λ i s low high down up h l suits deep wide ends ways.
+          let deepest : valued.code.deepest ≤ s.stack = omega (arith, ap (λ m. m) patch.deepest, deep) in
+          let one : 1 ≤ s.stack = omega (arith, jump.within, second.extends.deeper, deepest) in
+          let in_body = second.flows i s low high (omega (arith, down, tested_at, first.extends.longer)) (omega (arith, up, end_at)) (alone_valued i h)
+          (labels_before i valued.labels new.labels (labels_beside valued new still) l) suits deepest (let m = most_beside valued new still in omega (arith, m, wide))
+          (ap (λ n. has_depth i n 0) (sym end_at) ∙ ends) ways in
+          let testing = kept_one i s low high (here tested) 1 0 (op.JumpIfZero (here valued.code)) (alone_jump i h) one (omega arith) refl refl (omega arith) (omega arith) refl
+          (λ g. ap (λ m. has_depth i m 0) (sym tested_at) ∙ in_body.begins)
+          (λ t g. let to : t ≡ here valued.code = same_place (op.JumpIfZero (here valued.code)) (here valued.code) t refl g in (
+            omega (arith, to, second.extends.longer, tested_at, first.extends.longer, down),
+            omega (arith, to, end_at, up),
+            ap (λ m. has_depth i m 0) (to ∙ sym end_at) ∙ ends,
+          )) in
+          let value = widened i s (here start.code) (here tested) low high (here start.code) (here tested) 0 down
+          (omega (arith, tested_at, second.extends.longer, end_at, up))
+          (first.flows.flows i s (alone_tested i h) suits.names (omega (arith, tested_stays.deeper, deep)) one testing.begins) in
+          subst (λ m. AreKeptBetween i s low high (here start.code) m 0) (sym end_at)
+          (kept_then i s low high (here start.code) (here jumped.code) (here valued.code) 0 0
+          (kept_then i s low high (here start.code) (here tested) (here jumped.code) 0 1 value
+          (subst (λ m. AreKeptBetween i s low high (here tested) m 1) (sym tested_at) testing)) in_body);
     }
 
   -- ---- parts of an `if`, as methods add them
@@ -463,10 +570,16 @@ module _ (s : Scope) (w : Ways) (x : statements.StmtTree) (place : ℕ) (e : Exp
   pub if_condition : condition_faults s e ≡ []
   if_condition = front_empty (condition_faults s e) (stmts_faults s h.around body) two_faults
 
+  whole_ways : HasWays w h.around (λ q. any_leave body q || (elsifs_leave elsifs q || any_leave others q))
+  whole_ways = subst (λ b. HasWays w h.around b) (ap leaves is) h.ways
+
+  behind_ways : HasWays w h.around (λ q. elsifs_leave elsifs q || any_leave others q)
+  behind_ways = ways_right w h.around (any_leave body) (λ q. elsifs_leave elsifs q || any_leave others q) whole_ways
+
   pub if_body : AreAcceptedStatements s w body
   if_body = record {
     around = h.around;
-    ways = h.ways;
+    ways = ways_left w h.around (any_leave body) (λ q. elsifs_leave elsifs q || any_leave others q) whole_ways;
     unbroken = back_empty (condition_faults s e) (stmts_faults s h.around body) two_faults;
     restricted = front_empty (restrictions.stmts_faults body) (restrictions.elsifs_faults elsifs) two_allowed;
   }
@@ -474,7 +587,7 @@ module _ (s : Scope) (w : Ways) (x : statements.StmtTree) (place : ℕ) (e : Exp
   pub if_elsifs : AreAcceptedElsifs s w elsifs
   if_elsifs = record {
     around = h.around;
-    ways = h.ways;
+    ways = ways_left w h.around (elsifs_leave elsifs) (any_leave others) behind_ways;
     unbroken = back_empty (condition_faults s e ++ stmts_faults s h.around body) (elsifs_faults s h.around elsifs) three_faults;
     restricted = back_empty (restrictions.stmts_faults body) (restrictions.elsifs_faults elsifs) two_allowed;
   }
@@ -482,7 +595,7 @@ module _ (s : Scope) (w : Ways) (x : statements.StmtTree) (place : ℕ) (e : Exp
   pub if_others : AreAcceptedStatements s w others
   if_others = record {
     around = h.around;
-    ways = h.ways;
+    ways = ways_right w h.around (elsifs_leave elsifs) (any_leave others) behind_ways;
     unbroken = back_empty ((condition_faults s e ++ stmts_faults s h.around body) ++ elsifs_faults s h.around elsifs) (stmts_faults s h.around others) whole;
     restricted = back_empty forbidden (restrictions.stmts_faults others) all_allowed;
   }
@@ -493,12 +606,13 @@ pub record PartIsAccepted (s : Scope) (w : Ways) (x : ElsifPart) : Type 0 where
 
 pub part_accepted : (s : Scope) (w : Ways) (all : List ElsifPart) (n : ℕ) (x : ElsifPart) → n < length all → x ≡ get_or all n x
     → AreAcceptedElsifs s w (elsif_trees all) → PartIsAccepted s w x
-part_accepted s w all n x less is h = at all n less is h.unbroken h.restricted
+part_accepted s w all n x less is h = at all n less is h.ways h.unbroken h.restricted
   where
-    at : (all : List ElsifPart) (n : ℕ) → n < length all → x ≡ get_or all n x → elsifs_faults s h.around (elsif_trees all) ≡ []
+    at : (all : List ElsifPart) (n : ℕ) → n < length all → x ≡ get_or all n x → HasWays w h.around (elsifs_leave (elsif_trees all))
+        → elsifs_faults s h.around (elsif_trees all) ≡ []
         → restrictions.elsifs_faults (elsif_trees all) ≡ [] → PartIsAccepted s w x
-    at [] n less is e r = absurd (omega (arith, less))
-    at (y ∷ all) zero less is e r =
+    at [] n less is ways e r = absurd (omega (arith, less))
+    at (y ∷ all) zero less is ways e r =
         let c = condition_faults s (expr_tree y.condition) in
         let b = stmts_faults s h.around (stmt_trees y.statements.items) in
         let two = front_empty (c ++ b) (elsifs_faults s h.around (elsif_trees all)) e in
@@ -507,12 +621,12 @@ part_accepted s w all n x less is h = at all n less is h.unbroken h.restricted
           condition = front_empty c b two;
           body = record {
             around = h.around;
-            ways = h.ways;
+            ways = ways_left w h.around (any_leave (stmt_trees y.statements.items)) (elsifs_leave (elsif_trees all)) ways;
             unbroken = back_empty c b two;
             restricted = front_empty (restrictions.stmts_faults (stmt_trees y.statements.items)) (restrictions.elsifs_faults (elsif_trees all)) r;
           };
         })
-    at (y ∷ all) (suc n) less is e r =
-        at all n (omega (arith, less)) is
+    at (y ∷ all) (suc n) less is ways e r =
+        at all n (omega (arith, less)) is (ways_right w h.around (any_leave (stmt_trees y.statements.items)) (elsifs_leave (elsif_trees all)) ways)
         (back_empty (condition_faults s (expr_tree y.condition) ++ stmts_faults s h.around (stmt_trees y.statements.items)) (elsifs_faults s h.around (elsif_trees all)) e)
         (back_empty (restrictions.stmts_faults (stmt_trees y.statements.items)) (restrictions.elsifs_faults (elsif_trees all)) r)

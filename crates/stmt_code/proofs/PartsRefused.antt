@@ -1,5 +1,5 @@
 -- What refuses the code of a statement at each place of its method: its parts, one behind the other, and the instructions between them.
-use Rattle.std.proofs.Common.{◌≡◌, ◌≤◌, ◌<◌, ◌+◌, ◌*◌, ◌∷◌, ◌++◌, ◌⊎◌, inl, inr, ℕ, List, [], length, take, Bool, Some, refl, sym, ap, ◌∙◌, subst, arith}
+use Rattle.std.proofs.Common.{◌≡◌, ◌≤◌, ◌<◌, ◌+◌, ◌*◌, ◌∷◌, ◌++◌, ◌⊎◌, inl, inr, ℕ, List, [], length, take, Bool, Option, Some, refl, sym, ap, ◌∙◌, subst, arith}
 use Rattle.std.specs.Prelude.{get_or, max}
 use Rattle.ada_tree.specs.declared.expression.Identifier.{Identifier}
 use Rattle.ada_tree.specs.declared.statement.Alternative.{Alternative}
@@ -24,8 +24,10 @@ use Rattle.part_code.specs.Emitting.{BeginsLoop}
 use Rattle.part_code.specs.Bounds.{alternatives_bound, declarations_bound, elsifs_bound, locals_words, run_bound, sequence_bound, stmt_bound, stmts_bound}
 use Rattle.stmt_code.specs.Refusing.{Standpoint, Refuses, RefusesAlternatives, RefusesDeclarations, RefusesParts, RefusesRange, RefusesRun, RefusesSequence, RefusesStatement, RefusesStatements, alternatives_needs, around, behind_locals, counted_visible, elsifs_needs, head_needs, in_body, in_loop, inside_counted, run_needs, sequence_needs, stmt_needs, stmts_needs}
 use Rattle.part_code.specs.Needs.{HasManyLabels, IsNeeding, Needs, RefusesChoices, both, choices_needs, framed, locals_needs, locals_visible, line_needs, needs_above, nothing, put_needs, value_needs, with_object}
-use Rattle.stmt_code.specs.Turns.{BeginsRange}
-use Rattle.part_code.specs.Turns.{EndsTurn, bounds_compared, value_counted, values_compared}
+use Rattle.stmt_code.specs.Turns.{BeginsRange, is_full}
+use Rattle.stmt_code.proofs.FirstTurns.{opening}
+use Rattle.stmt_code.proofs.Heads.{headed as loop_headed}
+use Rattle.part_code.specs.Turns.{EndsTurn, value_counted, values_compared}
 use Rattle.stmt_code.specs.declared.draft.Draft.{Draft}
 use Rattle.part_code.specs.declared.turns.Turns.{Turns}
 use Rattle.part_code.specs.Labels.{alternatives_labels, elsifs_labels, handlers_labels, stmt_labels, stmts_labels, with_label, with_line}
@@ -388,26 +390,35 @@ module _ (v : Visible) (old : Draft) (why : Refusal) where
 
 -- ---- where instructions stand
 
-pub begun_here : (old new : Code) → BeginsLoop old new → here new ≡ here old + 2
-begun_here old new p =
-    let one = added_here old p.skipped 0 (op.Jump (here old + 2)) p.skips in
-    let two = added_here p.skipped new 0 (op.Jump 0) p.leaves in
-    omega (arith, one, two)
+pub begun_here : (old new : Code) (exit : Option ℕ) → BeginsLoop old exit new → here new ≤ here old + 2
+begun_here old new exit p = (loop_headed old new exit p).few
 
-pub range_here : (v : Visible) (old : Draft) (parameter : Identifier) (reversed : Bool) (range : RangeTree) (t : Turns) (null : ℕ) (later : Visible) (new : Draft)
-    → BeginsRange v old parameter reversed range t null later new → here new.code ≤ here old.code + (6 + 20 * (expr_size range.first + expr_size range.last))
+pub range_here : (v : Visible) (old : Draft) (parameter : Identifier) (reversed : Bool) (range : RangeTree) (t : Turns) (null : Option ℕ) (later : Visible)
+    (new : Draft) → BeginsRange v old parameter reversed range t null later new → here new.code ≤ here old.code + (6 + 20 * (expr_size range.first + expr_size range.last))
 range_here v old parameter reversed range t null later new p =
     let one = p.first.sized in
     let two = p.last.sized in
-    let three = all_here p.bounded p.begins.compared (bounds_compared t) p.begins.compares in
-    let four = added_here p.begins.compared new.code 1 (op.JumpIfNotZero 0) p.begins.jumps in
-    omega (arith, one, two, three, four)
+    let three = (opening t (is_full v.scope range) p.bounded new.code null p.begins).few in
+    omega (arith, one, two, three)
 
-pub range_seen : (v : Visible) (old : Draft) (parameter : Identifier) (reversed : Bool) (range : RangeTree) (t : Turns) (null : ℕ) (later : Visible) (new : Draft)
-    → BeginsRange v old parameter reversed range t null later new → later ≡ with_object v (loop_scope v.scope parameter range) old.words.taken
+pub range_long : (v : Visible) (old : Draft) (parameter : Identifier) (reversed : Bool) (range : RangeTree) (t : Turns) (null : Option ℕ) (later : Visible)
+    (new : Draft) → BeginsRange v old parameter reversed range t null later new → here old.code ≤ here new.code
+range_long v old parameter reversed range t null later new p =
+    let one = p.first.extends.longer in
+    let two = p.last.extends.longer in
+    let three = (opening t (is_full v.scope range) p.bounded new.code null p.begins).low in
+    omega (arith, one, two, three)
+
+pub range_seen : (v : Visible) (old : Draft) (parameter : Identifier) (reversed : Bool) (range : RangeTree) (t : Turns) (null : Option ℕ) (later : Visible)
+    (new : Draft) → BeginsRange v old parameter reversed range t null later new → later ≡ with_object v (loop_scope v.scope parameter range) old.words.taken
 range_seen v old parameter reversed range t null later new p =
     let slots = p.slots ∙ ap (λ n. v.slots ++ Some (record { region = regions.Locals; offset = n }) ∷ []) p.counter in
     λ j. record { scope = p.scope j; slots = slots j; subprograms = p.subprograms j; operations = p.operations j }
+
+pub range_jump : (v : Visible) (old : Draft) (parameter : Identifier) (reversed : Bool) (range : RangeTree) (t : Turns) (null : Option ℕ) (later : Visible)
+    (new : Draft) → BeginsRange v old parameter reversed range t null later new → (k : ℕ) → null ≡ Some k → k < here new.code
+range_jump v old parameter reversed range t null later new p k is =
+    let at = (opening t (is_full v.scope range) p.bounded new.code null p.begins).last k is in omega (arith, at)
 
 pub turn_here : (old : Code) (t : Turns) (last : ℕ) (new : Code) → EndsTurn old t last new → here new ≡ here old + 8
 turn_here old t last new p =
@@ -415,6 +426,12 @@ turn_here old t last new p =
     let two = added_here p.compared p.tested 1 (op.JumpIfNotZero 0) p.jumps in
     let three = all_here p.tested new (value_counted t) p.counts in
     omega (arith, one, two, three)
+
+pub turn_test : (old : Code) (t : Turns) (last : ℕ) (new : Code) → EndsTurn old t last new → last < here new
+turn_test old t last new p =
+    let one = all_here old p.compared (values_compared t) p.compares in
+    let whole = turn_here old t last new p in
+    omega (arith, one, whole, p.place)
 
 module _ (v : Visible) (old : Draft) (parameter : Identifier) (reversed : Bool) (range : RangeTree) (why : Refusal) where
   abbrev headed : Needs

@@ -1,5 +1,5 @@
 -- Each form of statement stays within bounds where its parts do, with the instructions between them.
-use Rattle.std.proofs.Common.{◌≡◌, ◌≤◌, ◌<◌, ◌+◌, ◌∷◌, ℕ, List, [], length, take, Bool, sym, ap, ◌∙◌, subst, arith}
+use Rattle.std.proofs.Common.{◌≡◌, ◌≤◌, ◌<◌, ◌+◌, ◌∷◌, ℕ, List, [], length, take, Bool, Option, None, Some, sym, ap, ◌∙◌, subst, arith}
 use Rattle.std.specs.Prelude.{get_or, max, ⊤}
 use Rattle.ada_tree.specs.declared.expression.Identifier.{Identifier}
 use Rattle.ada_tree.specs.declared.statement.Alternative.{Alternative}
@@ -17,13 +17,14 @@ use Rattle.expr_code.proofs.Refusals.{peak_some}
 use Rattle.expr_code.proofs.Shallow.{shallow_as, shallow_more, shallow_next, shallow_self, shallow_then}
 use Rattle.part_code.specs.Choices.{AddsChoices, AddsTest, TestsAll}
 use Rattle.part_code.specs.Bounds.{locals_words}
-use Rattle.part_code.specs.Emitting.{BeginsLoop, EndsLoop}
+use Rattle.part_code.specs.Emitting.{BeginsLoop, EndsLoop, SkipsWay}
+use Rattle.stmt_code.proofs.Heads.{ended}
 use Rattle.part_code.specs.Labels.{alternatives_labels, elsifs_labels, handlers_labels, stmt_labels, stmts_labels}
 use Rattle.stmt_code.specs.Refusing.{Standpoint, alternatives_needs, around, behind_locals, counted_visible, elsifs_needs, head_needs, in_body, inside_counted, sequence_needs, stmt_needs, stmts_needs}
 use Rattle.part_code.specs.Needs.{Needs, both, choices_needs, framed, locals_needs, locals_visible, needs_above, nothing, value_needs}
 use Rattle.part_code.specs.Rows.{alternatives_rows, elsifs_rows, handlers_rows, stmt_rows, stmts_rows}
 use Rattle.stmt_code.specs.Staying.{Stays, StaysAlternatives, StaysDeclarations, StaysParts, StaysRange, StaysRun, StaysSequence, StaysStatement, StaysStatements}
-use Rattle.part_code.specs.Turns.{AddsAll, BeginsTurns, EndsTurn, bounds_compared, value_counted, values_compared}
+use Rattle.part_code.specs.Turns.{AddsAll, EndsTurn, StartsTurns, bounds_compared, bounds_stored, value_counted, values_compared}
 use Rattle.stmt_code.specs.declared.draft.Draft.{Draft}
 use Rattle.part_code.specs.declared.frame_words.FrameWords.{FrameWords}
 use Rattle.part_code.specs.declared.turns.Turns.{Turns}
@@ -37,11 +38,15 @@ use Rattle.stmt_code.proofs.Staying.{coded, stays_as, stays_code, stays_is, stay
 
 -- ---- instructions
 
-pub begun_shallow : (old new : Code) → BeginsLoop old new → IsShallow old new 0
-begun_shallow old new p = shallow_then old p.skipped new 0 p.skips.shallow p.leaves.shallow
+pub way_shallow : (old new : Code) → SkipsWay old new → IsShallow old new 0
+way_shallow old new p = shallow_then old p.skipped new 0 p.skips.shallow p.leaves.shallow
 
-pub ended_shallow : (old : Code) (out back : ℕ) (new : Code) → EndsLoop old out back new → IsShallow old new 0
-ended_shallow old out back new p = shallow_as old p.turned new 0 p.patches.deepest p.turns.shallow
+pub begun_shallow : (old new : Code) (exit : Option ℕ) → BeginsLoop old exit new → IsShallow old new 0
+begun_shallow old new (Some out) p = way_shallow old new p.0
+begun_shallow old new None same = shallow_as old old new 0 (ap (λ c. c.deepest) same) (shallow_self old 0)
+
+pub ended_shallow : (old : Code) (exit : Option ℕ) (back : ℕ) (new : Code) → EndsLoop old exit back new → IsShallow old new 0
+ended_shallow old exit back new p = shallow_as old p.turned new 0 (ended p.turned new exit p.ends).deepest p.turns.shallow
 
 -- each finds at most so many words
 abbrev AreWithin : (n : ℕ) → List Instr → Type 0
@@ -60,8 +65,9 @@ turn_shallow old t last new p =
     (all_shallow 2 old p.compared (values_compared t) (omega arith, (omega arith, (omega arith, tt))) p.compares) p.jumps.shallow)
     (all_shallow 2 p.tested new (value_counted t) (omega arith, (omega arith, (omega arith, (omega arith, tt)))) p.counts)
 
-pub turns_shallow : (old : Code) (t : Turns) (null : ℕ) (new : Code) → BeginsTurns old t null new → IsShallow old new 2
-turns_shallow old t null new p =
+pub turns_shallow : (old : Code) (t : Turns) (full : Bool) (null : Option ℕ) (new : Code) → StartsTurns old t full null new → IsShallow old new 2
+turns_shallow old t full None new p = all_shallow 2 old new (bounds_stored t) (omega arith, (omega arith, tt)) p.1
+turns_shallow old t full (Some null) new p =
     shallow_next old p.compared new 1 2 (omega arith)
     (all_shallow 2 old p.compared (bounds_compared t) (omega arith, (omega arith, (omega arith, (omega arith, (omega arith, tt))))) p.compares) p.jumps.shallow
 
@@ -304,11 +310,11 @@ stays_taken old mid n l words k most up p = record {
     more : (a b c m : ℕ) → c ≡ max b k → k ≤ m → b ≤ max a m → c ≤ max a m
     more a b c m is le q = omega (arith, is, le, q)
 
-pub range_stays : (v : Visible) (old : Draft) (parameter : Identifier) (reversed : Bool) (range : RangeTree) (a b c : Code) (t : Turns) (null : ℕ)
-    (words : FrameWords) → IsShallow old.code a (0 + peak v.scope range.first) → IsShallow a b (1 + peak v.scope range.last) → BeginsTurns b t null c
+pub range_stays : (v : Visible) (old : Draft) (parameter : Identifier) (reversed : Bool) (range : RangeTree) (a b c : Code) (t : Turns) (full : Bool)
+    (null : Option ℕ) (words : FrameWords) → IsShallow old.code a (0 + peak v.scope range.first) → IsShallow a b (1 + peak v.scope range.last) → StartsTurns b t full null c
     → words.most ≡ max old.words.most (old.words.taken + 2)
     → StaysRange v old parameter reversed range (record old { code = c; words = words })
-range_stays v old parameter reversed range a b c t null words first last begins most =
+range_stays v old parameter reversed range a b c t full null words first last begins most =
     let frame = framed (old.words.taken + 2) in
     let one = value_needs v range.first in
     let two = needs_above 1 v range.last in
@@ -317,7 +323,7 @@ range_stays v old parameter reversed range a b c t null words first last begins 
     let in_two = (of_right two frame (both one two) (in_right one two)).stack in
     let taken = (in_left frame (both one two)).frame in
     let some = peak_some v.scope range.last in
-    stays_code old (record old { code = b; words = words }) n old.labels c 2 (omega (arith, some, in_two)) (turns_shallow b t null c begins)
+    stays_code old (record old { code = b; words = words }) n old.labels c 2 (omega (arith, some, in_two)) (turns_shallow b t full null c begins)
     (stays_taken old (coded old b) n old.labels words (old.words.taken + 2) most taken
     (stays_code old (coded old a) n old.labels b (1 + peak v.scope range.last) (omega (arith, in_two)) last
     (stays_code old old n old.labels a (0 + peak v.scope range.first) (omega (arith, in_one)) first (stays_self old n))))

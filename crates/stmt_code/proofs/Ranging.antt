@@ -37,6 +37,7 @@ use Rattle.expr_code.specs.declared.visible.Slot.{Slot}
 use Rattle.expr_code.proofs.Coming.{acts, after_first, more, then_comes, steps}
 use Rattle.part_code.specs.Handling.{GoesBy, Handling}
 use Rattle.part_code.specs.Counting.{Bounds, GoesOn, IsCounted, IsTurnEnd, IsRange, bounds, in_turn, number_bounds, turn_first, turn_last, with_last, with_parameter, are_turns_inside}
+use Rattle.part_code.specs.Jumping.{Jumps}
 use Rattle.part_code.specs.Layout.{IsLaidOut}
 use Rattle.part_code.specs.Resting.{Framed, HeldWord, Knows, RestsWith, AreHeld}
 use Rattle.part_code.specs.Statements.{AreStatements, IsStatement, Numbers, Ways, within_loop}
@@ -83,6 +84,16 @@ pub record Begins (i : Sections) (counter limit mid to : ℕ) (reversed : Bool) 
   pub less : At i (behind 4 mid) op.Less
   pub jump : At i (behind 5 mid) (op.JumpIfNotZero to)
 
+-- Behind bounds of which the first is never greater than the last one their words are stored alone.
+pub record KeepsBounds (i : Sections) (counter limit mid : ℕ) (reversed : Bool) : Type 0 where
+  pub last : At i mid (op.StoreLocal (if reversed then counter else limit))
+  pub first : At i (behind 1 mid) (op.StoreLocal (if reversed then limit else counter))
+
+-- the one or the other, up to the statements of the first turn
+pub data Opens (i : Sections) (counter limit mid start to : ℕ) (reversed full : Bool) : Type 0 where
+  Tests : Begins i counter limit mid to reversed → start ≡ behind 6 mid → Opens i counter limit mid start to reversed full
+  Keeps : KeepsBounds i counter limit mid reversed → full ≡ true → start ≡ behind 2 mid → Opens i counter limit mid start to reversed full
+
 -- Behind the statements: the frame goes on behind the loop where the value is the last one, else the next value is computed and stored.
 pub record Advances (i : Sections) (counter limit back to : ℕ) (reversed : Bool) : Type 0 where
   pub now : At i back (op.LoadLocal counter)
@@ -120,52 +131,71 @@ module _ (quiet : QuietStays) (kept : AgreementIsKept) (sized : ValuesHaveWords)
     abbrev at : ℕ → List ℤ → List ℤ → Frame
     at place locals stack = record f { place = place; locals = locals; stack = stack }
 
-    -- ---- the first turn: two words are stored, and compared again
-    module _ (one other mid to : ℕ) (last : At i mid (op.StoreLocal one)) (first : At i (behind 1 mid) (op.StoreLocal other))
-        (last_again : At i (behind 2 mid) (op.LoadLocal one))
-        (first_again : At i (behind 3 mid) (op.LoadLocal other))
-        (less : At i (behind 4 mid) op.Less)
-        (jump : At i (behind 5 mid) (op.JumpIfNotZero to)) (x y : ℤ) (one_in : one < length f.locals) (other_in : other < length f.locals)
-        (both : List ℤ) (stored : with_word other x (with_word one y f.locals) ≡ both) (one_there : slice_get both one ≡ Some y)
-        (other_there : slice_get both other ≡ Some x) where
+    -- ---- the first turn: two words are stored
+    module _ (one other mid : ℕ) (last : At i mid (op.StoreLocal one)) (first : At i (behind 1 mid) (op.StoreLocal other)) (x y : ℤ)
+        (one_in : one < length f.locals) (other_in : other < length f.locals) (both : List ℤ)
+        (stored : with_word other x (with_word one y f.locals) ≡ both) where
       other_in' : other < length (with_word one y f.locals)
       other_in' = let l = word_long f.locals one y one_in in omega (arith, l, other_in)
 
-      begun : Goes 6 (placed f mid (y ∷ x ∷ [])) (at (if int_lt y x then to else behind 6 mid) both [])
-      begun =
-          then_step quiet i schedule k u m fs calm 5 (placed f mid (y ∷ x ∷ [])) (at (behind 1 mid) (with_word one y f.locals) (x ∷ [])) end
+      -- ... and then the frame goes on
+      both_stored : (n : ℕ) (target : Frame) → Goes n (at (behind 2 mid) both []) target → Goes (suc (suc n)) (placed f mid (y ∷ x ∷ [])) target
+      both_stored n target rest =
+          then_step quiet i schedule k u m fs calm (suc n) (placed f mid (y ∷ x ∷ [])) (at (behind 1 mid) (with_word one y f.locals) (x ∷ [])) target
           (stores_local quiet i schedule k u m f fs mid one last y (x ∷ []) one_in)
-          (then_step quiet i schedule k u m fs calm 4 (at (behind 1 mid) (with_word one y f.locals) (x ∷ [])) (at (behind 2 mid) both []) end
+          (then_step quiet i schedule k u m fs calm n (at (behind 1 mid) (with_word one y f.locals) (x ∷ [])) (at (behind 2 mid) both []) target
           (stores_local quiet i schedule k u m (at (behind 1 mid) (with_word one y f.locals) (x ∷ [])) fs (behind 1 mid) other first x [] other_in'
-          ∙ ap (λ l. does Quiet m (at (behind 2 mid) l []) fs None None) stored)
-          (then_step quiet i schedule k u m fs calm 3 (at (behind 2 mid) both []) (at (behind 3 mid) both (y ∷ [])) end
-          (loads_local quiet i schedule k u m (at (behind 2 mid) both []) fs (behind 2 mid) one last_again y [] one_there)
-          (then_step quiet i schedule k u m fs calm 2 (at (behind 3 mid) both (y ∷ [])) (at (behind 4 mid) both (x ∷ y ∷ [])) end
-          (loads_local quiet i schedule k u m (at (behind 3 mid) both []) fs (behind 3 mid) other first_again x (y ∷ []) other_there)
-          (then_step quiet i schedule k u m fs calm 1 (at (behind 4 mid) both (x ∷ y ∷ [])) (at (behind 5 mid) both (word_of (int_lt y x) ∷ [])) end
-          (orders quiet i schedule k u m (at (behind 4 mid) both []) fs (behind 4 mid) less y x [])
-          (then_step quiet i schedule k u m fs calm 0 (at (behind 5 mid) both (word_of (int_lt y x) ∷ [])) end end
-          (jumps_if quiet i schedule k u m (at (behind 5 mid) both []) fs (behind 5 mid) to jump (int_lt y x) []) Done)))))
-        where
-          end : Frame
-          end = at (if int_lt y x then to else behind 6 mid) both []
+          ∙ ap (λ l. does Quiet m (at (behind 2 mid) l []) fs None None) stored) rest)
+
+      -- ... and compared again
+      module _ (to : ℕ) (last_again : At i (behind 2 mid) (op.LoadLocal one)) (first_again : At i (behind 3 mid) (op.LoadLocal other))
+          (less : At i (behind 4 mid) op.Less) (jump : At i (behind 5 mid) (op.JumpIfNotZero to)) (one_there : slice_get both one ≡ Some y)
+          (other_there : slice_get both other ≡ Some x) where
+        begun : Goes 6 (placed f mid (y ∷ x ∷ [])) (at (if int_lt y x then to else behind 6 mid) both [])
+        begun =
+            both_stored 4 end
+            (then_step quiet i schedule k u m fs calm 3 (at (behind 2 mid) both []) (at (behind 3 mid) both (y ∷ [])) end
+            (loads_local quiet i schedule k u m (at (behind 2 mid) both []) fs (behind 2 mid) one last_again y [] one_there)
+            (then_step quiet i schedule k u m fs calm 2 (at (behind 3 mid) both (y ∷ [])) (at (behind 4 mid) both (x ∷ y ∷ [])) end
+            (loads_local quiet i schedule k u m (at (behind 3 mid) both []) fs (behind 3 mid) other first_again x (y ∷ []) other_there)
+            (then_step quiet i schedule k u m fs calm 1 (at (behind 4 mid) both (x ∷ y ∷ [])) (at (behind 5 mid) both (word_of (int_lt y x) ∷ [])) end
+            (orders quiet i schedule k u m (at (behind 4 mid) both []) fs (behind 4 mid) less y x [])
+            (then_step quiet i schedule k u m fs calm 0 (at (behind 5 mid) both (word_of (int_lt y x) ∷ [])) end end
+            (jumps_if quiet i schedule k u m (at (behind 5 mid) both []) fs (behind 5 mid) to jump (int_lt y x) []) Done))))
+          where
+            end : Frame
+            end = at (if int_lt y x then to else behind 6 mid) both []
 
     -- in both directions
+    kept_by : (mid : ℕ) (reversed : Bool) → KeepsBounds i counter limit mid reversed → (x y : ℤ) → counter < length f.locals → limit < length f.locals
+        → (a : Activation) (held : List HeldWord) → RestsWith g v held a f.locals
+        → Goes 2 (placed f mid (y ∷ x ∷ []))
+        (at (behind 2 mid) (with_both kept sized g v inner laid sound name t slot limit holds (turn_first reversed x y) (turn_last reversed x y) f.locals) [])
+    kept_by mid false code x y first second a held rests =
+        both_stored limit counter mid code.last code.first x y second first
+        (with_both kept sized g v inner laid sound name t slot limit holds x y f.locals) refl 0
+        (at (behind 2 mid) (with_both kept sized g v inner laid sound name t slot limit holds x y f.locals) []) Done
+    kept_by mid true code x y first second a held rests =
+        both_stored counter limit mid code.last code.first x y first second
+        (with_both kept sized g v inner laid sound name t slot limit holds y x f.locals)
+        (both_swapped kept sized g v inner laid sound name t slot limit holds a f.locals held y x rests first second) 0
+        (at (behind 2 mid) (with_both kept sized g v inner laid sound name t slot limit holds y x f.locals) []) Done
+
     begun_by : (mid to : ℕ) (reversed : Bool) → Begins i counter limit mid to reversed → (x y : ℤ) → counter < length f.locals → limit < length f.locals
         → (a : Activation) (held : List HeldWord) → RestsWith g v held a f.locals
         → Goes 6 (placed f mid (y ∷ x ∷ []))
         (at (if int_lt y x then to else behind 6 mid)
         (with_both kept sized g v inner laid sound name t slot limit holds (turn_first reversed x y) (turn_last reversed x y) f.locals) [])
     begun_by mid to false code x y first second a held rests =
-        begun limit counter mid to code.last code.first code.last_again code.first_again code.less code.jump x y second first
-        (with_both kept sized g v inner laid sound name t slot limit holds x y f.locals) refl there.1.0 there.0
+        begun limit counter mid code.last code.first x y second first (with_both kept sized g v inner laid sound name t slot limit holds x y f.locals) refl
+        to code.last_again code.first_again code.less code.jump there.1.0 there.0
       where
         there : AreHeld (with_both kept sized g v inner laid sound name t slot limit holds x y f.locals) (in_turn counter limit x y held)
         there = turn_held kept sized g v inner laid sound name t slot limit holds a f.locals held x y rests first second
     begun_by mid to true code x y first second a held rests =
-        begun counter limit mid to code.last code.first code.last_again code.first_again code.less code.jump x y first second
-        (with_both kept sized g v inner laid sound name t slot limit holds y x f.locals)
-        (both_swapped kept sized g v inner laid sound name t slot limit holds a f.locals held y x rests first second) there.0 there.1.0
+        begun counter limit mid code.last code.first x y first second (with_both kept sized g v inner laid sound name t slot limit holds y x f.locals)
+        (both_swapped kept sized g v inner laid sound name t slot limit holds a f.locals held y x rests first second)
+        to code.last_again code.first_again code.less code.jump there.0 there.1.0
       where
         there : AreHeld (with_both kept sized g v inner laid sound name t slot limit holds y x f.locals) (in_turn counter limit y x held)
         there = turn_held kept sized g v inner laid sound name t slot limit holds a f.locals held y x rests first second
@@ -247,74 +277,120 @@ module _ (quiet : QuietStays) (kept : AgreementIsKept) (sized : ValuesHaveWords)
   -- ---- the parts of the loop
 
   -- the bounds and the first turn
-  pub is_range : (range : RangeTree) (reversed : Bool) (from middle mid to : ℕ) → from ≤ middle → middle ≤ mid
-      → Computes i (library_of g) (Sees g v.names) from middle range.first → Computes i (library_of g) (Sees g v.names) middle mid range.last
-      → ((p : Place) (view : View) (x y : ℤ) → Knows g v p view → bounds range (call p.frames_left) p ≡ Gives (number_bounds x y)
-      → (int_le t.first x && int_le y t.last) ≡ true)
-      → Begins i counter limit mid to reversed
-      → IsRange i g v inner counter limit from (behind 6 mid) to name reversed range t
-  is_range range reversed from middle mid to low high first last fitted code = record {
-    inside = λ p view x y knows gives full. turns_inside reversed x y (fitted p view x y knows gives) full;
-    mid = mid;
-    up = omega (arith, low, high);
-    over = omega arith;
-    stack = bounds_on;
-    computes = computes_bounds quiet i g v range from middle mid low high first last;
-    null = null;
-    begins = begins;
-  }
-    where
-      turns_inside : (r : Bool) (x y : ℤ) → (int_le t.first x && int_le y t.last) ≡ true → int_lt y x ≡ false
-          → are_turns_inside t r (turn_first r x y) (turn_last r x y) ≡ true
-      turns_inside true x y h k = first_inside t x y h k
-      turns_inside false x y h k = first_inside t x y h k
+  turns_inside : (r : Bool) (x y : ℤ) → (int_le t.first x && int_le y t.last) ≡ true → int_lt y x ≡ false
+      → are_turns_inside t r (turn_first r x y) (turn_last r x y) ≡ true
+  turns_inside true x y h k = first_inside t x y h k
+  turns_inside false x y h k = first_inside t x y h k
 
-      counter_in : (p : Place) (f : Frame) (schedule : List ScheduleLine) (k : Kernel) (u : ℕ) (m : Words) (fs : List Frame)
-          → Knows g v p (view_of i schedule k u m f fs) → counter < length f.locals
-      counter_in p f schedule k u m fs knows =
-          let r = knows.room in let h = parameter_fits kept sized g v inner laid sound name t slot limit holds in omega (arith, r, h)
+  counter_in : (p : Place) (f : Frame) (schedule : List ScheduleLine) (k : Kernel) (u : ℕ) (m : Words) (fs : List Frame)
+      → Knows g v p (view_of i schedule k u m f fs) → counter < length f.locals
+  counter_in p f schedule k u m fs knows =
+      let r = knows.room in let h = parameter_fits kept sized g v inner laid sound name t slot limit holds in omega (arith, r, h)
 
-      limit_in : (p : Place) (f : Frame) (schedule : List ScheduleLine) (k : Kernel) (u : ℕ) (m : Words) (fs : List Frame)
-          → Knows g v p (view_of i schedule k u m f fs) → limit < length f.locals
-      limit_in p f schedule k u m fs knows = let r = knows.room in let h = holds.room in omega (arith, r, h)
+  limit_in : (p : Place) (f : Frame) (schedule : List ScheduleLine) (k : Kernel) (u : ℕ) (m : Words) (fs : List Frame)
+      → Knows g v p (view_of i schedule k u m f fs) → limit < length f.locals
+  limit_in p f schedule k u m fs knows = let r = knows.room in let h = holds.room in omega (arith, r, h)
 
-      null : (schedule : List ScheduleLine) (k : Kernel) (u : ℕ) (m : Words) (f : Frame) (fs : List Frame) (held : List HeldWord) (a : Activation) (p : Place)
-          (x y : ℤ)
-          → Calm k u → p.locals ≡ a.locals → Knows g v p (view_of i schedule k u m f fs) → RestsWith g v held a f.locals
-          → bounds range (call p.frames_left) p ≡ Gives (number_bounds x y) → int_lt y x ≡ true
-          → GoesOn i g schedule k u m (placed f mid (bounds_on [] (number_bounds x y))) fs ((behind 6 mid) - mid) to v held a
-      null schedule k u m f fs held a p x y calm objects knows rests gives before =
-          let c = counter_in p f schedule k u m fs knows in
-          let l = limit_in p f schedule k u m fs knows in
-          record {
-            locals = both_words reversed x y f.locals;
-            spends = spends_more (behaviour i schedule) u frames_of (most_steps i) ((behind 6 mid) - mid) (omega arith)
-                (subst (λ b. Walks i schedule k u m fs 6 (placed f mid (y ∷ x ∷ []))
-                (record f { place = if b then to else behind 6 mid; locals = both_words reversed x y f.locals; stack = [] })) before
-                (begun_by schedule k u m f fs calm mid to reversed code x y c l a held rests));
-            rests = null_rests kept sized g v inner laid sound name t slot limit holds a f.locals held (turn_first reversed x y) (turn_last reversed x y)
-                rests c l;
-          }
+  module _ (range : RangeTree) (reversed : Bool) (from middle mid to : ℕ) (low : from ≤ middle) (high : middle ≤ mid)
+      (first : Computes i (library_of g) (Sees g v.names) from middle range.first)
+      (last : Computes i (library_of g) (Sees g v.names) middle mid range.last)
+      (fitted : (p : Place) (view : View) (x y : ℤ) → Knows g v p view → bounds range (call p.frames_left) p ≡ Gives (number_bounds x y)
+      → (int_le t.first x && int_le y t.last) ≡ true) where
+    tested_range : Begins i counter limit mid to reversed → IsRange i g v inner counter limit from (behind 6 mid) to name reversed range t
+    tested_range code = record {
+      inside = λ p view x y knows gives full. turns_inside reversed x y (fitted p view x y knows gives) full;
+      mid = mid;
+      up = omega (arith, low, high);
+      over = omega arith;
+      stack = bounds_on;
+      computes = computes_bounds quiet i g v range from middle mid low high first last;
+      null = null;
+      begins = begins;
+    }
+      where
+        null : (schedule : List ScheduleLine) (k : Kernel) (u : ℕ) (m : Words) (f : Frame) (fs : List Frame) (held : List HeldWord) (a : Activation)
+            (p : Place)
+            (x y : ℤ)
+            → Calm k u → p.locals ≡ a.locals → Knows g v p (view_of i schedule k u m f fs) → RestsWith g v held a f.locals
+            → bounds range (call p.frames_left) p ≡ Gives (number_bounds x y) → int_lt y x ≡ true
+            → GoesOn i g schedule k u m (placed f mid (bounds_on [] (number_bounds x y))) fs ((behind 6 mid) - mid) to v held a
+        null schedule k u m f fs held a p x y calm objects knows rests gives before =
+            let c = counter_in p f schedule k u m fs knows in
+            let l = limit_in p f schedule k u m fs knows in
+            record {
+              locals = both_words reversed x y f.locals;
+              spends = spends_more (behaviour i schedule) u frames_of (most_steps i) ((behind 6 mid) - mid) (omega arith)
+                  (subst (λ b. Walks i schedule k u m fs 6 (placed f mid (y ∷ x ∷ []))
+                  (record f { place = if b then to else behind 6 mid; locals = both_words reversed x y f.locals; stack = [] })) before
+                  (begun_by schedule k u m f fs calm mid to reversed code x y c l a held rests));
+              rests = null_rests kept sized g v inner laid sound name t slot limit holds a f.locals held (turn_first reversed x y) (turn_last reversed x y)
+                  rests c l;
+            }
 
-      begins : (schedule : List ScheduleLine) (k : Kernel) (u : ℕ) (m : Words) (f : Frame) (fs : List Frame) (held : List HeldWord) (a : Activation) (p : Place)
-          (x y : ℤ)
-          → Calm k u → p.locals ≡ a.locals → Knows g v p (view_of i schedule k u m f fs) → RestsWith g v held a f.locals
-          → bounds range (call p.frames_left) p ≡ Gives (number_bounds x y) → int_lt y x ≡ false
-          → GoesOn i g schedule k u m (placed f mid (bounds_on [] (number_bounds x y))) fs ((behind 6 mid) - mid) (behind 6 mid) inner
-          (in_turn counter limit (turn_first reversed x y) (turn_last reversed x y) held) (with_parameter name (turn_first reversed x y) a)
-      begins schedule k u m f fs held a p x y calm objects knows rests gives before =
-          let c = counter_in p f schedule k u m fs knows in
-          let l = limit_in p f schedule k u m fs knows in
-          record {
-            locals = both_words reversed x y f.locals;
-            spends = spends_more (behaviour i schedule) u frames_of (most_steps i) ((behind 6 mid) - mid) (omega arith)
-                (subst (λ b. Walks i schedule k u m fs 6 (placed f mid (y ∷ x ∷ []))
-                (record f { place = if b then to else behind 6 mid; locals = both_words reversed x y f.locals; stack = [] })) before
-                (begun_by schedule k u m f fs calm mid to reversed code x y c l a held rests));
-            rests = turn_rests kept sized g v inner laid sound name t slot limit holds a f.locals held (turn_first reversed x y) (turn_last reversed x y)
-                rests c l (turn_within t reversed (turn_first reversed x y) (turn_last reversed x y)
-                (turns_inside reversed x y (fitted p (view_of i schedule k u m f fs) x y knows gives) before));
-          }
+        begins : (schedule : List ScheduleLine) (k : Kernel) (u : ℕ) (m : Words) (f : Frame) (fs : List Frame) (held : List HeldWord) (a : Activation)
+            (p : Place)
+            (x y : ℤ)
+            → Calm k u → p.locals ≡ a.locals → Knows g v p (view_of i schedule k u m f fs) → RestsWith g v held a f.locals
+            → bounds range (call p.frames_left) p ≡ Gives (number_bounds x y) → int_lt y x ≡ false
+            → GoesOn i g schedule k u m (placed f mid (bounds_on [] (number_bounds x y))) fs ((behind 6 mid) - mid) (behind 6 mid) inner
+            (in_turn counter limit (turn_first reversed x y) (turn_last reversed x y) held) (with_parameter name (turn_first reversed x y) a)
+        begins schedule k u m f fs held a p x y calm objects knows rests gives before =
+            let c = counter_in p f schedule k u m fs knows in
+            let l = limit_in p f schedule k u m fs knows in
+            record {
+              locals = both_words reversed x y f.locals;
+              spends = spends_more (behaviour i schedule) u frames_of (most_steps i) ((behind 6 mid) - mid) (omega arith)
+                  (subst (λ b. Walks i schedule k u m fs 6 (placed f mid (y ∷ x ∷ []))
+                  (record f { place = if b then to else behind 6 mid; locals = both_words reversed x y f.locals; stack = [] })) before
+                  (begun_by schedule k u m f fs calm mid to reversed code x y c l a held rests));
+              rests = turn_rests kept sized g v inner laid sound name t slot limit holds a f.locals held (turn_first reversed x y) (turn_last reversed x y)
+                  rests c l (turn_within t reversed (turn_first reversed x y) (turn_last reversed x y)
+                  (turns_inside reversed x y (fitted p (view_of i schedule k u m f fs) x y knows gives) before));
+            }
+
+    -- the range is never null
+    kept_range : ((p : Place) (view : View) (x y : ℤ) → Knows g v p view → bounds range (call p.frames_left) p ≡ Gives (number_bounds x y)
+        → int_lt y x ≡ false)
+        → KeepsBounds i counter limit mid reversed → IsRange i g v inner counter limit from (behind 2 mid) to name reversed range t
+    kept_range never code = record {
+      inside = λ p view x y knows gives full. turns_inside reversed x y (fitted p view x y knows gives) full;
+      mid = mid;
+      up = omega (arith, low, high);
+      over = omega arith;
+      stack = bounds_on;
+      computes = computes_bounds quiet i g v range from middle mid low high first last;
+      null = λ schedule k u m f fs held a p x y calm objects knows rests gives before.
+          absurd (let not_so = sym before ∙ never p (view_of i schedule k u m f fs) x y knows gives in cc);
+      begins = begins;
+    }
+      where
+        begins : (schedule : List ScheduleLine) (k : Kernel) (u : ℕ) (m : Words) (f : Frame) (fs : List Frame) (held : List HeldWord) (a : Activation)
+            (p : Place)
+            (x y : ℤ)
+            → Calm k u → p.locals ≡ a.locals → Knows g v p (view_of i schedule k u m f fs) → RestsWith g v held a f.locals
+            → bounds range (call p.frames_left) p ≡ Gives (number_bounds x y) → int_lt y x ≡ false
+            → GoesOn i g schedule k u m (placed f mid (bounds_on [] (number_bounds x y))) fs ((behind 2 mid) - mid) (behind 2 mid) inner
+            (in_turn counter limit (turn_first reversed x y) (turn_last reversed x y) held) (with_parameter name (turn_first reversed x y) a)
+        begins schedule k u m f fs held a p x y calm objects knows rests gives before =
+            let c = counter_in p f schedule k u m fs knows in
+            let l = limit_in p f schedule k u m fs knows in
+            record {
+              locals = both_words reversed x y f.locals;
+              spends = spends_more (behaviour i schedule) u frames_of (most_steps i) ((behind 2 mid) - mid) (omega arith)
+                  (kept_by schedule k u m f fs calm mid reversed code x y c l a held rests);
+              rests = turn_rests kept sized g v inner laid sound name t slot limit holds a f.locals held (turn_first reversed x y) (turn_last reversed x y)
+                  rests c l (turn_within t reversed (turn_first reversed x y) (turn_last reversed x y)
+                  (turns_inside reversed x y (fitted p (view_of i schedule k u m f fs) x y knows gives) before));
+            }
+
+    pub is_range : (full : Bool) (start : ℕ)
+        → (full ≡ true → (p : Place) (view : View) (x y : ℤ) → Knows g v p view → bounds range (call p.frames_left) p ≡ Gives (number_bounds x y)
+        → int_lt y x ≡ false)
+        → Opens i counter limit mid start to reversed full → IsRange i g v inner counter limit from start to name reversed range t
+    is_range full start never (Tests code at) =
+        subst (λ n. IsRange i g v inner counter limit from n to name reversed range t) (sym at) (tested_range code)
+    is_range full start never (Keeps code is at) =
+        subst (λ n. IsRange i g v inner counter limit from n to name reversed range t) (sym at) (kept_range (never is) code)
 
   -- the end of a turn
   pub is_next : (reversed : Bool) (back to : ℕ) → Advances i counter limit back to reversed → IsTurnEnd i g inner counter limit back (behind 8 back) to name reversed t
@@ -353,10 +429,10 @@ module _ (quiet : QuietStays) (kept : AgreementIsKept) (sized : ValuesHaveWords)
       }
 
   -- the whole loop around its statements
-  abbrev pub is_counted : (reversed : Bool) (from start back to : ℕ) → from + 2 ≤ start → start ≤ back → to ≡ suc (behind 8 back) → At i from (op.Jump (from + 2))
-      → At i (from + 1) (op.Jump to) → Advances i counter limit back to reversed → At i (behind 8 back) (op.Jump start)
+  abbrev pub is_counted : (reversed : Bool) (from start back to : ℕ) → from ≤ start → start ≤ back → to ≡ suc (behind 8 back)
+      → Advances i counter limit back to reversed → At i (behind 8 back) (op.Jump start)
       → IsCounted i g v from to name reversed
-  is_counted reversed from start back to up over end skip out code jump = record {
+  is_counted reversed from start back to up over end code jump = record {
     counter = counter;
     limit = limit;
     inner = inner;
@@ -368,36 +444,43 @@ module _ (quiet : QuietStays) (kept : AgreementIsKept) (sized : ValuesHaveWords)
     over = over;
     on = omega arith;
     end = end;
-    skip = skip;
-    out = out;
     next = is_next reversed back to code;
     jump = jump;
     shows = parameter_shows kept sized g v inner laid sound name t slot limit holds;
     reserved = holds.reserved;
   }
 
-  -- the statement: a jump over the way out, the way out, the bounds, the statements of a turn, its end, and a jump back to them
+  -- the statement: jumps to the bounds, these, the statements of a turn, its end, and a jump back to them; and from the way out jumps to the end
   pub stands_counted : (program : Program) (numbers : Numbers) (w : Ways) (handling : Handling) (parameter : Identifier) → parameter.name ≡ name → (place : ℕ) (reversed : Bool)
-      (range : RangeTree) (body : StmtTrees) (from middle mid back to : ℕ)
-      → from + 2 ≤ middle → middle ≤ mid → behind 6 mid ≤ back → to ≡ suc (behind 8 back)
-      → At i from (op.Jump (from + 2)) → At i (from + 1) (op.Jump to)
-      → Computes i (library_of g) (Sees g v.names) (from + 2) middle range.first → Computes i (library_of g) (Sees g v.names) middle mid range.last
+      (range : RangeTree) (body : StmtTrees) (full : Bool) (from begin out middle mid start back to : ℕ)
+      → from ≤ begin → from ≤ out → out ≤ to → Jumps i from begin → Jumps i out to
+      → begin ≤ middle → middle ≤ mid → mid ≤ start → start ≤ back → to ≡ suc (behind 8 back)
+      → Computes i (library_of g) (Sees g v.names) begin middle range.first → Computes i (library_of g) (Sees g v.names) middle mid range.last
       → ((p : Place) (view : View) (x y : ℤ) → Knows g v p view → bounds range (call p.frames_left) p ≡ Gives (number_bounds x y)
       → (int_le t.first x && int_le y t.last) ≡ true)
-      → Begins i counter limit mid to reversed
-      → AreStatements i program g numbers inner (within_loop (from + 1) w) handling (behind 6 mid) back body
-      → Advances i counter limit back to reversed → At i (behind 8 back) (op.Jump (behind 6 mid))
-      → GoesBy i handling (from + 2) (behind 6 mid) → GoesBy i handling back to
+      → (full ≡ true → (p : Place) (view : View) (x y : ℤ) → Knows g v p view → bounds range (call p.frames_left) p ≡ Gives (number_bounds x y)
+      → int_lt y x ≡ false)
+      → Opens i counter limit mid start to reversed full
+      → AreStatements i program g numbers inner (within_loop out w) handling start back body
+      → Advances i counter limit back to reversed → At i (behind 8 back) (op.Jump start)
+      → GoesBy i handling begin start → GoesBy i handling back to
       → IsStatement i program g numbers v w handling from to (Loop place (For parameter reversed range) body)
-  stands_counted program numbers w handling parameter same place reversed range body from middle mid back to low high over end skip out first last fitted begin statements code
-      jump bounds_go turns_go =
+  stands_counted program numbers w handling parameter same place reversed range body full from begin out middle mid start back to down above below skips way low high up over end
+      first last fitted never opens statements code jump bounds_go turns_go =
       subst
-      (λ q. (c : IsCounted i g v from to q reversed)
-      × IsRange i g v c.inner c.counter c.limit (from + 2) c.start to q reversed range c.subtype
-      × AreStatements i program g numbers c.inner (within_loop (from + 1) w) handling c.start c.back body × GoesBy i handling (from + 2) c.start
+      (λ q. (s : ℕ) × (o : ℕ) × (from ≤ s) × (from ≤ o) × (o ≤ to) × Jumps i from s × Jumps i o to × (c : IsCounted i g v s to q reversed)
+      × IsRange i g v c.inner c.counter c.limit s c.start to q reversed range c.subtype
+      × AreStatements i program g numbers c.inner (within_loop o w) handling c.start c.back body × GoesBy i handling s c.start
       × GoesBy i handling c.back to) (sym same) (
-        is_counted reversed from (behind 6 mid) back to (omega (arith, low, high)) over end skip out code jump,
-        is_range range reversed (from + 2) middle mid to low high first last fitted begin,
+        begin,
+        out,
+        down,
+        above,
+        below,
+        skips,
+        way,
+        is_counted reversed begin start back to (omega (arith, low, high, up)) over end code jump,
+        is_range range reversed begin middle mid to low high first last fitted full start never opens,
         statements,
         bounds_go,
         turns_go,

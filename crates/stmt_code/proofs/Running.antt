@@ -1,4 +1,4 @@
--- The code of a body up to its end: its declarations, the way out, and its statements.
+-- The code of a body up to its end: its declarations, the way out, if its statements return, and these.
 use Rattle.std.proofs.Common.{◌≡◌, ℕ, suc, ◌+◌, ◌≤◌, List, map, None, Some, refl, sym, ap, ◌∙◌, subst, arith}
 use Rattle.std.specs.Prelude.{slice_get}
 use Rattle.ada_tree.specs.declared.declaration.Declaration.{Declaration}
@@ -14,15 +14,18 @@ use Rattle.expr_code.specs.Code.{Extends, Holds, Patches, StandsFrom, here}
 use Rattle.expr_code.specs.Flows.{AreKeptBetween}
 use Rattle.expr_code.specs.declared.visible.Visible.{Visible}
 use Rattle.expr_code.proofs.Flowing.{kept_then}
-use Rattle.expr_code.proofs.Growing.{added_extends, added_here, extends_trans, holds_before, patched_extends, patched_here, patched_holds, patched_other}
-use Rattle.part_code.specs.Handling.{GoesBy}
+use Rattle.expr_code.proofs.Growing.{added_extends, added_here, extends_trans, holds_before, holds_later, patched_extends, patched_here, patched_holds, patched_other}
+use Rattle.part_code.specs.Handling.{GoesBy, unhandled}
+use Rattle.part_code.specs.Jumping.{Here, There}
 use Rattle.part_code.specs.Bounds.{handlers_words, stmts_words}
 use Rattle.stmt_code.specs.Covering.{EmitsSequence}
-use Rattle.stmt_code.specs.Emitting.{Allows, EmitsDeclarations, EmitsRun, HasLabels, Serves, seeing}
-use Rattle.part_code.specs.Emitting.{BeginsLoop, IsReachable}
+use Rattle.stmt_code.specs.Emitting.{Allows, EmitsDeclarations, EmitsRun, HasLabels, Serves, no_ways, seeing}
+use Rattle.part_code.specs.Emitting.{IsReachable, SkipsWay}
 use Rattle.part_code.specs.Statements.{IsSequence, Ways}
+use Rattle.part_code.specs.declared.frame_words.FrameWords.{FrameWords}
 use Rattle.stmt_code.specs.declared.draft.Draft.{Draft}
-use Rattle.stmt_code.proofs.Adding.{IsBeside, labels_before, labels_beside, labels_then, most_beside, taken_beside}
+use Rattle.stmt_code.proofs.Adding.{IsBeside, given_back, labels_before, labels_beside, labels_then, most_beside, taken_beside}
+use Rattle.part_code.proofs.OpenWays.{opens_return, sequence_opened}
 use Rattle.part_code.proofs.Jumps.{depth_there, jump_kept}
 use Rattle.part_code.proofs.Jumps.{added_is, patched_is}
 use Rattle.part_code.proofs.Lists.{some_same}
@@ -35,7 +38,7 @@ returning out = record { exit = None; return = Some out; handled = None }
 
 module _ (v later : Visible) (a b c d e : Draft) (ds : List DeclarationTree) (body : StmtTrees) (all : HandlerTrees) (out end : ℕ)
     (p : EmitsDeclarations v a ds later b)
-    (begins : BeginsLoop b.code c.code) (same : IsBeside b c) (out_is : out ≡ here b.code + 1) (q : EmitsSequence later (returning out) c body all d)
+    (begins : SkipsWay b.code c.code) (same : IsBeside b c) (out_is : out ≡ here b.code + 1) (q : EmitsSequence later (returning out) c body all d)
     (end_is : end ≡ here d.code) (patch : Patches d.code out (op.Jump end) e.code) (labels : e.labels ≡ d.labels)
     (kept : KeepsRows d e)
     (words : e.words ≡ record d.words { taken = a.words.taken }) where
@@ -130,15 +133,21 @@ module _ (v later : Visible) (a b c d e : Draft) (ds : List DeclarationTree) (bo
         record {
           later = seeing f later;
           mid = here b.code;
+          start = here b.code + 2;
+          out = here b.code + 1;
           up = p.extends.longer;
+          down = omega arith;
           over = omega (arith, one, two, three, q.extends.longer);
+          below = omega arith;
+          high = omega (arith, one, two, three, q.extends.longer);
           declared = front.0;
           uncovered =
               subst (λ q. GoesBy i q (here a.code) (here b.code)) none
               (goes_within i handling (here a.code) (here a.code) (here b.code) (here c.code)
               (goes_front a c d e around q.rows i program handling goes) (omega arith) (omega (arith, one, two)));
-          skip = (0, at_skip i h);
-          way = subst (λ n. At i n (op.Jump (here e.code))) out_is (subst (λ m. At i out (op.Jump m)) end_here (0, at_way i h));
+          skip = There (0, at_skip i h) (omega arith) Here;
+          way = There (subst (λ n. At i n (op.Jump (here e.code))) out_is (subst (λ m. At i out (op.Jump m)) end_here (0, at_way i h)))
+              (omega (arith, one, two, three, q.extends.longer)) Here;
           statements =
               subst (λ z. IsSequence i program g numbers (seeing f later) (returning (here b.code + 1)) z (here b.code + 2) (here e.code) body all) none
               (subst (λ n. IsSequence i program g numbers (seeing f later) (returning n) handling (here b.code + 2) (here e.code) body all) out_is
@@ -188,6 +197,65 @@ module _ (v later : Visible) (a b c d e : Draft) (ds : List DeclarationTree) (bo
         (subst (λ n. AreKeptBetween i s low high out n 0) (let k : suc out ≡ here c.code = omega (arith, out_is, one, two) in k) leave))
         (subst (λ n. AreKeptBetween i s low high (here c.code) n 0) (sym three) kept));
   }
+
+-- the words of the names of a body are free again
+pub given_same : (a c : Draft) (words : FrameWords) → words ≡ record c.words { taken = a.words.taken } → record c { words = words } ≡ given_back a c
+given_same a c words same = ap (λ w. record c { words = w }) same
+
+-- where its statements return nowhere
+pub plain_run_emits : (v later : Visible) (a b c d : Draft) (ds : List DeclarationTree) (body : StmtTrees) (all : HandlerTrees) → EmitsDeclarations v a ds later b
+    → EmitsSequence later no_ways b body all c → d ≡ given_back a c → EmitsRun v a ds body all d
+plain_run_emits v later a b c d ds body all p q same =
+    let around : Surrounds a b c (given_back a c) = record {
+      begun = (p.rows, p.exceptions);
+      ended = (refl, refl);
+      up = p.extends.longer;
+      mid = q.extends.longer;
+      over = omega arith;
+      still = λ place h. h;
+    } in
+    subst (EmitsRun v a ds body all) (sym same) (record {
+      extends = extends_trans a.code b.code c.code p.extends q.extends;
+      labels = labels_then a.labels b.labels c.labels p.labels q.labels;
+      taken = refl;
+      most = omega (arith, p.most, q.most);
+      sized = (let k = ap (λ s. stmts_words s body) p.scope in let m = ap (λ s. handlers_words s all) p.scope in omega (arith, p.sized, q.sized, k, m));
+      rows = rows_around a b c (given_back a c) around q.rows;
+      stands = λ i h l program g numbers f names serves room handling goes none.
+          let declared = p.stands i (holds_before i (here a.code) b.code c.code q.extends h) (labels_before i b.labels c.labels q.labels l) program g numbers f names
+          serves (omega (arith, q.most, room)) in
+          record {
+            later = seeing f later;
+            mid = here b.code;
+            start = here b.code;
+            out = here c.code;
+            up = p.extends.longer;
+            down = omega arith;
+            over = q.extends.longer;
+            below = q.extends.longer;
+            high = omega arith;
+            declared = declared.0;
+            uncovered = subst (λ r. GoesBy i r (here a.code) (here b.code)) none (goes_front a b c (given_back a c) around q.rows i program handling goes);
+            skip = Here;
+            way = Here;
+            statements =
+                sequence_opened i program g numbers (seeing f later) no_ways (record no_ways { return = Some (here c.code) }) (opens_return (here c.code) no_ways) unhandled (here b.code) (here c.code) body all
+                (subst (λ r. IsSequence i program g numbers (seeing f later) no_ways r (here b.code) (here c.code) body all) none
+                (q.stands i (holds_later i (here a.code) (here b.code) c.code p.extends.longer h) l program g numbers (seeing f later) refl declared.1 room handling
+                (handled_inside a b c (given_back a c) around q.rows i program handling goes)));
+          };
+      tells = λ i h l program g numbers f names serves room handling goes.
+          let declared = p.stands i (holds_before i (here a.code) b.code c.code q.extends h) (labels_before i b.labels c.labels q.labels l) program g numbers f names
+          serves (omega (arith, q.most, room)) in
+          q.tells i (holds_later i (here a.code) (here b.code) c.code p.extends.longer h) l program g numbers (seeing f later) refl declared.1 room handling
+          (handled_inside a b c (given_back a c) around q.rows i program handling goes);
+      flows = λ i s low high down up h l suits deep wide ends ways.
+          let second = q.flows i s low high (omega (arith, down, p.extends.longer)) up (holds_later i (here a.code) (here b.code) c.code p.extends.longer h) l
+          (p.suits i s suits (omega (arith, q.most, wide))) deep wide ends ways in
+          let first = p.flows i s low high down (omega (arith, up, q.extends.longer)) (holds_before i (here a.code) b.code c.code q.extends h) suits
+          (omega (arith, q.extends.deeper, deep)) (omega (arith, q.most, wide)) second.begins in
+          kept_then i s low high (here a.code) (here b.code) (here c.code) 0 0 first second;
+    })
 
 -- ---- the parts of a body, as they are handed on
 

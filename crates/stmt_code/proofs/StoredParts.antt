@@ -94,7 +94,7 @@ module _ (kept : AgreementIsKept) (sized : ValuesHaveWords) (calls : CallsAreTyp
     pub place : slot_of y name.first.name ≡ Some slot
     pub known : IsKnown y.scope t
     pub typed : IsTypedAs y last e
-    pub path : IsPath i (library_of g) (Sees g y) (suc (here a.code)) (here m) t (shape_of y.scope t) name.selectors last (shape_of y.scope last)
+    pub path : IsPath i (library_of g) (Sees g y) (suc (here a.code)) (here m) p.shift t (shape_of y.scope t) name.selectors last (shape_of y.scope last)
     pub computes : ComputesChecked i (library_of g) (Sees g y) (here m) (here n) last e
     pub words : size ≡ words_of y.scope last
 
@@ -132,11 +132,11 @@ module _ (kept : AgreementIsKept) (sized : ValuesHaveWords) (calls : CallsAreTyp
         either_way
         (λ s.
         assigns_component kept sized calls quiet i program g numbers f name e r t last slot laid y.object variable y.place y.known y.typed (here a.code)
-        (here m) (shape_of f.names.scope last) refl y.path (here n) first q.extends.longer (p.pushes i in_address) y.computes (sym y.words ∙ s.0)
+        (here m) (shape_of f.names.scope last) refl p.shift p.near y.path (here n) first q.extends.longer (p.pushes i in_address) y.computes (sym y.words ∙ s.0)
         (subst (At i (here n)) (sym s.1) at_store))
         (λ s.
         assigns_components kept sized calls quiet i program g numbers f name e r t last slot laid y.object variable y.place y.known y.typed (here a.code)
-        (here m) (shape_of f.names.scope last) refl y.path (here n) first q.extends.longer (p.pushes i in_address) y.computes
+        (here m) (shape_of f.names.scope last) refl p.shift p.near y.path (here n) first q.extends.longer (p.pushes i in_address) y.computes
         (subst (λ k. At i (here n) (op.StoreBlock slot.region k)) y.words (subst (At i (here n)) (sym s) at_store)))
         it.is
 

@@ -11,9 +11,9 @@ use Rattle.expr_code.specs.Flows.{Flows}
 use Rattle.expr_code.specs.declared.code.Code.{Code}
 use Rattle.expr_code.proofs.Flowing.{Changes, flows_same, flows_then, instruction_flows}
 use Rattle.expr_code.proofs.Growing.{added_extends, added_here, added_there, extends_self, extends_trans, holds_before}
-use Rattle.part_code.specs.Turns.{AddsAll, bounds_compared, next_operation, value_counted, values_compared, word_of_first, word_of_last}
+use Rattle.part_code.specs.Turns.{AddsAll, bounds_compared, bounds_stored, next_operation, value_counted, values_compared, word_of_first, word_of_last}
 use Rattle.part_code.specs.declared.turns.Turns.{Turns}
-use Rattle.stmt_code.proofs.Ranging.{Advances, Begins}
+use Rattle.stmt_code.proofs.Ranging.{Advances, Begins, KeepsBounds}
 use Rattle.part_code.proofs.ObjectNames.{less_true}
 use Rattle.part_code.proofs.Walking.{behind}
 
@@ -170,6 +170,9 @@ module _ (t : Turns) where
     ),
   )
 
+  stored_changes : AreChanges HasBoth 2 (bounds_stored t) 0
+  stored_changes = (1, refl, stores (word_of_last t) 1 of_last, (0, refl, stores (word_of_first t) 0 of_first, refl))
+
   values_changes : AreChanges HasBoth 0 (values_compared t) 1
   values_changes = (1, refl, loads t.counter 0 of_counter, (2, refl, loads t.limit 1 of_limit, (1, refl, compares, refl)))
 
@@ -179,6 +182,9 @@ module _ (t : Turns) where
 
   pub bounds_flow : (old new : Code) → AddsAll old (bounds_compared t) new → Flows HasBoth old 2 new 1
   bounds_flow old new adds = all_flows HasBoth old new 2 1 (bounds_compared t) bounds_changes adds
+
+  pub stored_flow : (old new : Code) → AddsAll old (bounds_stored t) new → Flows HasBoth old 2 new 0
+  stored_flow old new adds = all_flows HasBoth old new 2 0 (bounds_stored t) stored_changes adds
 
   pub values_flow : (old new : Code) → AddsAll old (values_compared t) new → Flows HasBoth old 0 new 1
   values_flow old new adds = all_flows HasBoth old new 0 1 (values_compared t) values_changes adds
@@ -192,6 +198,9 @@ module _ (t : Turns) where
       → Begins i t.counter t.limit mid to t.reversed
   begins_by i mid to (last, (first, (last_again, (first_again, (less, none))))) jump =
       record { last = last; first = first; last_again = last_again; first_again = first_again; less = less; jump = jump }
+
+  pub keeps_by : (i : Sections) (mid : ℕ) → StandAll i mid (bounds_stored t) → KeepsBounds i t.counter t.limit mid t.reversed
+  keeps_by i mid (last, (first, none)) = record { last = last; first = first }
 
   pub advances_by : (i : Sections) (back to : ℕ) → StandAll i back (values_compared t) → At i (behind 3 back) (op.JumpIfNotZero to)
       → StandAll i (behind 4 back) (value_counted t) → Advances i t.counter t.limit back to t.reversed

@@ -13,6 +13,7 @@ use Rattle.expr_code.specs.declared.visible.Visible.{Visible}
 use Rattle.part_code.specs.Bounds.{alternatives_bound}
 use Rattle.stmt_code.specs.Emitting.{EmitsOpen, HasWays, MeantTo}
 use Rattle.part_code.specs.Statements.{AreAlternatives, Ways}
+use Rattle.stmt_code.specs.Leaves.{alternatives_leave}
 use Rattle.stmt_code.specs.Placing.{alternatives_within}
 use Rattle.stmt_code.specs.declared.draft.Draft.{Draft}
 
@@ -21,7 +22,7 @@ use Rattle.stmt_code.specs.declared.draft.Draft.{Draft}
 -- no rule and no restriction is broken in alternatives for values of this expression, behind others that choose some values, with these ways out
 pub record AreAcceptedAlternatives (s : Scope) (w : Ways) (e : ExprTree) (all : AlternativeTrees) : Type 0 where
   pub around : Around
-  pub ways : HasWays w around
+  pub ways : HasWays w around (alternatives_leave all)
   pub before : List Scalar
   pub unbroken : alternatives_faults s around (choices_wanted s (own_of s e)) before all ≡ []
   pub restricted : restrictions.alternatives_faults all ≡ []

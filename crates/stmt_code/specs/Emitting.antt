@@ -1,8 +1,8 @@
 -- What methods that add the code of statements promise.
 use Rattle.std.specs.List.{All}
-use Rattle.std.specs.Prelude.{◌≡◌, ◌≢◌, ℕ, ◌+◌, ◌≤◌, ◌<◌, true, List, [], ◌∷◌, ◌++◌, length, take, Option, Some, None, is_some, slice_get, ⊤}
+use Rattle.std.specs.Prelude.{◌≡◌, ◌≢◌, ℕ, ◌+◌, ◌≤◌, ◌<◌, Bool, true, List, [], ◌∷◌, ◌++◌, length, take, Option, Some, None, is_some, slice_get, ⊤}
 use Rattle.ada_tree.specs.ExpressionTree.{ExprTree, ArgumentTree}
-use Rattle.ada_tree.specs.StatementTree.{DeclarationTree, ElsifTrees, HandlerTrees, MoreElsifs, StmtTree, StmtTrees, elsifs_of}
+use Rattle.ada_tree.specs.StatementTree.{DeclarationTree, ElsifTrees, HandlerTrees, If, MoreElsifs, NoElsifs, NoStmts, StmtTree, StmtTrees, elsifs_of}
 use Rattle.handlers.specs.Nesting.{all_nested}
 use Rattle.handlers.specs.declared.rows.Row.{Row}
 use Rattle.image.specs.Sections.{Sections}
@@ -41,6 +41,9 @@ use Rattle.part_code.specs.Rows.{LiesWithin}
 use Rattle.part_code.specs.Statements.{AreDeclared, AreStatements, IsOtherwise, IsRun, IsStatement, Numbers, Ways}
 use Rattle.stmt_code.specs.declared.draft.Draft.{Draft}
 use Rattle.stmt_code.specs.declared.tables.PlaceRow.{PlaceRow}
+use Rattle.stmt_code.specs.Leaves.{any_leave, elsifs_leave, handlers_leave, leaves}
+use Rattle.stmt_code.specs.declared.leaves.WayOut.{WayOut}
+use Rattle.stmt_code.specs.declared.leaves.WayOut.TheVariants as way
 use Rattle.stmt_code.specs.Placing.{AreInnermostFirst, StandsBetween, elsifs_within, sequence_within, stmt_place, stmt_within, stmts_within}
 use Rattle.part_code.specs.Emitting.{IsReachable, HasEntries}
 use Rattle.types.specs.declared.entity.FormalParameter.{FormalParameter}
@@ -54,37 +57,37 @@ pub record IsLegalStatement (s : Scope) (x : StmtTree) : Type 0 where
   pub around : Around
   pub unbroken : stmt_faults s around x ≡ []
 
--- What is known of the ways out, where a statement stands in the body of no function: that of the loop around it, if one is, that of the body, and the word
--- with the exception of the handler around it, if one is.
-pub record HasWays (w : Ways) (a : Around) : Type 0 where
-  pub exit : a.in_loop ≡ true → is_some w.exit ≡ true
-  pub return : is_some w.return ≡ true
+-- What is known of the ways out, where a statement stands in the body of no function: that of the loop around it, if one is, and that of the body are there if
+-- it takes them; and the word with the exception of the handler around it is, if one is.
+pub record HasWays (w : Ways) (a : Around) (taken : WayOut → Bool) : Type 0 where
+  pub exit : a.in_loop ≡ true → taken way.Exit ≡ true → is_some w.exit ≡ true
+  pub return : taken way.Return ≡ true → is_some w.return ≡ true
   pub handled : a.in_handler ≡ true → is_some w.handled ≡ true
   pub gives_nothing : (t : Option ℕ) → a.kind ≢ kinds.Function t
 
 -- no rule and no restriction is broken in a statement that has these ways out; in statements, and in parts of an `if`
 pub record IsAcceptedStatement (s : Scope) (w : Ways) (x : StmtTree) : Type 0 where
   pub around : Around
-  pub ways : HasWays w around
+  pub ways : HasWays w around (leaves x)
   pub unbroken : stmt_faults s around x ≡ []
   pub restricted : restrictions.stmt_faults x ≡ []
 
 pub record AreAcceptedStatements (s : Scope) (w : Ways) (body : StmtTrees) : Type 0 where
   pub around : Around
-  pub ways : HasWays w around
+  pub ways : HasWays w around (any_leave body)
   pub unbroken : stmts_faults s around body ≡ []
   pub restricted : restrictions.stmts_faults body ≡ []
 
 pub record AreAcceptedElsifs (s : Scope) (w : Ways) (all : ElsifTrees) : Type 0 where
   pub around : Around
-  pub ways : HasWays w around
+  pub ways : HasWays w around (elsifs_leave all)
   pub unbroken : elsifs_faults s around all ≡ []
   pub restricted : restrictions.elsifs_faults all ≡ []
 
 -- ... in handlers, behind others that name some exceptions
 pub record AreAcceptedHandlers (s : Scope) (w : Ways) (all : HandlerTrees) : Type 0 where
   pub around : Around
-  pub ways : HasWays w around
+  pub ways : HasWays w around (handlers_leave all)
   pub before : List (List ℕ)
   pub unbroken : more_handlers_faults s around before all ≡ []
   pub restricted : restrictions.handlers_faults all ≡ []
@@ -304,6 +307,10 @@ pub record AddsParts (v : Visible) (w : Ways) (old : Draft) (all : List (ExprTre
   pub after_is : after ≡ before ++ waiting
   pub emits : EmitsOpen (AreParts w all) v w 0 old (elsifs_bound v.scope (elsifs_of all)) (elsifs_within (elsifs_of all)) waiting new
 
+-- an `if` with one part alone
+abbrev pub only_if : ℕ → ExprTree → StmtTrees → StmtTree
+only_if place condition body = If place condition body NoElsifs NoStmts
+
 -- ---- bodies
 
 -- no rule and no restriction is broken in the declarations, the statements and the handlers of a body, which is that of no function
@@ -318,7 +325,7 @@ pub record IsAcceptedRun (s : Scope) (ds : List DeclarationTree) (body : StmtTre
 abbrev pub no_ways : Ways
 no_ways = record { exit = None; return = None; handled = None }
 
--- the code of all was added, with a way out of the body in front of the statements, where nothing is handled around
+-- the code of all was added, with a way out of the body in front of the statements if these return, where nothing is handled around
 abbrev pub EmitsRun : Visible → Draft → List DeclarationTree → StmtTrees → HandlerTrees → Draft → Type 0
 EmitsRun v old ds body all new =
     Emits (λ i program g numbers f handling from to. handling ≡ unhandled → IsRun i program g numbers f from to ds body all) v no_ways old

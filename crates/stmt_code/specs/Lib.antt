@@ -3,6 +3,7 @@ pub mod Placing
 pub mod Emitting
 pub mod Alternatives
 pub mod Covering
+pub mod Leaves
 pub mod Subprograms
 pub mod Whole
 pub mod Turns

@@ -9,15 +9,16 @@ ghost use Rattle.stmt_code.specs.Refusing.{RefusesRun};
 ghost use Rattle.expr_soundness.specs.SoundScopes.{SoundScope};
 
 use crate::draft::Draft;
+use crate::leaves::body_returns;
 use ada_tree::{Declaration, Handler, Stmt};
 use declaring::laws::names_are_added;
 use expr_code::{Refusal, Visible};
 use image::Operation;
-use part_code::{Extent, Leaving, begin_loop};
+use part_code::{Extent, Leaving, begin_way};
 
 impl Draft {
-    /// Adds the code of a body up to its end: its declarations, a jump over the way out, the way out, and its statements with their handlers. A return leads to
-    /// the way out, and so to the end.
+    /// Adds the code of a body up to its end: its declarations, a jump over the way out and the way out, if a return stands in it, and its statements with
+    /// their handlers. A return leads to the way out, and so to the end.
     pub fn run(
         &mut self,
         visible: &mut Visible,
@@ -40,16 +41,25 @@ impl Draft {
         names_are_added();
         let extent = Extent::of(visible, self.words);
         self.declarations(visible, declarations)?;
-        let head = begin_loop(&mut self.code)?;
+        if !body_returns(statements, all) {
+            let plain = Leaving {
+                exit: None,
+                return_: None,
+                handled: None,
+            };
+            self.sequence(visible, plain, statements, all)?;
+            extent.restore(visible, &mut self.words);
+            return Ok(());
+        }
+        let out = begin_way(&mut self.code)?;
         let leaving = Leaving {
             exit: None,
-            return_: Some(head.exit),
+            return_: Some(out),
             handled: None,
         };
         self.sequence(visible, leaving, statements, all)?;
         let end = self.code.end()?;
-        self.code
-            .patch(usize::from(head.exit), Operation::Jump(end));
+        self.code.patch(usize::from(out), Operation::Jump(end));
         extent.restore(visible, &mut self.words);
         Ok(())
     }

@@ -11,6 +11,7 @@ mod draft;
 mod formals;
 mod handler;
 pub mod laws;
+mod leaves;
 mod marking;
 mod moving;
 mod put;

@@ -7,10 +7,11 @@ ghost use Rattle.stmt_code.specs.Emitting.{EmitsStatement, IsAcceptedStatement};
 ghost use Rattle.part_code.specs.Providing.{HasWhatCodeNeeds};
 ghost use Rattle.part_code.specs.Emitting.{HasEntries, ways_of};
 ghost use Rattle.stmt_code.specs.Refusing.{RefusesRange, RefusesStatement};
-ghost use Rattle.stmt_code.specs.Turns.{BeginsRange};
+ghost use Rattle.stmt_code.specs.Turns.{BeginsRange, is_full};
 ghost use Rattle.expr_soundness.specs.SoundScopes.{SoundScope};
 
 use crate::draft::Draft;
+use crate::leaves::any_exits;
 use ada_tree::{Identifier, Range, Stmt};
 use declaring::declare_loop_parameter;
 use declaring::laws::names_are_added;
@@ -22,16 +23,25 @@ use image::{Operation, Region};
 use kernel::laws::quiet_stays;
 use part_code::{Extent, Head, Leaving, Turns, begin_loop, end_loop};
 use types::laws::{shapes_stay, values_have_words};
+use types::{Scope, bounds};
+
+// Whether the range has a value, whatever its bounds are worth.
+fn is_full(scope: &Scope, range: &Range) -> bool
+    ensures { result ≡ is_full scope.now (range_tree range.now) }
+{
+    bounds(scope, &range.first).1 <= bounds(scope, &range.last).0
+}
 
 impl Draft {
-    // Adds the bounds, and what begins the first turn, in whose statements the parameter is visible; the place of the jump where the range is null is told.
+    // Adds the bounds, and what begins the first turn, in whose statements the parameter is visible; the place of the jump where the range is null is told, if
+    // there is one.
     fn begin_range(
         &mut self,
         visible: &mut Visible,
         parameter: &Identifier,
         reversed: bool,
         range: &Range,
-    ) -> Result<(Turns, usize), Refusal>
+    ) -> Result<(Turns, Option<usize>), Refusal>
         requires sound { SoundScope visible.old.scope }
         requires entries { HasEntries visible.old }
         requires covered { HasWhatCodeNeeds self.old.exceptions.items visible.old }
@@ -50,7 +60,8 @@ impl Draft {
             limit: counter + 1,
             reversed,
         };
-        let null = turns.begin(&mut self.code)?;
+        let full = is_full(&visible.scope, range);
+        let null = turns.begin(&mut self.code, full)?;
         visible.slots.push(Some(Slot {
             region: Region::Locals,
             offset: counter,
@@ -94,12 +105,13 @@ impl Draft {
         values_have_words();
         visible_values_lie();
         let extent = Extent::of(visible, self.words);
-        let head = begin_loop(&mut self.code)?;
+        let head = begin_loop(&mut self.code, any_exits(body))?;
         let (turns, null) = self.begin_range(visible, parameter, reversed, range)?;
         let turn = self.code.end()?;
         self.statements(visible, leaving.in_loop(head.exit), body)?;
         let last = turns.end_turn(&mut self.code)?;
         let end = end_loop(&mut self.code, Head { turn, ..head })?;
+        let null = null.unwrap_or(last);
         self.code.patch(null, Operation::JumpIfNotZero(end));
         self.code.patch(last, Operation::JumpIfNotZero(end));
         extent.restore(visible, &mut self.words);

@@ -1,9 +1,9 @@
 //! The code of statements (RM 5).
-ghost use Rattle.std.specs.Prelude.{◌≡◌, ◌∷◌, [], map, IfErr, OnOk};
+ghost use Rattle.std.specs.Prelude.{◌≡◌, ◌∷◌, ◌&&◌, [], map, IfErr, OnOk};
 ghost use Rattle.ada_tree.specs.ExpressionTree.{expr_tree};
 ghost use Rattle.ada_tree.specs.StatementTree.{Block, declaration_tree, elsif_tree, elsif_trees, elsifs_of, Exit, iteration_tree, Loop, NoHandlers, optional_tree, Return, stmt_tree, stmt_trees};
 ghost use Rattle.stmt_code.specs.Staying.{StaysParts, StaysStatement, StaysStatements};
-ghost use Rattle.stmt_code.specs.Emitting.{AddsParts, AreAcceptedStatements, AreAcceptedElsifs, EmitsStatement, EmitsStatements, IsAcceptedStatement};
+ghost use Rattle.stmt_code.specs.Emitting.{AddsParts, AreAcceptedStatements, AreAcceptedElsifs, EmitsStatement, EmitsStatements, IsAcceptedStatement, only_if};
 ghost use Rattle.expr_code.specs.Providing.{HasWhatExpressionsNeed};
 ghost use Rattle.part_code.specs.Providing.{HasWhatCodeNeeds};
 ghost use Rattle.part_code.specs.Emitting.{HasEntries, ways_of};
@@ -12,6 +12,7 @@ ghost use Rattle.part_code.specs.stmt_rules.specs.SimpleRules.{condition_faults}
 ghost use Rattle.expr_soundness.specs.SoundScopes.{SoundScope};
 
 use crate::draft::Draft;
+use crate::leaves::any_exits;
 use ada_tree::laws::statements_by_parts;
 use ada_tree::{Declaration, ElsifPart, Expr, Iteration, Stmt};
 use declaring::laws::names_are_added;
@@ -19,6 +20,12 @@ use expr_code::{Refusal, Visible};
 use handlers::laws::{rows_around, rows_inside};
 use image::Operation;
 use part_code::{Extent, Leaving, begin_loop, end_loop};
+
+fn both(one: bool, other: bool) -> bool
+    ensures { result ≡ (one && other) }
+{
+    one && other
+}
 
 impl Draft {
     // Adds the code of an exit from the innermost loop, where the condition holds, if there is one (RM 5.7).
@@ -95,12 +102,15 @@ impl Draft {
             Stmt::Call(name) => self.call(visible, name),
             Stmt::Exit(place, condition) => self.exit(visible, leaving, *place, condition),
             Stmt::Return(place, value) => self.leave(visible, leaving, *place, value),
-            Stmt::If(_, condition, body, elsifs, others) => {
-                let mut waiting = Vec::new(self.code.alloc);
-                self.branch(visible, leaving, body, condition, &mut waiting)?;
-                self.elsifs(visible, leaving, elsifs, &mut waiting)?;
-                self.statements(visible, leaving, others)?;
-                self.code.rejoin(&waiting)
+            Stmt::If(place, condition, body, elsifs, others) => {
+                if !both(elsifs.is_empty(), others.is_empty()) {
+                    let mut waiting = Vec::new(self.code.alloc);
+                    self.branch(visible, leaving, body, condition, &mut waiting)?;
+                    self.elsifs(visible, leaving, elsifs, &mut waiting)?;
+                    self.statements(visible, leaving, others)?;
+                    return self.code.rejoin(&waiting);
+                }
+                self.guarded(visible, leaving, *place, body, condition)
             }
             Stmt::Case(place, value, all) => self.case(visible, leaving, *place, all, value),
             Stmt::Loop(place, iteration, body) => {
@@ -181,6 +191,35 @@ impl Draft {
         self.code.close(0, test, waiting)
     }
 
+    // Adds the code of an `if` with one part alone: nothing stands behind its statements, and so no jump (RM 5.3).
+    #[cycle(statement)]
+    fn guarded(
+        &mut self,
+        visible: &mut Visible,
+        leaving: Leaving,
+        place: u32,
+        body: &[Stmt],
+        condition: &Expr,
+    ) -> Result<(), Refusal>
+        requires sound { SoundScope visible.old.scope }
+        requires entries { HasEntries visible.old }
+        requires covered { HasWhatCodeNeeds self.old.exceptions.items visible.old }
+        requires condition { condition_faults visible.old.scope (expr_tree condition.now) ≡ [] }
+        requires legal { AreAcceptedStatements visible.old.scope (ways_of leaving) (stmt_trees body.now) }
+        ensures emits { OnOk result (EmitsStatement visible.old (ways_of leaving) self.old (only_if place (expr_tree condition.now) (stmt_trees body.now))
+            self.new) }
+        ensures refused { IfErr result (λ why. RefusesStatement visible.old self.old (only_if place (expr_tree condition.now) (stmt_trees body.now)) why) }
+        ensures stays { OnOk result (StaysStatement visible.old self.old (only_if place (expr_tree condition.now) (stmt_trees body.now)) self.new) }
+        ensures same { OnOk result (visible.new ≡ visible.old) }
+    {
+        self.code.of_width(visible, 0, 1, condition)?;
+        let test = self.code.test(0)?;
+        self.statements(visible, leaving, body)?;
+        let end = self.code.end()?;
+        self.code.patch(test, Operation::JumpIfZero(end));
+        Ok(())
+    }
+
     // Adds those of the parts behind the first one.
     #[cycle(statement)]
     fn elsifs(
@@ -229,13 +268,13 @@ impl Draft {
     {
         match iteration {
             Iteration::Forever => {
-                let head = begin_loop(&mut self.code)?;
+                let head = begin_loop(&mut self.code, any_exits(body))?;
                 self.statements(visible, leaving.in_loop(head.exit), body)?;
                 end_loop(&mut self.code, head)?;
                 Ok(())
             }
             Iteration::While(condition) => {
-                let head = begin_loop(&mut self.code)?;
+                let head = begin_loop(&mut self.code, any_exits(body))?;
                 self.code.of_width(visible, 0, 1, condition)?;
                 let test = self.code.test(0)?;
                 self.statements(visible, leaving.in_loop(head.exit), body)?;

@@ -4,7 +4,7 @@ use Rattle.types.specs.Layouts.{words_of}
 use Rattle.expr_code.specs.Code.{Adds}
 use Rattle.expr_code.specs.Refusing.{IsUnfit}
 use Rattle.expr_code.proofs.Growing.{added_here}
-use Rattle.part_code.specs.Passing.{loaded_at}
+use Rattle.expr_code.specs.Naming.{loaded_at}
 use Rattle.part_code.proofs.TargetsRefused.{block_refused, load_refused, value_check_refused, words_refused}
 use Rattle.part_code.proofs.call.add_value.Goals as goal
 

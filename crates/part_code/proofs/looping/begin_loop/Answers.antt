@@ -1,13 +1,11 @@
-use Rattle.std.proofs.Common.{◌≡◌, ◌+◌, rules, subst}
-use Rattle.image.specs.declared.instruction.Operation.TheVariants as op
-use Rattle.expr_code.specs.Code.{Adds, here}
+use Rattle.std.proofs.Common.{◌+◌, arith, refl, rules}
+use Rattle.part_code.proofs.Jumps.{way_here}
 use Rattle.part_code.proofs.looping.begin_loop.Goals as goal
 
 pub returns-clause-begins : goal.returns-clause-begins
-returns-clause-begins c =
-    let turn : c.in-Some-checked_add.turn ≡ here c.args.code.now + 2 = search rules in
-    record {
-      skipped = c.emit.new.self;
-      skips = subst (λ n. Adds c.args.code.now 0 (op.Jump n) c.emit.new.self) turn c.in_ok-emit.ensures.adds;
-      leaves = c.in_ok-emit-2.ensures.adds;
-    }
+returns-clause-begins c = (c.in_ok-exit.ensures.begins, c.in_ok-exit.ensures.exit)
+
+pub returns-in_err-turn-2-clause-refused : goal.returns-in_err-turn-2-clause-refused
+returns-in_err-turn-2-clause-refused c =
+    let long = way_here _ _ c.in_ok-exit.ensures.begins in
+    search (rules, long, c.in_err-turn-2.ensures.refused)

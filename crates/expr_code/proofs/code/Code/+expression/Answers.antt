@@ -2,17 +2,17 @@ mod Calls
 mod Externals
 mod Forms
 mod Kept
+mod Parts
 mod Refused
 mod Stack
-use Rattle.std.proofs.Common.{tests, ◌+◌, arith, rules, refl, sym, ap, ◌∙◌, ◌≤◌, ◌∷◌, [], subst, ◌≡◌}
+use Rattle.std.proofs.Common.{tests, ◌+◌, arith, rules, refl, sym, ap, ◌∙◌, subst, ◌≡◌}
 use Rattle.std.specs.Prelude.{IfErr, IfOk, OnOk}
 use Rattle.std.proofs.lemmas.Grind.{common_steps}
 use Rattle.std.proofs.lemmas.Result.{IfOk-weaker, on_ok_weaker}
 use Rattle.ada_tree.specs.declared.expression.Argument.TheFolds as folds
 use Rattle.ada_tree.specs.declared.expression.Expr as expressions
-use Rattle.ada_tree.specs.ExpressionTree.{argument_trees, Arguments, expr_tree, MoreSelectors, Named, name_tree, NoSelectors, selector_tree, selector_trees}
+use Rattle.ada_tree.specs.ExpressionTree.{argument_trees, Arguments, expr_tree, MoreSelectors, Named, name_tree, NoSelectors, selector_tree}
 use Rattle.expr_code.specs.Emitting.{EmitsExpression, IsLegalExpression}
-use Rattle.expr_code.specs.Going.{EmitsPath, IsLegalPart, IsLegalPath}
 use Rattle.expr_code.proofs.Branching.{adds_none, all_branches}
 use Rattle.expr_code.proofs.Checking.{checked_emits, fit_legal, spared_emits, unchecked_emits}
 use Rattle.expr_code.proofs.Chains.{all_emitted, and_then_at, none_emitted, operand_at, or_else_at}
@@ -20,21 +20,21 @@ use Rattle.expr_code.proofs.Emitted.{number_emits, parenthesized_emits, sign_emi
 use Rattle.types.specs.Evaluating.{fixed_value}
 use Rattle.expr_code.proofs.Conversions.{conversion_emits}
 use Rattle.expr_code.proofs.Names.{fixed_emits}
-use Rattle.expr_code.proofs.Going.{block_words, drop_at, element_goes, first_part, further_path, goes_next, one_argument, part_emits, uncapped_words, whole_path}
-use Rattle.expr_code.proofs.FitShapes.{selected_keeps}
+use Rattle.expr_code.proofs.Going.{one_argument}
 use Rattle.expr_code.proofs.Growing.{cut_back, extends_self}
 use Rattle.expr_code.specs.Widths.{width_of}
 use Rattle.expr_code.specs.Code.{IsShallow}
 use Rattle.expr_code.specs.Refusing.{peak, RefusesExpression}
 use Rattle.expr_code.proofs.Refusals.{operand_refused, second_word_refused, sized_all}
-use Rattle.expr_code.proofs.Shallow.{bare_tree, path_shallow, shallow_self}
-use Rattle.expr_code.proofs.Selecting.{one_selector, selects_next, whole_selects}
-use Rattle.expr_code.proofs.Widths.{chain_words, conversion_width, booleans_fit_width, fixed_width, numbers_fit_width, part_width, unary_width}
+use Rattle.expr_code.proofs.Shallow.{bare_tree, shallow_self}
+use Rattle.expr_code.proofs.Selecting.{one_selector}
+use Rattle.expr_code.proofs.Widths.{chain_words, conversion_width, booleans_fit_width, fixed_width, numbers_fit_width, unary_width}
 use Rattle.expr_code.proofs.code.Code.+expression.Goals as goal
 use Rattle.expr_code.proofs.code.Code.+expression.Answers.Calls as calls
 use Rattle.expr_code.proofs.code.Code.+expression.Answers.Externals as externals
 use Rattle.expr_code.proofs.code.Code.+expression.Answers.Forms as forms
 use Rattle.expr_code.proofs.code.Code.+expression.Answers.Kept as kept
+use Rattle.expr_code.proofs.code.Code.+expression.Answers.Parts as parts
 use Rattle.expr_code.proofs.code.Code.+expression.Answers.Refused as refused
 use Rattle.expr_code.proofs.code.Code.+expression.Answers.Stack as stack
 
@@ -350,79 +350,51 @@ called-returns-clause-emits t c =
 -- ---- parts of objects
 
 pub element-returns-clause-emits : goal.element-returns-clause-emits
-element-returns-clause-emits t c =
-    let v = c.args.visible.now in
-    let one = one_argument c.args.arguments.now c.in-Expr.e c.argument-item.result c.in-len1.len_at_least c.in-len1.len_below c.argument-item.is c.in-Expr.is in
-    let few : c.in-Some-Array.many ≤ 65536 = search rules in
-    subst (λ all. EmitsPath v c.args.self.now c.args.depth c.args.subtype (Arguments all ∷ []) c.in-Some-Array.last c.offset.new.self) (sym one)
-    (element_goes c.quiet_stays.ensures c.expressions_are_typed.ensures v c.args.self.now c.checked.new.self c.offset.new.self c.args.depth _ _
-    c.args.subtype c.in-Some-Array.index c.in-Some-Array.last c.in-Some-Array.many (expr_tree c.in-Expr.e) c.words-words.result
-    c.in_ok-address.ensures.more c.in_ok-above.ensures.more (search rules) _ (search rules)
-    (subst (λ all. IsLegalPart v.scope c.args.subtype (Arguments all)) one c.requires.legal)
-    few (uncapped_words _ _ c.words-words.ensures (search rules)) c.in_ok-checked.ensures.emits c.in_ok-offset.ensures.adds)
+element-returns-clause-emits = parts.element-returns-clause-emits
 
 pub part-returns-clause-width : goal.part-returns-clause-width
-part-returns-clause-width t c =
-    sym (part_width c.args.visible.now.scope c.args.first.now (selector_trees c.args.selectors.now) c.requires.stands.0 c.args.subtype c.in_ok-last.last
-    c.requires.stands.1
-    (whole_selects c.args.visible.now.scope c.requires.stands.0 c.args.subtype c.in_ok-last.last c.args.selectors.now c.in_ok-last.ensures.stands)
-    ∙ block_words _ _ c.words-words.ensures c.in_ok-load_block.ensures.block)
+part-returns-clause-width = parts.part-returns-clause-width
 
 pub part-returns-clause-emits : goal.part-returns-clause-emits
-part-returns-clause-emits t c =
-    part_emits c.quiet_stays.ensures c.values_have_words.ensures c.parts_have_places.ensures c.args.visible.now _ _ _ _ c.args.depth _
-    c.words-words.result c.args.first.now c.args.selectors.now
-    c.requires.stands.0 c.args.subtype c.in_ok-last.last c.args.slot _ c.in_ok-address.ensures.more (search rules) c.requires.legal c.requires.stands.1
-    c.requires.valueless c.requires.there c.requires.parts
-    (block_words _ _ c.words-words.ensures c.in_ok-load_block.ensures.block) c.in_ok-load_block.ensures.block c.in_ok-emit.ensures.adds
-    c.in_ok-last.ensures.emits c.in_ok-load_block.ensures.adds
+part-returns-clause-emits = parts.part-returns-clause-emits
+
+-- ---- addresses
+
+pub address-with_shift-requires : goal.address-with_shift-requires
+address-with_shift-requires = parts.address-with_shift-requires
+
+pub address-patch-requires : goal.address-patch-requires
+address-patch-requires = parts.address-patch-requires
+
+pub address-returns-clause-ends : goal.address-returns-clause-ends
+address-returns-clause-ends = parts.address-returns-clause-ends
+
+pub address-returns-clause-emits : goal.address-returns-clause-emits
+address-returns-clause-emits = parts.address-returns-clause-emits
+
+pub address-returns-clause-shallow : goal.address-returns-clause-shallow
+address-returns-clause-shallow = parts.address-returns-clause-shallow
+
+pub address-returns-in_err-part-clause-refused : goal.address-returns-in_err-part-clause-refused
+address-returns-in_err-part-clause-refused = parts.address-returns-in_err-part-clause-refused
+
+pub address-returns-in_err-emit-clause-refused : goal.address-returns-in_err-emit-clause-refused
+address-returns-in_err-emit-clause-refused = parts.address-returns-in_err-emit-clause-refused
+
+pub address-returns-in_err-part-clause-kept : goal.address-returns-in_err-part-clause-kept
+address-returns-in_err-part-clause-kept = kept.address-returns-in_err-part-clause-kept
 
 pub path-select-requires : goal.path-select-requires
-path-select-requires t c =
-    let s = c.args.visible.now.scope in
-    let rest = drop_at c.args.selectors.now c.loop-selector.selector-index c.selector-item.result c.loop-selector-test.true c.selector-item.is in (
-      search (rules, expressions.the_lemmas),
-      (
-        c.requires.sound,
-        (
-          c.requires.covered,
-          first_part s c.loop-selector.last _ _ (subst (λ l. IsLegalPath s c.loop-selector.last (selector_trees l)) rest c.loop-selector.invariant.1),
-        ),
-      ),
-    )
+path-select-requires = parts.path-select-requires
 
 pub path-loop-selector-preserved : goal.path-loop-selector-preserved
-path-loop-selector-preserved t c =
-    let s = c.args.visible.now.scope in
-    let rest = drop_at c.args.selectors.now c.loop-selector.selector-index c.selector-item.result c.loop-selector-test.true c.selector-item.is in (
-      goes_next c.args.visible.now _ _ _ c.args.depth c.args.subtype _ _ c.args.selectors.now c.loop-selector.selector-index c.selector-item.result
-          c.loop-selector-test.true c.selector-item.is
-          c.loop-selector.invariant.0 c.in_ok-last.ensures.emits,
-      further_path s c.loop-selector.last c.in_ok-last.last _ _ (subst (λ l. IsLegalPath s c.loop-selector.last (selector_trees l)) rest
-          c.loop-selector.invariant.1) c.in_ok-last.ensures.stands,
-      selects_next s c.args.subtype c.loop-selector.last c.in_ok-last.last c.args.selectors.now c.loop-selector.selector-index c.selector-item.result
-          c.loop-selector-test.true c.selector-item.is
-          c.loop-selector.invariant.2 c.in_ok-last.ensures.stands,
-      (λ h. c.loop-selector.invariant.3 (selected_keeps s c.requires.sound c.loop-selector.last c.in_ok-last.last (selector_tree c.selector-item.result)
-          c.in_ok-last.ensures.stands h)),
-      path_shallow c.args.visible.now c.args.depth c.args.selectors.now c.loop-selector.selector-index c.selector-item.result c.args.self.now
-          c.loop-selector.self c.select.new.self c.loop-selector-test.true c.selector-item.is c.loop-selector.invariant.4 c.in_ok-last.ensures.shallow,
-    )
+path-loop-selector-preserved = parts.path-loop-selector-preserved
 
 pub select-element-requires : goal.select-element-requires
-select-element-requires t c =
-    let tree = ap selector_tree c.in-Arguments.is ∙ c.arguments_by_parts.ensures c.in-Arguments.arguments ∙ ap (λ l. Arguments (argument_trees l))
-    (sym c.deref.ensures.value) in (
-      search (rules, expressions.the_lemmas),
-      (c.requires.sound, (c.requires.covered, subst (λ x. IsLegalPart c.args.visible.now.scope c.args.subtype x) tree c.requires.legal)),
-    )
+select-element-requires = parts.select-element-requires
 
 pub select-returns-in-Arguments-clause-emits : goal.select-returns-in-Arguments-clause-emits
-select-returns-in-Arguments-clause-emits t c =
-    let tree = ap selector_tree c.in-Arguments.is ∙ c.arguments_by_parts.ensures c.in-Arguments.arguments ∙ ap (λ l. Arguments (argument_trees l))
-    (sym c.deref.ensures.value) in
-    subst (λ x. IfOk c.element.result (λ last. EmitsPath c.args.visible.now c.args.self.now c.args.depth c.args.subtype (x ∷ []) last c.element.new.self))
-    (sym tree) c.element.ensures.emits
+select-returns-in-Arguments-clause-emits = parts.select-returns-in-Arguments-clause-emits
 
 -- ---- calls
 
@@ -500,18 +472,8 @@ read-returns-clause-emits = calls.read-returns-clause-emits
 
 -- ---- parts
 
-pub part-path-requires : goal.part-path-requires
-part-path-requires t c = (
-  search (rules, expressions.the_lemmas),
-  (
-    c.requires.sound,
-    (
-      c.requires.covered,
-      whole_path c.args.visible.now.scope c.requires.sound c.args.first.now _ c.requires.stands.0 c.args.subtype c.requires.legal c.requires.stands.1
-          c.requires.valueless,
-    ),
-  ),
-)
+pub part-address-requires : goal.part-address-requires
+part-address-requires = parts.part-address-requires
 
 -- ---- refusals of names, parts, conversions and calls
 
@@ -527,11 +489,14 @@ element-returns-then-from-gt-WORDS-clause-refused = refused.element-returns-then
 pub element-returns-in_err-checked-clause-refused : goal.element-returns-in_err-checked-clause-refused
 element-returns-in_err-checked-clause-refused = refused.element-returns-in_err-checked-clause-refused
 
-pub part-returns-in_err-load_block-clause-refused : goal.part-returns-in_err-load_block-clause-refused
-part-returns-in_err-load_block-clause-refused = refused.part-returns-in_err-load_block-clause-refused
+pub part-returns-in_err-last-clause-refused : goal.part-returns-in_err-last-clause-refused
+part-returns-in_err-last-clause-refused = refused.part-returns-in_err-last-clause-refused
 
-pub path-returns-in_err-last-clause-refused : goal.path-returns-in_err-last-clause-refused
-path-returns-in_err-last-clause-refused = refused.path-returns-in_err-last-clause-refused
+pub part-returns-in_err-load_part-clause-refused : goal.part-returns-in_err-load_part-clause-refused
+part-returns-in_err-load_part-clause-refused = refused.part-returns-in_err-load_part-clause-refused
+
+pub path-returns-in_err-part-clause-refused : goal.path-returns-in_err-part-clause-refused
+path-returns-in_err-part-clause-refused = refused.path-returns-in_err-part-clause-refused
 
 -- ---- words on the operand stack
 
@@ -744,17 +709,17 @@ checked-returns-in-Some-Boolean-clause-kept = kept.checked-returns-in-Some-Boole
 pub part-returns-in_err-last-clause-kept : goal.part-returns-in_err-last-clause-kept
 part-returns-in_err-last-clause-kept = kept.part-returns-in_err-last-clause-kept
 
-pub part-returns-in_err-load_block-clause-kept : goal.part-returns-in_err-load_block-clause-kept
-part-returns-in_err-load_block-clause-kept = kept.part-returns-in_err-load_block-clause-kept
+pub part-returns-in_err-load_part-clause-kept : goal.part-returns-in_err-load_part-clause-kept
+part-returns-in_err-load_part-clause-kept = kept.part-returns-in_err-load_part-clause-kept
 
-pub path-returns-in_err-last-clause-kept : goal.path-returns-in_err-last-clause-kept
-path-returns-in_err-last-clause-kept = kept.path-returns-in_err-last-clause-kept
+pub path-returns-in_err-part-clause-kept : goal.path-returns-in_err-part-clause-kept
+path-returns-in_err-part-clause-kept = kept.path-returns-in_err-part-clause-kept
 
 pub element-returns-in_err-above-clause-kept : goal.element-returns-in_err-above-clause-kept
 element-returns-in_err-above-clause-kept = kept.element-returns-in_err-above-clause-kept
 
-pub element-returns-in_err-offset-clause-kept : goal.element-returns-in_err-offset-clause-kept
-element-returns-in_err-offset-clause-kept = kept.element-returns-in_err-offset-clause-kept
+pub element-returns-in_err-shift-clause-kept : goal.element-returns-in_err-shift-clause-kept
+element-returns-in_err-shift-clause-kept = kept.element-returns-in_err-shift-clause-kept
 
 pub call-returns-clause-kept : goal.call-returns-clause-kept
 call-returns-clause-kept = kept.call-returns-clause-kept

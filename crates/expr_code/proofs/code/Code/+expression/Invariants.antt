@@ -1,5 +1,5 @@
 use Rattle.std.proofs.Common.{drop, map, take, ◌≡◌, ◌≤◌, ◌+◌, ◌*◌}
-use Rattle.std.specs.Prelude.{max}
+use Rattle.std.specs.Prelude.{max, pos}
 use Rattle.ada_tree.specs.ExpressionTree.{argument_tree, argument_trees, selector_tree, selector_trees}
 use Rattle.expr_soundness.specs.Agreeing.{parameter_subtype}
 use Rattle.expr_code.specs.Actuals.{EmitsActuals}
@@ -29,8 +29,8 @@ invariant-operands-loop-operand l =
 
 abbrev pub invariant-path-loop-selector : goal.invariant-path-loop-selector
 invariant-path-loop-selector l =
-    EmitsPath l.visible l.fn.self l.depth l.fn.subtype (map selector_tree (take l.selector-index l.selectors)) l.last l.self
-    × IsLegalPath l.visible.scope l.last (selector_trees (drop l.selector-index l.selectors))
-    × SelectsAll l.visible.scope l.fn.subtype (map selector_tree (take l.selector-index l.selectors)) l.last
-    × KeepsFit l.visible.scope l.fn.subtype l.last
+    EmitsPath l.visible l.fn.self l.depth l.fn.subtype (pos 0) (map selector_tree (take l.selector-index l.selectors)) l.part.subtype l.part.shift l.self
+    × IsLegalPath l.visible.scope l.part.subtype (selector_trees (drop l.selector-index l.selectors))
+    × SelectsAll l.visible.scope l.fn.subtype (map selector_tree (take l.selector-index l.selectors)) l.part.subtype
+    × KeepsFit l.visible.scope l.fn.subtype l.part.subtype
     × IsShallow l.fn.self l.self (l.depth + selectors_peak l.visible.scope 1 (selector_trees l.selectors))

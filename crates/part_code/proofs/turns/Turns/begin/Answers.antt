@@ -3,6 +3,12 @@ use Rattle.image.specs.declared.instruction.Operation.TheVariants as op
 use Rattle.expr_code.specs.Code.{Adds}
 use Rattle.part_code.proofs.turns.Turns.begin.Goals as goal
 
+pub returns-then-full-clause-begins : goal.returns-then-full-clause-begins
+returns-then-full-clause-begins c =
+    let one = subst (λ n. Adds c.args.code.now 2 (op.StoreLocal n) c.emit.new.self) c.of_last-last.ensures c.in_ok-emit.ensures.adds in
+    let two = subst (λ n. Adds c.emit.new.self 1 (op.StoreLocal n) c.emit-2.new.self) c.of_first-first.ensures c.in_ok-emit-2.ensures.adds in
+    (c.if-full.true, (c.emit.new.self, one, (c.emit-2.new.self, two, refl)))
+
 pub returns-clause-begins : goal.returns-clause-begins
 returns-clause-begins c =
     let last = c.of_last-last.ensures in

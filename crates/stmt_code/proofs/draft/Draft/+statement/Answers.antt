@@ -2,7 +2,7 @@ mod Added
 mod Covered
 mod Refused
 mod Stays
-use Rattle.std.proofs.Common.{◌≡◌, ◌∷◌, ◌++◌, [], length, map, take, refl, sym, ap, ◌∙◌, rules, subst}
+use Rattle.std.proofs.Common.{◌≡◌, ◌∷◌, ◌++◌, [], length, map, take, refl, sym, ap, ◌∙◌, arith, rules, subst}
 use Rattle.std.proofs.lemmas.Result.{on_ok_weaker}
 use Rattle.ada_tree.specs.declared.statement.Stmt as statements
 use Rattle.ada_tree.specs.ExpressionTree.{expr_tree}
@@ -12,7 +12,8 @@ use Rattle.part_code.specs.stmt_rules.specs.CaseRules.{selecting_faults}
 use Rattle.part_code.specs.stmt_rules.specs.SimpleRules.{condition_faults}
 use Rattle.expr_soundness.specs.SoundScopes.{SoundScope}
 use Rattle.stmt_code.specs.declared.draft.Draft.{Draft}
-use Rattle.expr_code.specs.Code.{here}
+use Rattle.image.specs.declared.instruction.Operation.TheVariants as op
+use Rattle.expr_code.specs.Code.{Patches, here}
 use Rattle.expr_code.proofs.Widths.{condition_width}
 use Rattle.stmt_code.specs.Refusing.{alternatives_needs, around, elsifs_needs}
 use Rattle.stmt_code.specs.Staying.{StaysAlternatives, StaysParts}
@@ -20,14 +21,18 @@ use Rattle.stmt_code.specs.Alternatives.{AddsAlternatives}
 use Rattle.part_code.specs.Choices.{AreLegalChoices}
 use Rattle.stmt_code.specs.Emitting.{AddsParts, AreAcceptedStatements, EmitsStatement, EmitsStatements, IsAcceptedStatement}
 use Rattle.part_code.specs.Emitting.{EndsLoop, HasEntries, ways_of}
-use Rattle.part_code.specs.Statements.{within_loop}
+use Rattle.part_code.specs.Statements.{with_exit}
 use Rattle.stmt_code.proofs.Accepting.{covered_still}
 use Rattle.stmt_code.proofs.Adding.{block_body, block_declarations, block_emits, block_restricted, wanted_legal, without_handlers}
 use Rattle.stmt_code.proofs.Alternatives.{all_alternatives, alternative_closed, alternative_accepted, alternatives_next, case_alternatives, case_emits, case_selecting, case_waiting, choices_waiting, no_alternatives, selecting_legal}
-use Rattle.stmt_code.proofs.Opening.{all_parts, branch_closed, no_parts, part_accepted, parts_next}
+use Rattle.stmt_code.proofs.Opening.{all_parts, alone_emits, branch_closed, no_parts, part_accepted, parts_next}
 use Rattle.stmt_code.proofs.Bounded.{entries_inside, loop_body, loop_range, range_type, slots_stay, sound_inside, subprograms_stay}
 use Rattle.stmt_code.proofs.Ranged.{range_emits}
 use Rattle.stmt_code.proofs.PartsStay.{alternatives_end, alternatives_stay, parts_end, parts_stay}
+use Rattle.expr_code.proofs.Growing.{added_here, patched_here}
+use Rattle.stmt_code.proofs.FirstTurns.{first_less}
+use Rattle.stmt_code.proofs.Heads.{ended_here, way_before}
+use Rattle.stmt_code.proofs.PartsRefused.{range_jump, range_long, turn_here, turn_test}
 use Rattle.stmt_code.proofs.Repeating.{forever_body, forever_emits, while_body, while_condition}
 use Rattle.stmt_code.proofs.StaticChoices.{choices_static}
 use Rattle.stmt_code.proofs.Staying.{stays_self}
@@ -58,6 +63,46 @@ branch-returns-clause-adds t c = on_ok_weaker _
 
 pub branch-returns-clause-same : goal.branch-returns-clause-same
 branch-returns-clause-same t c = on_ok_weaker _ (λ k. c.in_ok-statements.ensures.same) c.close.ensures.closes
+
+pub guarded-of_width-requires-clause-wide : goal.guarded-of_width-requires-clause-wide
+guarded-of_width-requires-clause-wide t c = condition_width c.args.visible.now.scope c.requires.sound (expr_tree c.args.condition.now) c.requires.condition
+
+pub guarded-statements-requires : goal.guarded-statements-requires
+guarded-statements-requires t c = (search (rules, statements.the_lemmas), (c.requires.sound, (c.requires.entries, (c.requires.covered, c.requires.legal))))
+
+pub guarded-patch-requires : goal.guarded-patch-requires
+guarded-patch-requires t c =
+    let jump = added_here _ _ _ _ c.in_ok-test.ensures.adds in
+    let turn = c.in_ok-statements.ensures.emits.extends.longer in
+    let place = c.in_ok-test.ensures.place in record { there = omega (arith, jump, turn, place) }
+
+pub guarded-returns-clause-emits : goal.guarded-returns-clause-emits
+guarded-returns-clause-emits t c =
+    let end = c.in_ok-end.ensures.end in
+    alone_emits c.args.visible.now (ways_of c.args.leaving) c.args.self.now (record c.args.self.now { code = c.test.new.self }) c.statements.new.self
+    (record c.statements.new.self { code = c.patch.new.self }) c.of_width.new.self (expr_tree c.args.condition.now) (stmt_trees c.args.body.now) c.args.place
+    c.in_ok-of_width.ensures.emits c.in_ok-test.ensures.adds (refl, refl, (refl, refl)) c.in_ok-statements.ensures.emits
+    (subst (λ n. Patches c.statements.new.self.code (here c.of_width.new.self) (op.JumpIfZero n) c.patch.new.self) end
+    (subst (λ n. Patches c.statements.new.self.code n (op.JumpIfZero c.in_ok-end.end) c.patch.new.self) c.in_ok-test.ensures.place c.patch.ensures.patches))
+    (refl, refl, (refl, refl))
+
+pub guarded-returns-clause-same : goal.guarded-returns-clause-same
+guarded-returns-clause-same t c = c.in_ok-statements.ensures.same
+
+pub guarded-returns-in_err-of_width-clause-refused : goal.guarded-returns-in_err-of_width-clause-refused
+guarded-returns-in_err-of_width-clause-refused = refused.guarded-returns-in_err-of_width-clause-refused
+
+pub guarded-returns-in_err-test-clause-refused : goal.guarded-returns-in_err-test-clause-refused
+guarded-returns-in_err-test-clause-refused = refused.guarded-returns-in_err-test-clause-refused
+
+pub guarded-returns-in_err-statements-clause-refused : goal.guarded-returns-in_err-statements-clause-refused
+guarded-returns-in_err-statements-clause-refused = refused.guarded-returns-in_err-statements-clause-refused
+
+pub guarded-returns-in_err-end-clause-refused : goal.guarded-returns-in_err-end-clause-refused
+guarded-returns-in_err-end-clause-refused = refused.guarded-returns-in_err-end-clause-refused
+
+pub guarded-returns-clause-stays : goal.guarded-returns-clause-stays
+guarded-returns-clause-stays = stays.guarded-returns-clause-stays
 
 pub elsifs-loop-part-init : goal.elsifs-loop-part-init
 elsifs-loop-part-init t c = (
@@ -298,7 +343,8 @@ repeated-statements-requires t c =
           (
             c.requires.covered,
             subst (λ x. AreAcceptedStatements s x body) (sym c.in_loop.ensures)
-                (forever_body s w c.args.place body c.in_ok-head-in-Forever.head.exit legal),
+                (forever_body s w c.args.place body c.in_ok-head-in-Forever.head.exit
+                (λ is. c.in_ok-head-in-Forever.ensures.exit (c.any_exits.ensures ∙ is)) legal),
           ),
         ),
       ),
@@ -337,11 +383,27 @@ repeated-statements-requires-in-While t c =
           (
             c.requires.covered,
             subst (λ x. AreAcceptedStatements s x body) (sym c.in_loop-in-While.ensures)
-                (while_body s w c.args.place body c.in_ok-head-in-While.head.exit e legal),
+                (while_body s w c.args.place body c.in_ok-head-in-While.head.exit
+                (λ is. c.in_ok-head-in-While.ensures.exit (c.any_exits-in-While.ensures ∙ is)) e legal),
           ),
         ),
       ),
     )
+
+pub repeated-end_loop-requires : goal.repeated-end_loop-requires
+repeated-end_loop-requires t c = record {
+  there = way_before c.args.self.now.code c.begin_loop.new.code c.in_ok-head-in-Forever.head.exit c.in_ok-head-in-Forever.ensures.begins _
+      c.in_ok-statements-in-Forever.ensures.emits.extends.longer;
+}
+
+pub repeated-end_loop-requires-in-While : goal.repeated-end_loop-requires-in-While
+repeated-end_loop-requires-in-While t c =
+    let condition = c.in_ok-of_width-in-While.ensures.emits.extends.longer in
+    let jump = added_here _ _ _ _ c.in_ok-test-in-While.ensures.adds in
+    let turn = c.in_ok-statements-in-While.ensures.emits.extends.longer in record {
+      there = way_before c.args.self.now.code c.begin_loop-in-While.new.code c.in_ok-head-in-While.head.exit c.in_ok-head-in-While.ensures.begins _
+          (omega (arith, condition, jump, turn));
+    }
 
 pub repeated-returns-in_ok-end_loop-in-Forever-clause-emits : goal.repeated-returns-in_ok-end_loop-in-Forever-clause-emits
 repeated-returns-in_ok-end_loop-in-Forever-clause-emits t c =
@@ -353,7 +415,7 @@ repeated-returns-in_ok-end_loop-in-Forever-clause-emits t c =
     (λ i. EmitsStatement v w c.args.self.now (Loop c.args.place (iteration_tree i) body) ended) (sym c.in-Forever.is)
     (forever_emits v w c.args.self.now begun c.statements.new.self ended body c.in_ok-head-in-Forever.head.exit c.in_ok-head-in-Forever.head.turn
     c.in_ok-head-in-Forever.ensures.begins (refl, refl, (refl, refl))
-    c.in_ok-head-in-Forever.ensures.exit c.in_ok-head-in-Forever.ensures.turn
+    c.in_ok-head-in-Forever.ensures.turn
     (subst (λ x. EmitsStatements v x begun body c.statements.new.self) c.in_loop.ensures c.in_ok-statements-in-Forever.ensures.emits)
     c.in_ok-end_loop-in-Forever.ensures.ends (refl, refl, (refl, refl)) c.args.place)
 
@@ -374,7 +436,7 @@ repeated-returns-in_ok-end-in-While-clause-emits t c =
     (while_emits v w c.args.self.now begun jumped c.statements-in-While.new.self ended whole c.of_width.new.self (expr_tree c.in-While.condition) body
     c.in_ok-head-in-While.head.exit c.in_ok-head-in-While.head.turn c.in_ok-test-in-While.test c.in_ok-end-in-While.end c.in_ok-head-in-While.ensures.begins
     (refl, refl, (refl, refl))
-    c.in_ok-head-in-While.ensures.exit c.in_ok-head-in-While.ensures.turn c.in_ok-of_width-in-While.ensures.emits c.in_ok-test-in-While.ensures.adds
+    c.in_ok-head-in-While.ensures.turn c.in_ok-of_width-in-While.ensures.emits c.in_ok-test-in-While.ensures.adds
     (refl, refl, (refl, refl))
     c.in_ok-test-in-While.ensures.place
     (subst (λ x. EmitsStatements v x jumped body c.statements-in-While.new.self) c.in_loop-in-While.ensures c.in_ok-statements-in-While.ensures.emits)
@@ -430,13 +492,38 @@ counted-statements-requires t c =
           (
             c.in_ok-turns.ensures.covered,
             subst (λ x. AreAcceptedStatements c.begin_range.new.visible.scope x (stmt_trees c.args.body.now)) (sym c.in_loop.ensures)
-                (subst (λ s. AreAcceptedStatements s (within_loop c.in_ok-head.head.exit (ways_of c.args.leaving)) (stmt_trees c.args.body.now)) (sym r.scope)
+                (subst (λ s. AreAcceptedStatements s (with_exit c.in_ok-head.head.exit (ways_of c.args.leaving)) (stmt_trees c.args.body.now)) (sym r.scope)
                 (loop_body v.scope (ways_of c.args.leaving) c.args.place c.args.parameter.now c.args.reversed range (stmt_trees c.args.body.now)
-                c.requires.legal c.in_ok-head.head.exit)),
+                c.requires.legal c.in_ok-head.head.exit (λ is. c.in_ok-head.ensures.exit (c.any_exits.ensures ∙ is)))),
           ),
         ),
       ),
     )
+
+pub counted-end_loop-requires : goal.counted-end_loop-requires
+counted-end_loop-requires t c =
+    let bounds = range_long _ _ _ _ _ _ _ _ _ c.in_ok-turns.ensures.begins in
+    let turn = c.in_ok-statements.ensures.emits.extends.longer in
+    let more = turn_here _ _ _ _ c.in_ok-last.ensures.ends in record {
+      there = way_before c.args.self.now.code c.begin_loop.new.code c.in_ok-head.head.exit c.in_ok-head.ensures.begins _
+          (omega (arith, bounds, turn, more));
+    }
+
+pub counted-patch-requires : goal.counted-patch-requires
+counted-patch-requires t c =
+    let turn = c.in_ok-statements.ensures.emits.extends.longer in
+    let more = turn_here _ _ _ _ c.in_ok-last.ensures.ends in
+    let last = turn_test _ _ _ _ c.in_ok-last.ensures.ends in
+    let end = ended_here _ _ _ _ c.in_ok-end.ensures.ends in record {
+      there = first_less _ _ c.in_ok-last.last _ _ (search rules) (omega (arith, last, end)) (range_jump _ _ _ _ _ _ _ _ _ c.in_ok-turns.ensures.begins)
+          (omega (arith, turn, more, end));
+    }
+
+pub counted-patch-requires-2 : goal.counted-patch-requires-2
+counted-patch-requires-2 t c =
+    let last = turn_test _ _ _ _ c.in_ok-last.ensures.ends in
+    let end = ended_here _ _ _ _ c.in_ok-end.ensures.ends in
+    let same = patched_here _ _ _ _ c.patch.ensures.patches in record { there = omega (arith, last, end, same) }
 
 pub counted-returns-clause-emits : goal.counted-returns-clause-emits
 counted-returns-clause-emits t c =
@@ -451,11 +538,11 @@ counted-returns-clause-emits t c =
     let ends = subst (λ n. EndsLoop c.end_turn.new.code c.in_ok-head.head.exit n c.end_loop.new.code) c.in_ok-turn.ensures.end c.in_ok-end.ensures.ends in
     let words = c.restore.ensures.words ∙ ap (λ n. record c.statements.new.self.words { taken = n }) c.of-extent.ensures.taken in
     range_emits c.shapes_stay.ensures v later (ways_of c.args.leaving) c.args.self.now begun opened c.statements.new.self c.end_turn.new.code
-    c.end_loop.new.code c.patch.new.self c.patch-2.new.self c.args.parameter.now c.args.reversed range body _ c.in_ok-head.head.exit _ c.in_ok-last.last c.in_ok-end.end
+    c.end_loop.new.code c.patch.new.self c.patch-2.new.self c.args.parameter.now c.args.reversed range body _ c.in_ok-head.head.exit _ _ c.in_ok-last.last c.in_ok-end.end
     c.requires.sound c.requires.entries legal (range_type v.scope c.args.parameter.now range legal c.requires.sound) c.in_ok-head.ensures.begins
     (refl, refl, (refl, refl))
-    c.in_ok-head.ensures.exit c.in_ok-turns.ensures.begins statements c.in_ok-last.ensures.ends ends c.in_ok-end.ensures.end c.patch.ensures.patches
-    c.patch-2.ensures.patches c.values_are_bounded.ensures c.visible_values_lie.ensures c.quiet_stays.ensures c.agreement_is_kept.ensures
+    c.in_ok-turns.ensures.begins statements c.in_ok-last.ensures.ends ends c.in_ok-end.ensures.end c.patch.ensures.patches
+    c.patch-2.ensures.patches (search rules) c.values_are_bounded.ensures c.visible_values_lie.ensures c.quiet_stays.ensures c.agreement_is_kept.ensures
     c.values_have_words.ensures c.args.place _
     (λ j. record c.statements.new.self { code = c.patch-2.new.self; words = words j })
 
@@ -545,11 +632,23 @@ statement-statements-requires = added.statement-statements-requires
 pub statement-rejoin-requires : goal.statement-rejoin-requires
 statement-rejoin-requires = added.statement-rejoin-requires
 
-pub statement-returns-in_ok-statements-in-If-clause-emits : goal.statement-returns-in_ok-statements-in-If-clause-emits
-statement-returns-in_ok-statements-in-If-clause-emits = added.statement-returns-in_ok-statements-in-If-clause-emits
+pub statement-guarded-requires : goal.statement-guarded-requires
+statement-guarded-requires = added.statement-guarded-requires
 
-pub statement-returns-in_ok-statements-in-If-clause-same : goal.statement-returns-in_ok-statements-in-If-clause-same
-statement-returns-in_ok-statements-in-If-clause-same = added.statement-returns-in_ok-statements-in-If-clause-same
+pub statement-returns-else-not-both-clause-emits : goal.statement-returns-else-not-both-clause-emits
+statement-returns-else-not-both-clause-emits = added.statement-returns-else-not-both-clause-emits
+
+pub statement-returns-else-not-both-clause-refused : goal.statement-returns-else-not-both-clause-refused
+statement-returns-else-not-both-clause-refused = refused.statement-returns-else-not-both-clause-refused
+
+pub statement-returns-else-not-both-clause-stays : goal.statement-returns-else-not-both-clause-stays
+statement-returns-else-not-both-clause-stays = stays.statement-returns-else-not-both-clause-stays
+
+pub statement-returns-then-not-both-clause-emits : goal.statement-returns-then-not-both-clause-emits
+statement-returns-then-not-both-clause-emits = added.statement-returns-then-not-both-clause-emits
+
+pub statement-returns-then-not-both-clause-same : goal.statement-returns-then-not-both-clause-same
+statement-returns-then-not-both-clause-same = added.statement-returns-then-not-both-clause-same
 
 pub statement-case-requires : goal.statement-case-requires
 statement-case-requires = added.statement-case-requires
@@ -562,6 +661,9 @@ statement-returns-in-Case-clause-emits = added.statement-returns-in-Case-clause-
 
 pub statement-returns-in-Assignment-clause-emits : goal.statement-returns-in-Assignment-clause-emits
 statement-returns-in-Assignment-clause-emits = added.statement-returns-in-Assignment-clause-emits
+
+pub statement-returns-in-Exit-clause-emits : goal.statement-returns-in-Exit-clause-emits
+statement-returns-in-Exit-clause-emits = added.statement-returns-in-Exit-clause-emits
 
 pub statement-returns-in-Call-clause-emits : goal.statement-returns-in-Call-clause-emits
 statement-returns-in-Call-clause-emits = added.statement-returns-in-Call-clause-emits
@@ -708,8 +810,8 @@ statement-returns-in_err-elsifs-in-If-clause-refused = refused.statement-returns
 pub statement-returns-in_err-statements-in-If-clause-refused : goal.statement-returns-in_err-statements-in-If-clause-refused
 statement-returns-in_err-statements-in-If-clause-refused = refused.statement-returns-in_err-statements-in-If-clause-refused
 
-pub statement-returns-in_ok-statements-in-If-clause-refused : goal.statement-returns-in_ok-statements-in-If-clause-refused
-statement-returns-in_ok-statements-in-If-clause-refused = refused.statement-returns-in_ok-statements-in-If-clause-refused
+pub statement-returns-then-not-both-clause-refused : goal.statement-returns-then-not-both-clause-refused
+statement-returns-then-not-both-clause-refused = refused.statement-returns-then-not-both-clause-refused
 
 pub statement-returns-in-Case-clause-refused : goal.statement-returns-in-Case-clause-refused
 statement-returns-in-Case-clause-refused = refused.statement-returns-in-Case-clause-refused
@@ -767,8 +869,8 @@ counted-returns-clause-stays = stays.counted-returns-clause-stays
 pub block-returns-clause-stays : goal.block-returns-clause-stays
 block-returns-clause-stays = stays.block-returns-clause-stays
 
-pub statement-returns-in_ok-statements-in-If-clause-stays : goal.statement-returns-in_ok-statements-in-If-clause-stays
-statement-returns-in_ok-statements-in-If-clause-stays = stays.statement-returns-in_ok-statements-in-If-clause-stays
+pub statement-returns-then-not-both-clause-stays : goal.statement-returns-then-not-both-clause-stays
+statement-returns-then-not-both-clause-stays = stays.statement-returns-then-not-both-clause-stays
 
 pub statement-returns-in-Case-clause-stays : goal.statement-returns-in-Case-clause-stays
 statement-returns-in-Case-clause-stays = stays.statement-returns-in-Case-clause-stays

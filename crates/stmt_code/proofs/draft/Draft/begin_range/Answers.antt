@@ -1,6 +1,7 @@
-use Rattle.std.proofs.Common.{refl, rules, arith, subst, sym}
+use Rattle.std.proofs.Common.{◌+◌, refl, rules, arith, subst, sym}
 use Rattle.part_code.specs.Providing.{HasWhatCodeNeeds}
 use Rattle.stmt_code.proofs.CoveredScopes.{covered_loop}
+use Rattle.stmt_code.proofs.FirstTurns.{starts_same}
 use Rattle.stmt_code.proofs.PartsRefused.{first_refused, last_refused, range_seen}
 use Rattle.stmt_code.proofs.PartsStay.{range_stays}
 use Rattle.ada_tree.specs.StatementTree.{range_tree}
@@ -37,7 +38,8 @@ returns-clause-begins c = record {
   first = c.in_ok-of_width.ensures.emits;
   bounded = c.of_width-2.new.self;
   last = c.in_ok-of_width-2.ensures.emits;
-  begins = c.in_ok-null.ensures.begins;
+  begins = starts_same (record { counter = c.in_ok-counter.counter; limit = c.in_ok-counter.counter + 1; reversed = c.args.reversed }) _ _
+      c.of_width-2.new.self c.begin.new.code c.in_ok-null.null c.is_full-full.ensures c.in_ok-null.ensures.begins;
   takes = c.in_ok-counter.ensures.takes;
   counter = c.in_ok-counter.ensures.first;
   limit = omega arith;
@@ -66,7 +68,8 @@ returns-in_err-of_width-2-clause-refused c =
 pub returns-clause-stays : goal.returns-clause-stays
 returns-clause-stays c =
     range_stays c.args.visible.now c.args.self.now c.args.parameter.now c.args.reversed (range_tree c.args.range.now) c.of_width.new.self c.of_width-2.new.self
-    c.begin.new.code _ _ c.take.new.self c.in_ok-of_width.ensures.shallow c.in_ok-of_width-2.ensures.shallow c.in_ok-null.ensures.begins
+    c.begin.new.code (record { counter = c.in_ok-counter.counter; limit = c.in_ok-counter.counter + 1; reversed = c.args.reversed }) _ c.in_ok-null.null
+    c.take.new.self c.in_ok-of_width.ensures.shallow c.in_ok-of_width-2.ensures.shallow c.in_ok-null.ensures.begins
     c.in_ok-counter.ensures.most
 
 pub returns-clause-covered : goal.returns-clause-covered

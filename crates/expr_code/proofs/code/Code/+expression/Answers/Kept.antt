@@ -227,17 +227,22 @@ checked_as_needed-returns-then-is_inside-clause-kept t c =
 
 pub part-returns-in_err-last-clause-kept : goal.part-returns-in_err-last-clause-kept
 part-returns-in_err-last-clause-kept t c =
-    let whole = added_kept c.in_ok-emit.ensures.adds c.in_err-last.ensures.kept in
+    let whole = c.in_err-last.ensures.kept in
     search (rules, whole)
 
-pub part-returns-in_err-load_block-clause-kept : goal.part-returns-in_err-load_block-clause-kept
-part-returns-in_err-load_block-clause-kept t c =
-    let whole = added_kept c.in_ok-emit.ensures.adds (then_kept c.in_ok-last.ensures.emits.extends c.in_err-load_block.ensures.kept) in
+pub part-returns-in_err-load_part-clause-kept : goal.part-returns-in_err-load_part-clause-kept
+part-returns-in_err-load_part-clause-kept t c =
+    let whole = then_kept c.in_ok-last.ensures.emits.extends c.in_err-load_part.ensures.kept in
     search (rules, whole)
 
-pub path-returns-in_err-last-clause-kept : goal.path-returns-in_err-last-clause-kept
-path-returns-in_err-last-clause-kept t c =
-    let whole = then_kept c.loop-selector.invariant.0.extends c.in_err-last.ensures.kept in
+pub address-returns-in_err-part-clause-kept : goal.address-returns-in_err-part-clause-kept
+address-returns-in_err-part-clause-kept t c =
+    let whole = added_kept c.in_ok-emit.ensures.adds c.in_err-part.ensures.kept in
+    search (rules, whole)
+
+pub path-returns-in_err-part-clause-kept : goal.path-returns-in_err-part-clause-kept
+path-returns-in_err-part-clause-kept t c =
+    let whole = then_kept c.loop-selector.invariant.0.extends c.in_err-part.ensures.kept in
     search (rules, whole)
 
 pub element-returns-in_err-above-clause-kept : goal.element-returns-in_err-above-clause-kept
@@ -245,9 +250,9 @@ element-returns-in_err-above-clause-kept t c =
     let whole = c.in_ok-checked.ensures.emits.extends in
     search (rules, whole)
 
-pub element-returns-in_err-offset-clause-kept : goal.element-returns-in_err-offset-clause-kept
-element-returns-in_err-offset-clause-kept t c =
-    let whole = then_kept c.in_ok-checked.ensures.emits.extends c.in_err-offset.ensures.kept in
+pub element-returns-in_err-shift-clause-kept : goal.element-returns-in_err-shift-clause-kept
+element-returns-in_err-shift-clause-kept t c =
+    let whole = then_kept c.in_ok-checked.ensures.emits.extends c.in_err-shift.ensures.kept in
     search (rules, whole)
 
 -- ---- calls

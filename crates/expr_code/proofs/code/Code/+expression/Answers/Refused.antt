@@ -11,10 +11,10 @@ use Rattle.types.specs.Entities.{Arrays}
 use Rattle.types.specs.Evaluating.{fixed_value}
 use Rattle.types.specs.Scopes.{form_at, number_of}
 use Rattle.types.specs.Standings.{standing_of, stands_first}
-use Rattle.expr_code.proofs.Going.{index_fit, index_integers, one_argument, path_counts}
+use Rattle.expr_code.proofs.Going.{index_fit, index_integers, one_argument}
 use Rattle.expr_code.proofs.FitShapes.{large_unfit, many_unfit}
 use Rattle.expr_code.proofs.LegalNames.{applied_once, array_part, begins_otherwise, called_applied, converted_applied, one_converted, one_of_two}
-use Rattle.expr_code.proofs.NamesRefused.{index_refused, load_refused, selector_refused}
+use Rattle.expr_code.proofs.NamesRefused.{index_refused, load_refused, selector_refused, whole_refused}
 use Rattle.expr_code.specs.Widths.{width_of}
 use Rattle.expr_code.specs.Code.{here}
 use Rattle.expr_code.specs.Refusing.{operands_size, RefusesBranches, RefusesExpression, RefusesOperands, RefusesPath}
@@ -273,7 +273,7 @@ with_actuals-unreachable-requires t c =
 
 pub element-unreachable-requires : goal.element-unreachable-requires
 element-unreachable-requires t c =
-    let it = array_part c.args.visible.now.scope c.args.subtype c.args.arguments.now c.requires.legal in
+    let it = array_part c.args.visible.now.scope c.args.part.subtype c.args.arguments.now c.requires.legal in
     let one = it.4 in
     elim c.in_default.branch [
       | element-in_default-via-then-arguments-lt1 w ↦ let few : length c.args.arguments.now < 1 = search rules in omega (arith, one, few)
@@ -284,7 +284,7 @@ pub element-checked-requires : goal.element-checked-requires
 element-checked-requires t c =
     let s = c.args.visible.now.scope in
     let one = one_argument c.args.arguments.now c.in-Expr.e c.argument-item.result c.in-len1.len_at_least c.in-len1.len_below c.argument-item.is c.in-Expr.is in
-    let form : form_at s c.args.subtype.type_number ≡ Some (Arrays c.in-Some-Array.index c.in-Some-Array.many c.in-Some-Array.last) = search rules in (
+    let form : form_at s c.args.part.subtype.type_number ≡ Some (Arrays c.in-Some-Array.index c.in-Some-Array.many c.in-Some-Array.last) = search rules in (
       search (rules, expressions.the_lemmas),
       (
         c.requires.sound,
@@ -292,9 +292,9 @@ element-checked-requires t c =
           c.requires.covered,
           (
             ap (λ o. has_numbers o || is_booleans o)
-                (index_integers s c.requires.sound c.args.subtype c.in-Some-Array.index c.in-Some-Array.many c.in-Some-Array.last form),
-            index_fit s c.args.subtype c.in-Some-Array.index c.in-Some-Array.last c.in-Some-Array.many (expr_tree c.in-Expr.e) form
-                (subst (λ all. IsLegalPart s c.args.subtype (Arguments all)) one c.requires.legal),
+                (index_integers s c.requires.sound c.args.part.subtype c.in-Some-Array.index c.in-Some-Array.many c.in-Some-Array.last form),
+            index_fit s c.args.part.subtype c.in-Some-Array.index c.in-Some-Array.last c.in-Some-Array.many (expr_tree c.in-Expr.e) form
+                (subst (λ all. IsLegalPart s c.args.part.subtype (Arguments all)) one c.requires.legal),
           ),
         ),
       ),
@@ -305,11 +305,11 @@ element-returns-then-from-gt-WORDS-clause-refused t c =
     let s = c.args.visible.now.scope in
     inr (elim c.then-from-gt-WORDS.branch [
       | element-then-from-gt-WORDS-via-then-from-gt-WORDS w ↦ let more = w.if-from-gt-WORDS.true in
-          many_unfit s c.requires.sound c.args.subtype c.in-Some-Array.index c.in-Some-Array.many c.in-Some-Array.last (search rules) (search (rules, more))
+          many_unfit s c.requires.sound c.args.part.subtype c.in-Some-Array.index c.in-Some-Array.many c.in-Some-Array.last (search rules) (search (rules, more))
       | element-then-from-gt-WORDS-via-else-from-gt-WORDS+then-from-gt-WORDS-2 w ↦
           let more = w.if-from-gt-WORDS-2.true in
           let same = w.from-else-from-gt-WORDS.ensures in
-          large_unfit s c.requires.sound c.args.subtype c.in-Some-Array.index c.in-Some-Array.many c.in-Some-Array.last (search rules) c.words-words.result
+          large_unfit s c.requires.sound c.args.part.subtype c.in-Some-Array.index c.in-Some-Array.many c.in-Some-Array.last (search rules) c.words-words.result
           c.words-words.ensures (search (rules, more, same))
     ])
 
@@ -318,29 +318,33 @@ element-returns-in_err-checked-clause-refused t c =
     let v = c.args.visible.now in
     let one = one_argument c.args.arguments.now c.in-Expr.e c.argument-item.result c.in-len1.len_at_least c.in-len1.len_below c.argument-item.is c.in-Expr.is in
     let why = c.in_err-checked.field-0.0 in
-    let whole = subst (λ all. RefusesPath v c.args.self.now c.args.depth c.args.subtype (MoreSelectors (Arguments all) NoSelectors) why) (sym one)
-    (index_refused v c.args.self.now c.args.depth c.args.subtype (expr_tree c.in-Expr.e) c.args.self.now _ why (omega arith)
+    let whole = subst (λ all. RefusesPath v c.args.self.now c.args.depth c.args.part.subtype (MoreSelectors (Arguments all) NoSelectors) why) (sym one)
+    (index_refused v c.args.self.now c.args.depth c.args.part.subtype (expr_tree c.in-Expr.e) c.args.self.now _ why (omega arith)
     c.in_ok-address.ensures.more c.in_err-checked.ensures.refused) in
     search (rules, whole)
 
-pub part-returns-in_err-load_block-clause-refused : goal.part-returns-in_err-load_block-clause-refused
-part-returns-in_err-load_block-clause-refused t c =
+pub part-returns-in_err-last-clause-refused : goal.part-returns-in_err-last-clause-refused
+part-returns-in_err-last-clause-refused t c =
+    let whole = whole_refused c.args.visible.now c.args.first.now c.args.slot c.requires.stands.0 c.args.subtype c.requires.stands.1 c.requires.there
+    (selector_trees c.args.selectors.now) c.args.self.now c.args.depth c.in_err-last.field-0.0 c.in_err-last.ensures.refused in
+    search (rules, whole)
+
+pub part-returns-in_err-load_part-clause-refused : goal.part-returns-in_err-load_part-clause-refused
+part-returns-in_err-load_part-clause-refused t c =
     let v = c.args.visible.now in
-    let next = added_here _ _ _ _ c.in_ok-emit.ensures.adds in
     let behind = c.in_ok-last.ensures.emits.sized in
-    let same = path_counts c.args.selectors.now in
     let above = c.in_ok-address.ensures.more in
     let whole = load_refused v c.args.first.now c.args.slot c.requires.stands.0 c.args.subtype c.requires.stands.1 c.requires.there
     (selector_trees c.args.selectors.now) c.args.self.now c.args.depth _ _ c.words-words.result c.in_ok-last.last
-    c.in_err-load_block.field-0.0 c.words-words.ensures c.in_ok-last.ensures.fit (omega (arith, next, behind, same)) (omega (arith, above))
-    c.in_err-load_block.ensures.refused in
+    c.in_err-load_part.field-0.0 c.words-words.ensures c.in_ok-last.ensures.fit (omega (arith, behind)) (omega (arith, above))
+    c.in_err-load_part.ensures.refused in
     search (rules, whole)
 
-pub path-returns-in_err-last-clause-refused : goal.path-returns-in_err-last-clause-refused
-path-returns-in_err-last-clause-refused t c =
+pub path-returns-in_err-part-clause-refused : goal.path-returns-in_err-part-clause-refused
+path-returns-in_err-part-clause-refused t c =
     let v = c.args.visible.now in
     let before = c.loop-selector.invariant.0.sized in
-    let whole = selector_refused v c.args.self.now c.loop-selector.self c.args.depth c.args.subtype c.loop-selector.last c.args.selectors.now
-    c.loop-selector.selector-index c.selector-item.result c.in_err-last.field-0.0 c.loop-selector-test.true c.selector-item.is before
-    c.loop-selector.invariant.3 c.in_err-last.ensures.refused in
+    let whole = selector_refused v c.args.self.now c.loop-selector.self c.args.depth c.args.subtype c.loop-selector.part.subtype c.args.selectors.now
+    c.loop-selector.selector-index c.selector-item.result c.in_err-part.field-0.0 c.loop-selector-test.true c.selector-item.is before
+    c.loop-selector.invariant.3 c.in_err-part.ensures.refused in
     search (rules, whole)

@@ -148,13 +148,13 @@ element-returns-clause-shallow t c =
     let one = one_argument c.args.arguments.now c.in-Expr.e c.argument-item.result c.in-len1.len_at_least c.in-len1.len_below c.argument-item.is c.in-Expr.is in
     subst (λ all. IsShallow c.args.self.now c.offset.new.self (c.args.depth + selectors_peak v.scope 1 (MoreSelectors (Arguments all) NoSelectors))) (sym one)
     (element_shallow v c.args.depth (expr_tree c.in-Expr.e) c.args.self.now c.checked.new.self c.offset.new.self _ _ c.in_ok-address.ensures.more
-    c.in_ok-above.ensures.more c.in_ok-checked.ensures.shallow (offset_shallow _ _ _ _ _ c.in_ok-offset.ensures.adds))
+    c.in_ok-above.ensures.more c.in_ok-checked.ensures.shallow (offset_shallow _ _ _ _ _ _ _ c.in_ok-shift.ensures.adds))
 
 pub part-returns-clause-shallow : goal.part-returns-clause-shallow
 part-returns-clause-shallow t c =
     part_shallow c.args.visible.now c.args.depth c.args.first.now (selector_trees c.args.selectors.now) c.requires.stands.0 c.args.subtype c.args.self.now
-    c.emit.new.self c.path.new.self c.load_block.new.self _ c.requires.stands.1 c.in_ok-address.ensures.more c.in_ok-emit.ensures.adds.shallow
-    c.in_ok-last.ensures.shallow c.in_ok-load_block.ensures.adds.shallow
+    c.address.new.self c.load_part.new.self _ c.requires.stands.1 c.in_ok-address.ensures.more c.in_ok-last.ensures.shallow
+    c.in_ok-load_part.ensures.adds.shallow
 
 pub call-returns-clause-shallow : goal.call-returns-clause-shallow
 call-returns-clause-shallow t c =

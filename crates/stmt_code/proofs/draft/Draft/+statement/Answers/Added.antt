@@ -3,11 +3,11 @@ use Rattle.std.proofs.Common.{◌≡◌, ◌∷◌, [], map, refl, sym, ap, ◌�
 use Rattle.std.proofs.lemmas.Result.{on_ok_weaker}
 use Rattle.ada_tree.specs.declared.statement.Stmt as statements
 use Rattle.ada_tree.specs.ExpressionTree.{expr_tree}
-use Rattle.ada_tree.specs.StatementTree.{Block, Case, Loop, NoHandlers, alternative_trees, declaration_tree, elsif_tree, elsif_trees, handler_trees, iteration_tree, stmt_tree, stmt_trees}
+use Rattle.ada_tree.specs.StatementTree.{Block, Case, If, Loop, NoHandlers, alternative_trees, declaration_tree, elsif_tree, elsif_trees, handler_trees, iteration_tree, stmt_tree, stmt_trees}
 use Rattle.expr_soundness.specs.SoundScopes.{SoundScope}
 use Rattle.stmt_code.specs.Refusing.{around, stmts_needs}
 use Rattle.stmt_code.specs.Staying.{StaysStatement}
-use Rattle.stmt_code.specs.Emitting.{AddsParts, AreAcceptedElsifs, AreAcceptedStatements, EmitsStatement, EmitsStatements, IsAcceptedStatement}
+use Rattle.stmt_code.specs.Emitting.{AddsParts, AreAcceptedElsifs, AreAcceptedStatements, EmitsStatement, EmitsStatements, IsAcceptedStatement, only_if}
 use Rattle.part_code.specs.Emitting.{HasEntries, ways_of}
 use Rattle.expr_code.specs.Code.{here}
 use Rattle.stmt_code.specs.Placing.{stmt_place}
@@ -31,7 +31,7 @@ statement-branch-self-requires t c =
     let s = c.args.visible.now.scope in
     let w = ways_of c.args.leaving in
     let x = c.in-If in
-    let tree = ap stmt_tree x.is ∙ c.statements_by_parts.ensures.ifs x.field-0 x.condition x.body x.elsifs x.others in (
+    let tree = ap stmt_tree x.is ∙ c.statements_by_parts.ensures.ifs x.place x.condition x.body x.elsifs x.others in (
       search (rules, statements.the_lemmas),
       (
         c.requires.sound,
@@ -40,10 +40,35 @@ statement-branch-self-requires t c =
           (
             c.requires.covered,
             (
-              if_condition s w (stmt_tree c.args.statement.now) x.field-0 (expr_tree x.condition) (stmt_trees x.body.items) (elsif_trees x.elsifs.items)
+              if_condition s w (stmt_tree c.args.statement.now) x.place (expr_tree x.condition) (stmt_trees x.body.items) (elsif_trees x.elsifs.items)
                   (stmt_trees x.others.items) tree c.requires.legal,
               subst (λ l. AreAcceptedStatements s w (stmt_trees l)) (sym c.deref.ensures.value)
-                  (if_body s w (stmt_tree c.args.statement.now) x.field-0 (expr_tree x.condition) (stmt_trees x.body.items) (elsif_trees x.elsifs.items)
+                  (if_body s w (stmt_tree c.args.statement.now) x.place (expr_tree x.condition) (stmt_trees x.body.items) (elsif_trees x.elsifs.items)
+                  (stmt_trees x.others.items) tree c.requires.legal),
+            ),
+          ),
+        ),
+      ),
+    )
+
+pub statement-guarded-requires : goal.statement-guarded-requires
+statement-guarded-requires t c =
+    let s = c.args.visible.now.scope in
+    let w = ways_of c.args.leaving in
+    let x = c.in-If in
+    let tree = ap stmt_tree x.is ∙ c.statements_by_parts.ensures.ifs x.place x.condition x.body x.elsifs x.others in (
+      search (rules, statements.the_lemmas),
+      (
+        c.requires.sound,
+        (
+          c.requires.entries,
+          (
+            c.requires.covered,
+            (
+              if_condition s w (stmt_tree c.args.statement.now) x.place (expr_tree x.condition) (stmt_trees x.body.items) (elsif_trees x.elsifs.items)
+                  (stmt_trees x.others.items) tree c.requires.legal,
+              subst (λ l. AreAcceptedStatements s w (stmt_trees l)) (sym c.deref-in-If.ensures.value)
+                  (if_body s w (stmt_tree c.args.statement.now) x.place (expr_tree x.condition) (stmt_trees x.body.items) (elsif_trees x.elsifs.items)
                   (stmt_trees x.others.items) tree c.requires.legal),
             ),
           ),
@@ -56,7 +81,7 @@ statement-elsifs-requires t c =
     let v = c.args.visible.now in
     let w = ways_of c.args.leaving in
     let x = c.in-If in
-    let tree = ap stmt_tree x.is ∙ c.statements_by_parts.ensures.ifs x.field-0 x.condition x.body x.elsifs x.others in
+    let tree = ap stmt_tree x.is ∙ c.statements_by_parts.ensures.ifs x.place x.condition x.body x.elsifs x.others in
     let there = c.in_ok-branch-in-If.ensures.same in (
       search (rules, statements.the_lemmas),
       (
@@ -66,9 +91,9 @@ statement-elsifs-requires t c =
           (
             covered_still v c.branch-self.new.visible c.args.self.now c.branch-self.new.self c.in_ok-branch-in-If.ensures.adds.emits.rows.exceptions there
                 c.requires.covered,
-            subst (λ y. AreAcceptedElsifs y.scope w (elsif_trees c.deref-in-If.result.now)) (sym there)
-                (subst (λ l. AreAcceptedElsifs v.scope w (elsif_trees l)) (sym c.deref-in-If.ensures.value)
-                (if_elsifs v.scope w (stmt_tree c.args.statement.now) x.field-0 (expr_tree x.condition) (stmt_trees x.body.items) (elsif_trees x.elsifs.items)
+            subst (λ y. AreAcceptedElsifs y.scope w (elsif_trees c.deref-then-not-both.result.now)) (sym there)
+                (subst (λ l. AreAcceptedElsifs v.scope w (elsif_trees l)) (sym c.deref-then-not-both.ensures.value)
+                (if_elsifs v.scope w (stmt_tree c.args.statement.now) x.place (expr_tree x.condition) (stmt_trees x.body.items) (elsif_trees x.elsifs.items)
                 (stmt_trees x.others.items) tree c.requires.legal)),
           ),
         ),
@@ -80,7 +105,7 @@ statement-statements-requires t c =
     let v = c.args.visible.now in
     let w = ways_of c.args.leaving in
     let x = c.in-If in
-    let tree = ap stmt_tree x.is ∙ c.statements_by_parts.ensures.ifs x.field-0 x.condition x.body x.elsifs x.others in
+    let tree = ap stmt_tree x.is ∙ c.statements_by_parts.ensures.ifs x.place x.condition x.body x.elsifs x.others in
     let there = c.in_ok-elsifs-in-If.ensures.same ∙ c.in_ok-branch-in-If.ensures.same in
     let kept = c.in_ok-elsifs-in-If.ensures.adds.emits.rows.exceptions ∙ c.in_ok-branch-in-If.ensures.adds.emits.rows.exceptions in (
       search (rules, statements.the_lemmas),
@@ -90,9 +115,9 @@ statement-statements-requires t c =
           subst HasEntries (sym there) c.requires.entries,
           (
             covered_still v c.elsifs.new.visible c.args.self.now c.elsifs.new.self kept there c.requires.covered,
-            subst (λ y. AreAcceptedStatements y.scope w (stmt_trees c.deref-in-If-2.result.now)) (sym there)
-                (subst (λ l. AreAcceptedStatements v.scope w (stmt_trees l)) (sym c.deref-in-If-2.ensures.value)
-                (if_others v.scope w (stmt_tree c.args.statement.now) x.field-0 (expr_tree x.condition) (stmt_trees x.body.items) (elsif_trees x.elsifs.items)
+            subst (λ y. AreAcceptedStatements y.scope w (stmt_trees c.deref-then-not-both-2.result.now)) (sym there)
+                (subst (λ l. AreAcceptedStatements v.scope w (stmt_trees l)) (sym c.deref-then-not-both-2.ensures.value)
+                (if_others v.scope w (stmt_tree c.args.statement.now) x.place (expr_tree x.condition) (stmt_trees x.body.items) (elsif_trees x.elsifs.items)
                 (stmt_trees x.others.items) tree c.requires.legal)),
           ),
         ),
@@ -110,21 +135,21 @@ statement-rejoin-requires t c =
     let others = subst (λ x. AddsParts x w c.branch-self.new.self (map elsif_tree c.in-If.elsifs.items) c.branch-self.new.waiting.items c.elsifs.new.waiting.items
     c.elsifs.new.self) one
     (subst (λ l. AddsParts c.branch-self.new.visible w c.branch-self.new.self (map elsif_tree l) c.branch-self.new.waiting.items c.elsifs.new.waiting.items
-    c.elsifs.new.self) c.deref-in-If.ensures.value c.in_ok-elsifs-in-If.ensures.adds) in
+    c.elsifs.new.self) c.deref-then-not-both.ensures.value c.in_ok-elsifs-in-If.ensures.adds) in
     let last = subst (λ x. EmitsStatements x w c.elsifs.new.self (stmt_trees c.in-If.others.items) c.statements.new.self) two
-    (subst (λ l. EmitsStatements c.elsifs.new.visible w c.elsifs.new.self (stmt_trees l) c.statements.new.self) c.deref-in-If-2.ensures.value
+    (subst (λ l. EmitsStatements c.elsifs.new.visible w c.elsifs.new.self (stmt_trees l) c.statements.new.self) c.deref-then-not-both-2.ensures.value
     c.in_ok-statements-in-If.ensures.emits) in
     record {
-      there = λ k is. waiting_there v w c.args.self.now c.branch-self.new.self c.elsifs.new.self c.statements.new.self c.statements.new.self c.in-If.field-0
+      there = λ k is. waiting_there v w c.args.self.now c.branch-self.new.self c.elsifs.new.self c.statements.new.self c.statements.new.self c.in-If.place
           (expr_tree c.in-If.condition) (stmt_trees c.in-If.body.items) c.in-If.elsifs.items (stmt_trees c.in-If.others.items) c.new-waiting.result.items
-          c.branch-self.new.waiting.items c.elsifs.new.waiting.items c.deref-in-If-3.result.now c.new-waiting.ensures.items c.deref-in-If-3.ensures.value
+          c.branch-self.new.waiting.items c.elsifs.new.waiting.items c.deref-then-not-both-3.result.now c.new-waiting.ensures.items c.deref-then-not-both-3.ensures.value
           first others last k is;
     }
 
-pub statement-returns-in_ok-statements-in-If-clause-emits : goal.statement-returns-in_ok-statements-in-If-clause-emits
-statement-returns-in_ok-statements-in-If-clause-emits t c =
+pub statement-returns-then-not-both-clause-emits : goal.statement-returns-then-not-both-clause-emits
+statement-returns-then-not-both-clause-emits t c =
     let tree = ap stmt_tree c.in-If.is
-    ∙ c.statements_by_parts.ensures.ifs c.in-If.field-0 c.in-If.condition c.in-If.body c.in-If.elsifs c.in-If.others in
+    ∙ c.statements_by_parts.ensures.ifs c.in-If.place c.in-If.condition c.in-If.body c.in-If.elsifs c.in-If.others in
     let v = c.args.visible.now in
     let w = ways_of c.args.leaving in
     let first = subst (λ l. AddsParts v w c.args.self.now ((expr_tree c.in-If.condition, stmt_trees l) ∷ []) c.new-waiting.result.items
@@ -134,23 +159,37 @@ statement-returns-in_ok-statements-in-If-clause-emits t c =
     let others = subst (λ x. AddsParts x w c.branch-self.new.self (map elsif_tree c.in-If.elsifs.items) c.branch-self.new.waiting.items c.elsifs.new.waiting.items
     c.elsifs.new.self) one
     (subst (λ l. AddsParts c.branch-self.new.visible w c.branch-self.new.self (map elsif_tree l) c.branch-self.new.waiting.items c.elsifs.new.waiting.items
-    c.elsifs.new.self) c.deref-in-If.ensures.value c.in_ok-elsifs-in-If.ensures.adds) in
+    c.elsifs.new.self) c.deref-then-not-both.ensures.value c.in_ok-elsifs-in-If.ensures.adds) in
     let last = subst (λ x. EmitsStatements x w c.elsifs.new.self (stmt_trees c.in-If.others.items) c.statements.new.self) two
-    (subst (λ l. EmitsStatements c.elsifs.new.visible w c.elsifs.new.self (stmt_trees l) c.statements.new.self) c.deref-in-If-2.ensures.value
+    (subst (λ l. EmitsStatements c.elsifs.new.visible w c.elsifs.new.self (stmt_trees l) c.statements.new.self) c.deref-then-not-both-2.ensures.value
     c.in_ok-statements-in-If.ensures.emits) in on_ok_weaker _
     (λ r.
     subst (λ x. EmitsStatement v w c.args.self.now x (record c.statements.new.self { code = c.rejoin.new.self })) (sym tree)
     (if_emits v w c.args.self.now c.branch-self.new.self c.elsifs.new.self c.statements.new.self (record c.statements.new.self { code = c.rejoin.new.self })
-    c.in-If.field-0
+    c.in-If.place
     (expr_tree c.in-If.condition) (stmt_trees c.in-If.body.items) c.in-If.elsifs.items (stmt_trees c.in-If.others.items) c.new-waiting.result.items
-    c.branch-self.new.waiting.items c.elsifs.new.waiting.items c.deref-in-If-3.result.now c.new-waiting.ensures.items c.deref-in-If-3.ensures.value
+    c.branch-self.new.waiting.items c.elsifs.new.waiting.items c.deref-then-not-both-3.result.now c.new-waiting.ensures.items c.deref-then-not-both-3.ensures.value
     first others last _ refl r (refl, refl, (refl, refl))))
     c.rejoin.ensures.rejoins
 
-pub statement-returns-in_ok-statements-in-If-clause-same : goal.statement-returns-in_ok-statements-in-If-clause-same
-statement-returns-in_ok-statements-in-If-clause-same t c =
+pub statement-returns-else-not-both-clause-emits : goal.statement-returns-else-not-both-clause-emits
+statement-returns-else-not-both-clause-emits t c =
+    let v = c.args.visible.now in
+    let w = ways_of c.args.leaving in
+    let x = c.in-If in
+    let no_elsifs : x.elsifs.items ≡ [] = none_there x.elsifs.items (search rules) in
+    let no_others : x.others.items ≡ [] = none_there x.others.items (search rules) in
+    let tree = ap stmt_tree x.is ∙ c.statements_by_parts.ensures.ifs x.place x.condition x.body x.elsifs x.others
+    ∙ (λ j. If x.place (expr_tree x.condition) (stmt_trees x.body.items) (elsif_trees (no_elsifs j)) (stmt_trees (no_others j))) in on_ok_weaker _
+    (λ p.
+    subst (λ y. EmitsStatement v w c.args.self.now y c.guarded.new.self) (sym tree)
+    (subst (λ l. EmitsStatement v w c.args.self.now (only_if x.place (expr_tree x.condition) (stmt_trees l)) c.guarded.new.self) c.deref-in-If.ensures.value p))
+    c.guarded.ensures.emits
+
+pub statement-returns-then-not-both-clause-same : goal.statement-returns-then-not-both-clause-same
+statement-returns-then-not-both-clause-same t c =
     let tree = ap stmt_tree c.in-If.is
-    ∙ c.statements_by_parts.ensures.ifs c.in-If.field-0 c.in-If.condition c.in-If.body c.in-If.elsifs c.in-If.others in
+    ∙ c.statements_by_parts.ensures.ifs c.in-If.place c.in-If.condition c.in-If.body c.in-If.elsifs c.in-If.others in
     let v = c.args.visible.now in
     let w = ways_of c.args.leaving in
     let first = subst (λ l. AddsParts v w c.args.self.now ((expr_tree c.in-If.condition, stmt_trees l) ∷ []) c.new-waiting.result.items
@@ -160,9 +199,9 @@ statement-returns-in_ok-statements-in-If-clause-same t c =
     let others = subst (λ x. AddsParts x w c.branch-self.new.self (map elsif_tree c.in-If.elsifs.items) c.branch-self.new.waiting.items c.elsifs.new.waiting.items
     c.elsifs.new.self) one
     (subst (λ l. AddsParts c.branch-self.new.visible w c.branch-self.new.self (map elsif_tree l) c.branch-self.new.waiting.items c.elsifs.new.waiting.items
-    c.elsifs.new.self) c.deref-in-If.ensures.value c.in_ok-elsifs-in-If.ensures.adds) in
+    c.elsifs.new.self) c.deref-then-not-both.ensures.value c.in_ok-elsifs-in-If.ensures.adds) in
     let last = subst (λ x. EmitsStatements x w c.elsifs.new.self (stmt_trees c.in-If.others.items) c.statements.new.self) two
-    (subst (λ l. EmitsStatements c.elsifs.new.visible w c.elsifs.new.self (stmt_trees l) c.statements.new.self) c.deref-in-If-2.ensures.value
+    (subst (λ l. EmitsStatements c.elsifs.new.visible w c.elsifs.new.self (stmt_trees l) c.statements.new.self) c.deref-then-not-both-2.ensures.value
     c.in_ok-statements-in-If.ensures.emits) in on_ok_weaker _ (λ r. c.in_ok-statements-in-If.ensures.same ∙ two) c.rejoin.ensures.rejoins
 
 pub statement-case-requires : goal.statement-case-requires
@@ -208,6 +247,12 @@ statement-returns-in-Call-clause-emits t c =
     on_ok_weaker _
     (λ p. subst (λ x. EmitsStatement c.args.visible.now (ways_of c.args.leaving) c.args.self.now x c.call.new.self) (sym (ap stmt_tree c.in-Call.is)) p)
     (c.call.ensures.emits (ways_of c.args.leaving))
+
+pub statement-returns-in-Exit-clause-emits : goal.statement-returns-in-Exit-clause-emits
+statement-returns-in-Exit-clause-emits t c =
+    on_ok_weaker _
+    (λ p. subst (λ x. EmitsStatement c.args.visible.now (ways_of c.args.leaving) c.args.self.now x c.exit.new.self) (sym (ap stmt_tree c.in-Exit.is)) p)
+    c.exit.ensures.emits
 
 pub statement-returns-in-Raise-clause-emits : goal.statement-returns-in-Raise-clause-emits
 statement-returns-in-Raise-clause-emits t c =

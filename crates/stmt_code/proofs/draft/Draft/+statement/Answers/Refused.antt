@@ -3,7 +3,7 @@ use Rattle.std.proofs.Common.{◌≡◌, ◌∷◌, [], arith, map, refl, sym, a
 use Rattle.std.specs.Prelude.{IfErr}
 use Rattle.std.proofs.lemmas.Result.{IfErr-weaker, err_from_is_err_and}
 use Rattle.ada_tree.specs.ExpressionTree.{expr_tree}
-use Rattle.ada_tree.specs.StatementTree.{Block, Case, For, Forever, Loop, NoHandlers, While, alternative_tree, alternative_trees, alternatives_of, choices_tree, declaration_tree, elsif_tree, elsif_trees, elsifs_of, handler_trees, iteration_tree, range_tree, stmt_tree, stmt_trees}
+use Rattle.ada_tree.specs.StatementTree.{Block, Case, For, Forever, If, Loop, NoElsifs, NoHandlers, NoStmts, While, alternative_tree, alternative_trees, alternatives_of, choices_tree, declaration_tree, elsif_tree, elsif_trees, elsifs_of, handler_trees, iteration_tree, range_tree, stmt_tree, stmt_trees}
 use Rattle.stmt_code.specs.declared.draft.Draft.{Draft}
 use Rattle.expr_code.proofs.Growing.{added_here}
 use Rattle.expr_code.proofs.Refusals.{peak_some}
@@ -11,7 +11,7 @@ use Rattle.part_code.specs.Bounds.{stmts_bound}
 use Rattle.part_code.specs.Labels.{elsifs_labels}
 use Rattle.stmt_code.specs.Refusing.{RefusesAlternatives, RefusesParts, RefusesStatement, RefusesStatements, around}
 use Rattle.stmt_code.specs.Staying.{StaysParts}
-use Rattle.stmt_code.specs.Emitting.{AddsParts, EmitsStatements}
+use Rattle.stmt_code.specs.Emitting.{AddsParts, EmitsStatements, only_if}
 use Rattle.part_code.specs.Emitting.{ways_of}
 use Rattle.stmt_code.proofs.Adding.{none_there}
 use Rattle.stmt_code.proofs.PartsRefused.{alternative_refuses, alternatives_refused, begun_here, block_body_refused, body_refused, choices_refused, chosen_refused, close_refused, condition_refused, counted_body, dropped_refused, elsifs_refuse, first_refuses, forever_body, instruction_refuses, leaving_refused, locals_refused, others_refuse, part_refuses, range_here, range_refused, range_seen, range_two, rejoin_refuses, selected_refused, statement_refuses, test_refused, turn_here, while_body_refused, while_condition_refused}
@@ -51,6 +51,50 @@ branch-returns-clause-refused t c =
     close_refused c.args.visible.now c.args.self.now why (expr_tree c.args.condition.now)
     (stmt_trees c.args.body.now) c.statements.new.self.code (omega (arith, first, jump, second)) r)
     c.close.ensures.refused
+
+pub guarded-returns-in_err-of_width-clause-refused : goal.guarded-returns-in_err-of_width-clause-refused
+guarded-returns-in_err-of_width-clause-refused t c =
+    let v = c.args.visible.now in
+    let why = c.in_err-of_width.field-0.0 in
+    let e = expr_tree c.args.condition.now in
+    let body = stmt_trees c.args.body.now in
+    let whole = first_refuses v c.args.self.now why c.args.place e body NoElsifs NoStmts
+    (condition_refused v c.args.self.now why e body c.in_err-of_width.ensures.refused) in
+    search (rules, whole)
+
+pub guarded-returns-in_err-test-clause-refused : goal.guarded-returns-in_err-test-clause-refused
+guarded-returns-in_err-test-clause-refused t c =
+    let v = c.args.visible.now in
+    let why = c.in_err-test.field-0.0 in
+    let e = expr_tree c.args.condition.now in
+    let body = stmt_trees c.args.body.now in
+    let whole = first_refuses v c.args.self.now why c.args.place e body NoElsifs NoStmts
+    (test_refused v c.args.self.now why e body c.of_width.new.self c.in_ok-of_width.ensures.emits.sized c.in_err-test.ensures.refused) in
+    search (rules, whole)
+
+pub guarded-returns-in_err-statements-clause-refused : goal.guarded-returns-in_err-statements-clause-refused
+guarded-returns-in_err-statements-clause-refused t c =
+    let v = c.args.visible.now in
+    let why = c.in_err-statements.field-0.0 in
+    let e = expr_tree c.args.condition.now in
+    let body = stmt_trees c.args.body.now in
+    let first = c.in_ok-of_width.ensures.emits.sized in
+    let jump = added_here _ _ _ _ c.in_ok-test.ensures.adds in
+    let mid : Draft = record c.args.self.now { code = c.test.new.self } in
+    let whole = first_refuses v c.args.self.now why c.args.place e body NoElsifs NoStmts
+    (body_refused v c.args.self.now why e body mid refl refl (omega (arith, first, jump)) c.in_err-statements.ensures.refused) in
+    search (rules, whole)
+
+pub guarded-returns-in_err-end-clause-refused : goal.guarded-returns-in_err-end-clause-refused
+guarded-returns-in_err-end-clause-refused t c =
+    let v = c.args.visible.now in
+    let why = c.in_err-end.field-0.0 in
+    let first = c.in_ok-of_width.ensures.emits.sized in
+    let jump = added_here _ _ _ _ c.in_ok-test.ensures.adds in
+    let second = c.in_ok-statements.ensures.emits.sized in
+    let whole = rejoin_refuses v c.args.self.now why c.args.place (expr_tree c.args.condition.now) (stmt_trees c.args.body.now) NoElsifs NoStmts
+    c.statements.new.self.code (omega (arith, first, jump, second)) c.in_err-end.ensures.refused in
+    search (rules, whole)
 
 pub elsifs-returns-in_err-branch-clause-refused : goal.elsifs-returns-in_err-branch-clause-refused
 elsifs-returns-in_err-branch-clause-refused t c =
@@ -179,7 +223,7 @@ repeated-returns-in_err-statements-in-Forever-clause-refused t c =
     let body = stmt_trees c.args.body.now in
     let why = c.in_err-statements-in-Forever.field-0.0 in
     let begun : Draft = record c.args.self.now { code = c.begin_loop.new.code } in
-    let long = begun_here _ _ c.in_ok-head-in-Forever.ensures.begins in
+    let long = begun_here c.args.self.now.code c.begin_loop.new.code c.in_ok-head-in-Forever.head.exit c.in_ok-head-in-Forever.ensures.begins in
     let whole = subst (λ i. RefusesStatement v c.args.self.now (Loop c.args.place (iteration_tree i) body) why) (sym c.in-Forever.is)
     (forever_body v c.args.self.now why c.args.place body begun refl refl (omega (arith, long)) c.in_err-statements-in-Forever.ensures.refused) in
     search (rules, whole)
@@ -189,7 +233,7 @@ repeated-returns-in_err-end_loop-in-Forever-clause-refused t c =
     let v = c.args.visible.now in
     let body = stmt_trees c.args.body.now in
     let why = c.in_err-end_loop-in-Forever.field-0.0 in
-    let long = begun_here _ _ c.in_ok-head-in-Forever.ensures.begins in
+    let long = begun_here c.args.self.now.code c.begin_loop.new.code c.in_ok-head-in-Forever.head.exit c.in_ok-head-in-Forever.ensures.begins in
     let second = c.in_ok-statements-in-Forever.ensures.emits.sized in
     let whole = subst (λ i. RefusesStatement v c.args.self.now (Loop c.args.place (iteration_tree i) body) why) (sym c.in-Forever.is)
     (instruction_refuses v c.args.self.now why c.args.place Forever body _ 0 (omega (arith, long, second)) (omega arith)
@@ -207,7 +251,7 @@ repeated-returns-in_err-of_width-in-While-clause-refused t c =
     let v = c.args.visible.now in
     let body = stmt_trees c.args.body.now in
     let why = c.in_err-of_width-in-While.field-0.0 in
-    let long = begun_here _ _ c.in_ok-head-in-While.ensures.begins in
+    let long = begun_here c.args.self.now.code c.begin_loop-in-While.new.code c.in_ok-head-in-While.head.exit c.in_ok-head-in-While.ensures.begins in
     let whole = subst (λ i. RefusesStatement v c.args.self.now (Loop c.args.place (iteration_tree i) body) why) (sym c.in-While.is)
     (while_condition_refused v c.args.self.now why c.args.place (expr_tree c.in-While.condition) body c.begin_loop-in-While.new.code
     (omega (arith, long)) c.in_err-of_width-in-While.ensures.refused) in
@@ -219,7 +263,7 @@ repeated-returns-in_err-test-in-While-clause-refused t c =
     let e = expr_tree c.in-While.condition in
     let body = stmt_trees c.args.body.now in
     let why = c.in_err-test-in-While.field-0.0 in
-    let long = begun_here _ _ c.in_ok-head-in-While.ensures.begins in
+    let long = begun_here c.args.self.now.code c.begin_loop-in-While.new.code c.in_ok-head-in-While.head.exit c.in_ok-head-in-While.ensures.begins in
     let first = c.in_ok-of_width-in-While.ensures.emits.sized in
     let whole = subst (λ i. RefusesStatement v c.args.self.now (Loop c.args.place (iteration_tree i) body) why) (sym c.in-While.is)
     (instruction_refuses v c.args.self.now why c.args.place (While e) body _ 1 (omega (arith, long, first))
@@ -233,7 +277,7 @@ repeated-returns-in_err-statements-in-While-clause-refused t c =
     let body = stmt_trees c.args.body.now in
     let why = c.in_err-statements-in-While.field-0.0 in
     let jumped : Draft = record c.args.self.now { code = c.test.new.self } in
-    let long = begun_here _ _ c.in_ok-head-in-While.ensures.begins in
+    let long = begun_here c.args.self.now.code c.begin_loop-in-While.new.code c.in_ok-head-in-While.head.exit c.in_ok-head-in-While.ensures.begins in
     let first = c.in_ok-of_width-in-While.ensures.emits.sized in
     let jump = added_here _ _ _ _ c.in_ok-test-in-While.ensures.adds in
     let whole = subst (λ i. RefusesStatement v c.args.self.now (Loop c.args.place (iteration_tree i) body) why) (sym c.in-While.is)
@@ -247,7 +291,7 @@ repeated-returns-in_err-end-in-While-clause-refused t c =
     let e = expr_tree c.in-While.condition in
     let body = stmt_trees c.args.body.now in
     let why = c.in_err-end-in-While.field-0.0 in
-    let long = begun_here _ _ c.in_ok-head-in-While.ensures.begins in
+    let long = begun_here c.args.self.now.code c.begin_loop-in-While.new.code c.in_ok-head-in-While.head.exit c.in_ok-head-in-While.ensures.begins in
     let first = c.in_ok-of_width-in-While.ensures.emits.sized in
     let jump = added_here _ _ _ _ c.in_ok-test-in-While.ensures.adds in
     let second = c.in_ok-statements-in-While.ensures.emits.sized in
@@ -274,7 +318,7 @@ counted-returns-in_err-head-clause-refused t c =
 pub counted-returns-in_err-turns-clause-refused : goal.counted-returns-in_err-turns-clause-refused
 counted-returns-in_err-turns-clause-refused t c =
     let begun : Draft = record c.args.self.now { code = c.begin_loop.new.code } in
-    let long = begun_here _ _ c.in_ok-head.ensures.begins in
+    let long = begun_here c.args.self.now.code c.begin_loop.new.code c.in_ok-head.head.exit c.in_ok-head.ensures.begins in
     let whole = range_refused c.args.visible.now c.args.self.now c.in_err-turns.field-0.0 c.args.place
     c.args.parameter.now c.args.reversed (range_tree c.args.range.now) (stmt_trees c.args.body.now) begun refl (omega (arith, long))
     c.in_err-turns.ensures.refused in
@@ -282,7 +326,7 @@ counted-returns-in_err-turns-clause-refused t c =
 
 pub counted-returns-in_err-turn-clause-refused : goal.counted-returns-in_err-turn-clause-refused
 counted-returns-in_err-turn-clause-refused t c =
-    let long = begun_here _ _ c.in_ok-head.ensures.begins in
+    let long = begun_here c.args.self.now.code c.begin_loop.new.code c.in_ok-head.head.exit c.in_ok-head.ensures.begins in
     let range = range_here _ _ _ _ _ _ _ _ _ c.in_ok-turns.ensures.begins in
     let whole = instruction_refuses c.args.visible.now c.args.self.now c.in_err-turn.field-0.0 c.args.place
     (For c.args.parameter.now c.args.reversed (range_tree c.args.range.now)) (stmt_trees c.args.body.now) _ 0 (omega (arith, long, range)) (omega arith)
@@ -294,7 +338,7 @@ counted-returns-in_err-statements-clause-refused t c =
     let v = c.args.visible.now in
     let body = stmt_trees c.args.body.now in
     let why = c.in_err-statements.field-0.0 in
-    let long = begun_here _ _ c.in_ok-head.ensures.begins in
+    let long = begun_here c.args.self.now.code c.begin_loop.new.code c.in_ok-head.head.exit c.in_ok-head.ensures.begins in
     let range = range_here _ _ _ _ _ _ _ _ _ c.in_ok-turns.ensures.begins in
     let whole = counted_body v c.args.self.now why c.args.place c.args.parameter.now c.args.reversed (range_tree c.args.range.now) body
     c.begin_range.new.visible c.begin_range.new.self (range_seen _ _ _ _ _ _ _ _ _ c.in_ok-turns.ensures.begins)
@@ -306,7 +350,7 @@ counted-returns-in_err-last-clause-refused t c =
     let v = c.args.visible.now in
     let range = range_tree c.args.range.now in
     let body = stmt_trees c.args.body.now in
-    let long = begun_here _ _ c.in_ok-head.ensures.begins in
+    let long = begun_here c.args.self.now.code c.begin_loop.new.code c.in_ok-head.head.exit c.in_ok-head.ensures.begins in
     let began = c.in_ok-turns.ensures.begins in
     let bounds = range_here _ _ _ _ _ _ _ _ _ began in
     let turned = c.in_ok-statements.ensures.emits.sized in
@@ -323,7 +367,7 @@ counted-returns-in_err-end-clause-refused t c =
     let v = c.args.visible.now in
     let range = range_tree c.args.range.now in
     let body = stmt_trees c.args.body.now in
-    let long = begun_here _ _ c.in_ok-head.ensures.begins in
+    let long = begun_here c.args.self.now.code c.begin_loop.new.code c.in_ok-head.head.exit c.in_ok-head.ensures.begins in
     let began = c.in_ok-turns.ensures.begins in
     let bounds = range_here _ _ _ _ _ _ _ _ _ began in
     let turned = c.in_ok-statements.ensures.emits.sized in
@@ -360,9 +404,9 @@ statement-returns-in_err-branch-in-If-clause-refused t c =
     let v = c.args.visible.now in
     let why = c.in_err-branch-in-If.field-0.0 in
     let tree = ap stmt_tree c.in-If.is
-    ∙ c.statements_by_parts.ensures.ifs c.in-If.field-0 c.in-If.condition c.in-If.body c.in-If.elsifs c.in-If.others in
+    ∙ c.statements_by_parts.ensures.ifs c.in-If.place c.in-If.condition c.in-If.body c.in-If.elsifs c.in-If.others in
     let whole = subst (λ x. RefusesStatement v c.args.self.now x why) (sym tree)
-    (first_refuses v c.args.self.now why c.in-If.field-0 (expr_tree c.in-If.condition) (stmt_trees c.in-If.body.items)
+    (first_refuses v c.args.self.now why c.in-If.place (expr_tree c.in-If.condition) (stmt_trees c.in-If.body.items)
     (elsif_trees c.in-If.elsifs.items) (stmt_trees c.in-If.others.items)
     (subst (λ l. RefusesParts v c.args.self.now (elsifs_of ((expr_tree c.in-If.condition, stmt_trees l) ∷ [])) why) c.deref.ensures.value
     c.in_err-branch-in-If.ensures.refused)) in
@@ -374,17 +418,17 @@ statement-returns-in_err-elsifs-in-If-clause-refused t c =
     let w = ways_of c.args.leaving in
     let why = c.in_err-elsifs-in-If.field-0.0 in
     let tree = ap stmt_tree c.in-If.is
-    ∙ c.statements_by_parts.ensures.ifs c.in-If.field-0 c.in-If.condition c.in-If.body c.in-If.elsifs c.in-If.others in
+    ∙ c.statements_by_parts.ensures.ifs c.in-If.place c.in-If.condition c.in-If.body c.in-If.elsifs c.in-If.others in
     let first = subst (λ l. AddsParts v w c.args.self.now ((expr_tree c.in-If.condition, stmt_trees l) ∷ []) c.new-waiting.result.items
     c.branch-self.new.waiting.items c.branch-self.new.self) c.deref.ensures.value c.in_ok-branch-in-If.ensures.adds in
     let kept = subst (λ l. StaysParts v c.args.self.now (elsifs_of ((expr_tree c.in-If.condition, stmt_trees l) ∷ [])) c.branch-self.new.self)
     c.deref.ensures.value c.in_ok-branch-in-If.ensures.stays in
     let whole = subst (λ x. RefusesStatement v c.args.self.now x why) (sym tree)
-    (elsifs_refuse v c.args.self.now why c.in-If.field-0 (expr_tree c.in-If.condition) (stmt_trees c.in-If.body.items)
+    (elsifs_refuse v c.args.self.now why c.in-If.place (expr_tree c.in-If.condition) (stmt_trees c.in-If.body.items)
     (elsif_trees c.in-If.elsifs.items) (stmt_trees c.in-If.others.items) c.branch-self.new.self
     first.emits.taken kept.labels first.emits.sized
     (subst (λ x. RefusesParts x c.branch-self.new.self (elsif_trees c.in-If.elsifs.items) why) c.in_ok-branch-in-If.ensures.same
-    (subst (λ l. RefusesParts c.branch-self.new.visible c.branch-self.new.self (elsif_trees l) why) c.deref-in-If.ensures.value
+    (subst (λ l. RefusesParts c.branch-self.new.visible c.branch-self.new.self (elsif_trees l) why) c.deref-then-not-both.ensures.value
     c.in_err-elsifs-in-If.ensures.refused))) in
     search (rules, whole)
 
@@ -394,38 +438,52 @@ statement-returns-in_err-statements-in-If-clause-refused t c =
     let w = ways_of c.args.leaving in
     let why = c.in_err-statements-in-If.field-0.0 in
     let tree = ap stmt_tree c.in-If.is
-    ∙ c.statements_by_parts.ensures.ifs c.in-If.field-0 c.in-If.condition c.in-If.body c.in-If.elsifs c.in-If.others in
+    ∙ c.statements_by_parts.ensures.ifs c.in-If.place c.in-If.condition c.in-If.body c.in-If.elsifs c.in-If.others in
     let first = subst (λ l. AddsParts v w c.args.self.now ((expr_tree c.in-If.condition, stmt_trees l) ∷ []) c.new-waiting.result.items
     c.branch-self.new.waiting.items c.branch-self.new.self) c.deref.ensures.value c.in_ok-branch-in-If.ensures.adds in
     let one = c.in_ok-branch-in-If.ensures.same in
     let others = subst (λ x. AddsParts x w c.branch-self.new.self (map elsif_tree c.in-If.elsifs.items) c.branch-self.new.waiting.items c.elsifs.new.waiting.items
     c.elsifs.new.self) one
     (subst (λ l. AddsParts c.branch-self.new.visible w c.branch-self.new.self (map elsif_tree l) c.branch-self.new.waiting.items c.elsifs.new.waiting.items
-    c.elsifs.new.self) c.deref-in-If.ensures.value c.in_ok-elsifs-in-If.ensures.adds) in
+    c.elsifs.new.self) c.deref-then-not-both.ensures.value c.in_ok-elsifs-in-If.ensures.adds) in
     let up = first.emits.sized in
     let more = others.emits.sized in
     let kept = subst (λ l. StaysParts v c.args.self.now (elsifs_of ((expr_tree c.in-If.condition, stmt_trees l) ∷ [])) c.branch-self.new.self)
     c.deref.ensures.value c.in_ok-branch-in-If.ensures.stays in
     let kept_others = subst (λ x. StaysParts x c.branch-self.new.self (elsif_trees c.in-If.elsifs.items) c.elsifs.new.self) one
-    (subst (λ l. StaysParts c.branch-self.new.visible c.branch-self.new.self (elsif_trees l) c.elsifs.new.self) c.deref-in-If.ensures.value
+    (subst (λ l. StaysParts c.branch-self.new.visible c.branch-self.new.self (elsif_trees l) c.elsifs.new.self) c.deref-then-not-both.ensures.value
     c.in_ok-elsifs-in-If.ensures.stays) in
     let labels = kept_others.labels ∙ ap (λ l. elsifs_labels l (elsif_trees c.in-If.elsifs.items)) kept.labels in
     let whole = subst (λ x. RefusesStatement v c.args.self.now x why) (sym tree)
-    (others_refuse v c.args.self.now why c.in-If.field-0 (expr_tree c.in-If.condition) (stmt_trees c.in-If.body.items)
+    (others_refuse v c.args.self.now why c.in-If.place (expr_tree c.in-If.condition) (stmt_trees c.in-If.body.items)
     (elsif_trees c.in-If.elsifs.items) (stmt_trees c.in-If.others.items) c.elsifs.new.self
     (others.emits.taken ∙ first.emits.taken) labels
     (omega (arith, up, more))
     (subst (λ x. RefusesStatements x c.elsifs.new.self (stmt_trees c.in-If.others.items) why) (c.in_ok-elsifs-in-If.ensures.same ∙ one)
-    (subst (λ l. RefusesStatements c.elsifs.new.visible c.elsifs.new.self (stmt_trees l) why) c.deref-in-If-2.ensures.value
+    (subst (λ l. RefusesStatements c.elsifs.new.visible c.elsifs.new.self (stmt_trees l) why) c.deref-then-not-both-2.ensures.value
     c.in_err-statements-in-If.ensures.refused))) in
     search (rules, whole)
 
-pub statement-returns-in_ok-statements-in-If-clause-refused : goal.statement-returns-in_ok-statements-in-If-clause-refused
-statement-returns-in_ok-statements-in-If-clause-refused t c =
+pub statement-returns-else-not-both-clause-refused : goal.statement-returns-else-not-both-clause-refused
+statement-returns-else-not-both-clause-refused t c =
+    let v = c.args.visible.now in
+    let x = c.in-If in
+    let no_elsifs : x.elsifs.items ≡ [] = none_there x.elsifs.items (search rules) in
+    let no_others : x.others.items ≡ [] = none_there x.others.items (search rules) in
+    let tree = ap stmt_tree x.is ∙ c.statements_by_parts.ensures.ifs x.place x.condition x.body x.elsifs x.others
+    ∙ (λ j. If x.place (expr_tree x.condition) (stmt_trees x.body.items) (elsif_trees (no_elsifs j)) (stmt_trees (no_others j))) in
+    IfErr-weaker _ _ _
+    (λ why r.
+    subst (λ y. RefusesStatement v c.args.self.now y why) (sym tree)
+    (subst (λ l. RefusesStatement v c.args.self.now (only_if x.place (expr_tree x.condition) (stmt_trees l)) why) c.deref-in-If.ensures.value r))
+    c.guarded.ensures.refused
+
+pub statement-returns-then-not-both-clause-refused : goal.statement-returns-then-not-both-clause-refused
+statement-returns-then-not-both-clause-refused t c =
     let v = c.args.visible.now in
     let w = ways_of c.args.leaving in
     let tree = ap stmt_tree c.in-If.is
-    ∙ c.statements_by_parts.ensures.ifs c.in-If.field-0 c.in-If.condition c.in-If.body c.in-If.elsifs c.in-If.others in
+    ∙ c.statements_by_parts.ensures.ifs c.in-If.place c.in-If.condition c.in-If.body c.in-If.elsifs c.in-If.others in
     let first = subst (λ l. AddsParts v w c.args.self.now ((expr_tree c.in-If.condition, stmt_trees l) ∷ []) c.new-waiting.result.items
     c.branch-self.new.waiting.items c.branch-self.new.self) c.deref.ensures.value c.in_ok-branch-in-If.ensures.adds in
     let one = c.in_ok-branch-in-If.ensures.same in
@@ -433,9 +491,9 @@ statement-returns-in_ok-statements-in-If-clause-refused t c =
     let others = subst (λ x. AddsParts x w c.branch-self.new.self (map elsif_tree c.in-If.elsifs.items) c.branch-self.new.waiting.items c.elsifs.new.waiting.items
     c.elsifs.new.self) one
     (subst (λ l. AddsParts c.branch-self.new.visible w c.branch-self.new.self (map elsif_tree l) c.branch-self.new.waiting.items c.elsifs.new.waiting.items
-    c.elsifs.new.self) c.deref-in-If.ensures.value c.in_ok-elsifs-in-If.ensures.adds) in
+    c.elsifs.new.self) c.deref-then-not-both.ensures.value c.in_ok-elsifs-in-If.ensures.adds) in
     let last = subst (λ x. EmitsStatements x w c.elsifs.new.self (stmt_trees c.in-If.others.items) c.statements.new.self) two
-    (subst (λ l. EmitsStatements c.elsifs.new.visible w c.elsifs.new.self (stmt_trees l) c.statements.new.self) c.deref-in-If-2.ensures.value
+    (subst (λ l. EmitsStatements c.elsifs.new.visible w c.elsifs.new.self (stmt_trees l) c.statements.new.self) c.deref-then-not-both-2.ensures.value
     c.in_ok-statements-in-If.ensures.emits) in
     let up = first.emits.sized in
     let more = others.emits.sized in
@@ -443,7 +501,7 @@ statement-returns-in_ok-statements-in-If-clause-refused t c =
     IfErr-weaker _ _ _
     (λ why r.
     subst (λ x. RefusesStatement v c.args.self.now x why) (sym tree)
-    (rejoin_refuses v c.args.self.now why c.in-If.field-0 (expr_tree c.in-If.condition) (stmt_trees c.in-If.body.items)
+    (rejoin_refuses v c.args.self.now why c.in-If.place (expr_tree c.in-If.condition) (stmt_trees c.in-If.body.items)
     (elsif_trees c.in-If.elsifs.items) (stmt_trees c.in-If.others.items) c.statements.new.self.code (omega (arith, up, more, end)) r))
     c.rejoin.ensures.refused
 
