@@ -175,7 +175,7 @@ begin
 end Main;
 """
     lines = [f"{1000 * rounds} T{number} x {16 * (rounds - 1) + place + 1}" for place, number in enumerate(order)]
-    return source, lines, 16 * (12 + 22 * rounds - 5 + 3) + 1
+    return source, lines, 16 * (11 + 22 * rounds - 5 + 3) + 1
 
 
 WORKLOADS = {

@@ -2,11 +2,11 @@
 ghost use Rattle.std.specs.Prelude.{◌≡◌};
 
 use crate::worked_images::worked_images;
-use clock::{ListDelays, Schedule};
-use dispatch::ListReady;
+use clock::{HeapDelays, ListDelays, Schedule};
+use dispatch::{ListReady, RingReady};
 use image::Image;
 use image_loading::load;
-use machine::{MemorySink, Plan, run, run_over};
+use machine::{MemorySink, Plan, run_over};
 use std::alloc::{AllocError, Global};
 use std::marker::Brand;
 use std::sync::ledger::{Blank, Ledger};
@@ -43,7 +43,9 @@ fn run_both_over<L: Ledger, M: Ledger>(
     let _ = run_over::<ListReady, ListDelays, MemorySink<L>>(
         alloc, image, schedule, 100_000, &mut lists,
     );
-    let _ = run(alloc, image, schedule, 100_000, &mut rings);
+    let _ = run_over::<RingReady, HeapDelays, MemorySink<M>>(
+        alloc, image, schedule, 100_000, &mut rings,
+    );
     Ok(Written {
         lists: lists.bytes().to_vec(alloc)?,
         rings: rings.bytes().to_vec(alloc)?,

@@ -23,7 +23,7 @@ use crate::text::{last_line, line_text};
 use crate::writing::{Sink, write_all};
 use arrayvec::ArrayVec;
 use base::limits::TASKS;
-use clock::{Delays, HeapDelays, Schedule};
+use clock::{Delays, ListDelays, Schedule};
 use dispatch::{Ready, RingReady};
 use execution::{Execution, Line, Raising};
 use image::Image;
@@ -361,7 +361,7 @@ fn run_with<R: Ready + Drop, D: Delays + Drop, S: Sink, L: Ledger>(
     run_counted::<R, D, S, L>(alloc, image, schedule, limit, sink, &mut steps)
 }
 
-/// The same over rings of ready tasks and a heap of sleeping ones.
+/// The same over rings of ready tasks and a list of sleeping ones, which for no more than 17 is faster than a heap.
 ///
 /// # Errors
 /// Those of `run_over`.
@@ -379,5 +379,5 @@ pub fn run<S: Sink>(
     ensures failed { result ≡ Err RunFault.Write → S.failures sink.old < S.failures sink.new }
     ensures beginning { AppendsBeginning (S.bytes sink.old) (S.bytes sink.new) (code_text image.now schedule.now limit) }
 {
-    run_over::<RingReady, HeapDelays, S>(alloc, image, schedule, limit, sink)
+    run_over::<RingReady, ListDelays, S>(alloc, image, schedule, limit, sink)
 }

@@ -1,10 +1,13 @@
+pub mod Alone
 pub mod Blocks
 pub mod DecodedSoFar
 pub mod DecodedWith
 pub mod FrameWords
 pub mod Going
 pub mod InitialRow
+pub mod Joined
 pub mod Lawful
+pub mod Leapt
 pub mod Leaving
 pub mod Meets
 pub mod PartPlaces

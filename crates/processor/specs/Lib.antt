@@ -1,8 +1,10 @@
 pub mod Crossing
 pub mod Decoded
 pub mod Decoding
+pub mod Joining
 pub mod Laws
 pub mod Layout
+pub mod Leaping
 pub mod Meeting
 pub mod Standing
 pub mod Turning

@@ -5,7 +5,9 @@ mod counting;
 mod crossing;
 mod decoding;
 mod header;
+mod joining;
 pub mod laws;
+mod leaping;
 mod operation;
 mod program;
 mod role;
@@ -17,7 +19,7 @@ mod turning;
 
 pub use counting::Steps;
 pub use decoding::decode;
-pub use operation::Operation;
+pub use operation::{Operation, Reckoning, Test};
 pub use program::Program;
 pub use role::Role;
 pub use row::TASK_WORDS;

@@ -172,6 +172,7 @@ fn queue<R: Ready, D: Delays>(
 }
 
 // The frame of a call, where one is left.
+#[inline(always)]
 fn enter(
     program: &Program,
     state: &mut TaskState,

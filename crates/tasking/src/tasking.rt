@@ -282,6 +282,7 @@ impl<R: Ready, D: Delays> Tasking<R, D> {
     }
 
     // The head of the highest list that is not empty runs; a running task runs on, unless a list above it is not empty (RM D.2.1, D.2.3).
+    #[inline(always)]
     fn dispatch(&mut self)
         ensures { kernel_of self.new ≡ dispatch (kernel_of self.old) }
     {
