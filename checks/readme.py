@@ -3,7 +3,7 @@
 
     readme.py PROGRAM SCRATCH
 
-`./build` and `./test` are named there too: the one proves anew what the other has proved, so they are not called from here.
+`./build` finds what the gate has just proved, so it takes seconds here. `./test`, which is named there too, is what calls this.
 """
 import os
 import re
@@ -78,6 +78,14 @@ class Checker:
             status, out, err = self.called([self.program, *(names.get(word, word) for word in words[1:])])
             self.is_so(" ".join(words), status == 0 and err == "" and (out == written or words[1] not in ("go", "run")) and (out == "") == (words[1] == "compile"), (status, out, err))
 
+    def build(self):
+        """`./build`, which gives the program that stands there already."""
+        with open(self.program, "rb") as file:
+            before = file.read()
+        status, out, err = self.called(["./build"])
+        with open(self.program, "rb") as file:
+            self.is_so("./build", (status, out) == (0, "") and file.read() == before, err[-1000:])
+
     def run_of(self, words):
         """`./run` with as few words as it takes, and with all."""
         most = [{"SOURCE": SOURCE, "SCHEDULE": SCHEDULE, "LIMIT": "0"}[word] for word in re.findall(r"[A-Z]+", words)]
@@ -124,6 +132,8 @@ def main():
         if lines[0].startswith("adarun "):
             checker.commands(lines, written)
         for line in lines:
+            if line.startswith("./build"):
+                checker.build()
             if line.startswith("./run "):
                 checker.run_of(re.split(r"  +", line)[0])
     checker.statuses(text)
