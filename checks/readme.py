@@ -3,7 +3,7 @@
 
     readme.py PROGRAM SCRATCH
 
-`./build` finds what the gate has just proved, so it takes seconds here. `./test`, which is named there too, is what calls this.
+`./build` finds what the gate has just proved, so it takes about a minute here. `./test`, which is named there too, is what calls this.
 """
 import os
 import re
