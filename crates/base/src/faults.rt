@@ -58,7 +58,7 @@ pub const SELECT_STATEMENT: u8 = 35;
 pub const ABORT_STATEMENT: u8 = 36;
 /// There is a `requeue` (RM D.7, No_Requeue_Statements).
 pub const REQUEUE_STATEMENT: u8 = 37;
-/// An aspect is another one than Priority, or its value is not static or no priority of a task (RM D.1, D.3).
+/// An aspect is another one than Priority, of an operation another one than Attach_Handler, or a priority is not static or not in its range (RM D.1, D.3).
 pub const WRONG_ASPECT: u8 = 38;
 /// The pragmas are not those of the profile (RM D.13, H.6).
 pub const WRONG_PRAGMAS: u8 = 39;
@@ -82,3 +82,11 @@ pub const TABLES_DISAGREE: u8 = 47;
 pub const WRONG_SCHEDULE_LINE: u8 = 50;
 /// Memory was refused.
 pub const MEMORY_REFUSED: u8 = 60;
+/// The handler of an interrupt is a function or has formal parameters (RM C.3.1).
+pub const HANDLER_PROFILE: u8 = 70;
+/// The channel of a handler is not static, or not one of those that there are (RM C.3.1).
+pub const WRONG_INTERRUPT: u8 = 71;
+/// A channel has a second handler (RM C.3.1).
+pub const SECOND_HANDLER: u8 = 72;
+/// A protected object with a handler has another priority than the highest (RM C.3.1, D.3).
+pub const HANDLER_CEILING: u8 = 73;

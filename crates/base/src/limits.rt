@@ -51,5 +51,7 @@ pub const FRAME_WORDS: usize = 512;
 
 /// Input channels are 1 up to this number.
 pub const CHANNELS: u8 = 8;
+/// What answers say for the handler of an interrupt that runs (RM C.3.1); no task has this number.
+pub const ACTOR: u8 = 255;
 /// Lines of a schedule.
 pub const SCHEDULE_LINES: usize = 4_096;

@@ -1,5 +1,5 @@
 -- Which texts are schedules, and which rule the first faulty line of another one breaks (docs/FORMATS.md, "Schedule").
-use Rattle.std.specs.Prelude.{◌≡◌, ◌≢◌, ◌⊎◌, ℕ, ◌+◌, ℤ, pos, List, [], ◌∷◌, length, Bool, ◌&&◌, not, nat_eq, nat_le, int_le, Option, Some, None, IsTrue, if◌then◌else◌}
+use Rattle.std.specs.Prelude.{◌≡◌, ◌≢◌, ◌⊎◌, ℕ, ◌+◌, ℤ, pos, List, [], ◌∷◌, length, Bool, ◌&&◌, not, nat_eq, nat_le, int_le, Option, Some, None, option_map, slice_get, IsTrue, if◌then◌else◌}
 use Rattle.base.specs.Schedule.{is_schedule}
 use Rattle.base.specs.declared.schedule.ScheduleLine.{ScheduleLine}
 use Rattle.base.specs.declared.limits.TheConstants.{CHANNELS, SCHEDULE_LINES}
@@ -19,6 +19,10 @@ BeginsWithLines text (line ∷ lines) rest = (behind : List ℕ) × (line_at tex
 -- the text has these lines and no more, and they are a schedule
 abbrev pub IsScheduleText : List ℕ → List ScheduleLine → Type 0
 IsScheduleText text lines = BeginsWithLines text lines [] × IsTrue (is_schedule lines)
+
+-- the time and the channel of the line of this number, counted from 0
+abbrev pub heard_line : List ScheduleLine → ℕ → Option (ℤ × ℕ)
+heard_line lines number = option_map (λ line. (line.time, line.channel)) (slice_get lines number)
 
 -- the time of the last line, or the start where there is none
 abbrev pub time_after : ℤ → List ScheduleLine → ℤ

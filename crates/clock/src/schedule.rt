@@ -2,7 +2,7 @@
 ghost use Rattle.std.specs.Prelude.{◌≡◌, ◌+◌, ◌≤◌, Some, IfErr, IfOk};
 ghost use Rattle.base.specs.Schedule.{input};
 ghost use Rattle.clock.specs.Capped.{IsNext};
-ghost use Rattle.clock.specs.Schedules.{IsScheduleText, RefusesSchedule, next_fault};
+ghost use Rattle.clock.specs.Schedules.{IsScheduleText, RefusesSchedule, heard_line, next_fault};
 
 use crate::faults::{TIME_GOES_BACK, TOO_MANY_LINES, UNKNOWN_CHANNEL};
 use crate::reading::front_line;
@@ -81,6 +81,14 @@ impl Schedule {
         ensures { result.now ≡ self.now }
     {
         &self.lines
+    }
+
+    /// The time (microseconds since the start) and the channel of line `number`, counted from 0, or None behind the last one.
+    pub fn line(&self, number: usize) -> Option<(i64, u8)>
+        ensures { result ≡ heard_line self.now number }
+    {
+        let line = self.lines.get(number)?;
+        Some((line.time, line.channel))
     }
 
     /// The value of `channel` at `now` (microseconds since the start): that of its last line with a time at most `now`, or 0 where

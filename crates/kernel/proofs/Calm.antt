@@ -5,7 +5,7 @@ use Rattle.base.specs.declared.limits.TheConstants.{PRIORITIES}
 use Rattle.kernel.specs.State.{Kernel, IsReady, Action, Reads, Writes, active, raised, put, is_object_open}
 use Rattle.kernel.specs.Dispatching.{highest, runs_from, preempted, preempts, dispatch_from, dispatch}
 use Rattle.kernel.specs.Clock.{time_moves, clock_from, clock}
-use Rattle.kernel.specs.Effects.{SameObject, AboveCeiling, Ends, is_above_ceiling, ending_of, outer_of, with_actions, ends, after}
+use Rattle.kernel.specs.Effects.{SameObject, AboveCeiling, Ends, is_above_ceiling, ending_of, outer_of, with_actions, is_over, ends, goes_if, after}
 use Rattle.kernel.specs.Calm.{IsRunner, Calm}
 use Rattle.kernel.specs.Invariant.{count, HasAction, ServesCall, Sound, Settled, Kept}
 use Rattle.kernel.specs.Laws.{DispatchedOnce, ClockedOnce, StandsStill, SomebodyRuns, RunnerIsCalm, QuietStays, SaysOn, OpensOn, ViewsOn, ViewsBack, EntryOpens, OneService}
@@ -61,7 +61,7 @@ views_back k t o is_open calm =
     let closes : ends t (ending_of is_open new l.queued) (outer_of new) l ≡ k =
     λ i. record k { actions = λ u. (put_put t (k.actions t) new k.actions u ∙ put_self t k.actions u) i } in
     ap (after t (Ends is_open)) (views_on k t o calm).0
-    ∙ (ap (λ z. clock (dispatch (ends t (ending_of is_open z l.queued) (outer_of z) l))) (put_same t t new k.actions refl)
+    ∙ (ap (λ z. clock (dispatch (goes_if (is_over l.partition t z (ending_of is_open z l.queued)) t (ends t (ending_of is_open z l.queued) (outer_of z) l)))) (put_same t t new k.actions refl)
     ∙ (ap (λ z. clock (dispatch z)) closes ∙ still k t calm))
 
 -- what is kept is calm
@@ -102,7 +102,7 @@ clock_at : (b : ℕ → Bool) (k : Kernel) (r : Option ℕ) → k.running ≡ r 
 clock_at b k (Some t) e kept = ap (λ r. clock_from r k) e
 clock_at b k None e kept =
     let over = kept.over e in
-    ap (λ r. clock_from r k) e ∙ (ap (λ ss. time_moves ss k) over.0 ∙ λ i. record k { outcome = sym over.1 i })
+    ap (λ r. clock_from r k) e ∙ (ap (λ o. time_moves o k) over.0 ∙ λ i. record k { outcome = sym over.1 i })
 
 pub stands_still : StandsStill
 stands_still b k kept = (dispatch_at b k k.running refl kept.sound kept.settled, clock_at b k k.running refl kept)
@@ -111,7 +111,7 @@ pub dispatched_once : DispatchedOnce
 dispatched_once b k s = let e = dispatch_sound b k [] s in dispatch_at b (dispatch k) (dispatch k).running refl e.0 e.1
 
 pub clocked_once : ClockedOnce
-clocked_once b k s sv = let e = stands_still b (clock (dispatch k)) (finish b k s sv) in ap clock e.0 ∙ e.1
+clocked_once b k s sv w = let e = stands_still b (clock (dispatch k)) (finish b k s sv w) in ap clock e.0 ∙ e.1
 
 -- calls
 

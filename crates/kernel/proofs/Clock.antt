@@ -1,17 +1,22 @@
 -- The clock keeps a kernel sound and settled; where nobody runs after it, the run is over.
-use Rattle.std.proofs.Common.{◌≡◌, ◌≢◌, ◌⊎◌, inl, inr, ℕ, ◌+◌, ◌<◌, ◌≤◌, ℤ, List, [], ◌∷◌, ◌++◌, Option, Some, None, Bool, false, cond, refl, sym, ap, ◌∙◌, subst, ⊎_elim, arith}
+use Rattle.std.proofs.Common.{◌≡◌, ◌≢◌, ◌⊎◌, inl, inr, ℕ, ◌+◌, ◌<◌, ◌≤◌, ℤ, List, [], ◌∷◌, ◌++◌, Option, Some, None, Bool, true, false, cond, refl, sym, ap, ◌∙◌, subst, ⊎_elim, arith}
 use Rattle.std.specs.Prelude.{int_lt}
 use Rattle.std.proofs.lemmas.Int.{ints}
 use Rattle.base.specs.declared.limits.TheConstants.{PRIORITIES}
-use Rattle.kernel.specs.State.{Kernel, TaskPlace, IsRunning, IsReady, IsAsleep, IsQueued, IsServed, IsFinished, Sleeper, put}
+use Rattle.kernel.specs.State.{Interrupt, Kernel, TaskPlace, IsRunning, IsReady, IsAsleep, IsQueued, IsServed, IsFinished, Sleeper, actor, put}
 use Rattle.kernel.specs.Dispatching.{becomes_ready, highest, runs_head, runs_from, dispatch_from, dispatch}
-use Rattle.kernel.specs.Clock.{released, least, wakes_if_due, wakes_due, last_outcome, time_moves, clock_from, clock}
-use Rattle.kernel.specs.Invariant.{naps, asleep, Sound, Settled, Kept}
+use Rattle.kernel.specs.Clock.{released, least, wakes_if_due, wakes_due, some_queued, last_outcome, next_time, next, time_moves, clock_from, clock}
+use Rattle.kernel.specs.Interrupts.{delivers}
+use Rattle.kernel.specs.Invariant.{Busy, naps, asleep, Sound, Settled, HandlesWithin, Kept}
+use Rattle.kernel.specs.Laws.{Delivers, SettlesTo}
 use Rattle.kernel.specs.PutLaws.{eqb_same, eqb_other, put_same, by_put}
 use Rattle.kernel.proofs.Lists.{naps_append, either}
-use Rattle.kernel.proofs.Moves.{beside, ready_sound, released_sound}
-use Rattle.kernel.proofs.Dispatch.{no_ready, highest_is, dispatch_sound}
-use Rattle.kernel.proofs.Served.{Serv, dispatch_serv, time_serv}
+use Rattle.kernel.proofs.Moves.{beside, waiting_task, ready_sound, released_sound}
+use Rattle.kernel.proofs.Dispatch.{no_ready, highest_is, handler_still, dispatch_sound}
+use Rattle.kernel.proofs.Served.{Serv, dispatch_serv, wakes_all_serv}
+use Rattle.kernel.proofs.Unmoved.{dispatch_alike, woken_alike}
+use Rattle.kernel.proofs.Settling.{alike_settles, delivers_settles, settles_alike, settles_from}
+use Rattle.kernel.proofs.Interrupts.{HasCome, delivers_sound, delivers_serv, delivers_within, delivers_first, come_runs}
 
 asleep_is : (w : TaskPlace) → 0 < asleep w → w ≡ IsAsleep
 asleep_is IsAsleep lt = refl
@@ -43,7 +48,7 @@ wakes_sound b x ss k s =
     (λ e. let n = s.naps_once u in let m = same u e in let one = asleep_one (k.place u) in omega arith)
     (λ ne. let n = s.naps_once u in let m = other u ne in omega arith))
     s in
-    either (λ y. Sound b y ss) (int_lt k.now x.wake) (record k { sleepers = k.sleepers ++ x ∷ [] }) (becomes_ready t (released t k)) later (ready_sound b (released t k) ss t (put_same t t IsFinished k.place refl) free)
+    either (λ y. Sound b y ss) (int_lt k.now x.wake) (record k { sleepers = k.sleepers ++ x ∷ [] }) (becomes_ready t (released t k)) later (ready_sound b (released t k) ss t (waiting_task b k (x ∷ ss) t IsAsleep here (λ e. cc) (λ e. cc) s) (put_same t t IsFinished k.place refl) free)
 
 wakes_all_sound : (b : ℕ → Bool) (ss : List Sleeper) (k : Kernel) → Sound b k ss → Sound b (wakes_due ss k) []
 wakes_all_sound b [] k s = s
@@ -98,30 +103,119 @@ somebody_at b k (Some h) s e eo u i none =
     let there = ap (λ l. l.running) is in
     absurd (cc)
 
-time_kept : (b : ℕ → Bool) (k : Kernel) (ss : List Sleeper) → k.running ≡ None → k.sleepers ≡ ss → Sound b k [] → Settled k → Serv k → Kept b (time_moves ss k)
-time_kept b k [] r e s st sv = record {
+-- what is to come at the next time: the first interrupt, or the end of a delay
+comes : (ss : List Sleeper) (is : List Interrupt) (is_queued : Bool) (n : ℤ) → next_time ss is is_queued ≡ Some n → HasCome n is ⊎ Due n ss
+comes [] [] is_queued n e = absurd (cc)
+comes [] (i ∷ is) true n e = let same : i.time ≡ n = cc in inl (subst (λ m. int_lt m i.time ≡ false) same (not_below i.time))
+comes [] (i ∷ is) false n e = absurd (cc)
+comes (s ∷ ss) [] is_queued n e =
+    let same : least s.wake ss ≡ n = cc in
+    inr (subst (λ m. Due m (s ∷ ss)) same (⊎_elim (λ h. inl h) (λ h. inr h) (least_due ss s.wake)))
+comes (s ∷ ss) (i ∷ is) is_queued n e =
+    let same : least i.time (s ∷ ss) ≡ n = cc in
+    subst (λ m. (int_lt m i.time ≡ false) ⊎ Due m (s ∷ ss)) same (least_due (s ∷ ss) i.time)
+
+-- time moves where nobody runs
+module _ (b : ℕ → Bool) (k : Kernel) (none : k.running ≡ None) (s : Sound b k []) (st : Settled k) (n : ℤ) where
+  abbrev moved_to : Kernel
+  moved_to = record k { now = n; sleepers = [] }
+
+  abbrev woken : Kernel
+  woken = wakes_due k.sleepers moved_to
+
+  abbrev told_first : Kernel
+  told_first = delivers woken.pending woken
+
+  free : woken.running ≡ None
+  free = nobody_runs k.sleepers moved_to ∙ none
+
+  awake : Sound b woken []
+  awake =
+      let start : Sound b moved_to k.sleepers = beside b k [] k.sleepers [] n k.lines k.outcome (λ t. omega arith) s in
+      wakes_all_sound b k.sleepers moved_to start
+
+  nobody_within : (u : ℕ) → Busy (woken.actions u) → ⊥
+  nobody_within u busy =
+      let was : Busy (k.actions u) = subst (λ f. Busy (f u)) (woken_alike k.sleepers moved_to).actions busy in
+      ⊎_elim (λ i. let j = s.runner u i in absurd (cc)) (λ i. st.nobody u none i) (s.awake u was)
+
+  delivered : Sound b told_first []
+  delivered = delivers_sound b woken [] free awake woken.pending awake.attached (λ u busy. absurd (nobody_within u busy))
+
+  -- a handler that begins is not preempted
+  runs_first : (i : Interrupt) → Delivers woken told_first i → dispatch told_first ≡ told_first
+  runs_first i d = handler_still b told_first [] (actor told_first.partition i.channel) d.handled (omega arith) delivered
+
+  runs_somebody : next k ≡ Some n → (dispatch told_first).running ≢ None
+  runs_somebody e over =
+      let same = woken_alike k.sleepers moved_to in
+      ⊎_elim
+      (λ idle.
+      let over' : (dispatch woken).running ≡ None = ap (λ l. (dispatch l).running) (sym idle) ∙ over in
+      ⊎_elim
+      (λ come.
+      let here : HasCome woken.now woken.pending = subst (λ m. HasCome m woken.pending) (sym same.now) (subst (HasCome n) (sym same.pending) come) in
+      let w = come_runs woken.pending woken here in
+      let there : told_first.running ≡ woken.running = ap (λ l. l.running) idle in
+      let no : Some w.0 ≡ None = sym w.1 ∙ (there ∙ free) in
+      absurd (cc))
+      (λ due.
+      let w = due_ready k.sleepers moved_to due in
+      somebody_at b woken _ awake free refl w.0 w.1 over')
+      (comes k.sleepers k.pending (some_queued k.queued k.partition.objects) n e))
+      (λ w.
+      let stays : (dispatch told_first).running ≡ told_first.running = ap (λ l. l.running) (runs_first w.0 w.1) in
+      let no : Some (actor told_first.partition w.0.channel) ≡ None = sym w.1.handled ∙ (sym stays ∙ over) in
+      absurd (cc))
+      (delivers_first woken.pending woken refl)
+
+  moved_kept : next k ≡ Some n → Serv k → Kept b (dispatch told_first)
+  moved_kept e sv =
+      let serv : Serv woken = wakes_all_serv k.sleepers moved_to sv in
+      let end = dispatch_sound b told_first [] delivered in
+      record {
+        sound = end.0;
+        settled = end.1;
+        served = dispatch_serv told_first (delivers_serv b woken [] free awake woken.pending awake.attached serv);
+        within = end.2 (delivers_within woken.pending woken free);
+        over = λ over. absurd (runs_somebody e over);
+      }
+
+  pub moved_delivers : ((time_moves (Some n) k).pending ≡ k.pending) ⊎ ((i : Interrupt) × Delivers k (time_moves (Some n) k) i)
+  moved_delivers =
+      let same : woken.pending ≡ k.pending = (woken_alike k.sleepers moved_to).pending in
+      ⊎_elim
+      (λ idle. inl ((dispatch_alike told_first).pending ∙ (ap (λ l. l.pending) idle ∙ same)))
+      (λ w.
+      let i = w.0 in
+      let d = w.1 in
+      let told : Delivers k told_first i = record { first = sym same ∙ d.first; due = d.due; handled = d.handled } in
+      inr (i, subst (λ l. Delivers k l i) (sym (runs_first i d)) told))
+      (delivers_first woken.pending woken refl)
+
+  pub moved_settles : SettlesTo k (time_moves (Some n) k)
+  moved_settles =
+      let told : SettlesTo woken (dispatch told_first) =
+      settles_alike woken told_first (dispatch told_first) (delivers_settles b woken free awake woken.pending refl) (dispatch_alike told_first) in
+      let all : SettlesTo moved_to (dispatch told_first) = alike_settles moved_to woken (dispatch told_first) (woken_alike k.sleepers moved_to) told in
+      settles_from moved_to k (dispatch told_first) refl refl refl refl all
+
+time_kept : (b : ℕ → Bool) (k : Kernel) (o : Option ℤ) → k.running ≡ None → next k ≡ o → Sound b k [] → Settled k → Serv k → Kept b (time_moves o k)
+time_kept b k None r e s st sv = record {
   sound = beside b k [] [] k.sleepers k.now k.lines (Some (last_outcome k)) (λ t. refl) s;
   settled = record { first = st.first; nobody = st.nobody };
   served = sv;
+  within = λ u le i. absurd (cc);
   over = λ none. (e, refl);
 }
-time_kept b k (x ∷ ss) r e s st sv =
-    let k' : Kernel = record k { now = least x.wake ss; sleepers = [] } in
-    let start : Sound b k' (x ∷ ss) = beside b k [] (x ∷ ss) [] (least x.wake ss) k.lines k.outcome (λ t. let i = ap (naps t) e in omega arith) s in
-    let awake = wakes_all_sound b (x ∷ ss) k' start in
-    let end = dispatch_sound b (wakes_due (x ∷ ss) k') [] awake in
-    let due = due_ready (x ∷ ss) k' (least_due ss x.wake) in
-    record {
-      sound = end.0;
-      settled = end.1;
-      served = time_serv (x ∷ ss) k sv;
-      over = λ none. absurd (somebody_at b (wakes_due (x ∷ ss) k') _ awake (nobody_runs (x ∷ ss) k' ∙ r) refl due.0 due.1 none);
-    }
+time_kept b k (Some n) r e s st sv = moved_kept b k r s st n e sv
 
-clock_kept_at : (b : ℕ → Bool) (k : Kernel) (r : Option ℕ) → k.running ≡ r → Sound b k [] → Settled k → Serv k → Kept b (clock_from r k)
-clock_kept_at b k (Some t) e s st sv = record { sound = s; settled = st; served = sv; over = λ none. absurd (cc) }
-clock_kept_at b k None e s st sv = time_kept b k k.sleepers e refl s st sv
+clock_kept_at : (b : ℕ → Bool) (k : Kernel) (r : Option ℕ) → k.running ≡ r → Sound b k [] → Settled k → Serv k → HandlesWithin k → Kept b (clock_from r k)
+clock_kept_at b k (Some t) e s st sv w = record { sound = s; settled = st; served = sv; within = w; over = λ none. absurd (cc) }
+clock_kept_at b k None e s st sv w = time_kept b k (next k) e refl s st sv
 
 -- dispatching and the clock, from any sound kernel
-pub finish : (b : ℕ → Bool) (k : Kernel) → Sound b k [] → Serv k → Kept b (clock (dispatch k))
-finish b k s sv = let e = dispatch_sound b k [] s in clock_kept_at b (dispatch k) (dispatch k).running refl e.0 e.1 (dispatch_serv k sv)
+pub finish : (b : ℕ → Bool) (k : Kernel) → Sound b k [] → Serv k → HandlesWithin k → Kept b (clock (dispatch k))
+finish b k s sv w =
+    let e = dispatch_sound b k [] s in
+    clock_kept_at b (dispatch k) (dispatch k).running refl e.0 e.1 (dispatch_serv k sv) (e.2 w)

@@ -1,14 +1,14 @@
 -- Dispatching keeps a kernel sound, and settles it.
-use Rattle.std.proofs.Common.{◌≡◌, ◌≢◌, ◌⊎◌, inl, ℕ, zero, suc, ◌+◌, ◌<◌, ◌≤◌, List, [], ◌∷◌, Option, Some, None, Bool, cond, eqb, refl, sym, ap, ◌∙◌, subst, ⊎_elim, arith}
+use Rattle.std.proofs.Common.{◌≡◌, ◌≢◌, ◌⊎◌, inl, inr, ℕ, zero, suc, ◌+◌, ◌<◌, ◌≤◌, List, [], ◌∷◌, Option, Some, None, Bool, cond, eqb, refl, sym, ap, ◌∙◌, subst, ⊎_elim, arith}
 use Rattle.std.proofs.lemmas.Bool.{le-ltb, lt-ltb, cases_lt}
 use Rattle.base.specs.declared.limits.TheConstants.{PRIORITIES}
-use Rattle.kernel.specs.State.{Kernel, IsRunning, IsReady, IsQueued, IsServed, Sleeper, active, raised, put}
+use Rattle.kernel.specs.State.{Kernel, IsRunning, IsReady, IsQueued, IsServed, IsFinished, Sleeper, active, raised, put}
 use Rattle.kernel.specs.Dispatching.{unless_empty, highest, runs_head, runs_from, preempted, preempts, dispatch_from, dispatch}
-use Rattle.kernel.specs.Invariant.{Busy, count, naps, listed, asleep, Sound, Settled}
+use Rattle.kernel.specs.Invariant.{Busy, count, naps, listed, asleep, Sound, Settled, HandlesWithin}
 use Rattle.kernel.specs.PutLaws.{eqb_same, eqb_other, put_other, by_put, of_put}
 use Rattle.kernel.proofs.Lists.{base_raised, busy_or_idle}
 use Rattle.kernel.proofs.Places.{ready_unlisted, listed_one, listed_at, napping, in_list, ready_if, at_level, low}
-use Rattle.kernel.proofs.Moves.{preempted_sound}
+use Rattle.kernel.proofs.Moves.{waiting_task, preempted_sound}
 
 pub record Highest (r : ℕ → List ℕ) (n h : ℕ) : Type 0 where
   pub first : ℕ
@@ -61,7 +61,7 @@ module _ (b : ℕ → Bool) (k : Kernel) (p : List Sleeper) (s : Sound b k p) wh
       omega arith
 
   chosen_at : (h : ℕ) → k.running ≡ None → (i : Highest k.ready PRIORITIES h) →
-      (let next : Kernel = record k { running = Some i.first; ready = put h i.rest k.ready; place = put i.first IsRunning k.place } in Sound b next p × Settled next)
+      (let next : Kernel = record k { running = Some i.first; ready = put h i.rest k.ready; place = put i.first IsRunning k.place } in Sound b next p × Settled next × HandlesWithin next)
   chosen_at h none i =
       let t = i.first in
       let ts = i.rest in
@@ -91,6 +91,12 @@ module _ (b : ℕ → Bool) (k : Kernel) (p : List Sleeper) (s : Sound b k p) wh
         record {
           base_low = s.base_low;
           ceiling_low = s.ceiling_low;
+          urgent = s.urgent;
+          attached = s.attached;
+          gone = λ u le.
+              by_put (λ x. (x ≡ IsFinished) ⊎ (Some t ≡ Some u)) t u IsRunning k.place
+              (λ e. inr (ap Some (sym e)))
+              (λ ne. ⊎_elim (λ f. inl f) (λ r. absurd (cc)) (s.gone u le));
           runs = λ u e. by_put (λ x. x ≡ IsRunning) t u IsRunning k.place (λ j. refl) (λ ne. absurd (ne (cc)));
           runner = λ u e. of_put (λ x. x ≡ IsRunning) (Some t ≡ Some u) t u IsRunning k.place e (λ j l. ap Some (sym j)) (λ ne l. let j = s.runner u l in absurd (cc));
           lists = λ u g.
@@ -124,21 +130,45 @@ module _ (b : ℕ → Bool) (k : Kernel) (p : List Sleeper) (s : Sound b k p) wh
           first = λ r u e l. let same : t ≡ r = cc in of_put (λ x. x ≡ IsReady) (active k u ≤ active k r) t u IsRunning k.place l (λ j m. absurd (cc)) (λ ne m. let le = under u m in let lv : h ≡ active k r = lev ∙ ap (active k) same in omega arith);
           nobody = λ u e l. absurd (cc);
         },
+        λ u le e. let same : t ≡ u = cc in let lt = waiting_task b k p t IsReady here (λ e. cc) (λ e. cc) s in absurd (omega arith),
       )
 
-  chosen : (h : ℕ) → k.running ≡ None → Highest k.ready PRIORITIES h → Sound b (runs_from (Some h) k) p × Settled (runs_from (Some h) k)
-  chosen h none i = subst (λ n. Sound b n p × Settled n) (sym (ap (λ l. runs_head l h k) i.here)) (chosen_at h none i)
+  chosen : (h : ℕ) → k.running ≡ None → Highest k.ready PRIORITIES h → (let next = runs_from (Some h) k in Sound b next p × Settled next × HandlesWithin next)
+  chosen h none i = subst (λ n. Sound b n p × Settled n × HandlesWithin n) (sym (ap (λ l. runs_head l h k) i.here)) (chosen_at h none i)
 
-settled_at : (b : ℕ → Bool) (k : Kernel) (p : List Sleeper) (r o : Option ℕ) → k.running ≡ r → highest k.ready PRIORITIES ≡ o → Sound b k p → Sound b (dispatch k) p × Settled (dispatch k)
+-- a task above which a list stands is no handler
+preempted_task : (b : ℕ → Bool) (k : Kernel) (p : List Sleeper) (t h : ℕ) → active k t < h → h < PRIORITIES → Sound b k p → t < k.partition.tasks
+preempted_task b k p t h lt low s =
+    let over = base_raised k.partition.ceiling (k.partition.base t) (k.actions t) in
+    ⊎_elim (λ (i : t < k.partition.tasks). i) (λ (le : k.partition.tasks ≤ t). let top = s.urgent t le in absurd (omega arith)) (cases_lt t k.partition.tasks)
+
+-- a handler that runs is not preempted
+pub handler_still : (b : ℕ → Bool) (k : Kernel) (p : List Sleeper) (t : ℕ) → k.running ≡ Some t → k.partition.tasks ≤ t → Sound b k p → dispatch k ≡ k
+handler_still b k p t run le s = ap (λ r. dispatch_from r k) run ∙ keeps (highest k.ready PRIORITIES) refl
+  where
+    keeps : (o : Option ℕ) → highest k.ready PRIORITIES ≡ o → preempts t o k ≡ k
+    keeps None e = refl
+    keeps (Some h) e =
+        let low = (highest_is k.ready PRIORITIES h e).below in
+        let over = base_raised k.partition.ceiling (k.partition.base t) (k.actions t) in
+        let top = s.urgent t le in
+        ap (λ c. cond c (runs_from (Some h) (preempted t k)) k) (le-ltb (active k t) h (omega arith))
+
+-- what dispatching makes of a kernel
+abbrev pub Settles : (ℕ → Bool) → List Sleeper → Kernel → Kernel → Type 0
+Settles b p k n = Sound b n p × Settled n × (HandlesWithin k → HandlesWithin n)
+
+settled_at : (b : ℕ → Bool) (k : Kernel) (p : List Sleeper) (r o : Option ℕ) → k.running ≡ r → highest k.ready PRIORITIES ≡ o → Sound b k p → Settles b p k (dispatch k)
 settled_at b k p None None er eo s =
     let is : dispatch k ≡ k = ap (λ r. dispatch_from r k) er ∙ ap (λ o. runs_from o k) eo in
-    subst (λ n. Sound b n p × Settled n) (sym is) (s, record { first = λ r u e. absurd (cc); nobody = λ u e i. no_ready b k p s eo u i })
+    subst (Settles b p k) (sym is) (s, record { first = λ r u e. absurd (cc); nobody = λ u e i. no_ready b k p s eo u i }, λ w. w)
 settled_at b k p None (Some h) er eo s =
     let is : dispatch k ≡ runs_from (Some h) k = ap (λ r. dispatch_from r k) er ∙ ap (λ o. runs_from o k) eo in
-    subst (λ n. Sound b n p × Settled n) (sym is) (chosen b k p s h er (highest_is k.ready PRIORITIES h eo))
+    let c = chosen b k p s h er (highest_is k.ready PRIORITIES h eo) in
+    subst (Settles b p k) (sym is) (c.0, c.1, λ w. c.2)
 settled_at b k p (Some t) None er eo s =
     let is : dispatch k ≡ k = ap (λ r. dispatch_from r k) er ∙ ap (λ o. preempts t o k) eo in
-    subst (λ n. Sound b n p × Settled n) (sym is) (s, record { first = λ r u e i. absurd (no_ready b k p s eo u i); nobody = λ u e. absurd (cc) })
+    subst (Settles b p k) (sym is) (s, record { first = λ r u e i. absurd (no_ready b k p s eo u i); nobody = λ u e. absurd (cc) }, λ w. w)
 settled_at b k p (Some t) (Some h) er eo s =
     let is : dispatch k ≡ preempts t (Some h) k = ap (λ r. dispatch_from r k) er ∙ ap (λ o. preempts t o k) eo in
     let i = highest_is k.ready PRIORITIES h eo in
@@ -152,12 +182,14 @@ settled_at b k p (Some t) (Some h) er eo s =
       above = λ m more less. put_other (active k t) m _ k.ready (λ n. omega arith) ∙ i.above m more less;
       below = i.below;
     } in
-    subst (λ n. Sound b n p × Settled n) (sym (is ∙ e)) (chosen b (preempted t k) p (preempted_sound b k p t er s) h refl j))
+    let task = preempted_task b k p t h lt i.below s in
+    let c = chosen b (preempted t k) p (preempted_sound b k p t task er s) h refl j in
+    subst (Settles b p k) (sym (is ∙ e)) (c.0, c.1, λ w. c.2))
     (λ ge.
     let e : preempts t (Some h) k ≡ k = ap (λ b. cond b (runs_from (Some h) (preempted t k)) k) (le-ltb (active k t) h ge) in
-    subst (λ n. Sound b n p × Settled n) (sym (is ∙ e))
-    (s, record { first = λ r u e' l. let same : t ≡ r = cc in let lv : active k t ≡ active k r = ap (active k) same in let le = ready_under b k p s h u i.above l in omega arith; nobody = λ u e' l. absurd (cc) }))
+    subst (Settles b p k) (sym (is ∙ e))
+    (s, record { first = λ r u e' l. let same : t ≡ r = cc in let lv : active k t ≡ active k r = ap (active k) same in let le = ready_under b k p s h u i.above l in omega arith; nobody = λ u e' l. absurd (cc) }, λ w. w))
     (cases_lt (active k t) h)
 
-pub dispatch_sound : (b : ℕ → Bool) (k : Kernel) (p : List Sleeper) → Sound b k p → Sound b (dispatch k) p × Settled (dispatch k)
+pub dispatch_sound : (b : ℕ → Bool) (k : Kernel) (p : List Sleeper) → Sound b k p → Settles b p k (dispatch k)
 dispatch_sound b k p s = settled_at b k p k.running (highest k.ready PRIORITIES) refl refl s

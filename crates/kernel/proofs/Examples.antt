@@ -1,6 +1,6 @@
 -- Situations worked by computation: effects one after the other, and what the kernel then shows.
 use Rattle.std.proofs.Common.{◌≡◌, ℕ, zero, suc, ℤ, List, [], ◌∷◌, ◌++◌, Option, Some, None, true, false, refl}
-use Rattle.std.specs.Prelude.{pos, negsuc, codes}
+use Rattle.std.specs.Prelude.{pos, negsuc, codes, nat_lt, if◌then◌else◌}
 use Rattle.std.specs.Fmt.{digits}
 use Rattle.base.specs.declared.limits.TheConstants.{PRIORITIES}
 use Rattle.kernel.specs.State.{Kernel, Partition, Sleeper, inside}
@@ -64,9 +64,9 @@ one_of [] other n = other
 one_of (x ∷ xs) other zero = x
 one_of (x ∷ xs) other (suc n) = one_of xs other n
 
--- base priorities of tasks and main, ceilings of objects
+-- base priorities of tasks, main and handlers, ceilings of objects
 abbrev pub program : ℕ → ℕ → List ℕ → List ℕ → Partition
-program tasks objects bases ceilings = record { tasks = tasks; objects = objects; base = one_of bases 15; ceiling = one_of ceilings 30 }
+program tasks objects bases ceilings = record { tasks = tasks; objects = objects; base = λ t. if nat_lt t tasks then one_of bases 15 t else 31; ceiling = one_of ceilings 30 }
 
 abbrev pub named : List (List ℕ) → Names
 named tasks = record { task = one_of tasks (codes "MAIN"); exception = λ x. codes "BAD" }
@@ -82,7 +82,7 @@ turns = program 3 0 (5 ∷ 5 ∷ []) []
 abbrev pub turn_effects : List Effect
 turn_effects = Finishes ∷ says (codes "n") 1 ∷ Delays (pos 0) ∷ says (codes "n") 1 ∷ Delays (pos 0) ∷ says (codes "n") 2 ∷ Delays (pos 0) ∷ says (codes "n") 2 ∷ Delays (pos 0) ∷ says (codes "n") 3 ∷ Delays (pos 0) ∷ says (codes "n") 3 ∷ Delays (pos 0) ∷ Finishes ∷ Finishes ∷ []
 
-turns_views : views (Finishes ∷ Delays (pos 0) ∷ Delays (pos 0) ∷ Delays (pos 0) ∷ []) (begin turns)
+turns_views : views (Finishes ∷ Delays (pos 0) ∷ Delays (pos 0) ∷ Delays (pos 0) ∷ []) (begin turns [])
     ≡ runs 0 (at 5 (1 ∷ []) ∷ []) [] 0
     ∷ runs 1 (at 5 (0 ∷ []) ∷ []) [] 0
     ∷ runs 0 (at 5 (1 ∷ []) ∷ []) [] 0
@@ -90,7 +90,7 @@ turns_views : views (Finishes ∷ Delays (pos 0) ∷ Delays (pos 0) ∷ Delays (
     ∷ []
 turns_views = refl
 
-turns_text : text (named (codes "A" ∷ codes "B" ∷ [])) (does turn_effects (begin turns)) ≡ codes "0 A n 1\n0 B n 1\n0 A n 2\n0 B n 2\n0 A n 3\n0 B n 3\nended at 0\n"
+turns_text : text (named (codes "A" ∷ codes "B" ∷ [])) (does turn_effects (begin turns [])) ≡ codes "0 A n 1\n0 B n 1\n0 A n 2\n0 B n 2\n0 A n 3\n0 B n 3\nended at 0\n"
 unfolding digits
 turns_text = refl
 
@@ -102,7 +102,7 @@ sleepers = program 4 0 (5 ∷ 5 ∷ 5 ∷ []) []
 abbrev pub sleeper_effects : List Effect
 sleeper_effects = Finishes ∷ Delays (pos 0) ∷ Delays (pos 1000) ∷ Delays (pos 1000) ∷ Delays (pos 1000) ∷ []
 
-sleepers_views : views sleeper_effects (begin sleepers)
+sleepers_views : views sleeper_effects (begin sleepers [])
     ≡ runs 0 (at 5 (1 ∷ 2 ∷ []) ∷ []) [] 0
     ∷ runs 1 (at 5 (2 ∷ 0 ∷ []) ∷ []) [] 0
     ∷ runs 2 (at 5 (0 ∷ []) ∷ []) (1 ∷ []) 0
@@ -114,13 +114,13 @@ sleepers_views = refl
 abbrev pub wakes : Effect
 wakes = says (codes "w") 1
 
-sleepers_text : text (named (codes "A" ∷ codes "B" ∷ codes "C" ∷ [])) (does (sleeper_effects ++ (wakes ∷ Finishes ∷ wakes ∷ Finishes ∷ wakes ∷ Finishes ∷ [])) (begin sleepers)) ≡ codes "1000 B w 1\n1000 C w 1\n1000 A w 1\nended at 1000\n"
+sleepers_text : text (named (codes "A" ∷ codes "B" ∷ codes "C" ∷ [])) (does (sleeper_effects ++ (wakes ∷ Finishes ∷ wakes ∷ Finishes ∷ wakes ∷ Finishes ∷ [])) (begin sleepers [])) ≡ codes "1000 B w 1\n1000 C w 1\n1000 A w 1\nended at 1000\n"
 unfolding digits
 sleepers_text = refl
 
 -- The clock moves to the least wake time, and only the tasks due then become ready
 
-alarms_views : views (Finishes ∷ Delays (pos 900) ∷ Delays (pos 700) ∷ Delays (pos 800) ∷ Delays (pos 900) ∷ []) (begin sleepers)
+alarms_views : views (Finishes ∷ Delays (pos 900) ∷ Delays (pos 700) ∷ Delays (pos 800) ∷ Delays (pos 900) ∷ []) (begin sleepers [])
     ≡ runs 0 (at 5 (1 ∷ 2 ∷ []) ∷ []) [] 0
     ∷ runs 1 (at 5 (2 ∷ []) ∷ []) (0 ∷ []) 0
     ∷ runs 2 [] (0 ∷ 1 ∷ []) 0
@@ -134,7 +134,7 @@ alarms_views = refl
 abbrev pub mailbox : Partition
 mailbox = program 3 1 (10 ∷ 5 ∷ []) (10 ∷ [])
 
-mailbox_views : views (Finishes ∷ Queues 0 ∷ Opens 0 ∷ Ends true ∷ Ends false ∷ []) (begin mailbox)
+mailbox_views : views (Finishes ∷ Queues 0 ∷ Opens 0 ∷ Ends true ∷ Ends false ∷ []) (begin mailbox [])
     ≡ runs 0 (at 5 (1 ∷ []) ∷ []) [] 0
     ∷ runs 1 [] [] 0
     ∷ runs 1 [] [] 0
@@ -144,17 +144,17 @@ mailbox_views : views (Finishes ∷ Queues 0 ∷ Opens 0 ∷ Ends true ∷ Ends 
 mailbox_views = refl
 
 -- a queued caller is not inside; who runs its body is
-mailbox_outside : inside (does (Finishes ∷ Queues 0 ∷ []) (begin mailbox)) 0 ≡ []
+mailbox_outside : inside (does (Finishes ∷ Queues 0 ∷ []) (begin mailbox [])) 0 ≡ []
 mailbox_outside = refl
 
-mailbox_inside : inside (does (Finishes ∷ Queues 0 ∷ Opens 0 ∷ Ends true ∷ []) (begin mailbox)) 0 ≡ 1 ∷ []
+mailbox_inside : inside (does (Finishes ∷ Queues 0 ∷ Opens 0 ∷ Ends true ∷ []) (begin mailbox [])) 0 ≡ 1 ∷ []
 mailbox_inside = refl
 
 abbrev pub gives : List Effect
 gives = Opens 0 ∷ Ends true ∷ Ends false ∷ []
 
 mailbox_text : text (named (codes "CONS" ∷ codes "PROD" ∷ []))
-    (does ((Finishes ∷ Queues 0 ∷ []) ++ gives ++ (says (codes "got") 7 ∷ Queues 0 ∷ says (codes "gave") 7 ∷ []) ++ gives ++ (says (codes "got") 8 ∷ Finishes ∷ says (codes "gave") 8 ∷ Finishes ∷ [])) (begin mailbox))
+    (does ((Finishes ∷ Queues 0 ∷ []) ++ gives ++ (says (codes "got") 7 ∷ Queues 0 ∷ says (codes "gave") 7 ∷ []) ++ gives ++ (says (codes "got") 8 ∷ Finishes ∷ says (codes "gave") 8 ∷ Finishes ∷ [])) (begin mailbox []))
     ≡ codes "0 CONS got 7\n0 PROD gave 7\n0 CONS got 8\n0 PROD gave 8\nended at 0\n"
 unfolding digits
 mailbox_text = refl
@@ -165,7 +165,7 @@ abbrev pub crowd : Partition
 crowd = program 4 1 (9 ∷ 9 ∷ 5 ∷ []) (10 ∷ [])
 
 abbrev pub crowded : Kernel
-crowded = does (Finishes ∷ Queues 0 ∷ []) (begin crowd)
+crowded = does (Finishes ∷ Queues 0 ∷ []) (begin crowd [])
 
 crowd_full : is_full crowded 0 ≡ true
 crowd_full = refl
@@ -176,7 +176,7 @@ crowd_else_free = refl
 crowd_below_ceiling : is_above_ceiling crowded 1 0 ≡ false
 crowd_below_ceiling = refl
 
-crowd_views : views (Finishes ∷ Queues 0 ∷ Finishes ∷ Opens 0 ∷ Ends true ∷ Ends false ∷ []) (begin crowd)
+crowd_views : views (Finishes ∷ Queues 0 ∷ Finishes ∷ Opens 0 ∷ Ends true ∷ Ends false ∷ []) (begin crowd [])
     ≡ runs 0 (at 5 (2 ∷ []) ∷ at 9 (1 ∷ []) ∷ []) [] 0
     ∷ runs 1 (at 5 (2 ∷ []) ∷ []) [] 0
     ∷ runs 2 [] [] 0
@@ -195,13 +195,13 @@ crowd_text = refl
 abbrev pub ceilings : Partition
 ceilings = program 3 1 (12 ∷ 10 ∷ []) (10 ∷ [])
 
-ceiling_violated : call_refusal (does (Finishes ∷ []) (begin ceilings)) 0 0 ≡ Some AboveCeiling
+ceiling_violated : call_refusal (does (Finishes ∷ []) (begin ceilings [])) 0 0 ≡ Some AboveCeiling
 ceiling_violated = refl
 
-ceiling_met : call_refusal (does (Finishes ∷ Finishes ∷ []) (begin ceilings)) 1 0 ≡ None
+ceiling_met : call_refusal (does (Finishes ∷ Finishes ∷ []) (begin ceilings [])) 1 0 ≡ None
 ceiling_met = refl
 
-ceilings_text : text (named (codes "HI" ∷ codes "EQ" ∷ [])) (does (Finishes ∷ says (codes "pe") 1 ∷ Finishes ∷ Opens 0 ∷ Ends true ∷ Opens 0 ∷ Ends false ∷ says (codes "got") 5 ∷ Finishes ∷ []) (begin ceilings)) ≡ codes "0 HI pe 1\n0 EQ got 5\nended at 0\n"
+ceilings_text : text (named (codes "HI" ∷ codes "EQ" ∷ [])) (does (Finishes ∷ says (codes "pe") 1 ∷ Finishes ∷ Opens 0 ∷ Ends true ∷ Opens 0 ∷ Ends false ∷ says (codes "got") 5 ∷ Finishes ∷ []) (begin ceilings [])) ≡ codes "0 HI pe 1\n0 EQ got 5\nended at 0\n"
 unfolding digits
 ceilings_text = refl
 
@@ -213,7 +213,7 @@ nested = program 4 3 (5 ∷ 15 ∷ 10 ∷ []) (10 ∷ 15 ∷ 10 ∷ [])
 abbrev pub outer_action : List Effect
 outer_action = Queues 1 ∷ Finishes ∷ Queues 0 ∷ Opens 2 ∷ []
 
-nested_views : views (outer_action ++ (Opens 0 ∷ Ends true ∷ Ends false ∷ Opens 1 ∷ Ends true ∷ Ends false ∷ Finishes ∷ Ends false ∷ [])) (begin nested)
+nested_views : views (outer_action ++ (Opens 0 ∷ Ends true ∷ Ends false ∷ Opens 1 ∷ Ends true ∷ Ends false ∷ Finishes ∷ Ends false ∷ [])) (begin nested [])
     ≡ runs 3 (at 5 (0 ∷ []) ∷ at 10 (2 ∷ []) ∷ []) [] 0
     ∷ runs 2 (at 5 (0 ∷ []) ∷ []) [] 0
     ∷ runs 0 [] [] 0
@@ -230,21 +230,21 @@ nested_views : views (outer_action ++ (Opens 0 ∷ Ends true ∷ Ends false ∷ 
 nested_views = refl
 
 nested_text : text (named (codes "T1" ∷ codes "T3" ∷ codes "T4" ∷ []))
-    (does (outer_action ++ (Opens 0 ∷ Ends true ∷ Ends false ∷ Opens 1 ∷ Ends true ∷ Ends false ∷ says (codes "t3") 3 ∷ Finishes ∷ says (codes "mid") 1 ∷ Ends false ∷ Opens 2 ∷ says (codes "touch") 2 ∷ Ends false ∷ Finishes ∷ says (codes "done") 4 ∷ Finishes ∷ [])) (begin nested))
+    (does (outer_action ++ (Opens 0 ∷ Ends true ∷ Ends false ∷ Opens 1 ∷ Ends true ∷ Ends false ∷ says (codes "t3") 3 ∷ Finishes ∷ says (codes "mid") 1 ∷ Ends false ∷ Opens 2 ∷ says (codes "touch") 2 ∷ Ends false ∷ Finishes ∷ says (codes "done") 4 ∷ Finishes ∷ [])) (begin nested []))
     ≡ codes "0 T3 t3 3\n0 T1 mid 1\n0 T4 touch 2\n0 T1 done 4\nended at 0\n"
 unfolding digits
 nested_text = refl
 
 -- within the outer action the same object is refused before its ceiling, and an object below the active priority by its ceiling
-nested_same_object : call_refusal (does (outer_action ++ (Opens 1 ∷ [])) (begin nested)) 0 2 ≡ Some SameObject
+nested_same_object : call_refusal (does (outer_action ++ (Opens 1 ∷ [])) (begin nested [])) 0 2 ≡ Some SameObject
 nested_same_object = refl
 
-nested_above_ceiling : call_refusal (does (outer_action ++ (Opens 1 ∷ [])) (begin nested)) 0 0 ≡ Some AboveCeiling
+nested_above_ceiling : call_refusal (does (outer_action ++ (Opens 1 ∷ [])) (begin nested [])) 0 0 ≡ Some AboveCeiling
 nested_above_ceiling = refl
 
 -- An entry body that raises: the caller goes on, with the exception, and the action of the server closes
 
-entry_raises_text : text (named (codes "C" ∷ codes "D" ∷ [])) (does ((Finishes ∷ Queues 0 ∷ []) ++ gives ++ (says (codes "bad") 1 ∷ Finishes ∷ says (codes "on") 2 ∷ Finishes ∷ [])) (begin mailbox)) ≡ codes "0 C bad 1\n0 D on 2\nended at 0\n"
+entry_raises_text : text (named (codes "C" ∷ codes "D" ∷ [])) (does ((Finishes ∷ Queues 0 ∷ []) ++ gives ++ (says (codes "bad") 1 ∷ Finishes ∷ says (codes "on") 2 ∷ Finishes ∷ [])) (begin mailbox [])) ≡ codes "0 C bad 1\n0 D on 2\nended at 0\n"
 unfolding digits
 entry_raises_text = refl
 
@@ -253,16 +253,16 @@ entry_raises_text = refl
 abbrev pub raising_opener : List Effect
 raising_opener = Finishes ∷ Queues 0 ∷ Opens 0 ∷ Ends true ∷ says (codes "body") 1 ∷ Ends false ∷ says (codes "c") 2 ∷ Finishes ∷ []
 
-opener_raises_text : text (named (codes "C" ∷ codes "D" ∷ [])) (does (raising_opener ++ (says (codes "bad") 3 ∷ Finishes ∷ [])) (begin mailbox)) ≡ codes "0 D body 1\n0 C c 2\n0 D bad 3\nended at 0\n"
+opener_raises_text : text (named (codes "C" ∷ codes "D" ∷ [])) (does (raising_opener ++ (says (codes "bad") 3 ∷ Finishes ∷ [])) (begin mailbox [])) ≡ codes "0 D body 1\n0 C c 2\n0 D bad 3\nended at 0\n"
 unfolding digits
 opener_raises_text = refl
 
 -- A delay inside an action is refused, the procedure is left by the exception, and the queued call is served
 
-delay_refused : is_inside_any (does (Finishes ∷ Queues 0 ∷ Opens 0 ∷ []) (begin mailbox)) 1 ≡ true
+delay_refused : is_inside_any (does (Finishes ∷ Queues 0 ∷ Opens 0 ∷ []) (begin mailbox [])) 1 ≡ true
 delay_refused = refl
 
-delay_raises_text : text (named (codes "C" ∷ codes "D" ∷ [])) (does (raising_opener ++ (says (codes "pe") 3 ∷ Finishes ∷ [])) (begin mailbox)) ≡ codes "0 D body 1\n0 C c 2\n0 D pe 3\nended at 0\n"
+delay_raises_text : text (named (codes "C" ∷ codes "D" ∷ [])) (does (raising_opener ++ (says (codes "pe") 3 ∷ Finishes ∷ [])) (begin mailbox [])) ≡ codes "0 D body 1\n0 C c 2\n0 D pe 3\nended at 0\n"
 unfolding digits
 delay_raises_text = refl
 
@@ -271,23 +271,23 @@ delay_raises_text = refl
 abbrev pub lonely : Partition
 lonely = program 2 1 (10 ∷ []) (10 ∷ [])
 
-lonely_views : views (Finishes ∷ Queues 0 ∷ []) (begin lonely) ≡ runs 0 [] [] 0 ∷ nobody 0 ∷ []
+lonely_views : views (Finishes ∷ Queues 0 ∷ []) (begin lonely []) ≡ runs 0 [] [] 0 ∷ nobody 0 ∷ []
 lonely_views = refl
 
-lonely_text : text (named (codes "C" ∷ [])) (does (Finishes ∷ Queues 0 ∷ []) (begin lonely)) ≡ codes "waits forever at 0\n"
+lonely_text : text (named (codes "C" ∷ [])) (does (Finishes ∷ Queues 0 ∷ []) (begin lonely [])) ≡ codes "waits forever at 0\n"
 unfolding digits
 lonely_text = refl
 
 -- The other last lines: cut at the bound, an unhandled exception, an image fault; and a negative value
 
-bound_text : text (named (codes "SPIN" ∷ [])) (does (Finishes ∷ says (codes "go") 1 ∷ Quiet ∷ Quiet ∷ []) (begin lonely)) ≡ codes "0 SPIN go 1\nstep limit at 0\n"
+bound_text : text (named (codes "SPIN" ∷ [])) (does (Finishes ∷ says (codes "go") 1 ∷ Quiet ∷ Quiet ∷ []) (begin lonely [])) ≡ codes "0 SPIN go 1\nstep limit at 0\n"
 unfolding digits
 bound_text = refl
 
-unhandled_text : text (named (codes "C" ∷ [])) (does (Says (codes "m") (negsuc 9) ∷ Dies 1 ∷ []) (begin lonely)) ≡ codes "0 MAIN m -10\nunhandled BAD in MAIN at 0\n"
+unhandled_text : text (named (codes "C" ∷ [])) (does (Says (codes "m") (negsuc 9) ∷ Dies 1 ∷ []) (begin lonely [])) ≡ codes "0 MAIN m -10\nunhandled BAD in MAIN at 0\n"
 unfolding digits
 unhandled_text = refl
 
-fault_text : text (named (codes "C" ∷ [])) (does (Finishes ∷ Delays (pos 25) ∷ Breaks ∷ []) (begin lonely)) ≡ codes "image fault at 25\n"
+fault_text : text (named (codes "C" ∷ [])) (does (Finishes ∷ Delays (pos 25) ∷ Breaks ∷ []) (begin lonely [])) ≡ codes "image fault at 25\n"
 unfolding digits
 fault_text = refl

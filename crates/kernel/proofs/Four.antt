@@ -2,7 +2,8 @@
 use Rattle.std.proofs.Common.{◌≡◌, ◌≢◌, ◌⊎◌, inl, inr, ℕ, zero, suc, ◌+◌, ◌<◌, List, [], ◌∷◌, ◌++◌, Option, Some, None, Bool, true, false, cond, eqb, refl, sym, ap, ◌∙◌, subst, ⊎_elim, arith, ◌||◌}
 use Rattle.std.proofs.lemmas.Bool.{cases_lt}
 use Rattle.std.proofs.lemmas.Bool.Decides.{eqb_tells}
-use Rattle.kernel.specs.State.{Kernel, IsQueued, IsServed, Action, Reads, Writes, Serves, object_of, active, is_object_open, inside_among}
+use Rattle.base.specs.declared.limits.TheConstants.{CHANNELS}
+use Rattle.kernel.specs.State.{Kernel, IsQueued, IsServed, Action, Reads, Writes, Serves, object_of, actor, active, is_object_open, inside_among}
 use Rattle.kernel.specs.Effects.{Quiet, Ends, TakesOver, HandsBack, service, ending_of}
 use Rattle.kernel.specs.Invariant.{HasAction, IsInsideObject, Busy, CanWrite, ServesCall, count, Kept}
 use Rattle.kernel.specs.Exclusion.{StandsIn, IsInside, IsInAction}
@@ -115,7 +116,7 @@ among_forth (suc n) k o t lt h =
     (cases_lt t n)
 
 pub inside_lists : InsideLists
-inside_lists k o t = (among_back k.partition.tasks k o t, among_forth k.partition.tasks k o t)
+inside_lists k o t = let n = suc (actor k.partition CHANNELS) in (among_back n k o t, among_forth n k o t)
 
 -- whom the end of an action reaches
 

@@ -1,5 +1,6 @@
 -- The moves of which effects, dispatching and the clock are made keep a kernel sound.
-use Rattle.std.proofs.Common.{◌≡◌, ◌≢◌, ◌⊎◌, inl, inr, ℕ, ◌+◌, ◌<◌, ℤ, List, [], ◌∷◌, ◌++◌, Option, Some, None, Bool, false, cond, refl, sym, ap, ◌∙◌, subst, ⊎_elim, arith}
+use Rattle.std.proofs.Common.{◌≡◌, ◌≢◌, ◌⊎◌, inl, inr, ℕ, ◌+◌, ◌<◌, ◌≤◌, ℤ, List, [], ◌∷◌, ◌++◌, Option, Some, None, Bool, false, cond, refl, sym, ap, ◌∙◌, subst, ⊎_elim, arith}
+use Rattle.std.proofs.lemmas.Bool.{cases_lt}
 use Rattle.kernel.specs.State.{Kernel, TaskPlace, IsRunning, IsReady, IsAsleep, IsQueued, IsServed, IsFinished, Action, Sleeper, Line, Outcome, active, raised, put}
 use Rattle.kernel.specs.Dispatching.{leaves, becomes_ready, preempted}
 use Rattle.kernel.specs.Clock.{falls_asleep, released}
@@ -14,6 +15,9 @@ pub held : (b c : ℕ → Bool) (k : Kernel) (p : List Sleeper) (t : ℕ) → ((
 held b c k p t h s = record {
   base_low = s.base_low;
   ceiling_low = s.ceiling_low;
+  urgent = s.urgent;
+  attached = s.attached;
+  gone = s.gone;
   runs = s.runs;
   runner = s.runner;
   lists = s.lists;
@@ -35,6 +39,9 @@ pub beside : (b : ℕ → Bool) (k : Kernel) (p q ss : List Sleeper) (n : ℤ) (
 beside b k p q ss n l o h s = record {
   base_low = s.base_low;
   ceiling_low = s.ceiling_low;
+  urgent = s.urgent;
+  attached = s.attached;
+  gone = s.gone;
   runs = s.runs;
   runner = s.runner;
   lists = s.lists;
@@ -58,6 +65,9 @@ leaves_sound b k p t run none s =
     record {
       base_low = s.base_low;
       ceiling_low = s.ceiling_low;
+      urgent = s.urgent;
+      attached = s.attached;
+      gone = λ u le. by_put (λ x. (x ≡ IsFinished) ⊎ (None ≡ Some u)) t u IsFinished k.place (λ e. inl refl) (λ ne. ⊎_elim (λ f. inl f) (λ r. absurd (ne (cc))) (s.gone u le));
       runs = λ u e. absurd (cc);
       runner = λ u h. of_put (λ x. x ≡ IsRunning) (None ≡ Some u) t u IsFinished k.place h (λ e i. absurd (cc)) (λ ne i. absurd (ne (let j = s.runner u i in cc)));
       lists = λ u h. by_put (λ x. count u (k.ready h) ≡ listed x (active k u) h) t u IsFinished k.place (λ e. listed_at b k p s u h IsRunning (at u e)) (λ ne. s.lists u h);
@@ -78,8 +88,17 @@ leaves_sound b k p t run none s =
 pub nowhere_idle : (b : ℕ → Bool) (k : Kernel) (p : List Sleeper) (t : ℕ) → k.place t ≡ IsFinished → Sound b k p → k.actions t ≡ []
 nowhere_idle b k p t here s = idle_if b k p s t IsFinished here (λ e. cc) (λ e. cc)
 
-pub ready_sound : (b : ℕ → Bool) (k : Kernel) (p : List Sleeper) (t : ℕ) → k.place t ≡ IsFinished → Sound b k p → Sound b (becomes_ready t k) p
-ready_sound b k p t here s =
+-- an actor that is not gone runs
+pub not_waiting : (b : ℕ → Bool) (k : Kernel) (p : List Sleeper) (u : ℕ) (w : TaskPlace) → k.place u ≡ w → w ≢ IsFinished → k.partition.tasks ≤ u → Sound b k p → k.running ≡ Some u
+not_waiting b k p u w here ne le s = ⊎_elim (λ f. absurd (ne (sym here ∙ f))) (λ r. r) (s.gone u le)
+
+-- who waits or is ready is a task
+pub waiting_task : (b : ℕ → Bool) (k : Kernel) (p : List Sleeper) (u : ℕ) (w : TaskPlace) → k.place u ≡ w → w ≢ IsFinished → w ≢ IsRunning → Sound b k p → u < k.partition.tasks
+waiting_task b k p u w here ne no_run s =
+    ⊎_elim (λ lt. lt) (λ le. absurd (no_run (sym here ∙ s.runs u (not_waiting b k p u w here ne le s)))) (cases_lt u k.partition.tasks)
+
+pub ready_sound : (b : ℕ → Bool) (k : Kernel) (p : List Sleeper) (t : ℕ) → t < k.partition.tasks → k.place t ≡ IsFinished → Sound b k p → Sound b (becomes_ready t k) p
+ready_sound b k p t task here s =
     let at : (u : ℕ) → u ≡ t → k.place u ≡ IsFinished = λ u e. ap k.place e ∙ here in
     let a = active k t in
     let new = k.ready a ++ t ∷ [] in
@@ -87,6 +106,9 @@ ready_sound b k p t here s =
     record {
       base_low = s.base_low;
       ceiling_low = s.ceiling_low;
+      urgent = s.urgent;
+      attached = s.attached;
+      gone = λ u le. by_put (λ x. (x ≡ IsFinished) ⊎ (k.running ≡ Some u)) t u IsReady k.place (λ e. absurd (omega arith)) (λ ne. s.gone u le);
       runs = λ u e. by_put (λ x. x ≡ IsRunning) t u IsReady k.place (λ i. let j = at u i in let l = s.runs u e in absurd (cc)) (λ ne. s.runs u e);
       runner = λ u h. of_put (λ x. x ≡ IsRunning) (k.running ≡ Some u) t u IsReady k.place h (λ e i. absurd (cc)) (λ ne i. s.runner u i);
       lists = λ u h.
@@ -119,13 +141,16 @@ ready_sound b k p t here s =
           (λ ne'. w));
     }
 
-pub asleep_sound : (b : ℕ → Bool) (k : Kernel) (p : List Sleeper) (t : ℕ) (w : ℤ) → k.place t ≡ IsFinished → Sound b k p → Sound b (falls_asleep t w k) p
-asleep_sound b k p t w here s =
+pub asleep_sound : (b : ℕ → Bool) (k : Kernel) (p : List Sleeper) (t : ℕ) (w : ℤ) → t < k.partition.tasks → k.place t ≡ IsFinished → Sound b k p → Sound b (falls_asleep t w k) p
+asleep_sound b k p t w task here s =
     let at : (u : ℕ) → u ≡ t → k.place u ≡ IsFinished = λ u e. ap k.place e ∙ here in
     let me : Sleeper = record { task = t; wake = w } in
     record {
       base_low = s.base_low;
       ceiling_low = s.ceiling_low;
+      urgent = s.urgent;
+      attached = s.attached;
+      gone = λ u le. by_put (λ x. (x ≡ IsFinished) ⊎ (k.running ≡ Some u)) t u IsAsleep k.place (λ e. absurd (omega arith)) (λ ne. s.gone u le);
       runs = λ u e. by_put (λ x. x ≡ IsRunning) t u IsAsleep k.place (λ i. let j = at u i in let l = s.runs u e in absurd (cc)) (λ ne. s.runs u e);
       runner = λ u h. of_put (λ x. x ≡ IsRunning) (k.running ≡ Some u) t u IsAsleep k.place h (λ e i. absurd (cc)) (λ ne i. s.runner u i);
       lists = λ u h. by_put (λ x. count u (k.ready h) ≡ listed x (active k u) h) t u IsAsleep k.place (λ e. listed_at b k p s u h IsFinished (at u e)) (λ ne. s.lists u h);
@@ -145,12 +170,15 @@ asleep_sound b k p t w here s =
       heads = λ u busy h. of_put (λ x. x ≡ IsReady) ((ts : List ℕ) × (k.ready (active k u) ≡ u ∷ ts)) t u IsAsleep k.place h (λ e i. absurd (cc)) (λ ne i. s.heads u busy i);
     }
 
-pub queues_sound : (b : ℕ → Bool) (k : Kernel) (p : List Sleeper) (t o : ℕ) → k.place t ≡ IsFinished → b o ≡ false → k.queued o ≡ None → ((u : ℕ) → IsInsideObject o (k.actions u) → ⊥) → Sound b k p → Sound b (queues t o k) p
-queues_sound b k p t o here shut free nobody s =
+pub queues_sound : (b : ℕ → Bool) (k : Kernel) (p : List Sleeper) (t o : ℕ) → t < k.partition.tasks → k.place t ≡ IsFinished → b o ≡ false → k.queued o ≡ None → ((u : ℕ) → IsInsideObject o (k.actions u) → ⊥) → Sound b k p → Sound b (queues t o k) p
+queues_sound b k p t o task here shut free nobody s =
     let at : (u : ℕ) → u ≡ t → k.place u ≡ IsFinished = λ u e. ap k.place e ∙ here in
     record {
       base_low = s.base_low;
       ceiling_low = s.ceiling_low;
+      urgent = s.urgent;
+      attached = s.attached;
+      gone = λ u le. by_put (λ x. (x ≡ IsFinished) ⊎ (k.running ≡ Some u)) t u (IsQueued o) k.place (λ e. absurd (omega arith)) (λ ne. s.gone u le);
       runs = λ u e. by_put (λ x. x ≡ IsRunning) t u (IsQueued o) k.place (λ i. let j = at u i in let l = s.runs u e in absurd (cc)) (λ ne. s.runs u e);
       runner = λ u h. of_put (λ x. x ≡ IsRunning) (k.running ≡ Some u) t u (IsQueued o) k.place h (λ e i. absurd (cc)) (λ ne i. s.runner u i);
       lists = λ u h. by_put (λ x. count u (k.ready h) ≡ listed x (active k u) h) t u (IsQueued o) k.place (λ e. listed_at b k p s u h IsFinished (at u e)) (λ ne. s.lists u h);
@@ -183,6 +211,9 @@ released_sound b k p q t w here no_run no_ready no_queue no_serve nap s =
     record {
       base_low = s.base_low;
       ceiling_low = s.ceiling_low;
+      urgent = s.urgent;
+      attached = s.attached;
+      gone = λ u le. by_put (λ x. (x ≡ IsFinished) ⊎ (k.running ≡ Some u)) t u IsFinished k.place (λ e. inl refl) (λ ne. s.gone u le);
       runs = λ u e. by_put (λ x. x ≡ IsRunning) t u IsFinished k.place (λ i. absurd (no_run (sym (at u i) ∙ s.runs u e))) (λ ne. s.runs u e);
       runner = λ u h. of_put (λ x. x ≡ IsRunning) (k.running ≡ Some u) t u IsFinished k.place h (λ e i. absurd (cc)) (λ ne i. s.runner u i);
       lists = λ u h. by_put (λ x. count u (k.ready h) ≡ listed x (active k u) h) t u IsFinished k.place (λ e. listed_at b k p s u h w (at u e) ∙ unlisted w (active k u) h no_ready) (λ ne. s.lists u h);
@@ -207,6 +238,9 @@ unqueues_sound b k p u o was s =
     record {
       base_low = s.base_low;
       ceiling_low = s.ceiling_low;
+      urgent = s.urgent;
+      attached = s.attached;
+      gone = λ v le. by_put (λ x. (x ≡ IsFinished) ⊎ (k.running ≡ Some v)) u v (IsServed o) k.place (λ e. inr (not_waiting b k p v (IsQueued o) (at v e) (λ i. cc) le s)) (λ ne. s.gone v le);
       runs = λ v e. by_put (λ x. x ≡ IsRunning) u v (IsServed o) k.place (λ i. let j = at v i in let l = s.runs v e in absurd (cc)) (λ ne. s.runs v e);
       runner = λ v h. of_put (λ x. x ≡ IsRunning) (k.running ≡ Some v) u v (IsServed o) k.place h (λ e i. absurd (cc)) (λ ne i. s.runner v i);
       lists = λ v h. by_put (λ x. count v (k.ready h) ≡ listed x (active k v) h) u v (IsServed o) k.place (λ e. listed_at b k p s v h (IsQueued o) (at v e)) (λ ne. s.lists v h);
@@ -244,6 +278,9 @@ actions_sound b k p t new run stacked_new once_new serving_new closed_new s =
     record {
       base_low = s.base_low;
       ceiling_low = s.ceiling_low;
+      urgent = s.urgent;
+      attached = s.attached;
+      gone = s.gone;
       runs = s.runs;
       runner = s.runner;
       lists = λ u h. ⊎_elim (λ e. listed_at b k p s u h IsRunning (at u e) ∙ sym (ap (λ x. listed x (level u) h) (at u e))) (λ ne. s.lists u h ∙ ap (λ x. listed (k.place u) x h) (sym (same_level u ne))) (same_or_not u t);
@@ -269,8 +306,8 @@ actions_sound b k p t new run stacked_new once_new serving_new closed_new s =
           ⊎_elim (λ e. let i = at u e in absurd (cc)) (λ ne. let w = s.heads u (subst Busy (other u ne) busy) h in (w.0, ap k.ready (same_level u ne) ∙ w.1)) (same_or_not u t);
     }
 
-pub preempted_sound : (b : ℕ → Bool) (k : Kernel) (p : List Sleeper) (t : ℕ) → k.running ≡ Some t → Sound b k p → Sound b (preempted t k) p
-preempted_sound b k p t run s =
+pub preempted_sound : (b : ℕ → Bool) (k : Kernel) (p : List Sleeper) (t : ℕ) → t < k.partition.tasks → k.running ≡ Some t → Sound b k p → Sound b (preempted t k) p
+preempted_sound b k p t task run s =
     let here : k.place t ≡ IsRunning = s.runs t run in
     let at : (u : ℕ) → u ≡ t → k.place u ≡ IsRunning = λ u e. ap k.place e ∙ here in
     let a = active k t in
@@ -279,6 +316,9 @@ preempted_sound b k p t run s =
     record {
       base_low = s.base_low;
       ceiling_low = s.ceiling_low;
+      urgent = s.urgent;
+      attached = s.attached;
+      gone = λ u le. by_put (λ x. (x ≡ IsFinished) ⊎ (None ≡ Some u)) t u IsReady k.place (λ e. absurd (omega arith)) (λ ne. ⊎_elim (λ f. inl f) (λ r. absurd (ne (cc))) (s.gone u le));
       runs = λ u e. absurd (cc);
       runner = λ u h. of_put (λ x. x ≡ IsRunning) (None ≡ Some u) t u IsReady k.place h (λ e i. absurd (cc)) (λ ne i. absurd (ne (let j = s.runner u i in cc)));
       lists = λ u h.

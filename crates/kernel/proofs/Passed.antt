@@ -15,7 +15,7 @@ not_open o (a ∷ outer) e h = go (eqb (object_of a) o) refl e (not_open o outer
     go true i e rest = cc
     go false i e rest = ⊎_elim (λ same. ⊎_elim (λ t. let j = t.0 in cc) (λ t. t.1 same) (eqb_tells (object_of a) o)) (λ r. rest e r) h
 
-low_if : (m n : ℕ) → ltb n m ≡ false → m ≤ n
+pub low_if : (m n : ℕ) → ltb n m ≡ false → m ≤ n
 low_if m n e = ⊎_elim (λ lt. let i = lt-ltb n m lt in absurd (cc)) (λ ge. ge) (cases_lt n m)
 
 none_of : (l : List Action) → elim l as (λ x. Bool) [ [] ↦ false | a ∷ outer ↦ true ] ≡ false → l ≡ []

@@ -4,7 +4,7 @@ use Rattle.std.specs.Prelude.{pos, int_lt, nat_lt, nat_le, if◌then◌else◌}
 use Rattle.base.specs.declared.limits.TheConstants.{PRIORITIES}
 use Rattle.kernel.specs.State.{Action, Ended, Kernel, Line, Partition, Sleeper, IsReady, Reads, Serves, Writes, object_of, put, active, is_object_open, raised}
 use Rattle.kernel.specs.Dispatching.{becomes_ready, highest, leaves, preempted, runs_from, dispatch}
-use Rattle.kernel.specs.Clock.{clock, time_moves, wakes_due}
+use Rattle.kernel.specs.Clock.{clock, next, time_moves, wakes_due}
 use Rattle.kernel.specs.Effects.{Closes, HandsBack, Opens, Quiet, Queues, Says, TakesOver, Views, Ends, Finishes, Delays, Refusal, SameObject, AboveCeiling, call_refusal, with_actions, outer_of, effect, activated, after, begin, blank, ending_of}
 use Rattle.kernel.specs.Exclusion.{FourStatements}
 use Rattle.kernel.specs.PutLaws.{by_put}
@@ -31,7 +31,7 @@ preempted_to_tail t k = record k { running = None; ready = put (active k t) (k.r
 
 -- the running task ends its inner action, and a higher task has become ready
 abbrev inner_ends : Kernel
-inner_ends = effect 0 (Ends false) (does (outer_action ++ (Opens 0 ∷ Ends true ∷ Ends false ∷ Opens 1 ∷ Ends true ∷ [])) (begin nested))
+inner_ends = effect 0 (Ends false) (does (outer_action ++ (Opens 0 ∷ Ends true ∷ Ends false ∷ Opens 1 ∷ Ends true ∷ [])) (begin nested []))
 
 abbrev to_tail : Kernel
 to_tail = runs_from (highest inner_ends.ready PRIORITIES) (preempted_to_tail 0 inner_ends)
@@ -48,7 +48,7 @@ tail_refuted e = differ (2 ∷ 0 ∷ []) (0 ∷ 2 ∷ []) 10 1 0 (sym tail_shown
 -- No service where the body is left by an exception: a call stays queued though its barrier is open and nobody is inside
 
 abbrev opener_raises : Kernel
-opener_raises = does (Finishes ∷ Queues 0 ∷ Opens 0 ∷ []) (begin mailbox)
+opener_raises = does (Finishes ∷ Queues 0 ∷ Opens 0 ∷ []) (begin mailbox [])
 
 abbrev not_served : Kernel
 not_served = with_actions 1 (outer_of (opener_raises.actions 1)) opener_raises
@@ -65,7 +65,7 @@ abbrev refusal_by_base : Kernel → ℕ → ℕ → Option Refusal
 refusal_by_base k t o = if is_object_open o (k.actions t) then Some SameObject else if nat_lt (k.partition.ceiling o) (k.partition.base t) then Some AboveCeiling else None
 
 abbrev inside_high : Kernel
-inside_high = does (outer_action ++ (Opens 1 ∷ [])) (begin nested)
+inside_high = does (outer_action ++ (Opens 1 ∷ [])) (begin nested [])
 
 by_active_refused : call_refusal inside_high 0 0 ≡ Some AboveCeiling
 by_active_refused = refl
@@ -83,7 +83,7 @@ greatest time [] = time
 greatest time (s ∷ ss) = if int_lt time s.wake then greatest s.wake ss else greatest time ss
 
 abbrev two_sleep : Kernel
-two_sleep = does (Finishes ∷ Delays (pos 9) ∷ Delays (pos 7) ∷ []) (begin sleepers)
+two_sleep = does (Finishes ∷ Delays (pos 9) ∷ Delays (pos 7) ∷ []) (begin sleepers [])
 
 abbrev all_sleep : Kernel
 all_sleep = effect 2 (Delays (pos 8)) two_sleep
@@ -112,7 +112,7 @@ by_number [] = []
 by_number (s ∷ ss) = inserted s (by_number ss)
 
 abbrev before_last_sleeps : Kernel
-before_last_sleeps = does (Finishes ∷ Delays (pos 0) ∷ Delays (pos 1000) ∷ Delays (pos 1000) ∷ []) (begin sleepers)
+before_last_sleeps = does (Finishes ∷ Delays (pos 0) ∷ Delays (pos 1000) ∷ Delays (pos 1000) ∷ []) (begin sleepers [])
 
 abbrev three_sleep : Kernel
 three_sleep = effect 0 (Delays (pos 1000)) before_last_sleeps
@@ -132,7 +132,7 @@ by_number_refuted e = not_both _ _ by_number_runs in_order_runs e
 -- A delay that is due and leaves its task running in place: the next task of its priority does not have its turn
 
 abbrev first_runs : Kernel
-first_runs = does (Finishes ∷ []) (begin sleepers)
+first_runs = does (Finishes ∷ []) (begin sleepers [])
 
 yields_runs : (after 0 (Delays (pos 0)) first_runs).running ≡ Some 1
 yields_runs = refl
@@ -181,7 +181,7 @@ tasks_of_lines [] = []
 tasks_of_lines (l ∷ ls) = l.task ∷ tasks_of_lines ls
 
 abbrev two_lines : Kernel
-two_lines = does (Says [] (pos 1) ∷ Finishes ∷ Says [] (pos 1) ∷ []) (begin sleepers)
+two_lines = does (Says [] (pos 1) ∷ Finishes ∷ Says [] (pos 1) ∷ []) (begin sleepers [])
 
 abbrev put_first : Line → Kernel → Kernel
 put_first line k = record k { lines = line ∷ k.lines }
@@ -189,7 +189,7 @@ put_first line k = record k { lines = line ∷ k.lines }
 in_order_of_time : tasks_of_lines two_lines.lines ≡ 3 ∷ 0 ∷ []
 in_order_of_time = refl
 
-latest_first : tasks_of_lines (put_first (record { time = pos 0; task = 0; label = []; value = pos 1 }) (does (Says [] (pos 1) ∷ []) (begin sleepers))).lines ≡ 0 ∷ 3 ∷ []
+latest_first : tasks_of_lines (put_first (record { time = pos 0; task = 0; label = []; value = pos 1 }) (does (Says [] (pos 1) ∷ []) (begin sleepers []))).lines ≡ 0 ∷ 3 ∷ []
 latest_first = refl
 
 -- The active priority as the ceiling of the innermost action alone: it would fall inside an outer action
@@ -264,21 +264,21 @@ undispatched_refuted e = nobody_not _ _ nobody_after_clock first_due_runs e
 stands_while_running : (clock two_sleep).now ≡ pos 0
 stands_while_running = refl
 
-moved_while_running : (time_moves two_sleep.sleepers two_sleep).now ≡ pos 7
+moved_while_running : (time_moves (next two_sleep) two_sleep).now ≡ pos 7
 moved_while_running = refl
 
-moved_refuted : (time_moves two_sleep.sleepers two_sleep).now ≡ (clock two_sleep).now → ⊥
+moved_refuted : (time_moves (next two_sleep) two_sleep).now ≡ (clock two_sleep).now → ⊥
 moved_refuted e = let f : pos 7 ≡ pos 0 = sym moved_while_running ∙ (e ∙ stands_while_running) in cc
 
 -- without tasks the start is over at once
 abbrev no_tasks : Partition
 no_tasks = program 0 0 [] []
 
-over_at_once : (begin no_tasks).outcome ≡ Some Ended
+over_at_once : (begin no_tasks []).outcome ≡ Some Ended
 over_at_once = refl
 
-never_over : (dispatch (activated 0 (blank no_tasks))).outcome ≡ None
+never_over : (dispatch (activated 0 (blank no_tasks []))).outcome ≡ None
 never_over = refl
 
-start_refuted : (dispatch (activated 0 (blank no_tasks))).outcome ≡ (begin no_tasks).outcome → ⊥
+start_refuted : (dispatch (activated 0 (blank no_tasks []))).outcome ≡ (begin no_tasks []).outcome → ⊥
 start_refuted e = let f : None ≡ Some Ended = sym never_over ∙ (e ∙ over_at_once) in cc

@@ -50,7 +50,7 @@ abbrev opener : Script
 opener = script (only (Opens 0) ∷ only (Ends true) ∷ record { effect = Ends false; given = Some (Raised 5) } ∷ only (says (codes "on") 2) ∷ only Finishes ∷ []) []
 
 abbrev scene : World (Tasks (List ℕ) Script)
-scene = record { kernel = begin mailbox; rest = record { memory = []; tasks = one_of (caller ∷ opener ∷ []) (script (only Finishes ∷ []) []) } }
+scene = record { kernel = begin mailbox []; rest = record { memory = []; tasks = one_of (caller ∷ opener ∷ []) (script (only Finishes ∷ []) []) } }
 
 abbrev after_steps : ℕ → World (Tasks (List ℕ) Script)
 after_steps n = run (among scripted) n scene

@@ -3,7 +3,7 @@ use Rattle.std.proofs.Common.{◌≡◌, ◌≢◌, inl, inr, ℕ, List, [], ◌
 use Rattle.std.specs.Prelude.{int_lt}
 use Rattle.kernel.specs.State.{Kernel, TaskPlace, IsRunning, IsReady, IsAsleep, IsQueued, IsServed, IsFinished, Action, Reads, Writes, Serves, Sleeper, active, put}
 use Rattle.kernel.specs.Dispatching.{leaves, becomes_ready, runs_head, runs_from, preempted, preempts, dispatch_from, dispatch}
-use Rattle.kernel.specs.Clock.{falls_asleep, released, least, wakes_if_due, wakes_due, time_moves}
+use Rattle.kernel.specs.Clock.{falls_asleep, released, wakes_if_due, wakes_due}
 use Rattle.kernel.specs.Effects.{Effect, Quiet, Says, Delays, Opens, Views, Queues, Ends, Finishes, Dies, Breaks, HandsBack, service, ending_of, outer_of, with_actions, takes_over, ends, effect}
 use Rattle.kernel.specs.Invariant.{HasAction, ServesCall, Served}
 use Rattle.kernel.specs.PutLaws.{put_same, by_put, of_put}
@@ -40,16 +40,12 @@ wakes_serv x k s =
     either Serv (int_lt k.now x.wake) (record k { sleepers = k.sleepers ++ x ∷ [] }) (becomes_ready t (released t k)) s
     (moved t IsReady (put t IsFinished k.place) k.actions (λ o e. cc) (moved t IsFinished k.place k.actions (λ o e. cc) s))
 
-wakes_all_serv : (ss : List Sleeper) (k : Kernel) → Serv k → Serv (wakes_due ss k)
+pub wakes_all_serv : (ss : List Sleeper) (k : Kernel) → Serv k → Serv (wakes_due ss k)
 wakes_all_serv [] k s = s
 wakes_all_serv (x ∷ ss) k s = wakes_all_serv ss (wakes_if_due x k) (wakes_serv x k s)
 
-pub time_serv : (ss : List Sleeper) (k : Kernel) → Serv k → Serv (time_moves ss k)
-time_serv [] k s = s
-time_serv (x ∷ ss) k s = let k' : Kernel = record k { now = least x.wake ss; sleepers = [] } in dispatch_serv (wakes_due (x ∷ ss) k') (wakes_all_serv (x ∷ ss) k' s)
-
 -- an action opens that was not there
-grown : (t : ℕ) (new : List Action) (k : Kernel) → ((o u : ℕ) → HasAction (ServesCall o u) (k.actions t) → HasAction (ServesCall o u) new) → Serv k → Serv (with_actions t new k)
+pub grown : (t : ℕ) (new : List Action) (k : Kernel) → ((o u : ℕ) → HasAction (ServesCall o u) (k.actions t) → HasAction (ServesCall o u) new) → Serv k → Serv (with_actions t new k)
 grown t new k more s u o e =
     let w = s u o e in
     (w.0, by_put (HasAction (ServesCall o u)) t w.0 new k.actions (λ i. more o u (subst (λ x. HasAction (ServesCall o u) (k.actions x)) i w.1)) (λ ne. w.1))
@@ -79,22 +75,23 @@ service_serv false t o outer q k e s = closed t (Writes o) outer k e (λ p u h. 
 service_serv true t o outer None k e s = closed t (Writes o) outer k e (λ p u h. h) s
 service_serv true t o outer (Some u) k e s = takes_serv t o u outer k e s
 
-ends_serv : (is_open : Bool) (t : ℕ) (l : List Action) (k : Kernel) → k.actions t ≡ l → Serv k → Serv (ends t (ending_of is_open l k.queued) (outer_of l) k)
+pub ends_serv : (is_open : Bool) (t : ℕ) (l : List Action) (k : Kernel) → k.actions t ≡ l → Serv k → Serv (ends t (ending_of is_open l k.queued) (outer_of l) k)
 ends_serv is_open t [] k e s = grown t [] k (λ p u h. subst (HasAction (ServesCall p u)) e h) s
 ends_serv is_open t (Reads o ∷ outer) k e s = closed t (Reads o) outer k e (λ p u h. h) s
 ends_serv is_open t (Writes o ∷ outer) k e s = service_serv is_open t o outer (k.queued o) k e s
 ends_serv is_open t (Serves o u ∷ outer) k e s = hands_serv t o u outer k e s
 
-pub effect_serv : (t : ℕ) (e : Effect) (k : Kernel) → Serv k → Serv (effect t e k)
-effect_serv t Quiet k s = s
-effect_serv t (Says label value) k s = s
-effect_serv t (Delays w) k s =
+-- the end of a body apart, after which a handler may be gone
+pub effect_serv : (t : ℕ) (e : Effect) (k : Kernel) → ((is_open : Bool) → e ≡ Ends is_open → Serv (effect t e k)) → Serv k → Serv (effect t e k)
+effect_serv t Quiet k ended s = s
+effect_serv t (Says label value) k ended s = s
+effect_serv t (Delays w) k ended s =
     let gone = moved t IsFinished k.place k.actions (λ o e. cc) s in
     either Serv (int_lt k.now w) (falls_asleep t w (leaves t k)) (becomes_ready t (leaves t k)) (moved t IsAsleep (put t IsFinished k.place) k.actions (λ o e. cc) gone) (moved t IsReady (put t IsFinished k.place) k.actions (λ o e. cc) gone)
-effect_serv t (Opens o) k s = grown t (Writes o ∷ k.actions t) k (λ p u h. inr h) s
-effect_serv t (Views o) k s = grown t (Reads o ∷ k.actions t) k (λ p u h. inr h) s
-effect_serv t (Queues o) k s = moved t (IsQueued o) (put t IsFinished k.place) k.actions (λ p e. cc) (moved t IsFinished k.place k.actions (λ p e. cc) s)
-effect_serv t (Ends c) k s = ends_serv c t (k.actions t) k refl s
-effect_serv t Finishes k s = moved t IsFinished k.place k.actions (λ o e. cc) s
-effect_serv t (Dies x) k s = s
-effect_serv t Breaks k s = s
+effect_serv t (Opens o) k ended s = grown t (Writes o ∷ k.actions t) k (λ p u h. inr h) s
+effect_serv t (Views o) k ended s = grown t (Reads o ∷ k.actions t) k (λ p u h. inr h) s
+effect_serv t (Queues o) k ended s = moved t (IsQueued o) (put t IsFinished k.place) k.actions (λ p e. cc) (moved t IsFinished k.place k.actions (λ p e. cc) s)
+effect_serv t (Ends c) k ended s = ended c refl
+effect_serv t Finishes k ended s = moved t IsFinished k.place k.actions (λ o e. cc) s
+effect_serv t (Dies x) k ended s = s
+effect_serv t Breaks k ended s = s

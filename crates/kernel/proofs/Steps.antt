@@ -2,17 +2,18 @@
 use Rattle.std.proofs.Common.{◌≡◌, inl, inr, ℕ, ◌+◌, ◌≤◌, List, [], ◌∷◌, Option, Some, None, Bool, true, false, refl, sym, ap, ◌∙◌, subst, ⊎_elim, arith}
 use Rattle.std.specs.Prelude.{int_lt}
 use Rattle.kernel.specs.State.{Kernel, IsServed, IsFinished, Action, Reads, Writes, Serves, object_of, Unhandled, ImageFault, active, put}
-use Rattle.kernel.specs.Dispatching.{leaves, becomes_ready}
-use Rattle.kernel.specs.Clock.{falls_asleep, released}
+use Rattle.kernel.specs.Dispatching.{leaves, becomes_ready, dispatch}
+use Rattle.kernel.specs.Clock.{falls_asleep, released, clock}
 use Rattle.kernel.specs.Effects.{Effect, Quiet, Says, Delays, Opens, Views, Queues, Ends, Finishes, Dies, Breaks, service, ending_of, outer_of, with_actions, takes_over, ends, effect, after}
-use Rattle.kernel.specs.Invariant.{HasAction, IsInsideObject, CanWrite, ServesCall, Once, Stacked, naps, asleep, Sound, Settled, Kept, Tells, Passed, IsBarrierHeld}
+use Rattle.kernel.specs.Invariant.{HasAction, IsInsideObject, CanWrite, ServesCall, Once, Stacked, naps, asleep, Sound, Settled, HandlesWithin, Kept, Tells, Passed, IsBarrierHeld}
 use Rattle.kernel.specs.PutLaws.{same_or_not, put_same, put_other, by_put, of_put}
 use Rattle.kernel.proofs.Lists.{base_raised, ceiling_raised, at_busy, idle, served_at, either}
 use Rattle.kernel.proofs.Passed.{outside, not_above, may_call, not_full}
 use Rattle.kernel.proofs.Places.{one_inside, napping}
-use Rattle.kernel.proofs.Moves.{held, beside, leaves_sound, ready_sound, asleep_sound, queues_sound, released_sound, unqueues_sound, actions_sound}
+use Rattle.kernel.proofs.Moves.{held, beside, waiting_task, leaves_sound, ready_sound, asleep_sound, queues_sound, released_sound, unqueues_sound, actions_sound}
 use Rattle.kernel.proofs.Clock.{finish}
-use Rattle.kernel.proofs.Served.{Serv, effect_serv}
+use Rattle.kernel.proofs.Served.{Serv, ends_serv, effect_serv}
+use Rattle.kernel.proofs.Departing.{outside_task, ends_running, departs_sound, departs_serv, effect_within}
 
 -- the task of a put is there
 left : (t : ℕ) (k : Kernel) → (leaves t k).place t ≡ IsFinished
@@ -86,7 +87,7 @@ module _ (b : ℕ → Bool) (k : Kernel) (t : ℕ) (run : k.running ≡ Some t) 
       (λ ne w. ne (one_inside b k [] s o v t (served_at o u (k.actions v) w) in_o)))
       (λ v. by_put (λ x. naps v k.sleepers + 0 ≡ asleep x) u v IsFinished k.place (λ i. napping b k [] s v (IsServed o) (ap k.place i ∙ is.0)) (λ ne. s.naps_once v))
       s1 in
-      ready_sound b (released u l) [] u (put_same u u IsFinished k.place refl) s2
+      ready_sound b (released u l) [] u (waiting_task b k [] u (IsServed o) is.0 (λ i. cc) (λ i. cc) s) (put_same u u IsFinished k.place refl) s2
 
   service_sound : (is_open : Bool) (o : ℕ) (outer : List Action) (q : Option ℕ) → k.actions t ≡ Writes o ∷ outer → is_open ≡ b o → k.queued o ≡ q → Sound b (ends t (service is_open o q) outer k) []
   service_sound false o outer q e tell i = closes_sound (Writes o) outer e (λ p u j c. ap b (sym c) ∙ sym tell)
@@ -99,50 +100,80 @@ module _ (b : ℕ → Bool) (k : Kernel) (t : ℕ) (run : k.running ≡ Some t) 
       let same : (u : ℕ) → put t [] k.actions u ≡ k.actions u = λ u. by_put (λ l. l ≡ k.actions u) t u [] k.actions (λ i. sym (ap k.actions i ∙ e)) (λ ne. refl) in
       subst (λ f. Sound b (record k { actions = f }) []) (λ i u. sym (same u) i) s
 
-  ends_sound : (is_open : Bool) (l : List Action) → k.actions t ≡ l → Tells b is_open l → Sound b (ends t (ending_of is_open l k.queued) (outer_of l) k) []
+  pub ends_sound : (is_open : Bool) (l : List Action) → k.actions t ≡ l → Tells b is_open l → Sound b (ends t (ending_of is_open l k.queued) (outer_of l) k) []
   ends_sound is_open [] e tell = closes_none e
   ends_sound is_open (Reads o ∷ outer) e tell = closes_sound (Reads o) outer e (λ p u j w. absurd w)
   ends_sound is_open (Writes o ∷ outer) e tell = service_sound is_open o outer (k.queued o) e tell refl
   ends_sound is_open (Serves o u ∷ outer) e tell = ends_served u o outer e
 
-  effect_sound : (e : Effect) → Passed b k t e → Sound b (effect t e k) []
-  effect_sound Quiet c = s
-  effect_sound (Says label value) c = beside b k [] [] k.sleepers k.now _ k.outcome (λ u. refl) s
-  effect_sound (Delays w) c =
-      let gone = leaves_sound b k [] t run (outside k t c) s in
-      either (λ y. Sound b y []) (int_lt k.now w) (falls_asleep t w (leaves t k)) (becomes_ready t (leaves t k)) (asleep_sound b (leaves t k) [] t w (left t k) gone) (ready_sound b (leaves t k) [] t (left t k) gone)
-  effect_sound (Opens o) c = let m = may_call k t o c in opens_sound (Writes o) m.0 m.1 (λ p u h. h)
-  effect_sound (Views o) c = let m = may_call k t o c in opens_sound (Reads o) m.0 m.1 (λ p u h. h)
-  effect_sound (Queues o) c =
-      let none = outside k t c.0 in
-      let low = not_above k t o c.1 in
-      queues_sound b (leaves t k) [] t o (left t k) c.2 (not_full k o c.3)
-      (λ u h.
-      ⊎_elim
-      (λ e. idle (k.actions u) (ap k.actions e ∙ none) (at_busy o (k.actions u) h))
-      (λ ne.
-      let lt = s.below t u run ne (at_busy o (k.actions u) h) in
-      let over = ceiling_raised k.partition.ceiling (k.partition.base u) o (k.actions u) h in
-      let own = base_raised k.partition.ceiling (k.partition.base t) (k.actions t) in
-      omega arith)
-      (same_or_not u t))
-      (leaves_sound b k [] t run none s)
-  effect_sound (Ends is_open) c = ends_sound is_open (k.actions t) refl c
-  effect_sound Finishes c = leaves_sound b k [] t run (outside k t c) s
-  effect_sound (Dies x) c = beside b k [] [] k.sleepers k.now k.lines (Some (Unhandled x t)) (λ u. refl) s
-  effect_sound Breaks c = beside b k [] [] k.sleepers k.now k.lines (Some ImageFault) (λ u. refl) s
+  module _ (w : HandlesWithin k) where
+    pub effect_sound : (e : Effect) → Passed b k t e → Sound b (effect t e k) []
+    effect_sound Quiet c = s
+    effect_sound (Says label value) c = beside b k [] [] k.sleepers k.now _ k.outcome (λ u. refl) s
+    effect_sound (Delays until) c =
+        let gone = leaves_sound b k [] t run (outside k t c) s in
+        let task = outside_task k t run c w in
+        either (λ y. Sound b y []) (int_lt k.now until) (falls_asleep t until (leaves t k)) (becomes_ready t (leaves t k))
+        (asleep_sound b (leaves t k) [] t until task (left t k) gone)
+        (ready_sound b (leaves t k) [] t task (left t k) gone)
+    effect_sound (Opens o) c = let m = may_call k t o c in opens_sound (Writes o) m.0 m.1 (λ p u h. h)
+    effect_sound (Views o) c = let m = may_call k t o c in opens_sound (Reads o) m.0 m.1 (λ p u h. h)
+    effect_sound (Queues o) c =
+        let none = outside k t c.0 in
+        let low = not_above k t o c.1 in
+        queues_sound b (leaves t k) [] t o (outside_task k t run c.0 w) (left t k) c.2 (not_full k o c.3)
+        (λ u h.
+        ⊎_elim
+        (λ e. idle (k.actions u) (ap k.actions e ∙ none) (at_busy o (k.actions u) h))
+        (λ ne.
+        let lt = s.below t u run ne (at_busy o (k.actions u) h) in
+        let over = ceiling_raised k.partition.ceiling (k.partition.base u) o (k.actions u) h in
+        let own = base_raised k.partition.ceiling (k.partition.base t) (k.actions t) in
+        omega arith)
+        (same_or_not u t))
+        (leaves_sound b k [] t run none s)
+    effect_sound (Ends is_open) c =
+        let e = ending_of is_open (k.actions t) k.queued in
+        departs_sound b k t e (k.actions t) (ends_running t is_open (k.actions t) k run) (ends_sound is_open (k.actions t) refl c)
+    effect_sound Finishes c = leaves_sound b k [] t run (outside k t c) s
+    effect_sound (Dies x) c = beside b k [] [] k.sleepers k.now k.lines (Some (Unhandled x t)) (λ u. refl) s
+    effect_sound Breaks c = beside b k [] [] k.sleepers k.now k.lines (Some ImageFault) (λ u. refl) s
 
-  kept_after : Settled k → Serv k → (e : Effect) → Passed b k t e → Kept b (after t e k)
-  kept_after st sv Quiet c = finish b k (effect_sound Quiet c) (effect_serv t Quiet k sv)
-  kept_after st sv (Says label value) c = finish b _ (effect_sound (Says label value) c) (effect_serv t (Says label value) k sv)
-  kept_after st sv (Delays w) c = finish b (effect t (Delays w) k) (effect_sound (Delays w) c) (effect_serv t (Delays w) k sv)
-  kept_after st sv (Opens o) c = finish b (effect t (Opens o) k) (effect_sound (Opens o) c) (effect_serv t (Opens o) k sv)
-  kept_after st sv (Views o) c = finish b (effect t (Views o) k) (effect_sound (Views o) c) (effect_serv t (Views o) k sv)
-  kept_after st sv (Queues o) c = finish b (effect t (Queues o) k) (effect_sound (Queues o) c) (effect_serv t (Queues o) k sv)
-  kept_after st sv (Ends is_open) c = finish b (effect t (Ends is_open) k) (effect_sound (Ends is_open) c) (effect_serv t (Ends is_open) k sv)
-  kept_after st sv Finishes c = finish b (effect t Finishes k) (effect_sound Finishes c) (effect_serv t Finishes k sv)
-  kept_after st sv (Dies x) c = record { sound = effect_sound (Dies x) c; settled = record { first = st.first; nobody = st.nobody }; served = sv; over = λ none. absurd (cc) }
-  kept_after st sv Breaks c = record { sound = effect_sound Breaks c; settled = record { first = st.first; nobody = st.nobody }; served = sv; over = λ none. absurd (cc) }
+    ended_serv : (is_open : Bool) → Passed b k t (Ends is_open) → Serv k → Serv (effect t (Ends is_open) k)
+    ended_serv is_open c sv =
+        let e = ending_of is_open (k.actions t) k.queued in
+        departs_serv b k t e (k.actions t) (ends_running t is_open (k.actions t) k run) (ends_sound is_open (k.actions t) refl c)
+        (ends_serv is_open t (k.actions t) k refl sv)
 
-pub kept_by_every : (before later : ℕ → Bool) (k : Kernel) (t : ℕ) (e : Effect) → k.running ≡ Some t → IsBarrierHeld before later k t → Passed later k t e → Kept before k → Kept later (after t e k)
-kept_by_every before later k t e run h c kept = kept_after later k t run (held before later k [] t h kept.sound) kept.settled kept.served e c
+    module _ (st : Settled k) (sv : Serv k) where
+      kept_end : (e : Effect) → Passed b k t e → ((is_open : Bool) → e ≡ Ends is_open → Serv (effect t e k)) → Kept b (clock (dispatch (effect t e k)))
+      kept_end e c ended = finish b (effect t e k) (effect_sound e c) (effect_serv t e k ended sv) (effect_within t e k run w)
+
+      kept_after : (e : Effect) → Passed b k t e → Kept b (after t e k)
+      kept_after Quiet c = kept_end Quiet c (λ is_open e. absurd (cc))
+      kept_after (Says label value) c = kept_end (Says label value) c (λ is_open e. absurd (cc))
+      kept_after (Delays until) c = kept_end (Delays until) c (λ is_open e. absurd (cc))
+      kept_after (Opens o) c = kept_end (Opens o) c (λ is_open e. absurd (cc))
+      kept_after (Views o) c = kept_end (Views o) c (λ is_open e. absurd (cc))
+      kept_after (Queues o) c = kept_end (Queues o) c (λ is_open e. absurd (cc))
+      kept_after (Ends is_open) c = kept_end (Ends is_open) c (λ other e. ended_serv is_open c sv)
+      kept_after Finishes c = kept_end Finishes c (λ is_open e. absurd (cc))
+      kept_after (Dies x) c = record {
+        sound = effect_sound (Dies x) c;
+        settled = record { first = st.first; nobody = st.nobody };
+        served = sv;
+        within = w;
+        over = λ none. absurd (cc);
+      }
+      kept_after Breaks c = record {
+        sound = effect_sound Breaks c;
+        settled = record { first = st.first; nobody = st.nobody };
+        served = sv;
+        within = w;
+        over = λ none. absurd (cc);
+      }
+
+pub kept_by_every : (before later : ℕ → Bool) (k : Kernel) (t : ℕ) (e : Effect) → k.running ≡ Some t → IsBarrierHeld before later k t
+    → Passed later k t e → Kept before k → Kept later (after t e k)
+kept_by_every before later k t e run h c kept =
+    kept_after later k t run (held before later k [] t h kept.sound) kept.within kept.settled kept.served e c

@@ -1,4 +1,4 @@
--- Exclusion by ceilings: the four statements that hold between the steps of every run.
+-- Exclusion by ceilings: the four statements that hold between the steps of every run; the actor of a handler counts as a task.
 use Rattle.std.specs.Prelude.{◌≡◌, ◌≢◌, ◌⊎◌, ℕ, ◌≤◌, List, [], ◌∷◌, Some, Bool, true, false}
 use Rattle.kernel.specs.State.{Kernel, active, is_object_open}
 use Rattle.kernel.specs.Effects.{is_inside_any}

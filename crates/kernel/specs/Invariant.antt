@@ -1,8 +1,8 @@
 -- What holds of every kernel between steps, and what a step owes for it; nobody has to believe this.
-use Rattle.std.specs.Prelude.{◌≡◌, ◌≢◌, ◌⊎◌, ℕ, ◌+◌, ◌<◌, ◌≤◌, List, [], ◌∷◌, Some, None, Bool, false, nat_eq, if◌then◌else◌}
+use Rattle.std.specs.Prelude.{◌≡◌, ◌≢◌, ◌⊎◌, ℕ, suc, ◌+◌, ◌<◌, ◌≤◌, List, [], ◌∷◌, Some, None, Bool, false, nat_eq, if◌then◌else◌}
 use Rattle.base.specs.declared.limits.TheConstants.{PRIORITIES}
-use Rattle.kernel.specs.State.{Partition, Kernel, TaskPlace, IsRunning, IsReady, IsAsleep, IsQueued, IsServed, IsFinished, Action, Reads, Writes, Serves, object_of, Sleeper, active, raised}
-use Rattle.kernel.specs.Clock.{last_outcome}
+use Rattle.kernel.specs.State.{Partition, Interrupt, Kernel, TaskPlace, IsRunning, IsReady, IsAsleep, IsQueued, IsServed, IsFinished, Action, Reads, Writes, Serves, object_of, Sleeper, active, raised}
+use Rattle.kernel.specs.Clock.{next, last_outcome}
 use Rattle.kernel.specs.Effects.{Effect, Quiet, Says, Delays, Opens, Views, Queues, Ends, Finishes, Dies, Breaks, is_inside_any, is_above_ceiling, call_refusal, is_full}
 
 abbrev pub HasAction : (Action → Type 0) → List Action → Type 0
@@ -68,11 +68,39 @@ asleep (IsQueued o) = 0
 asleep (IsServed o) = 0
 asleep IsFinished = 0
 
+-- the objects whose procedures are handlers have the highest ceiling (RM C.3.1)
+abbrev pub AreAttached : Partition → List Interrupt → Type 0
+AreAttached p [] = Unit {0}
+AreAttached p (i ∷ is) = (suc (p.ceiling i.object) ≡ PRIORITIES) × AreAttached p is
+
+-- a procedure's or an entry's action, at whose end a queued call may be served
+abbrev pub MayServe : Action → Type 0
+MayServe (Reads o) = ⊥
+MayServe (Writes o) = Unit {0}
+MayServe (Serves o u) = Unit {0}
+
+abbrev pub OutermostServes : Action → List Action → Type 0
+OutermostServes a [] = MayServe a
+OutermostServes a (b ∷ outer) = OutermostServes b outer
+
+-- within the action of a procedure or an entry, the outermost one: a handler's own
+abbrev pub IsInOwn : List Action → Type 0
+IsInOwn [] = ⊥
+IsInOwn (a ∷ outer) = OutermostServes a outer
+
+-- a handler runs within its own action
+abbrev pub HandlesWithin : Kernel → Type 0
+HandlesWithin k = (u : ℕ) → k.partition.tasks ≤ u → k.running ≡ Some u → IsInOwn (k.actions u)
+
 -- `barrier o` tells whether the barrier of o is open; `pending` are sleepers that the clock has yet to look at
 pub record Sound (barrier : ℕ → Bool) (k : Kernel) (pending : List Sleeper) : Type 0 where
   -- priorities
   pub base_low : (t : ℕ) → k.partition.base t < PRIORITIES
   pub ceiling_low : (o : ℕ) → k.partition.ceiling o < PRIORITIES
+  -- handlers have the highest priority, and an actor is there only while it runs
+  pub urgent : (u : ℕ) → k.partition.tasks ≤ u → suc (k.partition.base u) ≡ PRIORITIES
+  pub attached : AreAttached k.partition k.pending
+  pub gone : (u : ℕ) → k.partition.tasks ≤ u → (k.place u ≡ IsFinished) ⊎ (k.running ≡ Some u)
   -- exactly one place for each task
   pub runs : (t : ℕ) → k.running ≡ Some t → k.place t ≡ IsRunning
   pub runner : (t : ℕ) → k.place t ≡ IsRunning → k.running ≡ Some t
@@ -96,17 +124,19 @@ pub record Settled (k : Kernel) : Type 0 where
   pub first : (r u : ℕ) → k.running ≡ Some r → k.place u ≡ IsReady → active k u ≤ active k r
   pub nobody : (u : ℕ) → k.running ≡ None → k.place u ≡ IsReady → ⊥
 
--- the invariant: a sound kernel, dispatched; where nobody runs, nobody sleeps and the run is over
+-- the invariant: a sound kernel, dispatched; where nobody runs, nothing is to come and the run is over
 pub record Kept (barrier : ℕ → Bool) (k : Kernel) : Type 0 where
   pub sound : Sound barrier k []
   pub settled : Settled k
   pub served : Served k.place k.actions
-  pub over : k.running ≡ None → (k.sleepers ≡ []) × (k.outcome ≡ Some (last_outcome k))
+  pub within : HandlesWithin k
+  pub over : k.running ≡ None → (next k ≡ None) × (k.outcome ≡ Some (last_outcome k))
 
--- priorities and ceilings are in their range
+-- priorities and ceilings are in their range, those of handlers at its end
 pub record Fits (p : Partition) : Type 0 where
   pub base_low : (t : ℕ) → p.base t < PRIORITIES
   pub ceiling_low : (o : ℕ) → p.ceiling o < PRIORITIES
+  pub urgent : (u : ℕ) → p.tasks ≤ u → suc (p.base u) ≡ PRIORITIES
 
 -- where a procedure or an entry may serve, the barrier that is handed in is its object's
 abbrev pub Tells : (ℕ → Bool) → Bool → List Action → Type 0

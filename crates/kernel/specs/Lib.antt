@@ -1,6 +1,7 @@
 pub mod State
 pub mod PutLaws
 pub mod Dispatching
+pub mod Interrupts
 pub mod Clock
 pub mod Effects
 pub mod Worlds

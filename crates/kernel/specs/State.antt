@@ -1,18 +1,34 @@
 -- What the kernel knows: where each task is, its open protected actions, the clock, the lines and the outcome.
-use Rattle.std.specs.Prelude.{ℕ, zero, suc, max, List, [], ◌∷◌, ◌++◌, ℤ, Option, Bool, false, ◌||◌, nat_eq, if◌then◌else◌}
+use Rattle.std.specs.Prelude.{ℕ, zero, suc, ◌+◌, max, List, [], ◌∷◌, ◌++◌, ℤ, Option, Bool, false, ◌||◌, nat_eq, nat_lt, if◌then◌else◌}
+use Rattle.base.specs.declared.limits.TheConstants.{CHANNELS}
 
 -- Tasks are numbered in order of declaration, main last; protected objects and exceptions are numbers too.
--- An interrupt handler would be one more actor: a number beyond the tasks, with a base priority of its own.
+-- The handler of an interrupt is an actor too, of a number beyond the tasks; what is said of tasks holds of it.
 -- Times are whole microseconds since the start.
 
--- what stays as it is while the program runs: how many tasks and objects there are, base priorities (RM D.1), ceiling priorities (RM D.3)
+-- what stays as it is while the program runs: how many tasks and objects there are, base priorities of tasks and handlers (RM D.1),
+-- ceiling priorities (RM D.3)
 pub record Partition : Type 0 where
   pub tasks : ℕ
   pub objects : ℕ
   pub base : ℕ → ℕ
   pub ceiling : ℕ → ℕ
 
--- where a task is (RM 9, D.2.1): being served is a queued caller whose entry body another task runs (RM 9.5.3)
+-- the actor that runs the handler of a channel's interrupts (RM C.3.1)
+abbrev pub actor : Partition → ℕ → ℕ
+actor p channel = p.tasks + channel
+
+abbrev pub is_task : Partition → ℕ → Bool
+is_task p u = nat_lt u p.tasks
+
+-- an interrupt (RM C.3): the time and the channel of a line of the schedule, and the object whose procedure is the channel's handler
+pub record Interrupt : Type 0 where
+  pub time : ℤ
+  pub channel : ℕ
+  pub object : ℕ
+
+-- where a task is (RM 9, D.2.1): being served is a queued caller whose entry body another task runs (RM 9.5.3);
+-- an actor whose handler does not run is finished
 pub data TaskPlace : Type 0 where
   IsRunning IsReady IsAsleep IsFinished : TaskPlace
   IsQueued IsServed : (object : ℕ) → TaskPlace
@@ -51,6 +67,8 @@ pub record Kernel : Type 0 where
   pub ready : ℕ → List ℕ
   -- in the order in which they began to wait
   pub sleepers : List Sleeper
+  -- the interrupts that were not delivered, in the order of the schedule: the first is the earliest
+  pub pending : List Interrupt
   -- the caller that waits in the entry queue of an object, at most one (RM D.7)
   pub queued : ℕ → Option ℕ
   -- the open actions of each task, the innermost first
@@ -77,11 +95,11 @@ abbrev pub is_object_open : ℕ → List Action → Bool
 is_object_open o [] = false
 is_object_open o (a ∷ outer) = nat_eq (object_of a) o || is_object_open o outer
 
--- those of the first n tasks that have an open action of object o
+-- those of the first n tasks and actors that have an open action of object o
 abbrev pub inside_among : ℕ → Kernel → ℕ → List ℕ
 inside_among zero k o = []
 inside_among (suc n) k o = inside_among n k o ++ (if is_object_open o (k.actions n) then n ∷ [] else [])
 
--- the tasks inside object o (RM 9.5.1); a queued caller is not inside
+-- the tasks inside object o, and its handler (RM 9.5.1); a queued caller is not inside
 abbrev pub inside : Kernel → ℕ → List ℕ
-inside k o = inside_among k.partition.tasks k o
+inside k o = inside_among (suc (actor k.partition CHANNELS)) k o

@@ -3,7 +3,7 @@ use Rattle.std.specs.Prelude.{ℕ, List, [], ◌∷◌, ◌++◌, ℤ, Option, S
 use Rattle.std.specs.Fmt.{signed_decimal}
 use Rattle.kernel.specs.State.{Kernel, Line, Outcome, Ended, WaitsForever, Unhandled, ImageFault}
 
--- the names of tasks and exceptions by their numbers, in upper case
+-- the names of tasks, handlers among them, and of exceptions by their numbers, in upper case
 pub record Names : Type 0 where
   pub task : ℕ → List ℕ
   pub exception : ℕ → List ℕ

@@ -1,7 +1,7 @@
 -- Worlds over the kernel, generic in what is kept beside it; their steps and runs.
-use Rattle.std.specs.Prelude.{ℕ, zero, suc, Option, Some, None}
+use Rattle.std.specs.Prelude.{ℕ, zero, suc, Bool, false, Option, Some, None, if◌then◌else◌}
 use Rattle.kernel.specs.State.{Kernel, Outcome, put}
-use Rattle.kernel.specs.Effects.{Effect, Ends, Ending, Closes, TakesOver, HandsBack, ending_of, after}
+use Rattle.kernel.specs.Effects.{Effect, Ends, Ending, Closes, TakesOver, HandsBack, ending_of, is_over, after}
 
 pub record World (D : Type 0) : Type 0 where
   pub kernel : Kernel
@@ -64,6 +64,16 @@ reached b t Closes g tasks = tasks
 reached b t (TakesOver o u) g tasks = put u (b.taken o (tasks u)) (put t (b.serving o u (tasks u) (tasks t)) tasks)
 reached b t (HandsBack u) None tasks = tasks
 reached b t (HandsBack u) (Some g) tasks = put u (b.receives g (tasks u)) tasks
+
+-- whether the step ends a handler
+abbrev pub is_handler_over : Kernel → ℕ → Effect → Bool
+is_handler_over k t (Ends is_open) = is_over k.partition t (k.actions t) (ending_of is_open (k.actions t) k.queued)
+is_handler_over k t e = false
+
+-- what an actor holds is at its end what its next start needs, a pending exception being dropped: so the start of a handler changes the kernel alone
+abbrev pub restarted : {M T G : Type 0} → T → Kernel → ℕ → Act M T G → Act M T G
+restarted start k t a =
+    record { effect = a.effect; solo = record { memory = a.solo.memory; task = if is_handler_over k t a.effect then start else a.solo.task }; given = a.given }
 
 abbrev pub solo_of : {M T : Type 0} → ℕ → Tasks M T → Solo M T
 solo_of t d = record { memory = d.memory; task = d.tasks t }

@@ -1,7 +1,7 @@
 //! The laws of the kernel: each is what a function without work ensures.
-ghost use Rattle.kernel.specs.Laws.{BeginsKept, ClockedOnce, DispatchedOnce, EntryOpens, FourAlways, FourHold, InsideLists, KeptByEvery, LeftUnmoved, LinesGrow, NobodyReady, OneService, OpensOn, QuietStays, ReachesCallers, RunnerIsCalm, SaysOn, SomebodyRuns, StandsStill, ViewsBack, ViewsOn};
+ghost use Rattle.kernel.specs.Laws.{BeginsKept, ClockedOnce, DeliversOnce, DispatchedOnce, EntryOpens, FourAlways, FourHold, HandlersGoOn, HandlersRun, InsideLists, KeptByEvery, LeftUnmoved, LinesGrow, NobodyReady, NonePassed, OneService, OpensOn, QuietStays, ReachesCallers, RunnerIsCalm, SaysOn, SchedulesInOrder, SomebodyRuns, StandsStill, StartSettles, StepsSettle, ViewsBack, ViewsOn};
 
-/// The start keeps the invariant: priorities and ceilings being below 32, whatever the barriers.
+/// The start keeps the invariant: priorities and ceilings being below 32, those of handlers 31, whatever the barriers.
 pub fn begins_kept()
     ensures { BeginsKept }
 {}
@@ -23,7 +23,7 @@ pub fn four_statements_always()
     ensures { FourAlways }
 {}
 
-/// The list of the tasks inside an object holds exactly the tasks that have an open action of it.
+/// The list of the tasks inside an object holds exactly the tasks and handlers that have an open action of it.
 pub fn inside_lists()
     ensures { InsideLists }
 {}
@@ -43,9 +43,20 @@ pub fn stands_still()
     ensures { StandsStill }
 {}
 
-/// Dispatching and the clock leave priorities, queued calls, open actions and lines as they are.
+/// Dispatching and the clock leave priorities, queued calls, open actions of tasks, and lines as they are.
 pub fn left_unmoved()
     ensures { LeftUnmoved }
+{}
+
+/// Beside its effect a step leaves open actions, queued calls and pending interrupts as they are, unless one handler begins, which had no
+/// action open.
+pub fn steps_settle()
+    ensures { StepsSettle }
+{}
+
+/// So does the start, behind the activation of all tasks.
+pub fn start_settles()
+    ensures { StartSettles }
 {}
 
 /// A step adds lines at the end, and takes none away.
@@ -91,6 +102,31 @@ pub fn views_on()
 /// The action of a function, opened and closed, leaves the kernel as it was.
 pub fn views_back()
     ensures { ViewsBack }
+{}
+
+/// The actor of a handler that has begun runs until it is gone, within an action and at the highest priority (RM C.3.1, D.3).
+pub fn handlers_run()
+    ensures { HandlersRun }
+{}
+
+/// The handler of an interrupt runs on in each step that is not its end: no task comes between (RM C.3.1, D.3).
+pub fn handlers_go_on()
+    ensures { HandlersGoOn }
+{}
+
+/// A step delivers at most one interrupt (RM C.3): the first that is pending, whose time has come, and its handler runs then.
+pub fn delivers_once()
+    ensures { DeliversOnce }
+{}
+
+/// The interrupts of a schedule are in the order of their times, as its lines are.
+pub fn schedules_in_order()
+    ensures { SchedulesInOrder }
+{}
+
+/// The pending interrupts are in order in every kernel that steps lead to, and none is before now: the clock passes none (RM C.3, D.8).
+pub fn none_passed()
+    ensures { NonePassed }
 {}
 
 /// An entry call that is made outside of actions and below the ceiling may open the object's action.

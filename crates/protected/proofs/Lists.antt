@@ -1,5 +1,5 @@
 -- What a change of one task's open actions makes of all.
-use Rattle.std.proofs.Common.{rules, arith, ◌≡◌, ◌<◌, ◌≤◌, ◌+◌, ℕ, zero, suc, max, List, [], ◌∷◌, ◌++◌, length, map, replicate, set, drop, drop-cons, add-one, get_or, nat_eq, nat_lt, cond, length-set, Bool, true, false, Option, refl, sym, ap, subst, ◌∙◌, get_or-set_same, get_or-set_other}
+use Rattle.std.proofs.Common.{rules, arith, ◌≡◌, ◌⊎◌, ◌<◌, ◌≤◌, ◌+◌, ℕ, zero, suc, max, List, [], ◌∷◌, ◌++◌, length, map, replicate, set, drop, drop-cons, add-one, get_or, nat_eq, nat_lt, cond, length-set, Bool, true, false, Option, refl, sym, ap, subst, ⊎_elim, ◌∙◌, get_or-set_same, get_or-set_other}
 use Rattle.std.specs.List.{AllByRecursion, IsDistinct, list_any}
 use Rattle.std.specs.Prelude.{◌||◌}
 use Rattle.std.proofs.lemmas.Bool.{eqb-true, eq-eqb}
@@ -10,7 +10,8 @@ use Rattle.std.proofs.lemmas.List.Sorted.{IsPermutation-sym, IsPermutation-to_fr
 use Rattle.std.proofs.lemmas.Map.Keys.{IsDistinct-IsPermutation}
 use Rattle.protected.specs.declared.refusal.Refusal.{Refusal}
 use Rattle.protected.specs.declared.refusal.Refusal.TheVariants.{AboveCeiling, SameObject}
-use Rattle.protected.specs.Actions.{Actions, active_of, ceiling_of, is_among, opened_by, opening, raised, with_opened}
+use Rattle.base.specs.declared.limits.TheConstants.{ACTOR, TASKS}
+use Rattle.protected.specs.Actions.{Actions, IsTaskOrHandler, active_of, ceiling_of, is_among, opened_by, opening, raised, row_of, with_opened}
 use Rattle.protected.specs.Kept.{AllAreBelow, AreObjects, KeepsActions}
 
 true_false : true ≡ false → ⊥
@@ -138,12 +139,20 @@ one_less count objects left right are split = (
   λ p h. are.1 p (ap (is_among p) split ∙ among_left p left right h),
 )
 
+-- a task, and the handler of an interrupt, has a row
+pub row_low : (task count : ℕ) → (task < count) ⊎ (task ≡ ACTOR) → count ≤ TASKS → row_of task < TASKS + 1
+row_low task count h few = by_test (nat_eq task ACTOR) refl
+  where
+    by_test : (b : Bool) → nat_eq task ACTOR ≡ b → cond b TASKS task < TASKS + 1
+    by_test true e = omega arith
+    by_test false e = ⊎_elim (λ less. omega (arith, less, few)) (λ is. absurd (true_false (sym (eq-eqb task ACTOR is) ∙ e))) h
+
 -- the open actions of one task change
-pub kept_put : {A : Type 0} (f : A → List ℕ) (bases ceilings : List ℕ) (lists : List A) (queued : List (Option ℕ)) (k task : ℕ) (l : A)
-    → KeepsActions bases ceilings (map f lists) queued → k ≡ task → task < length bases → AreObjects (length ceilings) (f l)
+pub kept_put : {A : Type 0} (f : A → List ℕ) (bases ceilings : List ℕ) (lists : List A) (queued : List (Option ℕ)) (k : ℕ) (l : A)
+    → KeepsActions bases ceilings (map f lists) queued → k < TASKS + 1 → AreObjects (length ceilings) (f l)
     → KeepsActions bases ceilings (map f (set lists k l)) queued
-kept_put f bases ceilings lists queued k task l kept is h are =
-    let within : k < length (map f lists) = omega (arith, kept.tasks, kept.rows, is, h) in record {
+kept_put f bases ceilings lists queued k l kept low are =
+    let within : k < length (map f lists) = omega (arith, kept.rows, low) in record {
       tasks = kept.tasks;
       objects = kept.objects;
       rows = ap length (map-set f lists k l) ∙ length-set (map f lists) k (f l) ∙ kept.rows;
@@ -155,10 +164,10 @@ kept_put f bases ceilings lists queued k task l kept is h are =
     }
 
 pub put_view : {A : Type 0} (f : A → List ℕ) (bases ceilings : List ℕ) (lists : List A) (queued : List (Option ℕ)) (k task : ℕ) (l : A) (objects : List ℕ) (a : Actions)
-    → record { bases = bases; ceilings = ceilings; opened = map f lists; queued = queued } ≡ a → k ≡ task → f l ≡ objects
+    → record { bases = bases; ceilings = ceilings; opened = map f lists; queued = queued } ≡ a → k ≡ row_of task → f l ≡ objects
     → record { bases = bases; ceilings = ceilings; opened = map f (set lists k l); queued = queued } ≡ with_opened task objects a
 put_view f bases ceilings lists queued k task l objects a same is put =
-    ap (with_list bases ceilings queued) (map-set f lists k l ∙ ap (λ n. set (map f lists) n (f l)) is ∙ ap (set (map f lists) task) put)
+    ap (with_list bases ceilings queued) (map-set f lists k l ∙ ap (λ n. set (map f lists) n (f l)) is ∙ ap (set (map f lists) (row_of task)) put)
     ∙ ap (with_opened task objects) same where
       with_list : List ℕ → List ℕ → List (Option ℕ) → List (List ℕ) → Actions
       with_list bases ceilings queued opened = record { bases = bases; ceilings = ceilings; opened = opened; queued = queued }
@@ -175,11 +184,14 @@ carried count count' xs ys are counted same = subst (λ n. AreObjects n ys) (sym
 
 -- what holds of the fields holds of the value, and so the open actions of a task are those of the value
 pub opened_kept : {A : Type 0} (f : A → List ℕ) (bases ceilings : List ℕ) (lists : List A) (queued : List (Option ℕ)) (a : Actions) (k task : ℕ) (d : A)
-    → record { bases = bases; ceilings = ceilings; opened = map f lists; queued = queued } ≡ a → KeepsActions bases ceilings (map f lists) queued → k ≡ task
-    → task < length a.bases → (f (get_or lists k d) ≡ opened_by a task) × KeepsActions a.bases a.ceilings a.opened a.queued
+    → record { bases = bases; ceilings = ceilings; opened = map f lists; queued = queued } ≡ a → KeepsActions bases ceilings (map f lists) queued → k ≡ row_of task
+    → IsTaskOrHandler a task → (f (get_or lists k d) ≡ opened_by a task) × KeepsActions a.bases a.ceilings a.opened a.queued
 opened_kept f bases ceilings lists queued a k task d same kept is h =
-    let whole = subst (λ v. KeepsActions v.bases v.ceilings v.opened v.queued) same kept in
-    (opened_at f lists a.opened k task d (ap (λ v. v.opened) same) is (omega (arith, h, whole.tasks, whole.rows)), whole)
+    let whole = subst (λ v. KeepsActions v.bases v.ceilings v.opened v.queued) same kept in (
+      opened_at f lists a.opened k (row_of task) d (ap (λ v. v.opened) same) is
+          (let low = row_low task (length a.bases) h whole.tasks in omega (arith, low, whole.rows)),
+      whole,
+    )
 
 -- at the start nothing is open
 pub none_at_start : {A : Type 0} (f : A → List ℕ) (lists : List A) (n : ℕ) → length lists ≡ n → ((i : ℕ) (d : A) → i < length lists → f (get_or lists i d) ≡ [])
@@ -201,13 +213,13 @@ unfolding IsDistinct
 nothing_open count = (tt, λ o h. absurd (true_false (sym h)))
 
 pub kept_at_start : (bases ceilings given given' : List ℕ) (opened : List (List ℕ)) (queued : List (Option ℕ)) → bases ≡ given → ceilings ≡ given' → length given ≤ 17
-    → length given' ≤ 16 → opened ≡ replicate 17 [] → length queued ≡ 16 → KeepsActions bases ceilings opened queued
+    → length given' ≤ 16 → opened ≡ replicate 18 [] → length queued ≡ 16 → KeepsActions bases ceilings opened queued
 kept_at_start bases ceilings given given' opened queued same same' tasks objects none queues = record {
   tasks = subst (λ l. length l ≤ 17) (sym same) tasks;
   objects = subst (λ l. length l ≤ 16) (sym same') objects;
   rows = ap length none;
   queues = queues;
-  opened_are = λ t. subst (AreObjects (length ceilings)) (sym (ap (λ ls. get_or ls t []) none ∙ nothing_at 17 t)) (nothing_open (length ceilings));
+  opened_are = λ t. subst (AreObjects (length ceilings)) (sym (ap (λ ls. get_or ls t []) none ∙ nothing_at 18 t)) (nothing_open (length ceilings));
 }
 
 pub view_at_start : (bases ceilings given given' : List ℕ) (opened opened' : List (List ℕ)) (queued : List (Option ℕ)) → bases ≡ given → ceilings ≡ given' → opened ≡ opened'

@@ -1,6 +1,7 @@
 -- Open protected actions, active priorities and queued calls (RM 9.5.1, 9.5.3, D.3).
-use Rattle.std.specs.Prelude.{◌≡◌, ℕ, max, List, [], ◌∷◌, ◌++◌, length, set, take, get_or, slice_get, ◌-◌, Bool, true, false, nat_eq, nat_lt, Option, Some, None, Result, Ok, Err, if◌then◌else◌}
+use Rattle.std.specs.Prelude.{◌≡◌, ◌⊎◌, ◌<◌, ℕ, max, List, [], ◌∷◌, ◌++◌, length, set, take, get_or, slice_get, ◌-◌, Bool, true, false, nat_eq, nat_lt, Option, Some, None, Result, Ok, Err, if◌then◌else◌}
 use Rattle.std.specs.List.{list_any}
+use Rattle.base.specs.declared.limits.TheConstants.{ACTOR, CEILING, TASKS}
 use Rattle.protected.specs.declared.refusal.Refusal.{Refusal}
 use Rattle.protected.specs.declared.refusal.Refusal.TheVariants.{AboveCeiling, QueueFull, SameObject}
 
@@ -8,13 +9,25 @@ pub record Actions : Type 0 where
   -- the base priority of each task, and the ceiling priority of each object
   pub bases : List ℕ
   pub ceilings : List ℕ
-  -- for each task the objects of its open actions, the innermost last
+  -- for each task, and last for the handler of an interrupt, the objects of its open actions, the innermost last
   pub opened : List (List ℕ)
   -- for each object the task whose call waits in its queue
   pub queued : List (Option ℕ)
 
+-- the row of a task, or of the handler that runs, which has a number of its own
+abbrev pub row_of : ℕ → ℕ
+row_of task = if nat_eq task ACTOR then TASKS else task
+
+-- one of the tasks, or the handler
+abbrev pub IsTaskOrHandler : Actions → ℕ → Type 0
+IsTaskOrHandler a task = (task < length a.bases) ⊎ (task ≡ ACTOR)
+
 abbrev pub opened_by : Actions → ℕ → List ℕ
-opened_by a task = get_or a.opened task []
+opened_by a task = get_or a.opened (row_of task) []
+
+-- handlers have the highest base priority (RM C.3.1, D.3)
+abbrev pub base_of : Actions → ℕ → ℕ
+base_of a task = if nat_eq task ACTOR then CEILING else get_or a.bases task 0
 
 abbrev pub queued_at : Actions → ℕ → Option ℕ
 queued_at a object = get_or a.queued object None
@@ -29,7 +42,7 @@ raised ceilings base (object ∷ inner) = max (ceiling_of ceilings object) (rais
 
 -- the active priority of a task (RM D.1)
 abbrev pub active_of : Actions → ℕ → ℕ
-active_of a task = raised a.ceilings (get_or a.bases task 0) (opened_by a task)
+active_of a task = raised a.ceilings (base_of a task) (opened_by a task)
 
 abbrev pub is_among : ℕ → List ℕ → Bool
 is_among object objects = list_any (λ o. nat_eq o object) objects
@@ -56,7 +69,7 @@ served false call = None
 
 -- with these open actions of a task, or with this call in the queue of an object
 abbrev pub with_opened : ℕ → List ℕ → Actions → Actions
-with_opened task objects a = record a { opened = set a.opened task objects }
+with_opened task objects a = record a { opened = set a.opened (row_of task) objects }
 
 abbrev pub with_queued : ℕ → Option ℕ → Actions → Actions
 with_queued object call a = record a { queued = set a.queued object call }

@@ -1,5 +1,5 @@
 -- What holds of open actions at all times: each is of an object, and no task has two of one object.
-use Rattle.std.specs.Prelude.{◌≡◌, ◌<◌, ◌≤◌, ℕ, List, [], length, get_or, Option, true, nat_eq}
+use Rattle.std.specs.Prelude.{◌≡◌, ◌+◌, ◌<◌, ◌≤◌, ℕ, List, [], length, get_or, Option, true, nat_eq}
 use Rattle.std.specs.List.{IsDistinct}
 use Rattle.base.specs.declared.limits.TheConstants.{OBJECTS, TASKS}
 use Rattle.protected.specs.Actions.{is_among}
@@ -14,6 +14,6 @@ AllAreBelow count objects = (i : ℕ) (d : ℕ) → i < length objects → get_o
 pub record KeepsActions (bases ceilings : List ℕ) (opened : List (List ℕ)) (queued : List (Option ℕ)) : Type 0 where
   pub tasks : length bases ≤ TASKS
   pub objects : length ceilings ≤ OBJECTS
-  pub rows : length opened ≡ TASKS
+  pub rows : length opened ≡ TASKS + 1
   pub queues : length queued ≡ OBJECTS
   pub opened_are : (t : ℕ) → AreObjects (length ceilings) (get_or opened t [])

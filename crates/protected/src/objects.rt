@@ -1,21 +1,21 @@
 //! The protected actions that tasks have open, and the calls that wait.
-ghost use Rattle.std.specs.Prelude.{◌≡◌, ◌<◌, ◌≤◌, ◌++◌, ◌∷◌, [], IfSome, length, replicate, None, Some, Ok, OnOk, OnErr, if◌then◌else◌};
-ghost use Rattle.protected.specs.Actions.{Actions, IsInnermost, active_of, calling, ceiling_of, has_any, innermost_of, is_among, opened_by, opening, queued_at, served, with_opened, with_queued, without_last};
+ghost use Rattle.std.specs.Prelude.{◌≡◌, ◌+◌, ◌<◌, ◌≤◌, ◌++◌, ◌∷◌, [], IfSome, length, replicate, None, Some, Ok, OnOk, OnErr, if◌then◌else◌};
+ghost use Rattle.protected.specs.Actions.{Actions, IsInnermost, IsTaskOrHandler, base_of, row_of, active_of, calling, ceiling_of, has_any, innermost_of, is_among, opened_by, opening, queued_at, served, with_opened, with_queued, without_last};
 ghost use Rattle.protected.specs.Kept.{AllAreBelow};
 ghost use Rattle.base.specs.declared.limits.TheConstants.{OBJECTS, TASKS};
 
 use crate::refusal::Refusal;
 use arrayvec::ArrayVec;
-use base::limits::{OBJECTS, TASKS};
+use base::limits::{ACTOR, CEILING, OBJECTS, TASKS};
 use std::marker::Model;
 
 /// Which protected actions each task has open, and which call waits at each object. Nothing takes memory. Tasks and objects are numbers
-/// in the lists that `new` was given, and are only asked for so.
+/// in the lists that `new` was given, and are only asked for so; number 255 is the handler of an interrupt, at all times (RM C.3.1).
 #[derive(Drop)]
 pub struct Objects {
     bases: ArrayVec<u8, TASKS>,
     ceilings: ArrayVec<u8, OBJECTS>,
-    opened: [ArrayVec<u8, OBJECTS>; TASKS],
+    opened: [ArrayVec<u8, OBJECTS>; TASKS + 1],
     queued: [Option<u8>; OBJECTS],
 }
 
@@ -31,12 +31,23 @@ impl Model for Objects {
     ghost invariant = { λ o. KeepsActions o.bases.items o.ceilings.items (map (λ l. l.items) o.opened) o.queued };
 }
 
+// The row of a task, or of the handler of an interrupt.
+fn row_of(task: u8) -> usize
+    ensures { result ≡ row_of task }
+{
+    if task == ACTOR {
+        TASKS
+    } else {
+        usize::from(task)
+    }
+}
+
 impl Objects {
     /// No action is open and no call waits, with the base priority of each task and the ceiling priority of each object.
     pub fn new(bases: &[u8], ceilings: &[u8]) -> Objects
         requires tasks { length bases.now ≤ TASKS }
         requires objects { length ceilings.now ≤ OBJECTS }
-        ensures { result ≡ record { bases = bases.now; ceilings = ceilings.now; opened = replicate TASKS []; queued = replicate OBJECTS None } }
+        ensures { result ≡ record { bases = bases.now; ceilings = ceilings.now; opened = replicate (TASKS + 1) []; queued = replicate OBJECTS None } }
     {
         Objects {
             bases: copied(bases),
@@ -68,12 +79,24 @@ impl Objects {
         self.ceilings[usize::from(object)]
     }
 
+    // The base priority of a task, or of the handler of an interrupt (RM D.1, D.3).
+    fn base(&self, task: u8) -> u8
+        requires { IsTaskOrHandler self.now task }
+        ensures { result ≡ base_of self.now task }
+    {
+        if task == ACTOR {
+            CEILING
+        } else {
+            self.bases[usize::from(task)]
+        }
+    }
+
     /// The active priority of a task: the greatest of its base priority and the ceilings of its open actions (RM D.3).
     pub fn active(&self, task: u8) -> u8
-        requires { task < length self.now.bases }
+        requires { IsTaskOrHandler self.now task }
         ensures { result ≡ active_of self.now task }
     {
-        let mut active = self.bases[usize::from(task)];
+        let mut active = self.base(task);
         for object in self.open_actions(task) {
             active = active.max(self.ceiling(*object));
         }
@@ -82,7 +105,7 @@ impl Objects {
 
     /// Whether a task has an action open.
     pub fn in_action(&self, task: u8) -> bool
-        requires { task < length self.now.bases }
+        requires { IsTaskOrHandler self.now task }
         ensures { result ≡ has_any (opened_by self.now task) }
     {
         !self.open_actions(task).is_empty()
@@ -90,7 +113,7 @@ impl Objects {
 
     /// Whether a task has an action of an object open.
     pub fn is_open(&self, task: u8, object: u8) -> bool
-        requires { task < length self.now.bases }
+        requires { IsTaskOrHandler self.now task }
         ensures { result ≡ is_among object (opened_by self.now task) }
     {
         self.open_actions(task).contains(&object)
@@ -98,7 +121,7 @@ impl Objects {
 
     /// The object of the innermost action that a task has open, if it has one.
     pub fn innermost(&self, task: u8) -> Option<u8>
-        requires { task < length self.now.bases }
+        requires { IsTaskOrHandler self.now task }
         ensures same { result ≡ innermost_of (opened_by self.now task) }
         ensures known { IfSome result (λ object. object < length self.now.ceilings) }
     {
@@ -116,7 +139,7 @@ impl Objects {
     /// Asks whether a task may open an action of an object. Refuses with `SameObject` where it has one of that object open, else with
     /// `AboveCeiling` where its active priority exceeds the ceiling.
     pub fn may_open(&self, task: u8, object: u8) -> Result<(), Refusal>
-        requires task { task < length self.now.bases }
+        requires task { IsTaskOrHandler self.now task }
         requires object { object < length self.now.ceilings }
         ensures { result ≡ opening self.now task object }
     {
@@ -131,18 +154,18 @@ impl Objects {
 
     /// Opens an action of an object, which `may_open` doesn't refuse.
     pub fn enter(&mut self, task: u8, object: u8)
-        requires task { task < length self.old.bases }
+        requires task { IsTaskOrHandler self.old task }
         requires object { object < length self.old.ceilings }
         requires allowed { opening self.old task object ≡ Ok tt }
         ensures opened { self.new ≡ with_opened task (opened_by self.old task ++ object ∷ []) self.old }
         ensures room { length (opened_by self.old task) < OBJECTS }
     {
-        self.opened[usize::from(task)].push(object);
+        self.opened[row_of(task)].push(object);
     }
 
     /// Puts a task's call into the queue of an object. Refuses with `QueueFull` where another call waits there, and then changes nothing.
     pub fn queue(&mut self, task: u8, object: u8) -> Result<(), Refusal>
-        requires task { task < length self.old.bases }
+        requires task { IsTaskOrHandler self.old task }
         requires object { object < length self.old.ceilings }
         ensures answer { result ≡ calling (queued_at self.old object) }
         ensures waits { OnOk result (self.new ≡ with_queued object (Some task) self.old) }
@@ -171,20 +194,20 @@ impl Objects {
 
     /// Closes the innermost action of a task, which is one of this object.
     pub fn close(&mut self, task: u8, object: u8)
-        requires task { task < length self.old.bases }
+        requires task { IsTaskOrHandler self.old task }
         requires innermost { IsInnermost object (opened_by self.old task) }
         ensures { self.new ≡ with_opened task (without_last (opened_by self.old task)) self.old }
     {
-        self.opened[usize::from(task)].pop();
+        self.opened[row_of(task)].pop();
     }
 
     // The objects of a task's open actions, the innermost last.
     fn open_actions(&self, task: u8) -> &[u8]
-        requires { task < length self.now.bases }
+        requires { IsTaskOrHandler self.now task }
         ensures objects { result.now ≡ opened_by self.now task }
         ensures known { AllAreBelow (length self.now.ceilings) result.now }
     {
-        self.opened[usize::from(task)].as_slice()
+        self.opened[row_of(task)].as_slice()
     }
 }
 

@@ -1,13 +1,14 @@
 -- Dispatching, by who runs and whether a list stands above.
-use Rattle.std.proofs.Common.{◌≡◌, ℕ, zero, suc, ◌<◌, List, [], ◌∷◌, Option, Some, None, true, false, cond, refl, sym, ap, ◌∙◌, ⊎_elim, arith}
-use Rattle.std.proofs.lemmas.Bool.{ltb-true}
-use Rattle.base.specs.declared.limits.TheConstants.{PRIORITIES}
+use Rattle.std.proofs.Common.{◌≡◌, ℕ, zero, suc, ◌<◌, ◌≤◌, get_or, length, List, [], ◌∷◌, Option, Some, None, true, false, cond, refl, sym, ap, ◌∙◌, ⊎_elim, arith}
+use Rattle.std.proofs.lemmas.Bool.{cases_lt, ltb-true}
+use Rattle.std.proofs.lemmas.List.{get_or_past}
+use Rattle.base.specs.declared.limits.TheConstants.{CEILING, PRIORITIES}
 use Rattle.dispatch.specs.Queues.{Queues, highest}
-use Rattle.kernel.specs.State.{Kernel, active, put}
+use Rattle.kernel.specs.State.{Action, Kernel, active, put, raised}
 use Rattle.kernel.specs.Dispatching.{dispatch, dispatch_from, highest as kernel_highest, preempted, preempts, runs_from, unless_empty}
 use Rattle.kernel.specs.PutLaws.{same_or_not, put_other}
 use Rattle.tasking.specs.Held.{Held, kernel_of, lists_below}
-use Rattle.tasking.specs.Orderly.{is_above}
+use Rattle.tasking.specs.Orderly.{IsTask, is_above}
 use Rattle.tasking.proofs.Places.{highest_same}
 
 pub above_is : (g : Held) (q : Queues) (old : Held) → record g { ready = lists_below PRIORITIES q } ≡ old → (t : ℕ) (o : Option ℕ) → o ≡ highest q
@@ -64,3 +65,24 @@ module _ (k : Kernel) (t : ℕ) (run : k.running ≡ Some t) where
 
 pub nobody_is : (k : Kernel) → k.running ≡ None → runs_from (kernel_highest k.ready PRIORITIES) k ≡ dispatch k
 nobody_is k e = nobody_at k (kernel_highest k.ready PRIORITIES) refl e
+
+-- a handler has the highest priority: only a task is outranked
+at_least : (c : ℕ → ℕ) (b : ℕ) (l : List Action) → b ≤ raised c b l
+at_least c b [] = omega arith
+at_least c b (a ∷ l) = let i = at_least c b l in omega arith
+
+pub outranked_task : (old : Held) (t : ℕ) → is_above (active (kernel_of old) t) (kernel_highest (kernel_of old).ready PRIORITIES) ≡ true → IsTask (kernel_of old) t
+outranked_task old t e = by_highest (kernel_highest (kernel_of old).ready PRIORITIES) refl e
+  where
+    by_highest : (o : Option ℕ) → kernel_highest (kernel_of old).ready PRIORITIES ≡ o → is_above (active (kernel_of old) t) o ≡ true → IsTask (kernel_of old) t
+    by_highest None is f = absurd (cc)
+    by_highest (Some h) is f =
+        ⊎_elim
+        (λ lt. lt)
+        (λ ge.
+        let low = below_of PRIORITIES h (kernel_of old).ready is in
+        let above = ltb-true (active (kernel_of old) t) h f in
+        let base = get_or_past old.objects.bases t CEILING ge in
+        let raised_ = at_least (kernel_of old).partition.ceiling (get_or old.objects.bases t CEILING) ((kernel_of old).actions t) in
+        absurd (omega (arith, low, above, base, raised_)))
+        (cases_lt t (length old.objects.bases))

@@ -1,4 +1,5 @@
 mod Actions
+mod Delivering
 mod Dispatching
 mod Ends
 mod Lines

@@ -2,10 +2,11 @@
 use Rattle.std.proofs.Common.{◌≡◌, ℕ, ℤ, List, [], ◌∷◌, ◌++◌, Option, Some, None, Bool, true, false, cond, nat_lt, refl, sym, ap, ◌∙◌, append-nil}
 use Rattle.std.specs.Prelude.{int_lt}
 use Rattle.base.specs.declared.limits.TheConstants.{PRIORITIES}
-use Rattle.kernel.specs.State.{Kernel, Line, Sleeper, Action, Reads, Writes, Serves, active}
+use Rattle.kernel.specs.State.{Interrupt, Kernel, Line, Sleeper, Action, Reads, Writes, Serves, active}
 use Rattle.kernel.specs.Dispatching.{becomes_ready, dispatch, dispatch_from, highest, leaves, preempted, preempts, runs_from, runs_head}
-use Rattle.kernel.specs.Clock.{clock, clock_from, falls_asleep, least, released, time_moves, wakes_due, wakes_if_due}
-use Rattle.kernel.specs.Effects.{Effect, Quiet, Finishes, Breaks, Says, Delays, Opens, Views, Queues, Ends, Dies, effect, ending_of, ends, outer_of, service}
+use Rattle.kernel.specs.Clock.{clock, clock_from, falls_asleep, next, released, time_moves, wakes_due, wakes_if_due}
+use Rattle.kernel.specs.Interrupts.{delivers, starts}
+use Rattle.kernel.specs.Effects.{Effect, Quiet, Finishes, Breaks, Says, Delays, Opens, Views, Queues, Ends, Dies, effect, ending_of, ends, goes_if, is_over, outer_of, service}
 use Rattle.kernel.specs.Invariant.{Kept, Settled, Sound}
 use Rattle.tasking.specs.Laws.{KeptWithLines, LinesApart}
 
@@ -45,15 +46,25 @@ module _ (l : List Line) where
   wakes_apart [] k = refl
   wakes_apart (s ∷ ss) k = ap (wakes_due ss) (wakes_one s k) ∙ wakes_apart ss (wakes_if_due s k)
 
-  time_apart : (ss : List Sleeper) (k : Kernel) → time_moves ss (with l k) ≡ with l (time_moves ss k)
-  time_apart [] k = refl
-  time_apart (s ∷ ss) k =
-      let now : Kernel = record k { now = least s.wake ss; sleepers = [] } in
-      ap dispatch (wakes_apart (s ∷ ss) now) ∙ dispatch_apart (wakes_due (s ∷ ss) now)
+  delivers_apart : (is : List Interrupt) (k : Kernel) → delivers is (with l k) ≡ with l (delivers is k)
+  delivers_apart [] k = refl
+  delivers_apart (i ∷ is) k = by_cond l (int_lt k.now i.time) _ _ k (starts i (record k { pending = is })) refl refl
+
+  goes_apart : (b : Bool) (t : ℕ) (k : Kernel) → goes_if b t (with l k) ≡ with l (goes_if b t k)
+  goes_apart false t k = refl
+  goes_apart true t k = delivers_apart k.pending (leaves t k)
+
+  time_apart : (o : Option ℤ) (k : Kernel) → time_moves o (with l k) ≡ with l (time_moves o k)
+  time_apart None k = refl
+  time_apart (Some time) k =
+      let now : Kernel = record k { now = time; sleepers = [] } in
+      let woken : Kernel = wakes_due k.sleepers now in
+      ap (λ v. dispatch (delivers v.pending v)) (wakes_apart k.sleepers now)
+      ∙ (ap dispatch (delivers_apart woken.pending woken) ∙ dispatch_apart (delivers woken.pending woken))
 
   clock_at : (r : Option ℕ) (k : Kernel) → clock_from r (with l k) ≡ with l (clock_from r k)
   clock_at (Some t) k = refl
-  clock_at None k = time_apart k.sleepers k
+  clock_at None k = time_apart (next k) k
 
   clock_apart : (k : Kernel) → clock (with l k) ≡ with l (clock k)
   clock_apart k = clock_at k.running k
@@ -91,8 +102,12 @@ lines_apart t (Delays until) k l =
 lines_apart t (Opens o) k l = none_more l _ (clock (dispatch (effect t (Opens o) k))) (settled l _ (effect t (Opens o) k) refl)
 lines_apart t (Views o) k l = none_more l _ (clock (dispatch (effect t (Views o) k))) (settled l _ (effect t (Views o) k) refl)
 lines_apart t (Queues o) k l = none_more l _ (clock (dispatch (effect t (Queues o) k))) (settled l _ (effect t (Queues o) k) refl)
-lines_apart t (Ends is_open) k l = none_more l _ (clock (dispatch (effect t (Ends is_open) k)))
-    (settled l _ (effect t (Ends is_open) k) (ends_apart l t is_open (k.actions t) k))
+lines_apart t (Ends is_open) k l =
+    let e = ending_of is_open (k.actions t) k.queued in
+    let over = is_over k.partition t (k.actions t) e in
+    none_more l _ (clock (dispatch (effect t (Ends is_open) k)))
+    (settled l _ (effect t (Ends is_open) k)
+    (ap (goes_if over t) (ends_apart l t is_open (k.actions t) k) ∙ goes_apart l over t (ends t e (outer_of (k.actions t)) k)))
 lines_apart t Finishes k l = none_more l _ (clock (dispatch (effect t Finishes k))) (settled l _ (effect t Finishes k) refl)
 lines_apart t (Dies x) k l = none_more l _ (effect t (Dies x) k) refl
 lines_apart t Breaks k l = none_more l _ (effect t Breaks k) refl
@@ -101,6 +116,9 @@ sound_with : (b : ℕ → Bool) (k : Kernel) (l : List Line) → Sound b k [] �
 sound_with b k l s = record {
   base_low = s.base_low;
   ceiling_low = s.ceiling_low;
+  urgent = s.urgent;
+  attached = s.attached;
+  gone = s.gone;
   runs = s.runs;
   runner = s.runner;
   lists = s.lists;
@@ -122,5 +140,6 @@ kept_with_lines b k l kept = record {
   sound = sound_with b k l kept.sound;
   settled = record { first = kept.settled.first; nobody = kept.settled.nobody };
   served = kept.served;
+  within = kept.within;
   over = kept.over;
 }

@@ -88,3 +88,9 @@ highest_upto (suc n) q le =
 pub highest_same : (q : Queues) → kernel_highest (λ p. get_or (lists_below PRIORITIES q) p []) PRIORITIES ≡ highest q
 unfolding highest
 highest_same q = highest_upto PRIORITIES q (omega arith)
+
+-- within a row the value for what is missing is none
+pub either_default : (xs : List ℕ) (n a b : ℕ) → n < length xs → get_or xs n a ≡ get_or xs n b
+either_default [] n a b up = absurd (omega (arith, up))
+either_default (x ∷ xs) zero a b up = refl
+either_default (x ∷ xs) (suc n) a b up = either_default xs n a b (omega (arith, up))

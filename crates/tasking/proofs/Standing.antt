@@ -1,5 +1,5 @@
 -- Each task stands once at most: what moves make of that, and the room that it gives.
-use Rattle.std.proofs.Common.{◌≡◌, ◌≢◌, ℕ, zero, suc, ◌+◌, ◌<◌, ◌≤◌, ℤ, List, [], ◌∷◌, ◌++◌, Option, Some, None, IfSome, Bool, true, false, cond, eqb, ltb}
+use Rattle.std.proofs.Common.{◌≡◌, ◌≢◌, inr, ℕ, zero, suc, ◌+◌, ◌<◌, ◌≤◌, ℤ, List, [], ◌∷◌, ◌++◌, Option, Some, None, IfSome, Bool, true, false, cond, eqb, ltb}
 use Rattle.std.proofs.Common.{length, map, refl, sym, ap, ◌∙◌, subst, ⊎_elim, arith}
 use Rattle.std.specs.Prelude.{◌||◌}
 use Rattle.std.specs.List.{AllByRecursion, IsDistinct, list_any}
@@ -11,7 +11,7 @@ use Rattle.kernel.specs.Dispatching.{becomes_ready, leaves, preempted, runs_from
 use Rattle.kernel.specs.Clock.{falls_asleep}
 use Rattle.kernel.specs.Invariant.{count, naps}
 use Rattle.kernel.specs.PutLaws.{eqb_other, eqb_same, same_or_not, put_other, put_same}
-use Rattle.tasking.specs.Orderly.{IsNowhere, IsOrderly, IsTask, listings, once, runs_as, standing}
+use Rattle.tasking.specs.Orderly.{IsNowhere, IsOrderly, IsTask, StandsThere, listings, once, runs_as, standing}
 
 -- Counts
 
@@ -30,17 +30,42 @@ pub none_of : (t u : ℕ) → t ≢ u → count t (u ∷ []) ≡ 0
 none_of t u ne = ap (λ v. cond v 1 0 + 0) (eqb_other t u ne)
 
 pub once_one : (k : Kernel) (t : ℕ) → IsTask k t → once k t ≡ 1
-once_one k t h = ap (λ b. cond b 1 0) (lt-ltb t k.partition.tasks h)
+once_one k t h = ap (λ b. cond b 1 (runs_as t k.running)) (lt-ltb t k.partition.tasks h)
 
-pub once_low : (k : Kernel) (t : ℕ) → once k t ≤ 1
-once_low k t = low (ltb t k.partition.tasks) where
+pub once_beyond : (k : Kernel) (t : ℕ) → k.partition.tasks ≤ t → once k t ≡ runs_as t k.running
+once_beyond k t h = ap (λ b. cond b 1 (runs_as t k.running)) (le-ltb t k.partition.tasks h)
+
+runs_low : (t : ℕ) (r : Option ℕ) → runs_as t r ≤ 1
+runs_low t None = omega arith
+runs_low t (Some r) = low (eqb t r) where
   low : (b : Bool) → cond b 1 0 ≤ 1
   low true = omega arith
   low false = omega arith
 
-pub task_of : (k : Kernel) (t : ℕ) → 1 ≤ once k t → IsTask k t
-task_of k t h = ⊎_elim (λ lt. lt) (λ ge. let e : once k t ≡ 0 = ap (λ b. cond b 1 0) (le-ltb t k.partition.tasks ge) in absurd (omega arith))
-    (cases_lt t k.partition.tasks)
+pub once_low : (k : Kernel) (t : ℕ) → once k t ≤ 1
+once_low k t = low (ltb t k.partition.tasks) where
+  low : (b : Bool) → cond b 1 (runs_as t k.running) ≤ 1
+  low true = omega arith
+  low false = runs_low t k.running
+
+-- who stands somewhere else than in the processor is a task
+pub task_of : (k : Kernel) (t : ℕ) → 1 + runs_as t k.running ≤ once k t → IsTask k t
+task_of k t h = ⊎_elim (λ lt. lt) (λ ge. let e = once_beyond k t ge in absurd (omega (arith, h, e))) (cases_lt t k.partition.tasks)
+
+-- a number that no task has is neither ready nor asleep
+waits_low : (k : Kernel) (u : ℕ) → IsOrderly k → listings PRIORITIES u k.ready + naps u k.sleepers ≤ cond (ltb u k.partition.tasks) 1 0
+waits_low k u o =
+    let i = o.2 u in
+    ⊎_elim
+    (λ lt.
+    let a = once_one k u lt in
+    let e : ◌≡◌ {A = ℕ} (cond (ltb u k.partition.tasks) 1 0) 1 = ap (λ b. cond b 1 0) (lt-ltb u k.partition.tasks lt) in
+    omega (arith, i, a, e))
+    (λ ge.
+    let a = once_beyond k u ge in
+    let e : ◌≡◌ {A = ℕ} (cond (ltb u k.partition.tasks) 1 0) 0 = ap (λ b. cond b 1 0) (le-ltb u k.partition.tasks ge) in
+    omega (arith, i, a, e))
+    (cases_lt u k.partition.tasks)
 
 pub runs_one : (k : Kernel) (t : ℕ) → k.running ≡ Some t → runs_as t k.running ≡ 1
 runs_one k t e = ap (runs_as t) e ∙ ap (λ v. cond v 1 0) (eqb_same t t refl)
@@ -137,14 +162,55 @@ raised_low c b n (a ∷ l) h i = let j = raised_low c b n l h i in let m = i (ob
 pub active_low : (k : Kernel) (t : ℕ) → IsOrderly k → active k t < PRIORITIES
 active_low k t o = raised_low k.partition.ceiling (k.partition.base t) PRIORITIES (k.actions t) (o.0 t) o.1
 
-pub runs_task : (k : Kernel) (t : ℕ) → IsOrderly k → k.running ≡ Some t → IsTask k t
-runs_task k t o run = task_of k t (let i = o.2 t in let one = runs_one k t run in omega arith)
+-- who runs changes, and the lists and the sleepers stay
+module _ (k l : Kernel) (same : l.partition.tasks ≡ k.partition.tasks) (o : IsOrderly k) (u : ℕ)
+    (waits : listings PRIORITIES u l.ready + naps u l.sleepers + runs_as u l.running ≤ listings PRIORITIES u k.ready + naps u k.sleepers + runs_as u k.running)
+    (rest : k.partition.tasks ≤ u → listings PRIORITIES u l.ready + naps u l.sleepers ≤ listings PRIORITIES u k.ready + naps u k.sleepers) where
+  runs_elsewhere : standing l u ≤ once l u
+  runs_elsewhere =
+      let i = o.2 u in
+      ⊎_elim
+      (λ lt. let a = once_one k u lt in let b = once_one l u (omega (arith, lt, same)) in omega (arith, i, a, b, waits))
+      (λ ge.
+      let a = once_beyond k u ge in
+      let b = once_beyond l u (omega (arith, ge, same)) in
+      let c = rest ge in
+      omega (arith, i, a, b, c))
+      (cases_lt u k.partition.tasks)
 
 pub leaves_orderly : (k : Kernel) (t : ℕ) → IsOrderly k → IsOrderly (leaves t k)
-leaves_orderly k t o = (o.0, o.1, λ u. let i = o.2 u in omega arith)
+leaves_orderly k t o = (o.0, o.1, λ u. runs_elsewhere k (leaves t k) refl o u (omega arith) (λ ge. omega arith))
 
 pub leaves_nowhere : (k : Kernel) (t : ℕ) → IsOrderly k → k.running ≡ Some t → IsNowhere (leaves t k) t
 leaves_nowhere k t o run = let i = o.2 t in let one = runs_one k t run in let low = once_low k t in omega arith
+
+-- a handler begins to run, and is over
+pub begins_orderly : (k l : Kernel) (a : ℕ) → k.running ≡ None → l.running ≡ Some a → k.partition.tasks ≤ a → l.partition ≡ k.partition → l.ready ≡ k.ready
+    → l.sleepers ≡ k.sleepers
+    → IsOrderly k
+    → IsOrderly l
+begins_orderly k l a idle run beyond partition ready sleepers o = (
+  λ t. subst (λ p. p.base t < PRIORITIES) (sym partition) (o.0 t),
+  λ p'. subst (λ p. p.ceiling p' < PRIORITIES) (sym partition) (o.1 p'),
+  λ u.
+      let i = o.2 u in
+      let n = ap (runs_as u) idle in
+      let r = ap (runs_as u) run in
+      let same = ap (λ p. p.tasks) partition in
+      let q = ap (listings PRIORITIES u) ready in
+      let s = ap (naps u) sleepers in
+      ⊎_elim
+      (λ lt.
+      let x = once_one k u lt in
+      let y = once_one l u (omega (arith, lt, same)) in
+      let z : runs_as u (Some a) ≡ 0 = ap (λ v. cond v 1 0) (eqb_other u a (λ e. omega (arith, e, lt, beyond))) in
+      omega (arith, i, n, r, q, s, x, y, z))
+      (λ ge.
+      let x = once_beyond k u ge in
+      let y = once_beyond l u (omega (arith, ge, same)) in
+      omega (arith, i, n, r, q, s, x, y))
+      (cases_lt u k.partition.tasks),
+)
 
 pub ready_standing : (k : Kernel) (t u : ℕ) → active k t < PRIORITIES → standing (becomes_ready t k) u ≡ standing k u + count u (t ∷ [])
 ready_standing k t u low =
@@ -167,16 +233,18 @@ ready_orderly k t task none o = (
       (same_or_not u t),
 )
 
-pub preempted_orderly : (k : Kernel) (t : ℕ) → k.running ≡ Some t → IsOrderly k → IsOrderly (preempted t k)
-preempted_orderly k t run o = (
+pub preempted_orderly : (k : Kernel) (t : ℕ) → IsTask k t → k.running ≡ Some t → IsOrderly k → IsOrderly (preempted t k)
+preempted_orderly k t task run o = (
   o.0,
   o.1,
   λ u.
       let a = active k t in
       let l = put_listings PRIORITIES a u (t ∷ k.ready a) k.ready (active_low k t o) in
-      let i = o.2 u in
       let r = ap (runs_as u) run in
-      omega arith,
+      runs_elsewhere k (preempted t k) refl o u (omega arith)
+      (λ ge.
+      let z : runs_as u (Some t) ≡ 0 = ap (λ v. cond v 1 0) (eqb_other u t (λ e. omega (arith, e, ge, task))) in
+      omega arith),
 )
 
 pub asleep_orderly : (k : Kernel) (t : ℕ) (w : ℤ) → IsTask k t → IsNowhere k t → IsOrderly k → IsOrderly (falls_asleep t w k)
@@ -202,9 +270,8 @@ head_orderly k h (t ∷ ts) e low none o = (
   λ u.
       let l = put_listings PRIORITIES h u ts k.ready low in
       let c = ap (count u) e in
-      let i = o.2 u in
       let r = ap (runs_as u) none in
-      omega arith,
+      runs_elsewhere k (runs_head (t ∷ ts) h k) refl o u (omega arith) (λ ge. omega arith),
 )
 
 pub runs_orderly : (k : Kernel) (o : Option ℕ) → ((h : ℕ) → o ≡ Some h → h < PRIORITIES) → k.running ≡ None → IsOrderly k → IsOrderly (runs_from o k)
@@ -215,7 +282,7 @@ runs_orderly k (Some h) low none o = head_orderly k h (k.ready h) refl (low h re
 pub ready_room : (k : Kernel) (n t a : ℕ) → k.partition.tasks ≤ n → IsTask k t → listings PRIORITIES t k.ready ≡ 0 → a < PRIORITIES → IsOrderly k
     → length (k.ready a) < n
 ready_room k n t a few task none low o =
-    let r = room (k.ready a) k.partition.tasks t (λ u. let i = o.2 u in let j = listed_in PRIORITIES a u k.ready low in omega arith)
+    let r = room (k.ready a) k.partition.tasks t (λ u. let i = waits_low k u o in let j = listed_in PRIORITIES a u k.ready low in omega arith)
     (let j = listed_in PRIORITIES a t k.ready low in omega arith) task in omega arith
 
 naps_count : (t : ℕ) (ss : List Sleeper) → naps t ss ≡ count t (map (λ s. s.task) ss)
@@ -228,7 +295,7 @@ map_long (s ∷ ss) = ap suc (map_long ss)
 
 pub sleeping_room : (k : Kernel) (n t : ℕ) → k.partition.tasks ≤ n → IsTask k t → IsNowhere k t → IsOrderly k → length k.sleepers < n
 sleeping_room k n t few task none o =
-    let r = room (map (λ s. s.task) k.sleepers) k.partition.tasks t (λ u. let i = o.2 u in let j = naps_count u k.sleepers in omega arith)
+    let r = room (map (λ s. s.task) k.sleepers) k.partition.tasks t (λ u. let i = waits_low k u o in let j = naps_count u k.sleepers in omega arith)
     (let j = naps_count t k.sleepers in omega arith) task in
     let e = map_long k.sleepers in omega arith
 
@@ -238,8 +305,8 @@ head_task k h t ts low e o =
     task_of k t (let i = o.2 t in let j = listed_in PRIORITIES h t k.ready low in let c = ap (count t) e in let one : count t (t ∷ ts)
     ≡ 1 + count t ts = ap (λ v. cond v 1 0 + count t ts) (eqb_same t t refl) in omega arith)
 
-pub some_task : (k : Kernel) → IsOrderly k → IfSome k.running (λ t. IsTask k t)
-some_task k o = go k.running refl where
-  go : (r : Option ℕ) → k.running ≡ r → IfSome r (λ t. IsTask k t)
+pub some_there : (k : Kernel) → IfSome k.running (λ t. StandsThere k t)
+some_there k = go k.running refl where
+  go : (r : Option ℕ) → k.running ≡ r → IfSome r (λ t. StandsThere k t)
   go None e = tt
-  go (Some t) e = runs_task k t o e
+  go (Some t) e = inr e

@@ -1,18 +1,19 @@
 -- The fields before any task is ready, and the tasks becoming ready one after the other.
-use Rattle.std.proofs.Common.{◌≡◌, ℕ, zero, suc, ◌<◌, ◌≤◌, pos, List, [], ◌∷◌, Option, None, rules, get_or, length, map, replicate, refl, sym, ap, ◌∙◌}
+use Rattle.std.proofs.Common.{◌≡◌, ℕ, zero, suc, ◌+◌, ◌<◌, ◌≤◌, Bool, true, false, cond, nat_lt, pos, List, [], ◌∷◌, Option, None, rules, get_or, length, map, replicate, refl, sym, ap, ◌∙◌}
 use Rattle.std.proofs.Common.{subst, ⊎_elim, arith}
 use Rattle.std.proofs.lemmas.Bool.{cases_lt}
 use Rattle.std.proofs.lemmas.List.{length-replicate}
-use Rattle.base.specs.declared.limits.TheConstants.{OBJECTS, PRIORITIES, TASKS}
+use Rattle.base.specs.declared.limits.TheConstants.{CHANNELS, OBJECTS, PRIORITIES, TASKS}
+use Rattle.base.specs.declared.schedule.ScheduleLine.{ScheduleLine}
 use Rattle.clock.specs.declared.delays.Sleeper.{Sleeper as Row}
 use Rattle.dispatch.specs.Queues.{Queues}
 use Rattle.protected.specs.Actions.{Actions}
-use Rattle.kernel.specs.State.{Kernel, Partition}
+use Rattle.kernel.specs.State.{Action, Interrupt, IsFinished, Kernel, Partition, TaskPlace}
 use Rattle.kernel.specs.Effects.{activated, blank}
-use Rattle.kernel.specs.Invariant.{Fits, count}
+use Rattle.kernel.specs.Invariant.{AreAttached, Fits, count}
 use Rattle.tasking.specs.declared.reports.Place.TheVariants as places
 use Rattle.tasking.specs.declared.reports.Kind.{Kind}
-use Rattle.tasking.specs.Held.{Held, kernel_of, lists_below, partition_of, place_of, sleepers_of}
+use Rattle.tasking.specs.Held.{Held, actions_at, kernel_of, lists_below, partition_of, pending_of, place_of, row_actions, sleepers_of, stands_at}
 use Rattle.tasking.specs.Orderly.{IsKeptOrderly, IsNowhere, IsOrderly, IsTask, listings, standing}
 use Rattle.tasking.proofs.Places.{list_at, list_past}
 use Rattle.tasking.proofs.Standing.{active_low, none_of, ready_orderly, ready_standing}
@@ -37,87 +38,87 @@ unfolding listings
 no_listings zero t = refl
 no_listings (suc n) t = let i = no_listings n t in omega arith
 
-blank_orderly : (p : Partition) → Fits p → IsOrderly (blank p)
-blank_orderly p fits = (fits.base_low, fits.ceiling_low, λ t. let z = no_listings PRIORITIES t in omega arith)
+blank_orderly : (p : Partition) (interrupts : List Interrupt) → Fits p → IsOrderly (blank p interrupts)
+blank_orderly p interrupts fits = (fits.base_low, fits.ceiling_low, λ t. let z = no_listings PRIORITIES t in omega arith)
 
-module _ (bases ceilings : List ℕ) (q : Queues) (rows : List Row) (objects : Actions) (ks : List (List Kind)) (fits : Fits (partition_of bases ceilings))
-    (no_ready : (p : ℕ) → q p ≡ []) (no_rows : rows ≡ []) (objects_are : objects
-    ≡ record { bases = bases; ceilings = ceilings; opened = replicate TASKS []; queued = replicate OBJECTS None })
-    (no_ks : (t : ℕ) → get_or ks t [] ≡ []) (long : length ks ≡ TASKS) (few_tasks : length bases ≤ TASKS) (few_objects : length ceilings ≤ OBJECTS) where
+module _ (bases ceilings : List ℕ) (q : Queues) (rows : List Row) (objects : Actions) (ks : List (List Kind)) (given : List (Option ℕ)) (lines : List ScheduleLine)
+    (fits : Fits (partition_of bases ceilings)) (no_ready : (p : ℕ) → q p ≡ []) (no_rows : rows ≡ []) (objects_are : objects
+    ≡ record { bases = bases; ceilings = ceilings; opened = replicate (TASKS + 1) []; queued = replicate OBJECTS None })
+    (no_ks : (t : ℕ) → get_or ks t [] ≡ []) (long : length ks ≡ TASKS + 1) (few_tasks : length bases ≤ TASKS) (few_objects : length ceilings ≤ OBJECTS)
+    (few_channels : length given ≤ CHANNELS + 1) (all_attached : AreAttached (partition_of bases ceilings) (pending_of given lines)) where
   abbrev start_with : Actions → Held
   start_with a = record {
     running = None;
+    handler = None;
     ready = lists_below PRIORITIES q;
     sleepers = rows;
     objects = a;
     kinds = ks;
-    places = replicate TASKS
-        places.Finished;
+    places = replicate TASKS places.Finished;
     time = pos 0;
     outcome = None;
+    attached = given;
+    ahead = lines;
   }
 
   abbrev plain : Actions
-  plain = record { bases = bases; ceilings = ceilings; opened = replicate TASKS []; queued = replicate OBJECTS None }
+  plain = record { bases = bases; ceilings = ceilings; opened = replicate (TASKS + 1) []; queued = replicate OBJECTS None }
 
-  plain_is : kernel_of (start_with plain) ≡ blank (partition_of bases ceilings)
-  plain_is = λ i. record (blank (partition_of bases ceilings)) {
+  no_row : (u : ℕ) → row_actions (start_with plain) u ≡ []
+  no_row u = none_at (get_or (replicate (TASKS + 1) []) u []) (get_or ks u []) (all_same (TASKS + 1) u [])
+
+  no_actions : (u : ℕ) → actions_at (start_with plain) u ≡ []
+  no_actions u = ap (λ l. cond (nat_lt u (length bases)) l []) (no_row u) ∙ by_test (nat_lt u (length bases))
+    where
+      by_test : (b : Bool) → ◌≡◌ {A = List Action} (cond b [] []) []
+      by_test true = refl
+      by_test false = refl
+
+  no_place : (u : ℕ) → stands_at (start_with plain) u ≡ IsFinished
+  no_place u = ap (λ x. cond (nat_lt u (length bases)) (place_of x) IsFinished) (all_same TASKS u places.Finished) ∙ by_test (nat_lt u (length bases))
+    where
+      by_test : (b : Bool) → ◌≡◌ {A = TaskPlace} (cond b IsFinished IsFinished) IsFinished
+      by_test true = refl
+      by_test false = refl
+
+  plain_is : kernel_of (start_with plain) ≡ blank (partition_of bases ceilings) (pending_of given lines)
+  plain_is = λ i. record (blank (partition_of bases ceilings) (pending_of given lines)) {
     ready = λ h. no_lists q no_ready h i;
     sleepers = sleepers_of (no_rows i);
     queued = λ o. all_same OBJECTS o None i;
-    actions = λ t. none_at (get_or (replicate TASKS []) t []) (get_or ks t []) (all_same TASKS t []) i;
-    place = λ t. place_of (all_same TASKS t places.Finished i);
+    actions = λ t. no_actions t i;
+    place = λ t. no_place t i;
   }
 
-  pub blank_is : kernel_of
-      (record {
-        running = None;
-        ready = lists_below PRIORITIES q;
-        sleepers = rows;
-        objects = objects;
-        kinds = ks;
-        places = replicate TASKS
-            places.Finished;
-        time = pos 0;
-        outcome = None;
-      }) ≡ blank (partition_of bases ceilings)
+  pub blank_is : kernel_of (start_with objects) ≡ blank (partition_of bases ceilings) (pending_of given lines)
   blank_is = ap (λ a. kernel_of (start_with a)) objects_are ∙ plain_is
 
-  pub blank_kept : IsKeptOrderly
-      (record {
-        running = None;
-        ready = lists_below PRIORITIES q;
-        sleepers = rows;
-        objects = objects;
-        kinds = ks;
-        places = replicate TASKS
-            places.Finished;
-        time = pos 0;
-        outcome = None;
-      })
+  pub blank_kept : IsKeptOrderly (start_with objects)
   blank_kept = subst (λ a. IsKeptOrderly (start_with a)) (sym objects_are) (record {
-    orderly = subst IsOrderly (sym plain_is) (blank_orderly (partition_of bases ceilings) fits);
+    orderly = subst IsOrderly (sym plain_is) (blank_orderly (partition_of bases ceilings) (pending_of given lines) fits);
     rows = record {
       few_tasks = few_tasks;
       few_objects = few_objects;
       queues = length-replicate {A = Option ℕ} OBJECTS None;
-      opened = length-replicate {A = List ℕ} TASKS [];
+      opened = length-replicate {A = List ℕ} (TASKS + 1) [];
       kinds = long;
       places = length-replicate TASKS places.Finished;
-      beyond = λ t le. ap place_of (all_same TASKS t places.Finished);
       short = λ t. let e = ap length (no_ks t) in omega (arith, e);
-      paired = λ t. ap length (no_ks t) ∙ sym (ap length (all_same TASKS t []));
+      paired = λ t. ap length (no_ks t) ∙ sym (ap length (all_same (TASKS + 1) t []));
+      channels = few_channels;
+      attached = all_attached;
     };
+    handles = record { alone = λ a e. cc; runner = λ t e. cc; free = λ e. all_same (TASKS + 1) TASKS [] };
   })
 
 -- one task after the other becomes ready
-module _ (p : Partition) (fits : Fits p) where
-  pub started : (n : ℕ) → n ≤ p.tasks → IsOrderly (activated n (blank p)) ×
-      (((u : ℕ) → n ≤ u → IsNowhere (activated n (blank p)) u) × ((activated n (blank p)).partition ≡ p))
-  started zero le = (blank_orderly p fits, ((λ u ge. let z = no_listings PRIORITIES u in omega arith), refl))
+module _ (p : Partition) (interrupts : List Interrupt) (fits : Fits p) where
+  pub started : (n : ℕ) → n ≤ p.tasks → IsOrderly (activated n (blank p interrupts)) ×
+      (((u : ℕ) → n ≤ u → IsNowhere (activated n (blank p interrupts)) u) × ((activated n (blank p interrupts)).partition ≡ p))
+  started zero le = (blank_orderly p interrupts fits, ((λ u ge. let z = no_listings PRIORITIES u in omega arith), refl))
   started (suc n) le =
       let x = started n (omega arith) in
-      let k = activated n (blank p) in
+      let k = activated n (blank p interrupts) in
       let task : IsTask k n = subst (λ v. n < v.tasks) (sym x.1.1) (omega arith) in (
         ready_orderly k n task (x.1.0 n (omega arith)) x.0,
         (
@@ -127,7 +128,7 @@ module _ (p : Partition) (fits : Fits p) where
         ),
       )
 
-  pub next_starts : (n count : ℕ) (k : Kernel) → k ≡ activated n (blank p) → n < count → count ≡ p.tasks → IsTask k n × IsNowhere k n
+  pub next_starts : (n count : ℕ) (k : Kernel) → k ≡ activated n (blank p interrupts) → n < count → count ≡ p.tasks → IsTask k n × IsNowhere k n
   next_starts n count k e lt few =
       let x = started n (omega (arith, lt, few)) in (
         subst (λ k'. IsTask k' n) (sym e) (subst (λ v. n < v.tasks) (sym x.1.1) (omega (arith, lt, few))),

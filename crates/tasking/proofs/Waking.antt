@@ -16,7 +16,7 @@ use Rattle.kernel.specs.PutLaws.{eqb_same, put_put}
 use Rattle.tasking.specs.Held.{Held, kernel_of, sleeper_of, sleepers_of}
 use Rattle.tasking.specs.Orderly.{AreAwoken, IsKeptOrderly, IsNowhere, IsOrderly, IsTask, all_ready, due, least_of, waiting}
 use Rattle.tasking.specs.Waits.{wake_time}
-use Rattle.tasking.proofs.Moved.{rows_same}
+use Rattle.tasking.proofs.Moved.{handles_same, rows_same}
 use Rattle.tasking.proofs.Standing.{active_low, once_low, ready_orderly, ready_standing, task_of}
 
 by_test : (P : Bool → Type 0) (b : Bool) → (b ≡ true → P true) → (b ≡ false → P false) → P b
@@ -106,16 +106,6 @@ next_nowhere k t ts a =
 pub next_awoken : (k : Kernel) (t : ℕ) (ts : List ℕ) → active k t < PRIORITIES → AreAwoken k (t ∷ ts) → AreAwoken (becomes_ready t k) ts
 next_awoken k t ts low a u = let i = a u in let s = ready_standing k t u low in omega arith
 
--- where nobody runs, time moves
-pub time_is : (k : Kernel) (l : List Sleeper) (time : ℤ) → least_of l ≡ Some time → dispatch (wakes_due l (record k { now = time; sleepers = [] }))
-    ≡ time_moves l k
-time_is k [] time e = absurd (cc)
-time_is k (s ∷ ss) time e = let same : least s.wake ss ≡ time = cc in ap (λ n. dispatch (wakes_due (s ∷ ss) (record k { now = n; sleepers = [] }))) (sym same)
-
-pub over_is : (k : Kernel) (l : List Sleeper) → least_of l ≡ None → time_moves [] k ≡ time_moves l k
-over_is k [] e = refl
-over_is k (s ∷ ss) e = absurd (cc)
-
 -- what the keeper of sleepers promises, seen as the kernel
 module _ (h old : Held) (same : h ≡ old) (kept : IsKeptOrderly h) (time held : ℤ) (time_same : held ≡ time) where
   module _ (rows : List Row) (left : rows ≡ waiting_rows held h.sleepers) where
@@ -126,6 +116,7 @@ module _ (h old : Held) (same : h ≡ old) (kept : IsKeptOrderly h) (time held :
     expired_kept = record {
       orderly = subst (λ ss. IsOrderly (record (kernel_of h) { sleepers = ss })) (sym rows_are) (expired_orderly (kernel_of h) time kept.orderly);
       rows = rows_same h (record h { sleepers = rows; time = held }) kept.rows;
+      handles = handles_same h (record h { sleepers = rows; time = held }) kept.handles;
     }
 
     pub expired_is : kernel_of (record h { sleepers = rows; time = held })

@@ -1,12 +1,15 @@
--- What the kernel's code holds, seen as the kernel. Beyond the tasks and objects that there are, nobody is anywhere and priorities are 0.
-use Rattle.std.specs.Prelude.{ℕ, zero, suc, ℤ, List, [], ◌∷◌, ◌++◌, length, map, get_or, Option, Some, None}
-use Rattle.base.specs.declared.limits.TheConstants.{PRIORITIES}
+-- What the kernel's code holds, seen as the kernel. Beyond the tasks stand the actors of handlers, of which one at most is there, in a row of its own behind
+-- those of tasks; beyond the objects ceilings are 0.
+use Rattle.std.specs.Prelude.{ℕ, zero, suc, ◌+◌, ℤ, List, [], ◌∷◌, ◌++◌, length, map, get_or, Bool, false, nat_eq, nat_lt, Option, Some, None, if◌then◌else◌}
+use Rattle.base.specs.declared.limits.TheConstants.{CEILING, PRIORITIES, TASKS}
+use Rattle.base.specs.declared.schedule.ScheduleLine.{ScheduleLine}
 use Rattle.clock.specs.declared.delays.Sleeper.{Sleeper as Row}
-use Rattle.protected.specs.Actions.{Actions, opened_by, queued_at}
+use Rattle.protected.specs.Actions.{Actions, queued_at}
 use Rattle.protected.specs.declared.refusal.Refusal.{Refusal as Refused}
 use Rattle.protected.specs.declared.refusal.Refusal.TheVariants as refused
-use Rattle.kernel.specs.State.{Partition, Kernel, TaskPlace, IsRunning, IsReady, IsAsleep, IsQueued, IsServed, IsFinished, Action, Reads, Writes, Serves}
+use Rattle.kernel.specs.State.{Partition, Interrupt, Kernel, TaskPlace, IsRunning, IsReady, IsAsleep, IsQueued, IsServed, IsFinished, Action, Reads, Writes, Serves}
 use Rattle.kernel.specs.State.{Sleeper, Outcome, Ended, WaitsForever, ImageFault, Unhandled}
+use Rattle.kernel.specs.Interrupts.{interrupts_of}
 use Rattle.kernel.specs.Effects.{Ending, Closes, TakesOver, HandsBack, Refusal, SameObject, AboveCeiling}
 use Rattle.tasking.specs.declared.reports.Place.{Place as Stand}
 use Rattle.tasking.specs.declared.reports.Place.TheVariants as places
@@ -77,29 +80,40 @@ abbrev pub sleepers_of : List Row → List Sleeper
 sleepers_of rows = map sleeper_of rows
 
 abbrev pub partition_of : List ℕ → List ℕ → Partition
-partition_of bases ceilings = record { tasks = length bases; objects = length ceilings; base = λ t. get_or bases t 0; ceiling = λ o. get_or ceilings o 0 }
+partition_of bases ceilings = record { tasks = length bases; objects = length ceilings; base = λ t. get_or bases t CEILING; ceiling = λ o. get_or ceilings o 0 }
 
 -- the lists of the first n priorities
 unfoldable pub lists_below : ℕ → (ℕ → List ℕ) → List (List ℕ)
 lists_below zero queues = []
 lists_below (suc n) queues = lists_below n queues ++ queues n ∷ []
 
+-- what is pending: those of the lines ahead whose channel has a handler, a procedure of the object in the channel's place
+abbrev pub pending_of : List (Option ℕ) → List ScheduleLine → List Interrupt
+pending_of attached ahead = interrupts_of (λ channel. get_or attached channel None) ahead
+
 -- what is held: rows in place of the kernel's functions
 pub record Held : Type 0 where
   pub running : Option ℕ
+  -- the handler that runs, if one does
+  pub handler : Option ℕ
   -- for each priority its list, the head first
   pub ready : List (List ℕ)
   pub sleepers : List Row
   pub objects : Actions
-  -- for each task the kinds of its open actions, the innermost last
+  -- for each task, and last for the handler, the kinds of its open actions, the innermost last
   pub kinds : List (List Kind)
   pub places : List Stand
   pub time : ℤ
   pub outcome : Option End
+  -- for each channel the object whose procedure is its handler, and the lines of the schedule that were not passed
+  pub attached : List (Option ℕ)
+  pub ahead : List ScheduleLine
 
-abbrev pub held_of : Option ℕ → (ℕ → List ℕ) → List Row → Actions → List (List Kind) → List Stand → ℤ → Option End → Held
-held_of running queues sleepers objects kinds places time outcome = record {
+abbrev pub held_of : Option ℕ → Option ℕ → (ℕ → List ℕ) → List Row → Actions → List (List Kind) → List Stand → ℤ → Option End → List (Option ℕ)
+    → List ScheduleLine → Held
+held_of running handler queues sleepers objects kinds places time outcome attached ahead = record {
   running = running;
+  handler = handler;
   ready = lists_below PRIORITIES queues;
   sleepers = sleepers;
   objects = objects;
@@ -107,7 +121,26 @@ held_of running queues sleepers objects kinds places time outcome = record {
   places = places;
   time = time;
   outcome = outcome;
+  attached = attached;
+  ahead = ahead;
 }
+
+-- the row of a task, or of the handler
+abbrev pub index_in : Held → ℕ → ℕ
+index_in h u = if nat_lt u (length h.objects.bases) then u else TASKS
+
+abbrev pub row_actions : Held → ℕ → List Action
+row_actions h row = actions_of (get_or h.objects.opened row []) (kinds_at h.kinds row)
+
+abbrev pub is_handler : Option ℕ → ℕ → Bool
+is_handler None u = false
+is_handler (Some a) u = nat_eq u a
+
+abbrev pub actions_at : Held → ℕ → List Action
+actions_at h u = if nat_lt u (length h.objects.bases) then row_actions h u else (if is_handler h.handler u then row_actions h TASKS else [])
+
+abbrev pub stands_at : Held → ℕ → TaskPlace
+stands_at h u = if nat_lt u (length h.objects.bases) then place_at h.places u else (if is_handler h.handler u then IsRunning else IsFinished)
 
 -- the kernel without its lines, which are the caller's
 abbrev pub kernel_of : Held → Kernel
@@ -116,9 +149,10 @@ kernel_of h = record {
   running = h.running;
   ready = λ p. get_or h.ready p [];
   sleepers = sleepers_of h.sleepers;
+  pending = pending_of h.attached h.ahead;
   queued = queued_at h.objects;
-  actions = λ t. actions_of (opened_by h.objects t) (kinds_at h.kinds t);
-  place = place_at h.places;
+  actions = λ u. actions_at h u;
+  place = λ u. stands_at h u;
   now = h.time;
   lines = [];
   outcome = some_outcome h.outcome;

@@ -2,19 +2,22 @@
 ghost use Rattle.std.specs.Prelude.{◌≡◌, ◌<◌, ℕ, Bool, false, None, Some};
 ghost use Rattle.kernel.specs.Effects.{Breaks, Delays as DelaysUntil, Dies, Ends, Finishes, Opens, Queues, Views, after, call_refusal, ending_of, is_full};
 ghost use Rattle.kernel.specs.Invariant.{Kept};
+ghost use Rattle.kernel.specs.Worlds.{is_handler_over};
 ghost use Rattle.tasking.specs.Held.{ending_as, kernel_of};
+ghost use Rattle.tasking.specs.Orderly.{IsTask};
 
-use crate::reports::{Ending, Kind, Outcome};
+use crate::reports::{Ended, Kind, Outcome};
 use crate::tasking::Tasking;
 use clock::Delays;
 use dispatch::Ready;
 use kernel::laws::reaches_callers;
 
-impl<R: Ready, D: Delays> Tasking<R, D> {
+impl<'a, R: Ready, D: Delays> Tasking<'a, R, D> {
     /// `delay until` of the running task, outside of actions (RM 9.6). A time that isn't later than now is due: the task goes to the
-    /// tail of its list (RM D.2.3).
+    /// tail of its list (RM D.2.3). Handlers delay nowhere.
     pub fn delay_until(&mut self, task: u8, until: i64)
-        requires { self.old.running ≡ Some task }
+        requires task { IsTask (kernel_of self.old) task }
+        requires running { self.old.running ≡ Some task }
         ensures { kernel_of self.new ≡ after task (DelaysUntil until) (kernel_of self.old) }
     {
         self.delays(task, until);
@@ -28,7 +31,6 @@ impl<R: Ready, D: Delays> Tasking<R, D> {
         requires allowed { call_refusal (kernel_of self.old) task object ≡ None }
         ensures { kernel_of self.new ≡ after task (Opens object) (kernel_of self.old) }
     {
-        self.runner_is_task(task);
         self.opens(task, object, Kind::Writes);
         self.settle();
     }
@@ -40,13 +42,13 @@ impl<R: Ready, D: Delays> Tasking<R, D> {
         requires allowed { call_refusal (kernel_of self.old) task object ≡ None }
         ensures { kernel_of self.new ≡ after task (Views object) (kernel_of self.old) }
     {
-        self.runner_is_task(task);
         self.opens(task, object, Kind::Reads);
         self.settle();
     }
 
     /// The running task's entry call waits in the queue of an object, in which no other waits (RM 9.5.3, D.7).
     pub fn queue(&mut self, task: u8, object: u8)
+        requires task { IsTask (kernel_of self.old) task }
         requires running { self.old.running ≡ Some task }
         requires object { object < (kernel_of self.old).partition.objects }
         requires room { is_full (kernel_of self.old) object ≡ false }
@@ -59,23 +61,25 @@ impl<R: Ready, D: Delays> Tasking<R, D> {
 
     /// The body that the running task's innermost action runs is left, and tells whether the barrier is open then. The action is closed;
     /// or it goes on with the entry body for the queued call; or it is closed and the caller that it has served is ready (RM 9.5.3).
-    pub fn end_action(&mut self, task: u8, is_open: bool) -> Ending
+    pub fn end_action(&mut self, task: u8, is_open: bool) -> Ended
         requires running { self.old.running ≡ Some task }
         requires kept { (barrier : ℕ → Bool) × Kept barrier (kernel_of self.old) }
-        ensures ending { ending_as result ≡ ending_of is_open ((kernel_of self.old).actions task) (kernel_of self.old).queued }
+        ensures ending { ending_as result.ending ≡ ending_of is_open ((kernel_of self.old).actions task) (kernel_of self.old).queued }
+        ensures over { result.is_over ≡ is_handler_over (kernel_of self.old) task (Ends is_open) }
         ensures kernel { kernel_of self.new ≡ after task (Ends is_open) (kernel_of self.old) }
     {
         reaches_callers();
-        self.runner_is_task(task);
         let ending = self.ending(task, is_open);
         self.ends_by(task, ending);
+        let is_over = self.goes_if_over(task);
         self.settle();
-        ending
+        Ended { ending, is_over }
     }
 
     /// The running task has finished its body (RM 9.3).
     pub fn finish(&mut self, task: u8)
-        requires { self.old.running ≡ Some task }
+        requires task { IsTask (kernel_of self.old) task }
+        requires running { self.old.running ≡ Some task }
         ensures { kernel_of self.new ≡ after task Finishes (kernel_of self.old) }
     {
         self.leaves(task);

@@ -45,6 +45,13 @@ pub enum Ending {
     HandsBack { caller: u8 },
 }
 
+/// The same, and whether it is the end of a handler: its own action closes (RM C.3.1).
+#[derive(Clone, Copy, PartialEq, Eq, Debug)]
+pub struct Ended {
+    pub ending: Ending,
+    pub is_over: bool,
+}
+
 /// How a run has come to its end.
 #[derive(Clone, Copy, PartialEq, Eq, Debug)]
 pub enum Outcome {

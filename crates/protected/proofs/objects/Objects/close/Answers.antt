@@ -1,25 +1,32 @@
-use Rattle.std.proofs.Common.{length, ap, refl, sym, subst, ◌<◌, ◌∙◌}
-use Rattle.protected.specs.Actions.{opened_by, without_last}
-use Rattle.protected.proofs.Lists.{carried, kept_put, one_less, opened_kept, put_view}
+use Rattle.std.proofs.Common.{arith, length, ap, refl, sym, subst, ◌<◌, ◌≤◌, ◌∙◌}
+use Rattle.base.specs.declared.limits.TheConstants.{TASKS}
+use Rattle.protected.specs.Actions.{opened_by, row_of, without_last}
+use Rattle.protected.proofs.Lists.{carried, kept_put, one_less, opened_kept, put_view, row_low}
 use Rattle.protected.proofs.objects.Objects.close.Goals as goal
+
+pub bounds-self-inside-row_of : goal.bounds-self-inside-row_of
+bounds-self-inside-row_of c =
+    let few = subst (λ a. length a.bases ≤ TASKS) c.self.view_is c.self.invariant.tasks in
+    let low = row_low c.args.task (length c.args.self.now.bases) c.requires.task few in
+    omega (arith, low, c.row_of.ensures)
 
 pub invariant_of-self : goal.invariant_of-self
 invariant_of-self c =
     let o = c.self.inside in
     let a = c.args.self.now in
-    let both = opened_kept (λ l. l.items) o.bases.items o.ceilings.items o.opened o.queued a c.from.result c.args.task c.index-self-from.result c.self.view_is c.self.invariant
-    c.from.ensures c.requires.task in
-    kept_put (λ l. l.items) o.bases.items o.ceilings.items o.opened o.queued c.from.result c.args.task _ c.self.invariant c.from.ensures
-    (subst (λ n. c.args.task < n) (sym (ap (λ v. length v.bases) c.self.view_is)) c.requires.task)
+    let both = opened_kept (λ l. l.items) o.bases.items o.ceilings.items o.opened o.queued a c.row_of.result c.args.task c.index-self-row_of.result c.self.view_is c.self.invariant
+    c.row_of.ensures c.requires.task in
+    kept_put (λ l. l.items) o.bases.items o.ceilings.items o.opened o.queued c.row_of.result _ c.self.invariant
+    (subst (λ n. n < 18) (sym c.row_of.ensures) (row_low c.args.task (length a.bases) c.requires.task both.1.tasks))
     (carried (length a.ceilings) (length o.ceilings.items) c.pop.new.self.items c.pop.new.self.items
-    (one_less (length a.ceilings) (opened_by a c.args.task) c.pop.new.self.items _ (both.1.opened_are c.args.task) (sym both.0 ∙ c.pop.ensures.items))
+    (one_less (length a.ceilings) (opened_by a c.args.task) c.pop.new.self.items _ (both.1.opened_are (row_of c.args.task)) (sym both.0 ∙ c.pop.ensures.items))
     (ap (λ v. length v.ceilings) c.self.view_is) refl)
 
 pub returns : goal.returns
 returns c =
     let o = c.self.inside in
     let a = c.args.self.now in
-    let both = opened_kept (λ l. l.items) o.bases.items o.ceilings.items o.opened o.queued a c.from.result c.args.task c.index-self-from.result c.self.view_is c.self.invariant
-    c.from.ensures c.requires.task in
-    put_view (λ l. l.items) o.bases.items o.ceilings.items o.opened o.queued c.from.result c.args.task _ _ a c.self.view_is c.from.ensures
+    let both = opened_kept (λ l. l.items) o.bases.items o.ceilings.items o.opened o.queued a c.row_of.result c.args.task c.index-self-row_of.result c.self.view_is c.self.invariant
+    c.row_of.ensures c.requires.task in
+    put_view (λ l. l.items) o.bases.items o.ceilings.items o.opened o.queued c.row_of.result c.args.task _ _ a c.self.view_is c.row_of.ensures
     (c.pop.ensures.rest ∙ ap without_last both.0)

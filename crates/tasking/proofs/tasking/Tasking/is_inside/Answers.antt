@@ -4,4 +4,6 @@ use Rattle.tasking.proofs.Objects.{inside_is}
 use Rattle.tasking.proofs.tasking.Tasking.is_inside.Goals as goal
 
 pub returns : goal.returns
-returns g c = c.is_open.ensures ∙ inside_is (seen c.self.view_is) c.args.self.now c.self.view_is c.self.invariant c.args.task c.args.object
+returns g c =
+    c.is_open.ensures
+    ∙ inside_is (seen c.self.view_is) c.args.self.now c.self.view_is c.self.invariant c.args.task c.requires c.told.result c.told.ensures.told c.args.object

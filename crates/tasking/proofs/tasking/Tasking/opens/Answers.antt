@@ -1,28 +1,46 @@
-use Rattle.std.proofs.Common.{◌++◌, ◌∷◌, [], ap, ◌∙◌}
-use Rattle.tasking.proofs.Moves.{seen, task_here}
-use Rattle.tasking.proofs.Objects.{allowed, in_kinds, kinds_here, kinds_put, opens_is, opens_kept}
+use Rattle.std.proofs.Common.{◌<◌, length, subst, arith, ◌++◌, ◌∷◌, [], ap, sym, ◌∙◌}
+use Rattle.std.specs.Prelude.{set}
+use Rattle.tasking.specs.Held.{index_in, kinds_at}
+use Rattle.tasking.proofs.Moves.{seen}
+use Rattle.tasking.proofs.Objects.{allowed, opens_is, opens_kept, paired_now, row_in}
 use Rattle.tasking.proofs.tasking.Tasking.opens.Goals as goal
 
 pub enter-requires-clause-allowed : goal.enter-requires-clause-allowed
-enter-requires-clause-allowed g c = allowed (seen c.self.view_is) c.args.self.now c.self.view_is c.self.invariant c.args.task c.args.object c.requires.allowed
+enter-requires-clause-allowed g c =
+    allowed (seen c.self.view_is) c.args.self.now c.self.view_is c.self.invariant c.args.task c.requires.task c.told-number.result c.told-number.ensures.told
+    c.args.object c.requires.allowed
+
+pub open_kind-requires-clause-there : goal.open_kind-requires-clause-there
+open_kind-requires-clause-there g c =
+    let h = seen c.self.view_is in
+    let t = c.args.task in
+    let row = c.row-row.ensures.row ∙ ap (λ v. index_in v t) (sym c.self.view_is) in
+    subst (λ n. n < length h.kinds) (sym row) (row_in h c.args.self.now c.self.view_is c.self.invariant t c.requires.task c.told-number.result c.told-number.ensures.told)
+
+pub open_kind-requires-clause-room : goal.open_kind-requires-clause-room
+open_kind-requires-clause-room g c =
+    let h = seen c.self.view_is in
+    let t = c.args.task in
+    let row = c.row-row.ensures.row ∙ ap (λ v. index_in v t) (sym c.self.view_is) in
+    let same = paired_now h c.args.self.now c.self.view_is c.self.invariant t c.requires.task c.told-number.result c.told-number.ensures.told in
+    let here = ap (λ n. length (kinds_at h.kinds n)) row in
+    let room = c.enter.ensures.room in
+    omega (arith, same, here, room)
 
 pub invariant_of-self : goal.invariant_of-self
 invariant_of-self g c =
     let h = seen c.self.view_is in
     let t = c.args.task in
-    let lt = in_kinds h c.self.invariant t (task_here h c.args.self.now c.self.view_is c.self.invariant t c.requires.task) in
-    opens_kept h c.args.self.now c.self.view_is c.self.invariant t c.args.object c.args.kind c.enter.new.self _ c.enter.ensures.room c.requires.task
-    c.enter.ensures.opened
-    (kinds_put (λ l. l.items) c.self.inside.kinds c.from.result t c.from.ensures lt _ _
-    (c.push.ensures.items
-    ∙ ap (λ l. l ++ c.args.kind ∷ []) (kinds_here (λ l. l.items) c.self.inside.kinds c.from.result t c.from.ensures lt c.index-self-from.result)))
+    let row = c.row-row.ensures.row ∙ ap (λ v. index_in v t) (sym c.self.view_is) in
+    opens_kept h c.args.self.now c.self.view_is c.self.invariant t c.requires.task c.told-number.result c.told-number.ensures.told c.args.object c.args.kind
+    c.enter.new.self _ c.enter.ensures.room c.enter.ensures.opened
+    (c.open_kind.ensures ∙ ap (λ n. set h.kinds n (kinds_at h.kinds n ++ c.args.kind ∷ [])) row)
 
 pub returns : goal.returns
 returns g c =
     let h = seen c.self.view_is in
     let t = c.args.task in
-    let lt = in_kinds h c.self.invariant t (task_here h c.args.self.now c.self.view_is c.self.invariant t c.requires.task) in
-    opens_is h c.args.self.now c.self.view_is c.self.invariant t c.args.object c.args.kind c.enter.new.self _ c.requires.task c.enter.ensures.opened
-    (kinds_put (λ l. l.items) c.self.inside.kinds c.from.result t c.from.ensures lt _ _
-    (c.push.ensures.items
-    ∙ ap (λ l. l ++ c.args.kind ∷ []) (kinds_here (λ l. l.items) c.self.inside.kinds c.from.result t c.from.ensures lt c.index-self-from.result)))
+    let row = c.row-row.ensures.row ∙ ap (λ v. index_in v t) (sym c.self.view_is) in
+    opens_is h c.args.self.now c.self.view_is c.self.invariant t c.requires.task c.told-number.result c.told-number.ensures.told c.args.object c.args.kind
+    c.enter.new.self _ c.enter.ensures.opened
+    (c.open_kind.ensures ∙ ap (λ n. set h.kinds n (kinds_at h.kinds n ++ c.args.kind ∷ [])) row)

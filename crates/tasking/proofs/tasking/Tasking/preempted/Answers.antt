@@ -4,8 +4,8 @@ use Rattle.tasking.proofs.tasking.Tasking.preempted.Goals as goal
 pub add_head-requires-clause-room : goal.add_head-requires-clause-room
 add_head-requires-clause-room g c =
     let q = g.R.Ready.queues c.self.inside.ready in
-    preempted_room (seen c.self.view_is) q q c.args.self.now c.self.view_is c.self.invariant c.args.task c.active-priority.result c.requires.running
-    c.active-priority.ensures.low
+    preempted_room (seen c.self.view_is) q q c.args.self.now c.self.view_is c.self.invariant c.args.task c.active-priority.result c.requires.task
+    c.requires.running c.active-priority.ensures.low
 
 pub invariant_of-self : goal.invariant_of-self
 invariant_of-self g c =

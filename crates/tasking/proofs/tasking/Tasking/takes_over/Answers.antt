@@ -1,43 +1,47 @@
-use Rattle.std.proofs.Common.{length, take, ◌++◌, ◌∷◌, [], ◌-◌, ap, arith, ◌∙◌}
+use Rattle.std.proofs.Common.{◌<◌, subst, length, take, ◌++◌, ◌∷◌, [], ◌-◌, ap, refl, sym, ◌∙◌}
+use Rattle.std.specs.Prelude.{set}
+use Rattle.kernel.specs.Interrupts.{told}
 use Rattle.tasking.specs.declared.reports.Kind.TheVariants as kinds
-use Rattle.tasking.proofs.Moves.{seen, task_here}
-use Rattle.tasking.proofs.Objects.{in_kinds, kinds_here, kinds_put, service_room, takes_is, takes_kept}
+use Rattle.tasking.specs.Held.{index_in, kernel_of, kinds_at}
+use Rattle.tasking.proofs.Moves.{seen}
+use Rattle.tasking.proofs.Objects.{row_in, service_room, takes_is, takes_kept}
 use Rattle.tasking.proofs.tasking.Tasking.takes_over.Goals as goal
 
-pub push-requires : goal.push-requires
-push-requires g c =
+pub serve_kind-requires-clause-there : goal.serve_kind-requires-clause-there
+serve_kind-requires-clause-there g c =
     let h = seen c.self.view_is in
     let t = c.args.task in
-    let lt = in_kinds h c.self.invariant t (task_here h c.args.self.now c.self.view_is c.self.invariant t c.requires.task) in (
-      omega arith,
-      service_room h c.args.self.now c.self.view_is c.self.invariant t c.requires.task c.args.object c.args.caller c.requires.innermost
-          c.requires.caller c.requires.object c.pop.new.self.items
-          (c.pop.ensures.rest ∙ ap (λ l. take (length l - 1) l)
-          (kinds_here (λ l. l.items) c.self.inside.kinds c.from.result t c.from.ensures lt c.index-self-from.result)),
-    )
+    let row = c.row-row.ensures.row ∙ ap (λ v. index_in v t) (sym c.self.view_is) in
+    let number = told (kernel_of c.args.self.now).partition t in
+    subst (λ n. n < length h.kinds) (sym row) (row_in h c.args.self.now c.self.view_is c.self.invariant t c.requires.task number refl)
+
+pub serve_kind-requires-clause-room : goal.serve_kind-requires-clause-room
+serve_kind-requires-clause-room g c =
+    let h = seen c.self.view_is in
+    let t = c.args.task in
+    let row = c.row-row.ensures.row ∙ ap (λ v. index_in v t) (sym c.self.view_is) in
+    let number = told (kernel_of c.args.self.now).partition t in
+    service_room h c.args.self.now c.self.view_is c.self.invariant t c.requires.task number refl c.args.object c.args.caller c.requires.innermost
+    c.requires.caller c.requires.object _ (ap (λ n. take (length (kinds_at h.kinds n) - 1) (kinds_at h.kinds n)) row)
 
 pub invariant_of-self : goal.invariant_of-self
 invariant_of-self g c =
     let h = seen c.self.view_is in
     let t = c.args.task in
-    let lt = in_kinds h c.self.invariant t (task_here h c.args.self.now c.self.view_is c.self.invariant t c.requires.task) in
-    takes_kept h c.args.self.now c.self.view_is c.self.invariant t c.requires.task c.args.object c.args.caller c.requires.innermost c.requires.caller
+    let row = c.row-row.ensures.row ∙ ap (λ v. index_in v t) (sym c.self.view_is) in
+    let number = told (kernel_of c.args.self.now).partition t in
+    takes_kept h c.args.self.now c.self.view_is c.self.invariant t c.requires.task number refl c.args.object c.args.caller c.requires.innermost c.requires.caller
     c.requires.object
-    c.from-2.result c.to_serve.new.self _ c.from-2.ensures c.to_serve.ensures.left
-    (kinds_put (λ l. l.items) c.self.inside.kinds c.from.result t c.from.ensures lt _ _
-    (c.push.ensures.items ∙ ap (λ l. l ++ kinds.Serves c.args.caller ∷ [])
-    (c.pop.ensures.rest ∙ ap (λ l. take (length l - 1) l)
-    (kinds_here (λ l. l.items) c.self.inside.kinds c.from.result t c.from.ensures lt c.index-self-from.result))))
+    c.from.result c.to_serve.new.self _ c.from.ensures c.to_serve.ensures.left
+    (c.serve_kind.ensures ∙ ap (λ n. set h.kinds n (take (length (kinds_at h.kinds n) - 1) (kinds_at h.kinds n) ++ kinds.Serves c.args.caller ∷ [])) row)
 
 pub returns : goal.returns
 returns g c =
     let h = seen c.self.view_is in
     let t = c.args.task in
-    let lt = in_kinds h c.self.invariant t (task_here h c.args.self.now c.self.view_is c.self.invariant t c.requires.task) in
-    takes_is h c.args.self.now c.self.view_is c.self.invariant t c.requires.task c.args.object c.args.caller c.requires.innermost c.requires.caller
+    let row = c.row-row.ensures.row ∙ ap (λ v. index_in v t) (sym c.self.view_is) in
+    let number = told (kernel_of c.args.self.now).partition t in
+    takes_is h c.args.self.now c.self.view_is c.self.invariant t c.requires.task number refl c.args.object c.args.caller c.requires.innermost c.requires.caller
     c.requires.object
-    c.from-2.result c.to_serve.new.self _ c.from-2.ensures c.to_serve.ensures.left
-    (kinds_put (λ l. l.items) c.self.inside.kinds c.from.result t c.from.ensures lt _ _
-    (c.push.ensures.items ∙ ap (λ l. l ++ kinds.Serves c.args.caller ∷ [])
-    (c.pop.ensures.rest ∙ ap (λ l. take (length l - 1) l)
-    (kinds_here (λ l. l.items) c.self.inside.kinds c.from.result t c.from.ensures lt c.index-self-from.result))))
+    c.from.result c.to_serve.new.self _ c.from.ensures c.to_serve.ensures.left
+    (c.serve_kind.ensures ∙ ap (λ n. set h.kinds n (take (length (kinds_at h.kinds n) - 1) (kinds_at h.kinds n) ++ kinds.Serves c.args.caller ∷ [])) row)
