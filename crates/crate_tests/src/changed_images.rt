@@ -87,13 +87,13 @@ fn are_all_refused_or_alike(
     Ok(true)
 }
 
-// Each byte of the first two images becomes each other one.
+// Each byte of the first three images becomes each other one.
 #[test]
 fn exclusion_holds_whatever_byte_is_changed(rt: HostRuntime) -> Result<(), Fail> {
     let alloc = rt.alloc();
     let schedule = Schedule::read(alloc, b"500 1 7\n").expect(&rt, "a schedule");
     for (number, (bytes, _)) in worked_images().iter().enumerate() {
-        let most = if number < 2 { 255 } else { 3 };
+        let most = if number < 3 { 255 } else { 3 };
         assert!(rt;
             are_all_refused_or_alike(alloc, bytes, &schedule, most)?,
             "image {number}"

@@ -1,4 +1,5 @@
 //! Whether exclusion holds in the world of a machine, as a caller of its public functions sees it.
+use base::limits::ACTOR;
 use clock::Delays;
 use dispatch::Ready;
 use machine::{Machine, TaskState};
@@ -22,7 +23,7 @@ pub fn stands<R: Ready, D: Delays>(machine: &Machine<'_, R, D>, task: u8) -> boo
     let state = machine.state(task);
     let priority = machine.active(task);
     if is_inside_any(machine, task) {
-        let shared = (0..task).any(|other| {
+        let shared = (0..task.min(machine.tasks())).any(|other| {
             is_inside_any(machine, other) && machine.active(other) == priority
         });
         if shared || !matches!(state, TaskState::Running | TaskState::Ready) {
@@ -38,7 +39,7 @@ pub fn stands<R: Ready, D: Delays>(machine: &Machine<'_, R, D>, task: u8) -> boo
     }
 }
 
-/// Whether exclusion holds: one task inside an object at most (RM 9.5.1), and each stands where it may.
+/// Whether exclusion holds: one task inside an object at most (RM 9.5.1), and each stands where it may, the handler of an interrupt among them.
 pub fn excludes<R: Ready, D: Delays>(machine: &Machine<'_, R, D>) -> bool {
     for object in 0..machine.objects() {
         if 1 < machine.inside(object).len() {
@@ -50,5 +51,5 @@ pub fn excludes<R: Ready, D: Delays>(machine: &Machine<'_, R, D>) -> bool {
             return false;
         }
     }
-    true
+    stands(machine, ACTOR)
 }

@@ -1,4 +1,5 @@
-//! Images as bytes: a return, a line and a return (docs/FORMATS.md), and images with tasks and protected objects with the lines that each writes.
+//! Images as bytes: a return, a line and a return, a return beside a handler of interrupts (docs/FORMATS.md), and images with tasks and protected objects, with
+//! the lines that each writes.
 //!
 //! checks/rows/images.txt has them as instructions, under the same words; checks/same_images.py compares the two.
 
@@ -14,6 +15,14 @@ const THOUSAND: &[u8] =
     \x0dPROGRAM_ERROR\x0dSTORAGE_ERROR\x0dTASKING_ERROR\x01x\x04\xff\xff\x00\x03\x00\x00\x00\x00\x00\
     \x00\x00\x01\x04MAIN\x0f\x00\x00\x01\x00\x00\x00\x00\x00\x00\x00\x00\x00\x00\x03\xe8,\x00\x01\
     \x00\x00\x00\x00\x00\x00\x00\x00\x00\x00(\x00\x00\x00\x00\x00\x00\x00\x00\x00\x00\x00\x00";
+
+/// A return beside a handler of interrupts.
+const HANDLED: &[u8] =
+    b"ARVN\x00\x02\x00\x02\x00\x02\x00\x01\x00\x01\x00\x04\x00\x00\x00\x00\x00\x00\x00\x01\x10CONS\
+    TRAINT_ERROR\x0dPROGRAM_ERROR\x0dSTORAGE_ERROR\x0dTASKING_ERROR\x1f\xff\xff\x00\x00\x00\x00\
+    \x00\x04\xff\xff\x00\x01\x00\x00\x00\x00\x00\x00\x00\x00\x01\x00\x00\x00\x02\x00\x00\x00\x00\
+    \x00\x00\x00\x00\x04MAIN\x0f\x00\x00\x03\x00\x01(\x00\x00\x00\x00\x00\x00\x00\x00\x00\x00\x00\
+    \x00(\x00\x00\x00\x00\x00\x00\x00\x00\x00\x00\x00\x00";
 
 /// Two tasks of one priority take turns by delays that are due at once (RM D.2.2).
 const TURNS: &[u8] =
@@ -330,9 +339,10 @@ const SERVED_WITHOUT_RESULTS: &[u8] =
 /// An image and the lines that it writes, where input 7 of channel 1 comes at 500.
 pub(crate) type Worked<'a> = (&'a [u8], &'a [u8]);
 
-const WORKED: [Worked<'static>; 18] = [
+const WORKED: [Worked<'static>; 19] = [
     (RETURN_ALONE, b"ended at 0\n"),
     (THOUSAND, b"0 MAIN x 1000\nended at 0\n"),
+    (HANDLED, b"ended at 0\n"),
     (
         TURNS,
         b"0 A n 1\n0 B n 1\n0 A n 2\n0 B n 2\n0 A n 3\n0 B n 3\nended at 0\n",

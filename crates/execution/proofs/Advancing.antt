@@ -1,14 +1,16 @@
 -- Steps of the running task, and what the kernel makes of the last one, as steps of the world.
-use Rattle.std.proofs.Common.{◌≡◌, ℕ, ◌+◌, ◌-◌, ◌<◌, List, [], length, Bool, Option, Some, None, sym, ap, ◌∙◌, subst, arith}
+use Rattle.std.proofs.Common.{◌≡◌, ℕ, ◌+◌, ◌-◌, ◌<◌, List, [], ◌∷◌, length, Bool, Option, Some, None, true, false, sym, ap, ◌∙◌, subst, arith, ⊎_elim}
+use Rattle.std.proofs.lemmas.Bool.{cases_lt, true≢false}
 use Rattle.std.specs.Prelude.{slice_set}
 use Rattle.kernel.specs.Calm.{IsRunner}
 use Rattle.kernel.specs.RunLaws.{run_plus}
-use Rattle.kernel.specs.State.{Line}
+use Rattle.kernel.specs.State.{Action, Line}
 use Rattle.kernel.specs.Worlds.{among, run, solo_of, step}
 use Rattle.image.specs.Code.{CodeWorld}
 use Rattle.image.specs.Rules.{IsWellFormed}
 use Rattle.image.specs.Sections.{Sections}
-use Rattle.kernel.specs.Invariant.{Passed}
+use Rattle.kernel.specs.Effects.{is_inside_any}
+use Rattle.kernel.specs.Invariant.{IsInOwn, Passed}
 use Rattle.image.specs.Steps.{act, behaviour, is_open}
 use Rattle.image_laws.specs.Whole.{EffectsNamed, IsNamed, IsWhole, LinesUnread, RunnerPasses, StepsWhole, UnseenWhole}
 use Rattle.task_steps.specs.Acting.{ComesToAct, effect_of, solo_in}
@@ -17,8 +19,9 @@ use Rattle.task_steps.specs.declared.acts.Effect.{Effect}
 use Rattle.task_steps.specs.declared.acts.Effect.TheVariants as acts
 use Rattle.tasking.specs.Held.{kernel_of}
 use Rattle.tasking.specs.Laws.{KeptWithLines, LinesApart}
-use Rattle.execution.specs.Held.{HeldWorld, Leads, task_at, world_of, world_with}
-use Rattle.execution.specs.Settling.{HasPassed, Owes, Settles}
+use Rattle.tasking.specs.Orderly.{IsTask}
+use Rattle.execution.specs.Held.{HeldWorld, Leads, row_of, tasks_of, world_of, world_with}
+use Rattle.execution.specs.Settling.{HasPassed, Owes, RunsThere, Settles}
 use Rattle.execution.proofs.Going.{Others, Quiet, all_quiet, then_acts}
 use Rattle.execution.proofs.Leading.{leads_behind}
 use Rattle.execution.proofs.Settled.{settled}
@@ -30,9 +33,15 @@ whole_without_lines kept i h lines w =
     record {
       kept = kept (is_open i (world_of h).rest.memory) (world_with lines h).kernel [] w.kept;
       linked = w.linked;
-      bounded = record { running = w.bounded.running; ready = w.bounded.ready; sleepers = w.bounded.sleepers; queued = w.bounded.queued; callers = w.bounded.callers; now = w.bounded.now };
+      handled = w.handled;
+      bounded = record { running = w.bounded.running; ready = w.bounded.ready; sleepers = w.bounded.sleepers; pending = w.bounded.pending; queued = w.bounded.queued; callers = w.bounded.callers; now = w.bounded.now };
       partition = w.partition;
     }
+
+-- a handler is within its own action
+never_outside : (actions : List Action) → IsInOwn actions → (elim actions [ [] ↦ false | a ∷ outer ↦ true ]) ≡ false → ⊥
+never_outside [] own e = own
+never_outside (a ∷ outer) own e = true≢false e
 
 -- what the running task asks for is of the image, and was not refused
 pub has_passed : EffectsNamed → RunnerPasses → (h : HeldWorld) → IsWellFormed h.image → (t : ℕ) (a : Act) → Owes h t a → HasPassed (length h.image.objects) (kernel_of h.tasking) t a.effect
@@ -50,19 +59,30 @@ has_passed names passes h w t a o = by a.effect named passed
     passed : Passed barrier (kernel_of h.tasking) t (effect_of h.image a.effect)
     passed = subst (Passed barrier (kernel_of h.tasking) t) is_effect (passes h.image w h.schedule (record { kernel = kernel_of h.tasking; rest = o.before }) t o.whole o.runs.running)
 
+    -- who is within no action is a task
+    task_of : is_inside_any (kernel_of h.tasking) t ≡ false → IsTask (kernel_of h.tasking) t
+    task_of outside =
+        ⊎_elim
+        (λ lt. lt)
+        (λ le. absurd (never_outside ((kernel_of h.tasking).actions t) (o.whole.kept.within t le o.runs.running) outside))
+        (cases_lt t (kernel_of h.tasking).partition.tasks)
+
     by : (e : Effect) → IsNamed (length h.image.objects) (effect_of h.image e) → Passed barrier (kernel_of h.tasking) t (effect_of h.image e) → HasPassed (length h.image.objects) (kernel_of h.tasking) t e
     by (acts.Opens p) named passed = (named, passed)
     by (acts.Views p) named passed = (named, passed)
-    by (acts.Queues p) named passed = (named, passed.3)
+    by (acts.Queues p) named passed = (named, passed.3, task_of passed.0)
+    by (acts.Delays until) named passed = task_of passed
+    by acts.Finishes named passed = task_of passed
     by _ named passed = tt
 
 -- what the running task's steps have made of what was held
 abbrev pub Moved : HeldWorld → HeldWorld → ℕ → Type 0
-Moved a b t = b ≡ record a { memory = b.memory; tasks = slice_set a.tasks t (task_at b.image b.tasks t) }
+Moved a b t = b ≡ record a { memory = b.memory; tasks = slice_set a.tasks (row_of a.image t) (tasks_of b t) }
 
-module _ (steps : StepsWhole) (unseen : UnseenWhole) (a b : HeldWorld) (w : IsWellFormed a.image) (t limit left : ℕ) (whole : IsWhole a.image (world_of a)) (runs : IsRunner (kernel_of a.tasking) t) (moved : Moved a b t) where
+module _ (steps : StepsWhole) (unseen : UnseenWhole) (a b : HeldWorld) (w : IsWellFormed a.image) (t limit left : ℕ) (whole : IsWhole a.image (world_of a)) (runs : IsRunner (kernel_of a.tasking) t) (moved : Moved a b t)
+    (there : RunsThere a.image a.tasking.handler t) where
   pub others : Others a b t
-  others u ne = ap (λ h. task_at h.image h.tasks u) moved ∙ task_elsewhere a.image a.tasks t (task_at b.image b.tasks t) u ne
+  others u ne = ap (λ h. tasks_of h u) moved ∙ task_elsewhere a.image a.tasking.handler a.tasks there.beyond t there.here (tasks_of b t) u ne
 
   pub image : b.image ≡ a.image
   image = ap (λ h. h.image) moved
@@ -74,7 +94,7 @@ module _ (steps : StepsWhole) (unseen : UnseenWhole) (a b : HeldWorld) (w : IsWe
   tasking = ap (λ h. h.tasking) moved
 
   abbrev pub HasGone : Option Act → Type 0
-  HasGone o = ComesToAct a.image a.schedule (kernel_of a.tasking) t limit left (solo_in a.image a.memory (task_at a.image a.tasks t)) o b.memory (task_at b.image b.tasks t)
+  HasGone o = ComesToAct a.image a.schedule (kernel_of a.tasking) t limit left (solo_in a.image a.memory (tasks_of a t)) o b.memory (tasks_of b t)
 
   -- quiet steps up to the limit
   pub gone_whole : HasGone None → IsWhole b.image (world_of b)

@@ -1,10 +1,10 @@
 -- Runs, whatever lines were written before them.
-use Rattle.std.proofs.Common.{◌≡◌, ℕ, zero, suc, List, ◌++◌, Option, Some, None, refl, sym, ap, ◌∙◌, append_assoc}
+use Rattle.std.proofs.Common.{◌≡◌, ℕ, zero, suc, List, ◌++◌, Bool, cond, Option, Some, None, refl, sym, ap, ◌∙◌, append_assoc}
 use Rattle.base.specs.declared.schedule.ScheduleLine.{ScheduleLine}
 use Rattle.kernel.specs.Effects.{Effect, Quiet, Finishes, Breaks, Says, Delays, Opens, Views, Queues, Ends, Dies, Ending, after}
-use Rattle.kernel.specs.State.{Kernel, Line, Outcome}
-use Rattle.kernel.specs.Worlds.{Did, Local, Tasks, among, ending, put_back, reached, run, solo_of, step, step_of}
-use Rattle.image.specs.Code.{CodeWorld}
+use Rattle.kernel.specs.State.{Kernel, Line, Outcome, put}
+use Rattle.kernel.specs.Worlds.{Did, Local, Tasks, among, ending, is_handler_over, reached, run, solo_of, step, step_of}
+use Rattle.image.specs.Code.{CodeWorld, initial_state}
 use Rattle.image.specs.Frames.{TaskState, Words}
 use Rattle.image.specs.Sections.{Sections}
 use Rattle.image.specs.Steps.{Stepped, act, behaviour}
@@ -33,13 +33,30 @@ module _ (apart : LinesApart) (unread : LinesUnread) (i : Sections) (schedule : 
   ending_behind k t (Ends is_open) = refl
   ending_behind k t (Dies x) = refl
 
-  abbrev did_by : ℕ → Tasks Words TaskState → Ending → Stepped → Did (Tasks Words TaskState)
-  did_by t d e a = record { effect = a.effect; rest = record { memory = a.solo.memory; tasks = reached (behaviour i schedule) t e a.given (put_back t d a.solo).tasks } }
+  over_behind : (k : Kernel) (t : ℕ) (e : Effect) → is_handler_over (behind k) t e ≡ is_handler_over k t e
+  over_behind k t Quiet = refl
+  over_behind k t Finishes = refl
+  over_behind k t Breaks = refl
+  over_behind k t (Says label value) = refl
+  over_behind k t (Delays until) = refl
+  over_behind k t (Opens o) = refl
+  over_behind k t (Views o) = refl
+  over_behind k t (Queues o) = refl
+  over_behind k t (Ends is_open) = refl
+  over_behind k t (Dies x) = refl
+
+  abbrev did_by : ℕ → Tasks Words TaskState → Ending → Bool → Stepped → Did (Tasks Words TaskState)
+  did_by t d e over a = record {
+    effect = a.effect;
+    rest = record { memory = a.solo.memory; tasks = reached (behaviour i schedule) t e a.given (put t (cond over (initial_state i t) a.solo.task) d.tasks) };
+  }
 
   among_behind : (k : Kernel) (t : ℕ) (d : Tasks Words TaskState) → f (behind k) t d ≡ f k t d
   among_behind k t d =
       let e = unread i schedule k (pre ++ k.lines) t (solo_of t d) in
-      ap (λ a. did_by t d (ending (behind k) t a.effect) a) e ∙ ap (λ x. did_by t d x (act i schedule k t (solo_of t d))) (ending_behind k t (act i schedule k t (solo_of t d)).effect)
+      let a = act i schedule k t (solo_of t d) in
+      ap (λ x. did_by t d (ending (behind k) t x.effect) (is_handler_over (behind k) t x.effect) x) e
+      ∙ (λ j. did_by t d (ending_behind k t a.effect j) (over_behind k t a.effect j) a)
 
   after_behind : (t : ℕ) (e : Effect) (k : Kernel) → after t e (behind k) ≡ behind (after t e k)
   after_behind t e k =

@@ -1,5 +1,5 @@
 -- What is known of a queued caller, and of one that is served.
-use Rattle.std.proofs.Common.{◌≡◌, ℕ, ◌+◌, ◌<◌, ◌≤◌, length, true, Option, Some, None, refl, sym, ap, ◌∙◌, subst, arith}
+use Rattle.std.proofs.Common.{◌≡◌, ℕ, ◌+◌, ◌<◌, ◌≤◌, length, Bool, true, Option, Some, None, refl, sym, ap, ◌∙◌, subst, arith}
 use Rattle.std.proofs.lemmas.Bool.{and_parts, leb-true}
 use Rattle.std.proofs.lemmas.Option.{none-some, same_Some, slice_get_within}
 use Rattle.std.specs.Prelude.{slice_get, nat_le}
@@ -46,8 +46,8 @@ module _ (i : Sections) (w : IsWellFormed i) (leads : CodeLeadsOn) (size : Image
       record { n = n; s = s; entry = is; is_called = there; there = subst (λ c. parameters_of c ≤ length f.stack) there enough; fits = fits.0; room = fits.1 }
 
   -- the entry that a queued caller calls
-  pub entry_is : (o : ℕ) (u : TaskState) → IsCalling i o u → Entry i o u.frame
-  entry_is o u c =
+  pub entry_is : (o : ℕ) (own : Bool) (u : TaskState) → IsCalling i own o u → Entry i o u.frame
+  entry_is o own u c =
       let g = c.going in
       let x = leads i w u.frame.place g.s g.x g.stands.instruction g.stands.within in
       let names = subst (λ v. names_things i g.s v ≡ true) c.at_call x.names in
@@ -68,8 +68,8 @@ module _ (i : Sections) (w : IsWellFormed i) (leads : CodeLeadsOn) (size : Image
   given_at n _ e = absurd (none-some n e)
 
   -- a served caller has room for the entry's results
-  pub room_for : (o : ℕ) (u : TaskState) → IsAwaiting i o u → HasRoomFor (results_of (entry_called i o)) u.frame
-  room_for o u a =
+  pub room_for : (o : ℕ) (own : Bool) (u : TaskState) → IsAwaiting i own o u → HasRoomFor (results_of (entry_called i o)) u.frame
+  room_for o own u a =
       let q = a.waiting in
       let x = leads i w u.frame.place q.s q.x q.stands.instruction q.stands.within in
       let takes = taken_at q.s.results a.n q.x.operation q.calls in

@@ -1,9 +1,11 @@
 mod Ahead
 mod Advancing
 mod Apart
+mod Begun
 mod Ending
 mod Entries
 mod Going
+mod Handlers
 mod Leading
 mod Pushing
 mod ServedFrame

@@ -6,7 +6,7 @@ use Rattle.image.specs.Operations.{called, called_if, entry_called, entry_of, pa
 use Rattle.image.specs.Sections.{Sections, first_place}
 use Rattle.image.specs.Steps.{serving, serving_with, taken}
 use Rattle.image.specs.declared.subprograms.Subprogram.{Subprogram}
-use Rattle.execution.specs.Held.{task_at}
+use Rattle.execution.specs.Held.{row_at, row_of}
 use Rattle.execution.specs.Settling.{served_tasks, without}
 
 module _ (i : Sections) (o number : ℕ) (s : Subprogram) (entry : entry_of (slice_get i.objects o) ≡ Some number) (is_called : called i number ≡ Some s) where
@@ -36,5 +36,6 @@ module _ (i : Sections) (o number : ℕ) (s : Subprogram) (entry : entry_of (sli
       })
       ∙ (ap (λ c. serving_with i o caller u t (Some number) c) (sym entry_is) ∙ ap (λ n. serving_with i o caller u t n (entry_called i o)) (sym entry))
 
-  pub served_tasks_are : (tasks : List TaskState) (t u : ℕ) (now : TaskState) → now ≡ serving i o u (task_at i tasks u) (task_at i tasks t) → slice_set (slice_set tasks u (without s.parameters (task_at i tasks u))) t now ≡ served_tasks i tasks t o u
-  served_tasks_are tasks t u now is = λ k. slice_set (slice_set tasks u (taken_is (task_at i tasks u) k)) t (is k)
+  pub served_tasks_are : (tasks : List TaskState) (t u : ℕ) (now : TaskState) → now ≡ serving i o u (row_at i tasks u) (row_at i tasks t)
+      → slice_set (slice_set tasks u (without s.parameters (row_at i tasks u))) (row_of i t) now ≡ served_tasks i tasks t o u
+  served_tasks_are tasks t u now is = λ k. slice_set (slice_set tasks u (taken_is (row_at i tasks u) k)) (row_of i t) (is k)

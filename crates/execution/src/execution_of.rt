@@ -61,7 +61,7 @@ impl<'a, R: Ready, D: Delays> Execution<'a, R, D> {
     ) -> Result<Self, AllocError>
         ensures image { IfOk result (λ e. e.image ≡ image.now) }
         ensures schedule { IfOk result (λ e. e.schedule ≡ schedule.now) }
-        ensures world { IfOk result (λ e. world_of e ≡ start image.now) }
+        ensures world { IfOk result (λ e. world_of e ≡ start image.now schedule.now) }
     {
         steps_whole();
         let _instructions = image.instructions();
@@ -171,7 +171,7 @@ impl<'a, R: Ready, D: Delays> Execution<'a, R, D> {
     }
 
     /// Its tasks and protected objects, and virtual time.
-    pub fn tasking(&self) -> &Tasking<R, D>
+    pub fn tasking(&self) -> &Tasking<'a, R, D>
         ensures same { result.now ≡ self.now.tasking }
         ensures whole { IsWhole self.now.image (world_of self.now) }
     {

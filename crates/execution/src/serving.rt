@@ -23,12 +23,13 @@ impl<'a, R: Ready, D: Delays> State<'a, R, D> {
             unreachable!()
         };
         let place = first_place(&self.program, number);
+        let row = self.row(task);
         let Some(waiting) = self.tasks.get_mut(usize::from(caller)) else {
             unreachable!()
         };
         self.parameters.keep(waiting.top(subprogram.parameters));
         waiting.drop_top(subprogram.parameters);
-        let Some(server) = self.tasks.get_mut(usize::from(task)) else {
+        let Some(server) = self.tasks.get_mut(row) else {
             unreachable!()
         };
         let role = Role::Serving {

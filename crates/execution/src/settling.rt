@@ -2,7 +2,7 @@
 ghost use Rattle.std.specs.Prelude.{◌≡◌, [], IfSome, None, length};
 ghost use Rattle.tasking.specs.Held.{kernel_of};
 ghost use Rattle.execution.specs.Held.{lines_of};
-ghost use Rattle.execution.specs.Settling.{HasPassed, Owes, Settles};
+ghost use Rattle.execution.specs.Settling.{HasPassed, KernelDoes, Owes, Settles};
 ghost use Rattle.task_steps.specs.declared.acts.Effect.TheVariants as effects;
 
 use crate::line::Line;
@@ -14,6 +14,13 @@ use kernel::laws::{quiet_stays, reaches_callers, runner_is_calm, says_on};
 use task_steps::{Act, Effect, Given};
 use tasking::Ending;
 
+// What came of a step: the line that it wrote, if any, and whether the handler that took it is over.
+#[derive(Clone, Copy)]
+struct Settlement {
+    line: Option<Line>,
+    is_over: bool,
+}
+
 impl<'a, R: Ready, D: Delays> State<'a, R, D> {
     /// Does what the step of the running task asks of the kernel, and tells the line that it writes, if any.
     pub(crate) fn settle(&mut self, task: u8, act: Act) -> Option<Line>
@@ -22,6 +29,20 @@ impl<'a, R: Ready, D: Delays> State<'a, R, D> {
         ensures settles { Settles self.old self.new task act (lines_of self.old.image result) }
         ensures going { IfSome result (λ line. (kernel_of self.new.tasking).outcome ≡ None) }
     {
+        steps_whole();
+        let before = self.tasking.handler();
+        let settled = self.does(task, act);
+        self.prepare_if_begun(before, settled.is_over);
+        settled.line
+    }
+
+    // What the step asks of the kernel, and what that comes to in other tasks.
+    fn does(&mut self, task: u8, act: Act) -> Settlement
+        requires owes { Owes self.old task act }
+        requires passed { HasPassed (length self.old.image.objects) (kernel_of self.old.tasking) task act.effect }
+        ensures does { KernelDoes self.old self.new task act result.is_over (lines_of self.old.image result.line) }
+        ensures going { IfSome result.line (λ line. (kernel_of self.new.tasking).outcome ≡ None) }
+    {
         runner_is_calm();
         quiet_stays();
         says_on();
@@ -29,15 +50,30 @@ impl<'a, R: Ready, D: Delays> State<'a, R, D> {
             Effect::Quiet => {}
             Effect::Finishes => self.tasking.finish(task),
             Effect::Breaks => self.tasking.break_off(),
-            Effect::Says { label, value } => return Some(self.line(task, label, value)),
+            Effect::Says { label, value } => {
+                let line = Some(self.line(task, label, value));
+                return Settlement {
+                    line,
+                    is_over: false,
+                };
+            }
             Effect::Delays { until } => self.tasking.delay_until(task, until),
             Effect::Opens { object } => self.tasking.open_to_write(task, object),
             Effect::Views { object } => self.tasking.open_to_read(task, object),
             Effect::Queues { object } => self.tasking.queue(task, object),
-            Effect::Ends { is_open } => self.ends(task, is_open, act.given),
+            Effect::Ends { is_open } => {
+                let is_over = self.ends(task, is_open, act.given);
+                return Settlement {
+                    line: None,
+                    is_over,
+                };
+            }
             Effect::Dies { exception } => self.tasking.die(task, exception),
         }
-        None
+        Settlement {
+            line: None,
+            is_over: false,
+        }
     }
 
     // The line of a task, now.
@@ -52,18 +88,21 @@ impl<'a, R: Ready, D: Delays> State<'a, R, D> {
         }
     }
 
-    // The body that the innermost action of the running task runs is left.
-    fn ends(&mut self, task: u8, is_open: bool, given: Option<Given>)
+    // The body that the innermost action of the running task runs is left; whether a handler is over with it.
+    fn ends(&mut self, task: u8, is_open: bool, given: Option<Given>) -> bool
         requires { Owes self.old task (record { effect = effects.Ends is_open; given = given }) }
-        ensures { Settles self.old self.new task (record { effect = effects.Ends is_open; given = given }) [] }
+        ensures { KernelDoes self.old self.new task (record { effect = effects.Ends is_open; given = given }) result [] }
     {
         steps_whole();
         reaches_callers();
         code_leads_on();
-        match self.tasking.end_action(task, is_open) {
+        let _handler = self.tasking.handler();
+        let ended = self.tasking.end_action(task, is_open);
+        match ended.ending {
             Ending::Closes => {}
             Ending::TakesOver { object, caller } => self.serves(task, object, caller),
             Ending::HandsBack { caller } => self.hands_back(caller, given),
         }
+        ended.is_over
     }
 }

@@ -1,6 +1,6 @@
 //! What a run holds.
-ghost use Rattle.std.specs.Prelude.{◌≡◌, ◌+◌, ◌-◌, ◌<◌, ◌≤◌, IfOk, None, ℕ, List, length, map, slice_set};
-ghost use Rattle.base.specs.declared.limits.TheConstants.{OBJECTS, TASKS};
+ghost use Rattle.std.specs.Prelude.{◌≡◌, ◌+◌, ◌-◌, ◌<◌, ◌≤◌, IfOk, None, Some, ℕ, List, get_or, length, map, not, slice_set};
+ghost use Rattle.base.specs.declared.limits.TheConstants.{CHANNELS, OBJECTS, TASKS};
 ghost use Rattle.image.specs.Code.{initial_state, partition_of as image_partition, start};
 ghost use Rattle.image.specs.Rules.{IsWellFormed};
 ghost use Rattle.image_laws.specs.Whole.{IsWhole};
@@ -10,21 +10,28 @@ ghost use Rattle.kernel.specs.State.{Line};
 ghost use Rattle.kernel.specs.Worlds.{solo_of};
 ghost use Rattle.task_steps.specs.Acting.{ComesToAct, solo_in};
 ghost use Rattle.task_steps.specs.Raised.{raising_ahead};
-ghost use Rattle.tasking.specs.Held.{kernel_of, partition_of};
-ghost use Rattle.execution.specs.Held.{body_state, rest_of, task_at, world_of};
+ghost use Rattle.kernel.specs.Interrupts.{actor_if};
+ghost use Rattle.tasking.specs.Held.{is_handler, kernel_of, partition_of};
+ghost use Rattle.execution.specs.Held.{begun, body_state, prepared, rest_of, row_of, tasks_of, world_of};
+ghost use Rattle.execution.specs.Settling.{RunsThere};
+ghost use Rattle.image.specs.Attachments.{attached_to, handling_object};
+ghost use Rattle.image.specs.Operations.{called};
+ghost use Rattle.image.specs.Sections.{object_of};
+ghost use Rattle.image.specs.Starting.{handler_state, role_within};
+ghost use Rattle.processor.specs.Layout.{role_of};
 
 use crate::parameters::Parameters;
 use clock::{Delays, Schedule};
 use dispatch::Ready;
-use image::Image;
-use image_laws::{begins_sound, code_leads_on, frames_have_room, lines_unread, steps_whole};
+use image::{Attachment, Image, Kind, Subprogram};
+use image_laws::{code_leads_on, lines_unread, steps_whole};
 use kernel::laws::runner_is_calm;
-use processor::{Program, Steps, TaskState};
+use processor::{Program, Role, Steps, TaskState};
 use std::alloc::{AllocError, Global};
 use std::marker::Model;
 use std::sync::ledger::Ledger;
 use task_steps::{Memory, Raising, Went, called, first_place, go, raising_ahead};
-use tasking::Tasking;
+use tasking::{Attached, Tasking};
 
 /// What a run holds: between steps a world of code, and within one what its parts have made of it so far.
 #[derive(Drop)]
@@ -32,13 +39,14 @@ pub(crate) struct State<'a, R: Ready, D: Delays> {
     pub(crate) program: Program<'a>,
     pub(crate) schedule: &'a Schedule,
     pub(crate) memory: Memory,
+    // The tasks, and in a last row the handler that runs.
     pub(crate) tasks: Vec<TaskState>,
     pub(crate) parameters: Parameters,
-    pub(crate) tasking: Tasking<R, D>,
+    pub(crate) tasking: Tasking<'a, R, D>,
 }
 
 impl<'a, R: Ready, D: Delays> Model for State<'a, R, D> {
-    ghost use Rattle.std.specs.Prelude.{◌≡◌, length};
+    ghost use Rattle.std.specs.Prelude.{◌≡◌, ◌+◌, length};
     ghost use Rattle.image.specs.Rules.{IsWellFormed};
     ghost use Rattle.execution.specs.Held.{HeldWorld};
 
@@ -46,7 +54,7 @@ impl<'a, R: Ready, D: Delays> Model for State<'a, R, D> {
 
     ghost view = { λ s. record { image = s.program; schedule = s.schedule.now; memory = s.memory; tasks = s.tasks.items; tasking = s.tasking } };
 
-    ghost invariant = { λ s. IsWellFormed s.program × (length s.tasks.items ≡ length s.program.tasks) };
+    ghost invariant = { λ s. IsWellFormed s.program × (length s.tasks.items ≡ length s.program.tasks + 1) };
 }
 
 impl<'a, R: Ready, D: Delays> State<'a, R, D> {
@@ -61,19 +69,63 @@ impl<'a, R: Ready, D: Delays> State<'a, R, D> {
     ) -> Result<Self, AllocError>
         ensures image { IfOk result (λ s. s.image ≡ image.now) }
         ensures schedule { IfOk result (λ s. s.schedule ≡ schedule.now) }
-        ensures world { IfOk result (λ s. world_of s ≡ start image.now) }
+        ensures world { IfOk result (λ s. world_of s ≡ start image.now schedule.now) }
     {
+        steps_whole();
+        let _instructions = image.instructions();
         let program = Program::new(alloc, image)?;
         let memory = Memory::new(alloc, image)?;
-        let tasks = initial_tasks(alloc, &program)?;
-        Ok(State {
+        let mut tasks = initial_tasks(alloc, &program)?;
+        tasks.push(TaskState::new(alloc, 0, 0, 0)?)?;
+        let parameters = Parameters::new(alloc)?;
+        let tasking = initial_tasking(alloc, image, schedule)?;
+        let mut state = State {
             program,
             schedule,
             memory,
             tasks,
-            parameters: Parameters::new(alloc)?,
-            tasking: initial_tasking(alloc, image)?,
-        })
+            parameters,
+            tasking,
+        };
+        state.prepare_if_begun(None, false);
+        Ok(state)
+    }
+
+    // The row of a task, or of the handler that runs.
+    pub(crate) fn row(&self, task: u8) -> usize
+        ensures { result ≡ row_of self.now.image task }
+    {
+        if usize::from(task) < self.tasks.len() - 1 {
+            usize::from(task)
+        } else {
+            self.tasks.len() - 1
+        }
+    }
+
+    /// Where a handler has begun, which did not run before or has begun anew, its row holds what its start needs.
+    pub(crate) fn prepare_if_begun(&mut self, before: Option<u8>, is_over: bool)
+        requires { (kernel_of self.old.tasking).partition.tasks ≡ length self.old.image.tasks }
+        ensures state { self.new ≡ record self.old { tasks = prepared self.old.image self.old.tasks (begun before is_over self.old.tasking.handler) } }
+        ensures handler { self.old.tasking.handler ≡ actor_if (kernel_of self.old.tasking).partition (kernel_of self.old.tasking).running }
+    {
+        let now = self.tasking.handler();
+        if let Some(handler) = begun(before, is_over, now) {
+            self.prepare(handler);
+        }
+    }
+
+    // The row of the handler is as at its start.
+    fn prepare(&mut self, handler: u8)
+        requires count { (kernel_of self.old.tasking).partition.tasks ≡ length self.old.image.tasks }
+        requires beyond { length self.old.image.tasks ≤ handler }
+        ensures { self.new ≡ record self.old { tasks = prepared self.old.image self.old.tasks (Some handler) } }
+    {
+        let channel = handler - self.tasking.task_count();
+        let row = self.row(handler);
+        let Some(state) = self.tasks.get_mut(row) else {
+            unreachable!()
+        };
+        begin_handler(&self.program, channel, state);
     }
 
     /// Steps of the running task, up to the first that asks something of the kernel.
@@ -81,19 +133,20 @@ impl<'a, R: Ready, D: Delays> State<'a, R, D> {
         requires whole { IsWhole self.old.image (world_of self.old) }
         requires runs { IsRunner (kernel_of self.old.tasking) task }
         ensures went { ComesToAct self.old.image self.old.schedule (kernel_of self.old.tasking) task limit result.left
-            (solo_in self.old.image self.old.memory (task_at self.old.image self.old.tasks task)) result.act self.new.memory
-            (task_at self.new.image self.new.tasks task) }
+            (solo_in self.old.image self.old.memory (tasks_of self.old task)) result.act self.new.memory (tasks_of self.new task) }
         ensures count { steps.new ≡ steps.old + (limit - result.left) }
         ensures well_formed { IsWellFormed self.old.image }
+        ensures there { RunsThere self.old.image self.old.tasking.handler task }
         ensures moved { self.new ≡ record self.old {
           memory = self.new.memory;
-          tasks = slice_set self.old.tasks task
-              (task_at self.new.image self.new.tasks task);
+          tasks = slice_set self.old.tasks (row_of self.old.image task) (tasks_of self.new task);
         } }
     {
         steps_whole();
         runner_is_calm();
-        let Some(state) = self.tasks.get_mut(usize::from(task)) else {
+        let _handler = self.tasking.handler();
+        let row = self.row(task);
+        let Some(state) = self.tasks.get_mut(row) else {
             unreachable!()
         };
         go(
@@ -117,7 +170,9 @@ impl<'a, R: Ready, D: Delays> State<'a, R, D> {
     {
         steps_whole();
         lines_unread();
-        let Some(state) = self.tasks.get(usize::from(task)) else {
+        let _handler = self.tasking.handler();
+        let row = self.row(task);
+        let Some(state) = self.tasks.get(row) else {
             unreachable!()
         };
         raising_ahead(
@@ -159,18 +214,134 @@ fn initial_task(alloc: Global, program: &Program, number: u16) -> Result<TaskSta
 }
 
 // The tasks and objects with their priorities at time 0.
-fn initial_tasking<R: Ready, D: Delays>(
+fn initial_tasking<'a, R: Ready, D: Delays>(
     alloc: Global,
     image: &Image,
-) -> Result<Tasking<R, D>, AllocError>
-    ensures { IfOk result (λ tasking. kernel_of tasking ≡ (start image.now).kernel) }
+    schedule: &'a Schedule,
+) -> Result<Tasking<'a, R, D>, AllocError>
+    ensures { IfOk result (λ tasking. kernel_of tasking ≡ (start image.now schedule.now).kernel) }
 {
     steps_whole();
     code_leads_on();
     let _instructions = image.instructions();
     let bases = priorities(alloc, image)?;
     let ceilings = ceilings(alloc, image)?;
-    Ok(Tasking::start(&bases, &ceilings))
+    let attached = handling_objects(image);
+    let lines = schedule.lines();
+    Ok(Tasking::start(&bases, &ceilings, attached, lines))
+}
+
+// For each channel the object whose procedure is its handler; there is no channel 0.
+fn handling_objects(image: &Image) -> Attached
+    ensures objects { (channel : ℕ) → get_or result channel None ≡ handling_object image.now channel }
+    ensures channels { length result ≡ CHANNELS + 1 }
+{
+    let _instructions = image.instructions();
+    [
+        handled_object(image, 0),
+        handled_object(image, 1),
+        handled_object(image, 2),
+        handled_object(image, 3),
+        handled_object(image, 4),
+        handled_object(image, 5),
+        handled_object(image, 6),
+        handled_object(image, 7),
+        handled_object(image, 8),
+    ]
+}
+
+// The object of the handler of a channel.
+fn handled_object(image: &Image, channel: u8) -> Option<u8>
+    ensures { result ≡ handling_object image.now channel }
+{
+    code_leads_on();
+    let number = attached_to(image.attachments(), channel)?;
+    let subprogram = subprogram_of(image, number)?;
+    object_number(subprogram.kind)
+}
+
+// The subprogram with this number.
+fn subprogram_of(image: &Image, number: u16) -> Option<Subprogram>
+    ensures { result ≡ called image.now number }
+{
+    image.subprograms().get(usize::from(number)).copied()
+}
+
+fn object_number(kind: Kind) -> Option<u8>
+    requires { (o : ℕ) → object_of kind ≡ Some o → o < OBJECTS }
+    ensures { result ≡ object_of kind }
+{
+    match kind {
+        Kind::ProtectedProcedure(object) => Some(object as u8),
+        Kind::ProtectedFunction(object) => Some(object as u8),
+        Kind::EntryBody(object) => Some(object as u8),
+        Kind::Plain => None,
+        Kind::TaskBody => None,
+    }
+}
+
+// The procedure that is attached to a channel.
+fn attached_to(attachments: &[Attachment], channel: u8) -> Option<u16>
+    ensures { result ≡ attached_to channel attachments.now }
+{
+    for attachment in attachments {
+        if attachment.channel == channel {
+            return Some(attachment.subprogram);
+        }
+    }
+    None
+}
+
+// The handler that has begun: it did not run before, or has begun anew.
+fn begun(before: Option<u8>, is_over: bool, now: Option<u8>) -> Option<u8>
+    ensures { result ≡ begun before is_over now }
+{
+    let handler = now?;
+    if is_over || is_another(before, handler) {
+        Some(handler)
+    } else {
+        None
+    }
+}
+
+fn is_another(before: Option<u8>, handler: u8) -> bool
+    ensures { result ≡ not (is_handler before handler) }
+{
+    match before {
+        None => true,
+        Some(other) => handler != other,
+    }
+}
+
+// What a handler needs at its start: the frame of its procedure, above the one that never runs.
+fn begin_handler(program: &Program, channel: u8, state: &mut TaskState)
+    ensures { state.new ≡ handler_state program.now channel }
+{
+    code_leads_on();
+    let image = program.image();
+    state.restart(image.subprograms().len() as u16, 0, 0);
+    let Some(number) = attached_to(image.attachments(), channel) else {
+        return;
+    };
+    let Some(subprogram) = called(program, number) else {
+        unreachable!()
+    };
+    let place = first_place(program, number);
+    let role = handler_role(subprogram.kind);
+    state.serve(number, place, &subprogram, role, &[]);
+}
+
+// The frame of a handler's procedure has opened the action of its object.
+fn handler_role(kind: Kind) -> Role
+    ensures { role_of result ≡ role_within (object_of kind) }
+{
+    match kind {
+        Kind::ProtectedProcedure(object) => Role::Opened { object },
+        Kind::ProtectedFunction(object) => Role::Opened { object },
+        Kind::EntryBody(object) => Role::Opened { object },
+        Kind::Plain => Role::Inner,
+        Kind::TaskBody => Role::Inner,
+    }
 }
 
 fn priorities(alloc: Global, image: &Image) -> Result<Vec<u8>, AllocError>

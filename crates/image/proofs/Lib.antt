@@ -1,3 +1,4 @@
+mod Attached
 mod Holder
 mod Placed
 mod RowTables

@@ -1,3 +1,4 @@
+pub mod Attachments
 pub mod Code
 pub mod Faults
 pub mod Frames
@@ -10,6 +11,7 @@ pub mod RuleLaws
 pub mod Rules
 pub mod Scalars
 pub mod Sections
+pub mod Starting
 pub mod Steps
 pub mod Texts
 pub mod WordRanges

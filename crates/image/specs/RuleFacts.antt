@@ -4,7 +4,7 @@ use Rattle.std.specs.List.{list_all}
 use Rattle.std.proofs.lemmas.Bool.{and_parts}
 use Rattle.base.specs.Names.{is_label, is_name, predefined}
 use Rattle.image.specs.RuleLaws.{either}
-use Rattle.image.specs.Rules.{IsWellFormed, all_begun, all_nested, all_placed, begins_with, covers_places, has_body, has_counts, has_depth, has_ends, has_entry, has_object, has_operands, in_holder, is_closed, is_object, is_row_within, is_subprogram, is_task, jumps_within, keeps_depth, names_things, where_ends}
+use Rattle.image.specs.Rules.{IsWellFormed, are_attached, all_begun, all_nested, all_placed, begins_with, covers_places, has_body, has_counts, has_depth, has_ends, has_entry, has_object, has_operands, in_holder, is_closed, is_object, is_row_within, is_subprogram, is_task, jumps_within, keeps_depth, names_things, where_ends}
 use Rattle.image.specs.Sections.{Sections}
 
 pub record Facts (i : Sections) : Type 0 where
@@ -18,6 +18,7 @@ pub record Facts (i : Sections) : Type 0 where
   pub labels : list_all is_label i.labels ≡ true
   pub row_exceptions : list_all (λ r. nat_le r.exception (length i.exceptions)) i.rows ≡ true
   pub nested : all_nested i.rows ≡ true
+  pub attached : are_attached i 0 i.attachments ≡ true
   pub operands : list_all (λ x. has_operands x.operation) i.instructions ≡ true
   pub covers : list_all covers_places i.rows ≡ true
   pub jumps : all_placed (jumps_within i) 0 i.instructions ≡ true
@@ -42,6 +43,7 @@ facts i w =
     let g = and_parts (list_all is_name i.exceptions) _ f.1 in
     let h = and_parts (list_all is_label i.labels) _ g.1 in
     let k = and_parts (list_all (λ r. nat_le r.exception (length i.exceptions)) i.rows) _ h.1 in
+    let v = and_parts (are_attached i 0 i.attachments) _ k.1 in
     let l = and_parts (list_all covers_places i.rows) _ w.jumps in
     let m = and_parts (all_placed (jumps_within i) 0 i.instructions) _ (either (has_ends i) _ l.1 b.0) in
     let n = and_parts (list_all (is_closed i) i.subprograms) _ m.1 in
@@ -60,7 +62,8 @@ facts i w =
       names = g.0;
       labels = h.0;
       row_exceptions = k.0;
-      nested = k.1;
+      nested = v.1;
+      attached = v.0;
       operands = w.operands;
       covers = l.0;
       jumps = m.0;

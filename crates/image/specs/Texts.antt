@@ -1,7 +1,8 @@
 -- The texts of an image by their numbers.
-use Rattle.std.specs.Prelude.{ℕ, zero, suc, List, [], Option, Some, None, slice_get}
+use Rattle.std.specs.Prelude.{ℕ, zero, suc, List, [], length, Option, Some, None, slice_get}
 use Rattle.image.specs.Sections.{Sections}
 use Rattle.image.specs.declared.tasks.Task.{Task}
+use Rattle.kernel.specs.Interrupts.{names_of_all}
 use Rattle.kernel.specs.Text.{Names}
 
 abbrev pub text_or_none : Option (List ℕ) → List ℕ
@@ -21,6 +22,6 @@ abbrev pub name_of : Option Task → List ℕ
 name_of None = []
 name_of (Some t) = t.name
 
--- tasks are numbered from 0, exceptions from 1
+-- tasks are numbered from 0, handlers of interrupts beyond them, exceptions from 1
 abbrev pub names_of : Sections → Names
-names_of i = record { task = λ t. name_of (slice_get i.tasks t); exception = λ x. text_from_one i.exceptions x }
+names_of i = record { task = names_of_all (length i.tasks) (λ t. name_of (slice_get i.tasks t)); exception = λ x. text_from_one i.exceptions x }

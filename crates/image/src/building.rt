@@ -7,7 +7,7 @@ ghost use Rattle.image.specs.Sections.{ends_of};
 ghost use Rattle.image.specs.WordRanges.{ImageFits};
 
 use crate::subprograms::subprogram_ends;
-use crate::{Draft, ImageFault, Instr, Object, Parts, Subprogram, Task, Text};
+use crate::{Attachment, Draft, ImageFault, Instr, Object, Parts, Subprogram, Task, Text};
 use handlers::{Row, Table};
 use std::alloc::{AllocError, Global};
 use std::marker::Model;
@@ -98,6 +98,14 @@ impl Image {
         ensures well_formed { IsWellFormed self.now }
     {
         &self.parts.rows
+    }
+
+    /// The handlers of interrupts, by their channels in rising order (RM C.3.1).
+    pub fn attachments(&self) -> &[Attachment]
+        ensures same { result.now ≡ self.now.attachments }
+        ensures well_formed { IsWellFormed self.now }
+    {
+        &self.parts.attachments
     }
 
     /// The table of the handler rows, for searches.

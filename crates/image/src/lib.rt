@@ -1,6 +1,7 @@
 //! Images: the code of a whole program with its tables, well-formed by construction.
 #![tactic(auto)]
 
+mod attachments;
 mod building;
 mod draft;
 mod fault;
@@ -16,6 +17,7 @@ mod tables;
 mod tasks;
 mod word_ranges;
 
+pub use attachments::Attachment;
 pub use base::Text;
 pub use building::Image;
 pub use draft::Draft;

@@ -1,5 +1,5 @@
 //! The sections of an image as they are handed in.
-use crate::{Instr, Object, Subprogram, Task, Text};
+use crate::{Attachment, Instr, Object, Subprogram, Task, Text};
 use handlers::Row;
 use std::marker::Model;
 
@@ -20,6 +20,8 @@ pub struct Parts {
     pub tasks: Vec<Task>,
     /// The handler rows.
     pub rows: Vec<Row>,
+    /// The handlers of interrupts, by their channels in rising order (RM C.3.1).
+    pub attachments: Vec<Attachment>,
     /// The instructions, numbered from 0.
     pub instructions: Vec<Instr>,
 }
@@ -37,6 +39,7 @@ impl Model for Parts {
       subprograms = p.subprograms.items;
       tasks = p.tasks.items;
       rows = p.rows.items;
+      attachments = p.attachments.items;
       instructions = p.instructions.items;
     } };
 }

@@ -3,12 +3,13 @@ ghost use Rattle.std.specs.Prelude.{◌≡◌, ◌+◌, ◌≤◌, ◌&&◌, ◌
 ghost use Rattle.image.specs.Faults.{memory_fault};
 ghost use Rattle.std.specs.List.{list_all};
 ghost use Rattle.base.specs.Names.{is_label, is_name, predefined};
-ghost use Rattle.image.specs.Rules.{all_begun, all_nested, all_placed, begins_with, has_counts, has_ends, is_barrier, is_closed_barrier, is_entry_body_of, is_entry_of_object, is_object, is_subprogram, is_task, is_task_body, tables_agree, last_end, none_or};
+ghost use Rattle.image.specs.Operations.{called};
+ghost use Rattle.image.specs.Rules.{all_begun, all_nested, all_placed, are_attached, begins_with, has_counts, has_ends, is_attached, is_barrier, is_closed_barrier, is_handling_kind, is_entry_body_of, is_entry_of_object, is_object, is_subprogram, is_task, is_task_body, tables_agree, last_end, may_handle, none_or, some_and};
 
-use crate::{Barrier, ImageFault, Kind, Object, Parts, Subprogram, Task, Text};
+use crate::{Attachment, Barrier, ImageFault, Kind, Object, Parts, Subprogram, Task, Text};
 use base::PredefinedException;
 use base::limits::{
-    CEILING, EXCEPTIONS, FRAME_WORDS, INSTRUCTIONS, LABELS, OBJECTS, ROWS, SUBPROGRAMS,
+    CEILING, CHANNELS, EXCEPTIONS, FRAME_WORDS, INSTRUCTIONS, LABELS, OBJECTS, ROWS, SUBPROGRAMS,
     TASK_PRIORITY, TASKS, WORDS,
 };
 use base::names::{is_label, is_name};
@@ -46,7 +47,8 @@ impl Parts {
             && self.begins_with_predefined()
             && self.all_exceptions()
             && self.all_labels()
-            && self.all_row_exceptions();
+            && self.all_row_exceptions()
+            && self.are_attached();
         Ok(agree && self.all_nested(alloc)?)
     }
 
@@ -222,6 +224,54 @@ impl Parts {
     {
         let last = self.exceptions.len();
         self.rows.iter().all(|r| usize::from(r.exception) <= last)
+    }
+
+    // Channels rise within their range, and each has a procedure that may handle its interrupts (RM C.3.1).
+    fn are_attached(&self) -> bool
+        ensures { result ≡ are_attached self.now 0 self.now.attachments }
+    {
+        let mut last = 0;
+        for a in &self.attachments {
+            if !self.is_attached(last, a) {
+                return false;
+            }
+            last = a.channel;
+        }
+        true
+    }
+
+    fn is_attached(&self, last: u8, a: &Attachment) -> bool
+        ensures { result ≡ is_attached self.now last a.now }
+    {
+        last < a.channel && a.channel <= CHANNELS && self.may_be_attached(a.subprogram)
+    }
+
+    fn may_be_attached(&self, number: u16) -> bool
+        ensures { result ≡ some_and (called self.now number) (may_handle self.now) }
+    {
+        match self.called(number) {
+            None => false,
+            Some(s) => self.may_handle(&s),
+        }
+    }
+
+    /// Whether the subprogram may handle interrupts (47): a protected procedure without parameters and results, of an object of the highest ceiling.
+    pub fn may_handle(&self, s: &Subprogram) -> bool
+        ensures { result ≡ may_handle self.now s.now }
+    {
+        self.is_handling_kind(&s.kind) && s.parameters == 0 && s.results == 0
+    }
+
+    fn is_handling_kind(&self, kind: &Kind) -> bool
+        ensures { result ≡ is_handling_kind self.now kind.now }
+    {
+        match kind {
+            Kind::ProtectedProcedure(object) => match self.objects.get(usize::from(*object)) {
+                None => false,
+                Some(o) => o.ceiling() == CEILING,
+            },
+            _ => false,
+        }
     }
 
     fn all_nested(&self, alloc: Global) -> Result<bool, ImageFault>

@@ -3,10 +3,11 @@ use Rattle.std.proofs.Common.{◌≡◌, ℕ, zero, suc, ◌<◌, arith, List, [
 use Rattle.std.proofs.lemmas.Option.{none-some, same_Some}
 use Rattle.std.specs.Prelude.{int_lt, nat_lt}
 use Rattle.base.specs.declared.limits.TheConstants.{PRIORITIES}
-use Rattle.kernel.specs.State.{Kernel, Partition, Sleeper, Action, Reads, Writes, Serves, active, put}
+use Rattle.kernel.specs.State.{Interrupt, Kernel, Partition, Sleeper, Action, Reads, Writes, Serves, active, actor, put}
 use Rattle.kernel.specs.Dispatching.{becomes_ready, dispatch, dispatch_from, highest, leaves, preempted, preempts, runs_from, runs_head}
-use Rattle.kernel.specs.Clock.{clock, clock_from, falls_asleep, least, released, time_moves, wakes_due, wakes_if_due}
-use Rattle.kernel.specs.Effects.{Effect, Quiet, Finishes, Breaks, Says, Delays, Opens, Views, Queues, Ends, Dies, Ending, Closes, TakesOver, HandsBack, activated, after, begin, blank, effect, ending_of, ends, outer_of, service}
+use Rattle.kernel.specs.Interrupts.{delivers, starts}
+use Rattle.kernel.specs.Clock.{clock, clock_from, falls_asleep, least, next, next_time, released, some_queued, time_moves, wakes_due, wakes_if_due}
+use Rattle.kernel.specs.Effects.{Effect, Quiet, Finishes, Breaks, Says, Delays, Opens, Views, Queues, Ends, Dies, Ending, Closes, TakesOver, HandsBack, activated, after, begin, blank, effect, ending_of, ends, goes_if, is_over, outer_of, service}
 use Rattle.kernel.specs.PutLaws.{by_put, of_put}
 use Rattle.image_laws.specs.Within as within
 use Rattle.image_laws.specs.Within.{Anytime}
@@ -17,6 +18,9 @@ module _ (R : ℕ → Type 0) (W : ℤ → Type 0) where
 
   abbrev pub Sleeps : List Sleeper → Type 0
   Sleeps = within.Sleeps R W
+
+  abbrev pub Awaits : ℕ → List Interrupt → Type 0
+  Awaits = within.Awaits R W
 
   abbrev Callers : List Action → Type 0
   Callers = within.Callers R W
@@ -38,24 +42,25 @@ module _ (R : ℕ → Type 0) (W : ℤ → Type 0) where
         running = b.running;
         ready = λ h. by_put Each (active k t) h (k.ready (active k t) ++ t ∷ []) k.ready (λ e. each_more (k.ready (active k t)) t (b.ready (active k t)) r) (λ ne. b.ready h);
         sleepers = b.sleepers;
+        pending = b.pending;
         queued = b.queued;
         callers = b.callers;
         now = b.now;
       }
 
   bounded_left : (t : ℕ) (k : Kernel) → Bounded k → Bounded (leaves t k)
-  bounded_left t k b = record { running = λ u e. absurd (none-some u e); ready = b.ready; sleepers = b.sleepers; queued = b.queued; callers = b.callers; now = b.now }
+  bounded_left t k b = record { running = λ u e. absurd (none-some u e); ready = b.ready; sleepers = b.sleepers; pending = b.pending; queued = b.queued; callers = b.callers; now = b.now }
 
   bounded_released : (t : ℕ) (k : Kernel) → Bounded k → Bounded (released t k)
-  bounded_released t k b = record { running = b.running; ready = b.ready; sleepers = b.sleepers; queued = b.queued; callers = b.callers; now = b.now }
+  bounded_released t k b = record { running = b.running; ready = b.ready; sleepers = b.sleepers; pending = b.pending; queued = b.queued; callers = b.callers; now = b.now }
 
   bounded_asleep : (t : ℕ) (z : ℤ) (k : Kernel) → R t → W z → Bounded k → Bounded (falls_asleep t z k)
   bounded_asleep t z k r x b =
-      record { running = b.running; ready = b.ready; sleepers = sleeps_more k.sleepers (record { task = t; wake = z }) b.sleepers r x; queued = b.queued; callers = b.callers; now = b.now }
+      record { running = b.running; ready = b.ready; sleepers = sleeps_more k.sleepers (record { task = t; wake = z }) b.sleepers r x; pending = b.pending; queued = b.queued; callers = b.callers; now = b.now }
 
   bounded_actions : (t : ℕ) (actions : List Action) (k : Kernel) → Callers actions → Bounded k → Bounded (record k { actions = put t actions k.actions })
   bounded_actions t actions k all b =
-      record { running = b.running; ready = b.ready; sleepers = b.sleepers; queued = b.queued; callers = λ u. by_put Callers t u actions k.actions (λ e. all) (λ ne. b.callers u); now = b.now }
+      record { running = b.running; ready = b.ready; sleepers = b.sleepers; pending = b.pending; queued = b.queued; callers = λ u. by_put Callers t u actions k.actions (λ e. all) (λ ne. b.callers u); now = b.now }
 
   -- dispatching
 
@@ -66,6 +71,7 @@ module _ (R : ℕ → Type 0) (W : ℤ → Type 0) where
         running = λ u e. subst R (same_Some _ _ e) all.0;
         ready = λ g. by_put Each h g ts k.ready (λ e. all.1) (λ ne. b.ready g);
         sleepers = b.sleepers;
+        pending = b.pending;
         queued = b.queued;
         callers = b.callers;
         now = b.now;
@@ -81,6 +87,7 @@ module _ (R : ℕ → Type 0) (W : ℤ → Type 0) where
         running = λ u e. absurd (none-some u e);
         ready = λ h. by_put Each (active k t) h (t ∷ k.ready (active k t)) k.ready (λ e. (r, b.ready (active k t))) (λ ne. b.ready h);
         sleepers = b.sleepers;
+        pending = b.pending;
         queued = b.queued;
         callers = b.callers;
         now = b.now;
@@ -106,7 +113,7 @@ module _ (R : ℕ → Type 0) (W : ℤ → Type 0) where
   bounded_due : (s : Sleeper) (k : Kernel) → R s.task → W s.wake → Bounded k → Bounded (wakes_if_due s k)
   bounded_due s k r x b =
       bounded_cond (int_lt k.now s.wake) _ _
-      (record { running = b.running; ready = b.ready; sleepers = sleeps_more k.sleepers s b.sleepers r x; queued = b.queued; callers = b.callers; now = b.now })
+      (record { running = b.running; ready = b.ready; sleepers = sleeps_more k.sleepers s b.sleepers r x; pending = b.pending; queued = b.queued; callers = b.callers; now = b.now })
       (bounded_ready s.task (released s.task k) r (bounded_released s.task k b))
 
   bounded_wakes : (ss : List Sleeper) (k : Kernel) → Sleeps ss → Bounded k → Bounded (wakes_due ss k)
@@ -121,18 +128,44 @@ module _ (R : ℕ → Type 0) (W : ℤ → Type 0) where
       by true p q = p
       by false p q = q
 
-  bounded_moves : (ss : List Sleeper) (k : Kernel) → Sleeps ss → Bounded k → Bounded (time_moves ss k)
-  bounded_moves [] k all b = record { running = b.running; ready = b.ready; sleepers = b.sleepers; queued = b.queued; callers = b.callers; now = b.now }
-  bounded_moves (s ∷ ss) k all b =
-      let at : Bounded (record k { now = least s.wake ss; sleepers = [] }) =
-      record { running = b.running; ready = b.ready; sleepers = tt; queued = b.queued; callers = b.callers; now = least_within s.wake ss all.1 all.2 } in
-      bounded_dispatch _ (bounded_wakes (s ∷ ss) _ all at)
+  -- interrupts
+
+  bounded_delivers : (is : List Interrupt) (k : Kernel) → Awaits k.partition.tasks is → Bounded k → Bounded (delivers is k)
+  bounded_delivers [] k all b = b
+  bounded_delivers (i ∷ is) k all b =
+      bounded_cond (int_lt k.now i.time) k (starts i (record k { pending = is })) b
+      (record {
+        running = λ u e. subst R (same_Some _ _ e) all.0;
+        ready = b.ready;
+        sleepers = b.sleepers;
+        pending = all.2;
+        queued = b.queued;
+        callers = λ u. by_put Callers (actor k.partition i.channel) u (Writes i.object ∷ []) k.actions (λ e. tt) (λ ne. b.callers u);
+        now = b.now;
+      })
+
+  next_within : (ss : List Sleeper) (is : List Interrupt) (q : Bool) (tasks : ℕ) → Sleeps ss → Awaits tasks is → (z : ℤ) → next_time ss is q ≡ Some z → W z
+  next_within [] [] q tasks all wait z e = absurd (none-some z e)
+  next_within [] (i ∷ is) true tasks all wait z e = subst W (same_Some _ _ e) wait.1
+  next_within [] (i ∷ is) false tasks all wait z e = absurd (none-some z e)
+  next_within (s ∷ ss) [] q tasks all wait z e = subst W (same_Some _ _ e) (least_within s.wake ss all.1 all.2)
+  next_within (s ∷ ss) (i ∷ is) q tasks all wait z e = subst W (same_Some _ _ e) (least_within i.time (s ∷ ss) wait.1 all)
+
+  bounded_time : (o : Option ℤ) (k : Kernel) → next k ≡ o → Bounded k → Bounded (time_moves o k)
+  bounded_time None k e b = record { running = b.running; ready = b.ready; sleepers = b.sleepers; pending = b.pending; queued = b.queued; callers = b.callers; now = b.now }
+  bounded_time (Some z) k e b =
+      let there : W z = next_within k.sleepers k.pending (some_queued k.queued k.partition.objects) k.partition.tasks b.sleepers b.pending z e in
+      let at : Bounded (record k { now = z; sleepers = [] }) =
+      record { running = b.running; ready = b.ready; sleepers = tt; pending = b.pending; queued = b.queued; callers = b.callers; now = there } in
+      let woken = wakes_due k.sleepers (record k { now = z; sleepers = [] }) in
+      let w : Bounded woken = bounded_wakes k.sleepers (record k { now = z; sleepers = [] }) b.sleepers at in
+      bounded_dispatch (delivers woken.pending woken) (bounded_delivers woken.pending woken w.pending w)
 
   bounded_clock : (k : Kernel) → Bounded k → Bounded (clock k)
   bounded_clock k b = by k.running
     where
       by : (o : Option ℕ) → Bounded (clock_from o k)
-      by None = bounded_moves k.sleepers k b.sleepers b
+      by None = bounded_time (next k) k refl b
       by (Some t) = b
 
   -- effects
@@ -171,6 +204,7 @@ module _ (R : ℕ → Type 0) (W : ℤ → Type 0) where
         running = b.running;
         ready = b.ready;
         sleepers = b.sleepers;
+        pending = b.pending;
         queued = λ p v e. of_put (λ q. q ≡ Some v) (R v) o p None k.queued e (λ s e. absurd (none-some v e)) (λ ne e. b.queued p v e);
         callers = λ v. by_put Callers t v (Serves o u ∷ outer) k.actions (λ e. (within, all)) (λ ne. b.callers v);
         now = b.now;
@@ -178,9 +212,14 @@ module _ (R : ℕ → Type 0) (W : ℤ → Type 0) where
   bounded_ends t (HandsBack u) outer k within all b =
       bounded_ready u _ within (bounded_released u _ (bounded_actions t outer k all b))
 
+  -- a handler that is over goes
+  bounded_goes : (c : Bool) (t : ℕ) (k : Kernel) → Bounded k → Bounded (goes_if c t k)
+  bounded_goes false t k b = b
+  bounded_goes true t k b = bounded_delivers k.pending (leaves t k) b.pending (bounded_left t k b)
+
   bounded_effect : (t : ℕ) (e : Effect) (k : Kernel) → R t → Timely e → Bounded k → Bounded (effect t e k)
   bounded_effect t Quiet k r x b = b
-  bounded_effect t (Says label v) k r x b = record { running = b.running; ready = b.ready; sleepers = b.sleepers; queued = b.queued; callers = b.callers; now = b.now }
+  bounded_effect t (Says label v) k r x b = record { running = b.running; ready = b.ready; sleepers = b.sleepers; pending = b.pending; queued = b.queued; callers = b.callers; now = b.now }
   bounded_effect t (Delays z) k r x b =
       bounded_cond (int_lt k.now z) _ _ (bounded_asleep t z (leaves t k) r x (bounded_left t k b)) (bounded_ready t (leaves t k) r (bounded_left t k b))
   bounded_effect t (Opens o) k r x b = bounded_actions t _ k (b.callers t) b
@@ -191,15 +230,17 @@ module _ (R : ℕ → Type 0) (W : ℤ → Type 0) where
         running = l.running;
         ready = l.ready;
         sleepers = l.sleepers;
+        pending = l.pending;
         queued = λ p v e. of_put (λ q. q ≡ Some v) (R v) o p (Some t) k.queued e (λ s e. subst R (same_Some _ _ e) r) (λ ne e. b.queued p v e);
         callers = l.callers;
         now = l.now;
       }
   bounded_effect t (Ends c) k r x b =
-      bounded_ends t (ending_of c (k.actions t) k.queued) (outer_of (k.actions t)) k (ending_within c (k.actions t) k (b.callers t) b) (outer_callers (k.actions t) (b.callers t)) b
+      bounded_goes (is_over k.partition t (k.actions t) (ending_of c (k.actions t) k.queued)) t _
+      (bounded_ends t (ending_of c (k.actions t) k.queued) (outer_of (k.actions t)) k (ending_within c (k.actions t) k (b.callers t) b) (outer_callers (k.actions t) (b.callers t)) b)
   bounded_effect t Finishes k r x b = bounded_left t k b
-  bounded_effect t (Dies y) k r x b = record { running = b.running; ready = b.ready; sleepers = b.sleepers; queued = b.queued; callers = b.callers; now = b.now }
-  bounded_effect t Breaks k r x b = record { running = b.running; ready = b.ready; sleepers = b.sleepers; queued = b.queued; callers = b.callers; now = b.now }
+  bounded_effect t (Dies y) k r x b = record { running = b.running; ready = b.ready; sleepers = b.sleepers; pending = b.pending; queued = b.queued; callers = b.callers; now = b.now }
+  bounded_effect t Breaks k r x b = record { running = b.running; ready = b.ready; sleepers = b.sleepers; pending = b.pending; queued = b.queued; callers = b.callers; now = b.now }
 
   settles : (k : Kernel) → Bounded k → Bounded (clock (dispatch k))
   settles k b = bounded_clock (dispatch k) (bounded_dispatch k b)
@@ -222,9 +263,10 @@ module _ (R : ℕ → Type 0) (W : ℤ → Type 0) where
   bounded_activated zero k all b = b
   bounded_activated (suc n) k all b = bounded_ready n (activated n k) (all n (omega arith)) (bounded_activated n k (λ t lt. all t (omega (arith, lt))) b)
 
-  pub bounded_begin : (p : Partition) → ((t : ℕ) → t < p.tasks → R t) → W (pos 0) → Bounded (begin p)
-  bounded_begin p all x =
-      settles _ (bounded_activated p.tasks (blank p) all (record { running = λ t e. absurd (none-some t e); ready = λ h. tt; sleepers = tt; queued = λ o u e. absurd (none-some u e); callers = λ t. tt; now = x }))
+  pub bounded_begin : (p : Partition) (interrupts : List Interrupt) → ((t : ℕ) → t < p.tasks → R t) → Awaits p.tasks interrupts → W (pos 0) → Bounded (begin p interrupts)
+  bounded_begin p interrupts all wait x =
+      settles _ (bounded_activated p.tasks (blank p interrupts) all
+      (record { running = λ t e. absurd (none-some t e); ready = λ h. tt; sleepers = tt; pending = wait; queued = λ o u e. absurd (none-some u e); callers = λ t. tt; now = x }))
 
 pub timely_anytime : (R : ℕ → Type 0) (e : Effect) → Timely R Anytime e
 timely_anytime R (Delays z) = tt

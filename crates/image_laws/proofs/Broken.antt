@@ -40,6 +40,7 @@ kept = record {
       sub (ProtectedProcedure 0) 5 1 0 1 2 ∷ sub (ProtectedFunction 0) 12 0 1 0 3 ∷ sub (EntryBody 0) 15 0 0 0 1 ∷ sub Plain 21 1 1 1 2 ∷ body 30 0 1 ∷ body 44 0 2 ∷ [];
   tasks = task (codes "A") 5 4 ∷ main_is 5;
   rows = row 21 26 1 28 ∷ [];
+  attachments = [];
   instructions =
       -- 0: a procedure of object 0
       at 0 (op.LoadLocal 0) ∷ at 1 (op.StoreObject 0) ∷ at 0 (op.Call 1) ∷ at 1 op.Drop ∷ at 0 op.Return

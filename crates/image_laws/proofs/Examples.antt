@@ -39,7 +39,7 @@ row start end_ exception target = record { start = start; end_ = end_; exception
 -- labels, subprograms, tasks, rows and instructions of an image without objects
 abbrev pub plain_image : List (List ℕ) → List Subprogram → List Task → List Row → List Instr → Sections
 plain_image labels subprograms tasks rows instructions =
-    record { exceptions = predefined; labels = labels; plain_words = []; objects = []; subprograms = subprograms; tasks = tasks; rows = rows; instructions = instructions }
+    record { exceptions = predefined; labels = labels; plain_words = []; objects = []; subprograms = subprograms; tasks = tasks; rows = rows; attachments = []; instructions = instructions }
 
 abbrev pub keeps : Sections → Bool
 keeps i = operands_in_range i && (jumps_stay_inside i && (named_things_exist i && (depths_agree i && tables_agree i)))
@@ -108,6 +108,7 @@ blocks = record {
   subprograms = body 25 0 3 ∷ [];
   tasks = main_is 0;
   rows = [];
+  attachments = [];
   instructions =
       -- words 0 and 1 are put at 1 and 2, both read before
       at 0 (op.Push (pos 1)) ∷ at 1 (op.Push (pos 0)) ∷ at 2 (op.Copy regions.Plain regions.Plain 2)

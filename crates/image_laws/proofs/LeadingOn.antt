@@ -61,6 +61,7 @@ images_have_size i w =
     let g = and_parts (nat_le (length i.labels) LABELS) _ f.1 in
     record {
       instructions = leb-true _ _ (and_parts (nat_le 1 (length i.instructions)) _ a.0).1;
+      subprograms = leb-true _ _ (and_parts (nat_le 1 (length i.subprograms)) _ b.0).1;
       tasks = leb-true _ _ (and_parts (nat_le 1 (length i.tasks)) _ c.0).1;
       objects = leb-true _ _ e.0;
       words = leb-true _ _ g.1;

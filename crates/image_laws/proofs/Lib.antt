@@ -2,13 +2,17 @@ mod Bounds
 mod Broken
 mod Examples
 mod Exclusion
+mod HandlerExamples
+mod HandlerProcedures
 mod LeadingOn
+mod LinkedSteps
 mod Links
 mod Named
 mod ObjectExamples
 mod Plain
 mod Runs
 mod Shapes
+mod Starts
 mod StepLinks
 mod Unread
 mod WellFormed

@@ -17,7 +17,7 @@ use Rattle.image_laws.proofs.Examples.{at, body, keeps, main_is, row, say, sub, 
 
 abbrev object_image : List (List ℕ) → List ObjectRow → List Subprogram → List Task → List Row → List Instr → Sections
 object_image labels objects subprograms tasks rows instructions =
-    record { exceptions = predefined ++ codes "BAD" ∷ []; labels = labels; plain_words = []; objects = objects; subprograms = subprograms; tasks = tasks; rows = rows; instructions = instructions }
+    record { exceptions = predefined ++ codes "BAD" ∷ []; labels = labels; plain_words = []; objects = objects; subprograms = subprograms; tasks = tasks; rows = rows; attachments = []; instructions = instructions }
 
 -- A box: Give (X) puts a value and opens the barrier, Take (X) takes it and closes it; words 0 and 1 are the value and the barrier
 

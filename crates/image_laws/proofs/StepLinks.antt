@@ -1,5 +1,5 @@
 -- The step of a task against the kernel: its open actions, the refusals that it passed, and whose words it may change.
-use Rattle.std.proofs.Common.{◌≡◌, ◌⊎◌, inl, inr, ℕ, suc, ◌+◌, ◌≤◌, ℤ, pos, List, [], ◌∷◌, ◌++◌, length, drop, reverse, Bool, true, false, cond, ◌||◌, Option, Some, None, Ok, Err, refl, sym, ap, ◌∙◌, subst, arith, ⊎_elim}
+use Rattle.std.proofs.Common.{◌≡◌, ◌⊎◌, inl, inr, ℕ, ◌+◌, ◌≤◌, ℤ, pos, List, [], ◌∷◌, ◌++◌, length, drop, reverse, Bool, true, false, cond, ◌||◌, Option, Some, None, Ok, Err, refl, sym, ap, ◌∙◌, subst, arith, ⊎_elim}
 use Rattle.std.proofs.lemmas.Bool.{leb-true, true≢false}
 use Rattle.std.proofs.lemmas.List.{length-take-le}
 use Rattle.std.proofs.lemmas.Option.{none-some, same_Some}
@@ -9,8 +9,8 @@ use Rattle.base.specs.Arithmetic.{Checked, absolute_of, difference_of, modulus_o
 use Rattle.base.specs.Exceptions.{number_of}
 use Rattle.base.specs.declared.limits.TheConstants.{FRAMES}
 use Rattle.base.specs.declared.schedule.ScheduleLine.{ScheduleLine}
-use Rattle.kernel.specs.State.{Kernel, Action, Reads, Writes, Serves}
-use Rattle.kernel.specs.Effects.{Effect, Quiet, Opens, Views, Queues, Ends, Refusal, call_refusal, is_above_ceiling, is_full, is_inside_any, outer_of}
+use Rattle.kernel.specs.State.{Kernel, is_task, Action, Reads, Writes, Serves}
+use Rattle.kernel.specs.Effects.{Quiet, Opens, Views, Ends, Refusal, call_refusal, is_above_ceiling, is_full, is_inside_any, outer_of}
 use Rattle.kernel.specs.Invariant.{CanWrite, HasAction, Passed, Tells}
 use Rattle.kernel.specs.Laws.{EntryOpens}
 use Rattle.kernel.specs.PutLaws.{put_other, same_or_not}
@@ -19,11 +19,11 @@ use Rattle.image.specs.Sections.{Sections, object_of, writes_object}
 use Rattle.image.specs.Operations.{called, called_if, entry_of, results_of}
 use Rattle.image.specs.Rules.{IsWellFormed, calls_inside, has_word, is_plain, names_things, writes_region}
 use Rattle.image.specs.Scalars.{are_different, are_equal, bitwise, is_greater, is_greater_or_equal, is_zero_word, relation}
-use Rattle.image.specs.Frames.{Words, Role, Inner, Opened, Serving, Frame, TaskState, arguments, kind_of, own_object, region_words, shared_with, with_object_words, word_put, words_put}
+use Rattle.image.specs.Frames.{Words, Role, Inner, Opened, Serving, Frame, arguments, frames_counted, kind_of, own_object, region_words, shared_with, with_object_words, word_put, words_put}
 use Rattle.image.specs.Steps as steps
 use Rattle.image.specs.Steps.{Given, Stepped, Results, Raised, caught, does, is_open, removed, resumed, unwind}
-use Rattle.image_laws.specs.Shape.{Stands, AreBelow, IsGoing, IsSound}
-use Rattle.image_laws.specs.Linked.{Fitting, IsCalling, MayWrite, OwesFor, actions_of, frames_of, kind_at, next_actions, opened_by, with_action}
+use Rattle.image_laws.specs.Shape.{Stands, AreBelow, IsGoing, IsSound, MayRun}
+use Rattle.image_laws.specs.Linked.{Fitting, MayWrite, OwesFor, actions_of, frames_of, kind_at, next_actions, opened_by, with_action}
 use Rattle.image.specs.declared.instruction.Instr.{Instr}
 use Rattle.image.specs.declared.instruction.Operation.{Operation}
 use Rattle.image.specs.declared.instruction.Operation.TheVariants as op
@@ -32,7 +32,7 @@ use Rattle.image.specs.declared.instruction.Region.TheVariants as regions
 use Rattle.image.specs.declared.subprograms.Kind.{Kind}
 use Rattle.image.specs.declared.subprograms.Kind.TheVariants.{Plain, ProtectedProcedure, ProtectedFunction, EntryBody, TaskBody}
 use Rattle.image.specs.declared.subprograms.Subprogram.{Subprogram}
-use Rattle.image_laws.proofs.Shapes.{instr}
+use Rattle.image_laws.proofs.Shapes.{fewer, instr}
 use Rattle.std.proofs.lemmas.Bool.{and_parts, eqb-true}
 use Rattle.image.specs.RuleLaws.{some_and-at}
 use Rattle.image_laws.proofs.WellFormed.{entry_kind, names}
@@ -43,9 +43,16 @@ pub record Links (i : Sections) (k : Kernel) (t : ℕ) (m : Words) (r : Stepped)
   pub may : MayWrite i (frames_of r.solo.task)
   pub passed : Passed (is_open i r.solo.memory) k t r.effect
   pub held : (o : ℕ) → (r.solo.memory.objects o ≡ m.objects o) ⊎ HasAction (CanWrite o) (k.actions t)
-  pub owes : OwesFor i (k.actions t) r.effect r.given r.solo.task
+  pub owes : OwesFor i (is_task k.partition t) (k.actions t) r.effect r.given r.solo.task
+
+room_after : (own : Bool) (f : Frame) (fs : List Frame) → frames_counted own (f ∷ fs) ≤ FRAMES → frames_counted own fs + 1 ≤ FRAMES
+room_after true f fs le = omega arith
+room_after false f fs le = omega arith
 
 module _ (i : Sections) (k : Kernel) (t : ℕ) (m : Words) where
+  abbrev own : Bool
+  own = is_task k.partition t
+
   unchanged : (o : ℕ) → (m.objects o ≡ m.objects o) ⊎ HasAction (CanWrite o) (k.actions t)
   unchanged o = inl refl
 
@@ -63,31 +70,28 @@ module _ (i : Sections) (k : Kernel) (t : ℕ) (m : Words) where
   fitting_opened (EntryBody p) o outer = tt
   fitting_opened TaskBody o outer = tt
 
-  room_after : (n : ℕ) → suc n + 1 ≤ FRAMES → n + 2 ≤ FRAMES
-  room_after n le = omega arith
-
   -- the end of an action, with frame c on top
-  opened_links : (kind : Kind) (o : ℕ) (c : Frame) (fs : List Frame) (raising : Option ℕ) → k.actions t ≡ opened_by kind o ∷ actions_of i (c ∷ fs) → MayWrite i (c ∷ fs) → suc (length fs) + 1 ≤ FRAMES → Links i k t m (does (Ends (is_open i m o)) m c fs raising None)
+  opened_links : (kind : Kind) (o : ℕ) (c : Frame) (fs : List Frame) (raising : Option ℕ) → k.actions t ≡ opened_by kind o ∷ actions_of i (c ∷ fs) → MayWrite i (c ∷ fs) → frames_counted own fs + 1 ≤ FRAMES → Links i k t m (does (Ends (is_open i m o)) m c fs raising None)
   opened_links kind o c fs raising acts may few =
       record {
         actions = sym (ap outer_of acts);
         may = may;
         passed = subst (Tells (is_open i m) (is_open i m o)) (sym acts) (tells_opened kind o (actions_of i (c ∷ fs)));
         held = unchanged;
-        owes = (room_after (length fs) few, subst (λ v. Fitting i v None) (sym acts) (fitting_opened kind o (actions_of i (c ∷ fs))));
+        owes = (few, subst (λ v. Fitting i v None) (sym acts) (fitting_opened kind o (actions_of i (c ∷ fs))));
       }
 
-  served_links : (o u : ℕ) (c : Frame) (fs : List Frame) (raising : Option ℕ) (g : Given) → Fitting i (Serves o u ∷ actions_of i (c ∷ fs)) (Some g) → k.actions t ≡ Serves o u ∷ actions_of i (c ∷ fs) → MayWrite i (c ∷ fs) → suc (length fs) + 1 ≤ FRAMES → Links i k t m (does (Ends (is_open i m o)) m c fs raising (Some g))
+  served_links : (o u : ℕ) (c : Frame) (fs : List Frame) (raising : Option ℕ) (g : Given) → Fitting i (Serves o u ∷ actions_of i (c ∷ fs)) (Some g) → k.actions t ≡ Serves o u ∷ actions_of i (c ∷ fs) → MayWrite i (c ∷ fs) → frames_counted own fs + 1 ≤ FRAMES → Links i k t m (does (Ends (is_open i m o)) m c fs raising (Some g))
   served_links o u c fs raising g fits acts may few =
       record {
         actions = sym (ap outer_of acts);
         may = may;
         passed = subst (Tells (is_open i m) (is_open i m o)) (sym acts) tt;
         held = unchanged;
-        owes = (room_after (length fs) few, subst (λ v. Fitting i v (Some g)) (sym acts) fits);
+        owes = (few, subst (λ v. Fitting i v (Some g)) (sym acts) fits);
       }
 
-  removed_links : (x : ℕ) (role : Role) (kind : Kind) (c : Frame) (fs : List Frame) (at_once : Stepped) → k.actions t ≡ with_action role kind (actions_of i (c ∷ fs)) → MayWrite i (c ∷ fs) → suc (length fs) + 1 ≤ FRAMES → (k.actions t ≡ actions_of i (c ∷ fs) → Links i k t m at_once) → Links i k t m (removed i m x role c fs at_once)
+  removed_links : (x : ℕ) (role : Role) (kind : Kind) (c : Frame) (fs : List Frame) (at_once : Stepped) → k.actions t ≡ with_action role kind (actions_of i (c ∷ fs)) → MayWrite i (c ∷ fs) → frames_counted own fs + 1 ≤ FRAMES → (k.actions t ≡ actions_of i (c ∷ fs) → Links i k t m at_once) → Links i k t m (removed i m x role c fs at_once)
   removed_links x Inner kind c fs at_once acts may few left = left acts
   removed_links x (Opened o) kind c fs at_once acts may few left = opened_links kind o c fs (Some x) acts may few
   removed_links x (Serving o u pending) kind c fs at_once acts may few left = served_links o u c fs pending (Raised x) tt acts may few
@@ -96,15 +100,12 @@ module _ (i : Sections) (k : Kernel) (t : ℕ) (m : Words) where
   caught_links x None f fs other acts may left = left
   caught_links x (Some a) f fs other acts may left = record { actions = sym acts; may = may; passed = tt; held = unchanged; owes = tt }
 
-  less : (n : ℕ) → suc n + 1 ≤ FRAMES → n + 1 ≤ FRAMES
-  less n le = omega arith
-
-  pub unwind_links : (x : ℕ) (fs : List Frame) (f : Frame) → length fs + 1 ≤ FRAMES → k.actions t ≡ actions_of i (f ∷ fs) → MayWrite i (f ∷ fs) → Links i k t m (unwind i m x f fs)
+  pub unwind_links : (x : ℕ) (fs : List Frame) (f : Frame) → frames_counted own fs ≤ FRAMES → k.actions t ≡ actions_of i (f ∷ fs) → MayWrite i (f ∷ fs) → Links i k t m (unwind i m x f fs)
   unwind_links x [] f few acts may =
       caught_links x (handler_of i.rows f.place x) f [] _ acts may (record { actions = sym acts; may = may; passed = tt; held = unchanged; owes = tt })
   unwind_links x (c ∷ fs) f few acts may =
       caught_links x (handler_of i.rows f.place x) f (c ∷ fs) _ acts may
-      (removed_links x f.role (kind_at i f) c fs (unwind i m x c fs) acts may.1 few (λ e. unwind_links x fs c (less (length fs) few) e may.1))
+      (removed_links x f.role (kind_at i f) c fs (unwind i m x c fs) acts may.1 (room_after own c fs few) (λ e. unwind_links x fs c (fewer own c fs few) e may.1))
 
 -- who calls inside an object what may write it may write it too
 calls_inside_writes : (a b : Kind) (o : ℕ) → (is_plain b || calls_inside a b) ≡ true → object_of b ≡ Some o → writes_object b ≡ true → (object_of a ≡ Some o) × (writes_object a ≡ true)
@@ -130,7 +131,7 @@ opener_writes (ProtectedProcedure p) o outer is writes = inl refl
 opener_writes (ProtectedFunction p) o outer is writes = absurd (true≢false (sym writes))
 opener_writes (EntryBody p) o outer is writes = inl refl
 
-module _ (i : Sections) (w : IsWellFormed i) (schedule : List ScheduleLine) (k : Kernel) (t : ℕ) (m : Words) (f : Frame) (fs : List Frame) (few : length fs + 1 ≤ FRAMES) (below : AreBelow i f.role f.subprogram fs) (s : Subprogram) (d : ℕ) (deep : length f.stack ≡ d) (acts : k.actions t ≡ actions_of i (f ∷ fs)) (may : MayWrite i (f ∷ fs)) where
+module _ (i : Sections) (w : IsWellFormed i) (schedule : List ScheduleLine) (k : Kernel) (t : ℕ) (m : Words) (f : Frame) (fs : List Frame) (few : frames_counted (is_task k.partition t) fs ≤ FRAMES) (below : AreBelow i (is_task k.partition t) f.role f.subprogram fs) (go : MayRun (is_task k.partition t) fs) (s : Subprogram) (d : ℕ) (deep : length f.stack ≡ d) (acts : k.actions t ≡ actions_of i (f ∷ fs)) (may : MayWrite i (f ∷ fs)) where
   abbrev At : Operation → Type 0
   At o = Stands i f s (instr d o)
 
@@ -212,7 +213,7 @@ module _ (i : Sections) (w : IsWellFormed i) (schedule : List ScheduleLine) (k :
   with_parameters_links c go left = cond_links (nat_le c.parameters (length f.stack)) _ _ (λ e. left) (λ e. breaks_links)
 
   with_frame_left_links : (go : Stepped) → Links i k t m go → Links i k t m (steps.with_frame_left i schedule k t m f fs go)
-  with_frame_left_links go left = cond_links (nat_lt (length fs + 1) FRAMES) _ _ (λ e. left) (λ e. raised_links _)
+  with_frame_left_links go left = cond_links (nat_lt (frames_counted (is_task k.partition t) fs) FRAMES) _ _ (λ e. left) (λ e. raised_links _)
 
   call_links : (n : ℕ) → At (op.Call n) → (c : Option Subprogram) → called i n ≡ c → Links i k t m (steps.call i schedule k t m f fs n c)
   call_links n st None is = breaks_links
@@ -290,14 +291,14 @@ module _ (i : Sections) (w : IsWellFormed i) (schedule : List ScheduleLine) (k :
         may = may;
         passed = (passed.0, passed.1, closed, room);
         held = unchanged i k t m;
-        owes = record { few = few; going = record { s = s; x = instr d (op.EntryCall o); stands = st; depth = deep }; at_call = refl; quiet = refl; below = below };
+        owes = record { few = few; going = record { s = s; x = instr d (op.EntryCall o); stands = st; depth = deep }; at_call = refl; quiet = refl; below = below; may = go };
       })))))
 
   entry_call_links : EntryOpens → (o : ℕ) → At (op.EntryCall o) → (n : Option ℕ) → entry_of (slice_get i.objects o) ≡ n → Links i k t m (steps.entry_call i schedule k t m f fs o n)
   entry_call_links free o st None entry = breaks_links
   entry_call_links free o st (Some n) entry = entry_call_at_links free o n st entry (called i n) refl
 
-  returns_to_links : (cs : List Frame) (role : Role) (results : List ℤ) → length cs + 1 ≤ FRAMES → k.actions t ≡ with_action role (kind_at i f) (actions_of i cs) → MayWrite i cs → fs ≡ cs → role ≡ f.role → AreBelow i role f.subprogram cs → length results ≡ results_of (called i f.subprogram) → Links i k t m (steps.returns_to i schedule k t m f fs cs role results)
+  returns_to_links : (cs : List Frame) (role : Role) (results : List ℤ) → frames_counted (is_task k.partition t) cs ≤ FRAMES → k.actions t ≡ with_action role (kind_at i f) (actions_of i cs) → MayWrite i cs → fs ≡ cs → role ≡ f.role → AreBelow i (is_task k.partition t) role f.subprogram cs → length results ≡ results_of (called i f.subprogram) → Links i k t m (steps.returns_to i schedule k t m f fs cs role results)
   returns_to_links [] role results room own rest same is under e =
       record {
         actions = sym (own ∙ ap (λ v. with_action v (kind_at i f) []) is);
@@ -307,9 +308,9 @@ module _ (i : Sections) (w : IsWellFormed i) (schedule : List ScheduleLine) (k :
         owes = tt;
       }
   returns_to_links (c ∷ cs) Inner results room own rest same is under e = record { actions = sym own; may = rest; passed = tt; held = unchanged i k t m; owes = tt }
-  returns_to_links (c ∷ cs) (Opened o) results room own rest same is under e = opened_links i k t m (kind_at i f) o (resumed c results) cs None own rest room
+  returns_to_links (c ∷ cs) (Opened o) results room own rest same is under e = opened_links i k t m (kind_at i f) o (resumed c results) cs None own rest (room_after (is_task k.partition t) c cs room)
   returns_to_links (c ∷ cs) (Serving o u pending) results room own rest same is under e =
-      served_links i k t m o u c cs pending (Results results) (e ∙ sym (ap (λ v. results_of (called_if i v)) under.0)) own rest room
+      served_links i k t m o u c cs pending (Results results) (e ∙ sym (ap (λ v. results_of (called_if i v)) under.0)) own rest (room_after (is_task k.partition t) c cs room)
 
   unless_inside_links : (go : Stepped) → (is_inside_any k t ≡ false → Links i k t m go) → Links i k t m (steps.unless_inside i schedule k t m f fs go)
   unless_inside_links go left = cond_links (is_inside_any k t) _ _ (λ e. raised_links _) left
@@ -377,13 +378,13 @@ module _ (i : Sections) (w : IsWellFormed i) (schedule : List ScheduleLine) (k :
   operation_links free op.Clock st = to_links _ (k.now ∷ f.stack)
 
 module _ (i : Sections) (w : IsWellFormed i) (free : EntryOpens) (schedule : List ScheduleLine) (k : Kernel) (t : ℕ) (m : Words) where
-  instruction_links : (f : Frame) (fs : List Frame) → length fs + 1 ≤ FRAMES → AreBelow i f.role f.subprogram fs → (g : IsGoing i f) → k.actions t ≡ actions_of i (f ∷ fs) → MayWrite i (f ∷ fs) → (x : Option Instr) → slice_get i.instructions f.place ≡ x → Links i k t m (steps.does_instruction i schedule k t m f fs x)
-  instruction_links f fs few below g acts may None is = record { actions = sym acts; may = may; passed = tt; held = unchanged i k t m; owes = tt }
-  instruction_links f fs few below g acts may (Some x) is =
+  instruction_links : (f : Frame) (fs : List Frame) → frames_counted (is_task k.partition t) fs ≤ FRAMES → AreBelow i (is_task k.partition t) f.role f.subprogram fs → MayRun (is_task k.partition t) fs → (g : IsGoing i f) → k.actions t ≡ actions_of i (f ∷ fs) → MayWrite i (f ∷ fs) → (x : Option Instr) → slice_get i.instructions f.place ≡ x → Links i k t m (steps.does_instruction i schedule k t m f fs x)
+  instruction_links f fs few below go g acts may None is = record { actions = sym acts; may = may; passed = tt; held = unchanged i k t m; owes = tt }
+  instruction_links f fs few below go g acts may (Some x) is =
       let e : x ≡ g.x = same_Some _ _ (sym is ∙ g.stands.instruction) in
       let st = g.stands in
-      operation_links i w schedule k t m f fs few below g.s x.depth (g.depth ∙ ap (λ v. v.depth) (sym e)) acts may free x.operation (subst (Stands i f g.s) (sym e) st)
+      operation_links i w schedule k t m f fs few below go g.s x.depth (g.depth ∙ ap (λ v. v.depth) (sym e)) acts may free x.operation (subst (Stands i f g.s) (sym e) st)
 
-  pub act_links : (f : Frame) (fs : List Frame) (x : Option ℕ) → IsSound i (record { frame = f; callers = fs; raising = x }) → k.actions t ≡ actions_of i (f ∷ fs) → MayWrite i (f ∷ fs) → Links i k t m (steps.does_or_raises i schedule k t m f fs x)
-  act_links f fs None s acts may = instruction_links f fs s.few s.below s.running acts may (slice_get i.instructions f.place) refl
+  pub act_links : (f : Frame) (fs : List Frame) (x : Option ℕ) → IsSound i (is_task k.partition t) (record { frame = f; callers = fs; raising = x }) → k.actions t ≡ actions_of i (f ∷ fs) → MayWrite i (f ∷ fs) → Links i k t m (steps.does_or_raises i schedule k t m f fs x)
+  act_links f fs None s acts may = instruction_links f fs s.few s.below s.may s.running acts may (slice_get i.instructions f.place) refl
   act_links f fs (Some x) s acts may = unwind_links i k t m x fs f s.few acts may

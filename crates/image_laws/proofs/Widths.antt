@@ -17,21 +17,25 @@ use Rattle.base.specs.declared.exceptions.PredefinedException.{PredefinedExcepti
 use Rattle.base.specs.declared.exceptions.PredefinedException.TheVariants.{ConstraintError, ProgramError, StorageError, TaskingError}
 use Rattle.base.specs.declared.schedule.ScheduleLine.{ScheduleLine}
 use Rattle.image.specs.Scalars.{are_different, are_equal, bitwise, exception_of, in_bounds, input_of, is_greater, is_greater_or_equal, is_zero, is_zero_word, relation, word_of}
-use Rattle.kernel.specs.State.{Kernel, Outcome, Sleeper, put}
+use Rattle.kernel.specs.State.{Interrupt, Kernel, Outcome, Sleeper, put}
+use Rattle.kernel.specs.Interrupts.{interrupt_if}
+use Rattle.kernel.proofs.Lists.{either}
 use Rattle.kernel.specs.Effects.{Effect, Quiet, Opens, Views, Refusal, Ending, Closes, TakesOver, HandsBack, call_refusal, is_above_ceiling, is_full, is_inside_any}
 use Rattle.kernel.specs.PutLaws.{by_put}
-use Rattle.kernel.specs.Worlds.{Tasks, among, ending, reached, run, step, step_of}
+use Rattle.kernel.specs.Worlds.{Tasks, among, ending, is_handler_over, reached, run, step, step_of}
 use Rattle.handlers.specs.Innermost.{handler_of}
-use Rattle.image.specs.Sections.{Sections}
+use Rattle.image.specs.Attachments.{attached_to, handling_object, interrupts}
+use Rattle.image.specs.Sections.{Sections, object_of}
+use Rattle.image.specs.Starting.{handler_state, handler_state_of, lowest_frame, role_within, task_state}
 use Rattle.image.specs.ObjectTable.{ObjectRow}
 use Rattle.image.specs.Operations.{called, entry_called, entry_of, parameters_of, results_of}
-use Rattle.image.specs.Frames.{Words, Role, Inner, Opened, Serving, Frame, TaskState, arguments, locals_with, new_frame, object_words, own_object, region_words, shared_with, with_object_words, word_at, word_put, words_at, words_put}
+use Rattle.image.specs.Frames.{Words, Role, Inner, Opened, Serving, Frame, TaskState, arguments, kind_of, locals_with, new_frame, object_words, own_object, region_words, shared_with, with_object_words, word_at, word_put, words_at, words_put}
 use Rattle.image.specs.Steps as steps
 use Rattle.image.specs.Steps.{Given, Raised, Results, Stepped, act, behaviour, caught, is_open, receives, removed, serving, serving_with, taken, unwind}
-use Rattle.image.specs.Code.{CodeWorld, body_frame, code, initial_words_of, partition_of, start}
+use Rattle.image.specs.Code.{CodeWorld, body_frame, code, initial_state, initial_words_of, partition_of, start}
 use Rattle.image_laws.specs.Laws.{FitsAlways}
 use Rattle.image.specs.WordRanges.{AllFit, ConstantFits, ConstantsFit, ObjectsFit, Fits64, ImageFits}
-use Rattle.image_laws.specs.Width.{FrameFits, FramesFit, GivenFits, LinesFit, MayFit, RoleFits, SleepersFit, TaskFits, WordsFit}
+use Rattle.image_laws.specs.Width.{FrameFits, FramesFit, GivenFits, LinesFit, MayFit, PendingFits, RoleFits, SleepersFit, TaskFits, WordsFit}
 use Rattle.image.specs.declared.instruction.Instr.{Instr}
 use Rattle.image.specs.declared.instruction.Operation.{Operation}
 use Rattle.image.specs.declared.instruction.Operation.TheVariants as op
@@ -40,7 +44,7 @@ use Rattle.image.specs.declared.instruction.Region.TheVariants as regions
 use Rattle.image.specs.declared.subprograms.Kind.{Kind}
 use Rattle.image.specs.declared.subprograms.Kind.TheVariants.{Plain, ProtectedProcedure, ProtectedFunction, EntryBody, TaskBody}
 use Rattle.image.specs.declared.subprograms.Subprogram.{Subprogram}
-use Rattle.image_laws.proofs.Bounds.{Bounded, Sleeps, Timely, bounded_after, bounded_begin}
+use Rattle.image_laws.proofs.Bounds.{Awaits, Bounded, Sleeps, Timely, bounded_after, bounded_begin}
 
 abbrev Anyone : ℕ → Type 0
 Anyone t = Unit {0}
@@ -125,10 +129,10 @@ in_bounds_fits least most v fits u e = by (int_le least v && int_le v most) e
 
 input_fits : (ls : List ScheduleLine) (channel : ℕ) (now before : ℤ) → LinesFit ls → Fits64 before → Fits64 (input_after before ls channel now)
 input_fits [] channel now before all fits = fits
-input_fits (l ∷ ls) channel now before all fits = input_fits ls channel now _ all.1 (chosen (is_heard channel now l))
+input_fits (l ∷ ls) channel now before all fits = input_fits ls channel now _ all.2 (chosen (is_heard channel now l))
   where
     chosen : (b : Bool) → Fits64 (cond b l.value before)
-    chosen true = all.0
+    chosen true = all.1
     chosen false = fits
 
 input_of_fits : (ls : List ScheduleLine) (now c : ℤ) → LinesFit ls → Gives64 (input_of ls now c)
@@ -517,6 +521,29 @@ module _ (i : Sections) (constants : ImageFits i) (schedule : List ScheduleLine)
     tasks : (t : ℕ) → TaskFits (w.rest.tasks t)
     kernel : Bounded Anyone Fits64 w.kernel
 
+  body_fits : (n : ℕ) (o : Option Subprogram) → FrameFits (body_frame i n o)
+  body_fits n None = record { locals = tt; stack = tt; role = tt }
+  body_fits n (Some s) = record { locals = zeros_fit s.locals; stack = tt; role = tt }
+
+  role_fits : (o : Option ℕ) → RoleFits (role_within o)
+  role_fits None = tt
+  role_fits (Some o) = tt
+
+  lowest_fits : FrameFits (lowest_frame i)
+  lowest_fits = record { locals = tt; stack = tt; role = tt }
+
+  handler_fits : (a : Option ℕ) → TaskFits (handler_state_of i a)
+  handler_fits None = record { frame = lowest_fits; callers = tt; raising = tt }
+  handler_fits (Some n) =
+      let f = body_fits n (called i n) in
+      record { frame = record { locals = f.locals; stack = f.stack; role = role_fits (object_of (kind_of (called i n))) }; callers = (lowest_fits, tt); raising = tt }
+
+  initial_fits : (t : ℕ) → TaskFits (initial_state i t)
+  initial_fits t =
+      either TaskFits (nat_lt t (length i.tasks)) (task_state i t) (handler_state i (t - length i.tasks))
+      (record { frame = body_fits _ (called i _); callers = tt; raising = tt })
+      (handler_fits (attached_to (t - length i.tasks) i.attachments))
+
   step_holds : (k : Kernel) (d : Tasks Words TaskState) (o : Option Outcome) (running : Option ℕ) → Holds (record { kernel = k; rest = d }) → Holds (step_of (among (behaviour i schedule)) k d o running)
   step_holds k d (Some o) running h = h
   step_holds k d None None h = h
@@ -525,9 +552,11 @@ module _ (i : Sections) (constants : ImageFits i) (schedule : List ScheduleLine)
       let p = h.tasks t in
       let r = act i schedule k t (record { memory = d.memory; task = s }) in
       let fits : StepFits r = act_fits i constants schedule heard k h.kernel.now t d.memory h.words s.frame p.frame s.callers p.callers s.raising p.raising in
+      let mine = cond (is_handler_over k t r.effect) (initial_state i t) r.solo.task in
+      let own : TaskFits mine = either TaskFits (is_handler_over k t r.effect) (initial_state i t) r.solo.task (initial_fits t) fits.task in
       record {
         words = fits.words;
-        tasks = reached_fits t (ending k t r.effect) r.given (put t r.solo.task d.tasks) fits.given (λ u. by_put TaskFits t u r.solo.task d.tasks (λ e. fits.task) (λ ne. h.tasks u));
+        tasks = reached_fits t (ending k t r.effect) r.given (put t mine d.tasks) fits.given (λ u. by_put TaskFits t u mine d.tasks (λ e. own) (λ ne. h.tasks u));
         kernel = bounded_after Anyone Fits64 t r.effect k tt fits.timely h.kernel;
       }
 
@@ -535,17 +564,25 @@ module _ (i : Sections) (constants : ImageFits i) (schedule : List ScheduleLine)
   run_holds zero w h = h
   run_holds (suc n) w h = run_holds n (step (among (behaviour i schedule)) w) (step_holds w.kernel w.rest w.kernel.outcome w.kernel.running h)
 
-  body_fits : (n : ℕ) (o : Option Subprogram) → FrameFits (body_frame i n o)
-  body_fits n None = record { locals = tt; stack = tt; role = tt }
-  body_fits n (Some s) = record { locals = zeros_fit s.locals; stack = tt; role = tt }
+  awaited_fit : (lines : List ScheduleLine) → LinesFit lines → (tasks : ℕ) → Awaits Anyone Fits64 tasks (interrupts i lines)
+  awaited_fit [] all tasks = tt
+  awaited_fit (l ∷ ls) all tasks = by (handling_object i l.channel) (awaited_fit ls all.2 tasks)
+    where
+      by : (o : Option ℕ) → Awaits Anyone Fits64 tasks (interrupts i ls) → Awaits Anyone Fits64 tasks (interrupt_if o l (interrupts i ls))
+      by None rest = rest
+      by (Some o) rest = (tt, all.0, rest)
 
-  start_holds : Holds (start i)
+  start_holds : Holds (start i schedule)
   start_holds =
       record {
         words = record { plain = constants.plain; objects = objects_at i.objects constants.objects };
-        tasks = λ t. record { frame = body_fits _ (called i _); callers = tt; raising = tt };
-        kernel = bounded_begin Anyone Fits64 (partition_of i) (λ t lt. tt) refl;
+        tasks = initial_fits;
+        kernel = bounded_begin Anyone Fits64 (partition_of i) (interrupts i schedule) (λ t lt. tt) (awaited_fit schedule heard (length i.tasks)) refl;
       }
+
+  pending_fit : (tasks : ℕ) (is : List Interrupt) → Awaits Anyone Fits64 tasks is → PendingFits is
+  pending_fit tasks [] all = tt
+  pending_fit tasks (x ∷ is) all = (all.1, pending_fit tasks is all.2)
 
   sleepers_fit : (ss : List Sleeper) → Sleeps Anyone Fits64 ss → SleepersFit ss
   sleepers_fit [] all = tt
@@ -553,5 +590,5 @@ module _ (i : Sections) (constants : ImageFits i) (schedule : List ScheduleLine)
 
 pub fits_64_bits : (i : Sections) → ImageFits i → FitsAlways i
 fits_64_bits i constants schedule heard m =
-    let h = run_holds i constants schedule heard m (start i) (start_holds i constants schedule heard) in
-    record { words = h.words; tasks = h.tasks; now = h.kernel.now; sleepers = sleepers_fit i constants schedule heard (code i schedule m).kernel.sleepers h.kernel.sleepers }
+    let h = run_holds i constants schedule heard m (start i schedule) (start_holds i constants schedule heard) in
+    record { words = h.words; tasks = h.tasks; now = h.kernel.now; sleepers = sleepers_fit i constants schedule heard (code i schedule m).kernel.sleepers h.kernel.sleepers; pending = pending_fit i constants schedule heard (code i schedule m).kernel.partition.tasks (code i schedule m).kernel.pending h.kernel.pending }

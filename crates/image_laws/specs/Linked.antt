@@ -1,14 +1,16 @@
 -- What holds between the frames of tasks and the kernel in every world of a well-formed image; nobody has to believe this.
-use Rattle.std.specs.Prelude.{◌≡◌, ℕ, ◌+◌, ◌<◌, ◌≤◌, List, [], ◌∷◌, length, Option, Some, None, true, slice_get}
+use Rattle.std.specs.Prelude.{◌≡◌, ℕ, ◌+◌, ◌≤◌, Bool, true, false, List, [], ◌∷◌, length, Option, Some, None, slice_get}
 use Rattle.base.specs.declared.limits.TheConstants.{FRAMES}
-use Rattle.kernel.specs.State.{Action, Reads, Writes, Serves}
+use Rattle.kernel.specs.State.{Action, Interrupt, Reads, Writes, Serves}
 use Rattle.kernel.specs.Effects.{Effect, Opens, Views, Queues, Ends, outer_of}
 use Rattle.kernel.specs.Invariant.{CanWrite, HasAction, ServesCall}
 use Rattle.image.specs.Sections.{Sections, object_of, writes_object}
 use Rattle.image.specs.Operations.{called, entry_called, entry_of, results_of}
-use Rattle.image.specs.Frames.{Role, Inner, Opened, Serving, Frame, TaskState, kind_of}
+use Rattle.image.specs.Frames.{Role, Inner, Opened, Serving, Frame, TaskState, frames_counted, kind_of}
+use Rattle.image.specs.Attachments.{handling_object}
+use Rattle.image.specs.Code.{initial_state}
 use Rattle.image.specs.Steps.{Given, Results, Raised}
-use Rattle.image_laws.specs.Shape.{AreBelow, IsGoing, IsSound, IsWaiting}
+use Rattle.image_laws.specs.Shape.{AreBelow, IsGoing, IsImageTask, IsSound, IsWaiting, MayRun, is_own}
 use Rattle.image.specs.declared.instruction.Operation.TheVariants.{EntryCall}
 use Rattle.image.specs.declared.subprograms.Kind.{Kind}
 use Rattle.image.specs.declared.subprograms.Kind.TheVariants.{Plain, ProtectedProcedure, ProtectedFunction, EntryBody, TaskBody}
@@ -51,21 +53,23 @@ next_actions (Ends is_open) actions = outer_of actions
 next_actions _ actions = actions
 
 -- the task stands at an entry call of the object, its parameters on the operand stack
-pub record IsCalling (i : Sections) (o : ℕ) (s : TaskState) : Type 0 where
-  pub few : length s.callers + 1 ≤ FRAMES
+pub record IsCalling (i : Sections) (own : Bool) (o : ℕ) (s : TaskState) : Type 0 where
+  pub few : frames_counted own s.callers ≤ FRAMES
   pub going : IsGoing i s.frame
   pub at_call : going.x.operation ≡ EntryCall o
   pub quiet : s.raising ≡ None
-  pub below : AreBelow i s.frame.role s.frame.subprogram s.callers
+  pub below : AreBelow i own s.frame.role s.frame.subprogram s.callers
+  pub may : MayRun own s.callers
 
 -- the task waits at an entry call of the object, whose parameters were taken
-pub record IsAwaiting (i : Sections) (o : ℕ) (s : TaskState) : Type 0 where
-  pub few : length s.callers + 1 ≤ FRAMES
+pub record IsAwaiting (i : Sections) (own : Bool) (o : ℕ) (s : TaskState) : Type 0 where
+  pub few : frames_counted own s.callers ≤ FRAMES
   pub n : ℕ
   pub entry : entry_of (slice_get i.objects o) ≡ Some n
   pub waiting : IsWaiting i n s.frame
   pub quiet : s.raising ≡ None
-  pub below : AreBelow i s.frame.role s.frame.subprogram s.callers
+  pub below : AreBelow i own s.frame.role s.frame.subprogram s.callers
+  pub may : MayRun own s.callers
 
 -- as many results as the entry of the object has
 abbrev pub FitsEntry : Sections → ℕ → Given → Type 0
@@ -81,19 +85,29 @@ Fitting i (Writes o ∷ outer) g = Unit {0}
 Fitting i [] g = Unit {0}
 
 -- a queued caller stands at its call; who ends an action has room for one more frame, and gives what the end of a service owes
-abbrev pub OwesFor : Sections → List Action → Effect → Option Given → TaskState → Type 0
-OwesFor i actions (Queues o) g s = IsCalling i o s
-OwesFor i actions (Ends b) g s = (length s.callers + 2 ≤ FRAMES) × Fitting i actions g
-OwesFor i actions _ g s = Unit {0}
+abbrev pub OwesFor : Sections → (own : Bool) → List Action → Effect → Option Given → TaskState → Type 0
+OwesFor i own actions (Queues o) g s = IsCalling i own o s
+OwesFor i own actions (Ends b) g s = (frames_counted own s.callers + 1 ≤ FRAMES) × Fitting i actions g
+OwesFor i own actions _ g s = Unit {0}
 
 -- who is served by somebody, by the actions of all
 abbrev pub IsServedIn : (ℕ → List Action) → ℕ → Type 0
 IsServedIn actions u = (t : ℕ) × (o : ℕ) × HasAction (ServesCall o u) (actions t)
 
--- open actions, queued calls and the states of tasks fit together
+-- a handler that has not begun
+abbrev pub IsGone : Sections → (ℕ → List Action) → ℕ → Type 0
+IsGone i actions t = (is_own i t ≡ false) × (actions t ≡ [])
+
+-- open actions, queued calls and the states of tasks and handlers fit together; a handler that has not begun holds what its start needs
 pub record IsLinked (i : Sections) (actions : ℕ → List Action) (queued : ℕ → Option ℕ) (tasks : ℕ → TaskState) : Type 0 where
-  pub by_frames : (t : ℕ) → actions t ≡ actions_of i (frames_of (tasks t))
-  pub may : (t : ℕ) → t < length i.tasks → MayWrite i (frames_of (tasks t))
-  pub sound : (u : ℕ) → (IsServedIn actions u → ⊥) → IsSound i (tasks u)
-  pub calling : (o u : ℕ) → queued o ≡ Some u → IsCalling i o (tasks u)
-  pub awaiting : (t o u : ℕ) → HasAction (ServesCall o u) (actions t) → IsAwaiting i o (tasks u)
+  pub by_frames : (t : ℕ) → (IsGone i actions t → ⊥) → actions t ≡ actions_of i (frames_of (tasks t))
+  pub gone : (t : ℕ) → IsGone i actions t → tasks t ≡ initial_state i t
+  pub may : (t : ℕ) → IsImageTask i t → MayWrite i (frames_of (tasks t))
+  pub sound : (u : ℕ) → IsImageTask i u → (IsServedIn actions u → ⊥) → IsSound i (is_own i u) (tasks u)
+  pub calling : (o u : ℕ) → queued o ≡ Some u → IsCalling i (is_own i u) o (tasks u)
+  pub awaiting : (t o u : ℕ) → HasAction (ServesCall o u) (actions t) → IsAwaiting i (is_own i u) o (tasks u)
+
+-- the object of each pending interrupt is that of its channel's handler
+abbrev pub AreHandled : Sections → List Interrupt → Type 0
+AreHandled i [] = Unit {0}
+AreHandled i (x ∷ xs) = (handling_object i x.channel ≡ Some x.object) × AreHandled i xs

@@ -2,12 +2,12 @@
 #![tactic(auto)]
 
 ghost use Rattle.image_laws.specs.Laws.{BeginsSound, CodeLeadsOn, EachIsHeld, FitsAlways, FourInEveryWorld, FramesHaveRoom, ImagesHaveSize, KernelKept, LinesGrowOn, LinkedInEveryWorld, OutcomeStays, StepsSound};
-ghost use Rattle.image_laws.specs.Whole.{EffectsNamed, LinesUnread, RunnerOwes, RunnerPasses, RunnerSound, StartsWhole, StepsWhole, UnseenWhole};
+ghost use Rattle.image_laws.specs.Whole.{EffectsNamed, LinesUnread, RunnerGoesOn, RunnerOwes, RunnerPasses, RunnerSound, StartsWhole, StepsWhole, UnseenWhole};
 
 use image::Image;
 use kernel::laws::{
-    begins_kept, entry_opens, four_statements_hold, kept_by_every_effect, left_unmoved, lines_grow,
-    reaches_callers,
+    begins_kept, entry_opens, four_statements_hold, handlers_go_on, kept_by_every_effect,
+    lines_grow, reaches_callers, start_settles, steps_settle,
 };
 
 /// At the start the frame of a task's body stands at its first instruction, with the locals that the body declares and an empty operand stack.
@@ -54,7 +54,8 @@ pub fn kernel_kept()
 {
     begins_kept();
     kept_by_every_effect();
-    left_unmoved();
+    steps_settle();
+    start_settles();
     entry_opens();
     reaches_callers();
     four_statements_hold();
@@ -68,7 +69,8 @@ pub fn four_in_every_world()
 {
     begins_kept();
     kept_by_every_effect();
-    left_unmoved();
+    steps_settle();
+    start_settles();
     entry_opens();
     reaches_callers();
     four_statements_hold();
@@ -81,7 +83,8 @@ pub fn linked_in_every_world()
 {
     begins_kept();
     kept_by_every_effect();
-    left_unmoved();
+    steps_settle();
+    start_settles();
     entry_opens();
     reaches_callers();
     four_statements_hold();
@@ -90,7 +93,7 @@ pub fn linked_in_every_world()
 /// The start of every well-formed image is whole, each step keeps a world whole, and so do steps that no other task notices: the kernel's
 /// invariant holds, frames and open actions are linked, and whoever runs, is ready, sleeps or is queued is a task of the image. So the
 /// running task's frames have their shape, nothing refuses what they
-/// ask of the kernel, and who ends an action has room for one more frame and gives what a service owes.
+/// ask of the kernel, who ends an action has room for one more frame and gives what a service owes, and a handler runs on up to its end.
 pub fn steps_whole()
     ensures starts { StartsWhole }
     ensures steps { StepsWhole }
@@ -98,13 +101,16 @@ pub fn steps_whole()
     ensures runner { RunnerSound }
     ensures owes { RunnerOwes }
     ensures passes { RunnerPasses }
+    ensures goes_on { RunnerGoesOn }
 {
     begins_kept();
     kept_by_every_effect();
-    left_unmoved();
+    steps_settle();
+    start_settles();
     entry_opens();
     reaches_callers();
     four_statements_hold();
+    handlers_go_on();
 }
 
 /// What a step asks of the kernel speaks of objects of the image alone.

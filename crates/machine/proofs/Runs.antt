@@ -6,6 +6,7 @@ use Rattle.std.specs.Io.KnownBytes.{Appends}
 use Rattle.base.specs.declared.schedule.ScheduleLine.{ScheduleLine}
 use Rattle.kernel.specs.State as kernel
 use Rattle.kernel.specs.Text.{Names, last_line, line_text, lines_text}
+use Rattle.image.specs.Attachments.{interrupts}
 use Rattle.image.specs.Sections.{Sections}
 use Rattle.image.specs.Code.{CodeWorld, code, code_text, partition_of, start}
 use Rattle.image_laws.specs.Laws.{LinesGrowOn, OutcomeStays}
@@ -60,19 +61,20 @@ activated_lines : (n : ℕ) (k : kernel.Kernel) → (activated n k).lines ≡ k.
 activated_lines zero k = refl
 activated_lines (suc n) k = activated_lines n k
 
-pub starts_without_lines : LeftUnmoved → (i : Sections) → (start i).kernel.lines ≡ []
-starts_without_lines unmoved i =
+pub starts_without_lines : LeftUnmoved → (i : Sections) (schedule : List ScheduleLine) → (start i schedule).kernel.lines ≡ []
+starts_without_lines unmoved i schedule =
     let p = partition_of i in
-    (unmoved (activated p.tasks (blank p))).lines ∙ activated_lines p.tasks (blank p)
+    let begins = blank p (interrupts i schedule) in
+    (unmoved (activated p.tasks begins)).lines ∙ activated_lines p.tasks begins
 
-pub stands_start : LeftUnmoved → (i : Sections) (schedule : List ScheduleLine) (h : HeldWorld) → world_of h ≡ start i → HoldsWorld h (code i schedule 0)
-stands_start unmoved i schedule h is = sym is ∙ ap (λ l. world_with l h) (sym (starts_without_lines unmoved i))
+pub stands_start : LeftUnmoved → (i : Sections) (schedule : List ScheduleLine) (h : HeldWorld) → world_of h ≡ start i schedule → HoldsWorld h (code i schedule 0)
+stands_start unmoved i schedule h is = sym is ∙ ap (λ l. world_with l h) (sym (starts_without_lines unmoved i schedule))
 
 -- steps that lead on from a world that the machine stands for
 pub led_on : (h next : HeldWorld) (n k : ℕ) (told : List kernel.Line) → HoldsWorld h (code h.image h.schedule n) → Leads k h next told → code h.image h.schedule (n + k) ≡ world_with ((code h.image h.schedule n).kernel.lines ++ told) next
 led_on h next n k told stands l =
     let f = among (behaviour h.image h.schedule) in
-    run_plus f n k (start h.image) ∙ (ap (run f k) stands ∙ l.world (code h.image h.schedule n).kernel.lines)
+    run_plus f n k (start h.image h.schedule) ∙ (ap (run f k) stands ∙ l.world (code h.image h.schedule n).kernel.lines)
 
 -- a world that is so, and the lines of it
 pub stands_by : (h : HeldWorld) (w : CodeWorld) (lines : List kernel.Line) → w ≡ world_with lines h → HoldsWorld h w
@@ -92,7 +94,7 @@ ran_nothing unmoved h old before stands =
       image = refl;
       schedule_is = refl;
       stands = stands;
-      written = subst (λ l. Appends old old (lines_text (names_of h.image) l)) (sym (starts_without_lines unmoved h.image)) (appends_nothing old);
+      written = subst (λ l. Appends old old (lines_text (names_of h.image) l)) (sym (starts_without_lines unmoved h.image h.schedule)) (appends_nothing old);
       kept = refl;
     }
 

@@ -18,6 +18,6 @@ pub use reports::{Event, LINE_BYTES, LineText, Outcome};
 pub use running::{Machine, run, run_counted, run_over};
 pub use task_state::TaskState;
 pub use tasking::Place;
-pub use text::{exception_name, last_line, task_name};
+pub use text::{ActorName, actor_name, exception_name, last_line, task_name};
 pub use writer_sink::WriterSink;
 pub use writing::{Sink, SinkError, write_all};

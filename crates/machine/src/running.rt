@@ -1,8 +1,9 @@
 //! The machine: one processor that runs the tasks of an image in virtual time.
-ghost use Rattle.std.specs.Prelude.{◌≡◌, None, Some, ℕ, ◌+◌, ◌-◌, ◌<◌, ◌≤◌, Err, IfErr, IfOk, IfSome, List, OnErr, OnOk, length};
+ghost use Rattle.std.specs.Prelude.{◌≡◌, None, Some, ℕ, ◌+◌, ◌-◌, ◌<◌, ◌≤◌, Err, IfErr, IfOk, List, OnErr, OnOk, length, map, option_map};
 ghost use Rattle.std.specs.Io.KnownBytes.{Appends};
 ghost use Rattle.base.specs.declared.limits.TheConstants.{OBJECTS, PRIORITIES, TASKS};
 ghost use Rattle.kernel.specs.Exclusion.{FourStatements};
+ghost use Rattle.kernel.specs.Interrupts.{told};
 ghost use Rattle.kernel.specs.State.{active, inside, is_object_open, Line as KernelLine, Outcome as KernelOutcome};
 ghost use Rattle.kernel.specs.Text.{line_text as text_line, lines_text};
 ghost use Rattle.image.specs.Code.{code, code_text};
@@ -11,7 +12,7 @@ ghost use Rattle.image.specs.Texts.{names_of};
 ghost use Rattle.execution.specs.Ahead.{next_raising};
 ghost use Rattle.execution.specs.Held.{line_of, world_of, world_with};
 ghost use Rattle.machine.specs.Stands.{EndsBy, IsLast, ShowsText, HoldsWorld, kernel_outcome};
-ghost use Rattle.machine.specs.TaskStates.{state_of};
+ghost use Rattle.machine.specs.TaskStates.{active_asked, place_asked, state_of};
 ghost use Rattle.machine.specs.Written.{AppendsBeginning};
 ghost use Rattle.tasking.specs.Held.{kernel_of, place_of};
 ghost use Rattle.tasking.specs.Waits.{wake_time};
@@ -22,7 +23,7 @@ use crate::task_state::TaskState;
 use crate::text::{last_line, line_text};
 use crate::writing::{Sink, write_all};
 use arrayvec::ArrayVec;
-use base::limits::TASKS;
+use base::limits::{CEILING, TASKS};
 use clock::{Delays, ListDelays, Schedule};
 use dispatch::{Ready, RingReady};
 use execution::{Execution, Line, Raising};
@@ -97,12 +98,60 @@ impl<'a, R: Ready, D: Delays> Machine<'a, R, D> {
         self.execution.tasking().now()
     }
 
-    /// The number of the running task, if any.
+    /// The number of the running task, or 255 while the handler of an interrupt runs (RM C.3.1).
     pub fn running(&self) -> Option<u8>
-        ensures same { result ≡ (kernel_of self.now.tasking).running }
-        ensures task { IfSome result (λ t. t < length self.now.image.tasks) }
+        ensures { let k = kernel_of self.now.tasking in result ≡ option_map (told k.partition) k.running }
+    {
+        let tasking = self.execution.tasking();
+        let task = tasking.running()?;
+        Some(tasking.told(task))
+    }
+
+    /// Who runs, by the number that its lines have: a task, or beyond the tasks the handler of an interrupt, whose number is theirs and the channel's together.
+    pub fn actor(&self) -> Option<u8>
+        ensures { result ≡ (kernel_of self.now.tasking).running }
     {
         self.execution.tasking().running()
+    }
+
+    /// How many interrupts are pending.
+    pub fn pending(&self) -> usize
+        ensures { result ≡ length (kernel_of self.now.tasking).pending }
+    {
+        self.execution.tasking().pending()
+    }
+
+    /// Where this one is, as the kernel has it.
+    pub fn place_of_actor(&self, actor: u8) -> Place
+        ensures { place_of result ≡ (kernel_of self.now.tasking).place actor }
+    {
+        self.execution.tasking().place(actor)
+    }
+
+    /// Its active priority; that of a handler that isn't there is the highest.
+    pub fn active_of_actor(&self, actor: u8) -> u8
+        ensures { result ≡ active (kernel_of self.now.tasking) actor }
+    {
+        let tasking = self.execution.tasking();
+        if tasking.is_there(actor) {
+            tasking.active(actor)
+        } else {
+            CEILING
+        }
+    }
+
+    /// Whether it is inside an object (RM 9.5.1); a handler that isn't there is inside none.
+    pub fn is_actor_inside(&self, actor: u8, object: u8) -> bool
+        requires { object < length self.now.image.objects }
+        ensures { result ≡ is_object_open object ((kernel_of self.now.tasking).actions actor) }
+    {
+        let tasking = self.execution.tasking();
+        if tasking.is_there(actor) {
+            let refusal = tasking.call_refusal(actor, object);
+            matches!(refusal, Some(Refusal::SameObject))
+        } else {
+            false
+        }
     }
 
     /// The number of tasks.
@@ -125,11 +174,11 @@ impl<'a, R: Ready, D: Delays> Machine<'a, R, D> {
         self.execution.tasking().object_count()
     }
 
-    /// Where a task is (RM 9, D.2.1); a number that no task has has finished.
+    /// Where a task is (RM 9, D.2.1), or by 255 the handler that runs; a number that no task has has finished.
     pub fn state(&self, task: u8) -> TaskState
-        ensures { result ≡ state_of ((kernel_of self.now.tasking).place task) }
+        ensures { result ≡ state_of (place_asked (kernel_of self.now.tasking) task) }
     {
-        match self.execution.tasking().place(task) {
+        match self.place(task) {
             Place::Running => TaskState::Running,
             Place::Ready => TaskState::Ready,
             Place::Asleep => TaskState::Delayed,
@@ -138,11 +187,15 @@ impl<'a, R: Ready, D: Delays> Machine<'a, R, D> {
         }
     }
 
-    /// Where a task is, as the kernel has it: a caller whose entry body another task runs is told apart from one that waits in the queue.
+    /// The same as the kernel has it: a caller whose entry body another task runs is told apart from one that waits in the queue.
     pub fn place(&self, task: u8) -> Place
-        ensures { place_of result ≡ (kernel_of self.now.tasking).place task }
+        ensures { place_of result ≡ place_asked (kernel_of self.now.tasking) task }
     {
-        self.execution.tasking().place(task)
+        let tasking = self.execution.tasking();
+        match tasking.asked(task) {
+            Some(task) => tasking.place(task),
+            None => Place::Finished,
+        }
     }
 
     /// The time that a task waits for, in microseconds, if it sleeps (RM 9.6).
@@ -162,16 +215,15 @@ impl<'a, R: Ready, D: Delays> Machine<'a, R, D> {
         matches!(refusal, Some(Refusal::SameObject))
     }
 
-    /// The active priority of a task (RM D.3): the greatest of its base priority and the ceilings of its open actions; 0 for a number that
-    /// no task has.
+    /// The active priority of a task (RM D.3), or by 255 of the handler that runs: the greatest of its base priority and the ceilings of its open actions; 0
+    /// for a number that no task has.
     pub fn active(&self, task: u8) -> u8
-        ensures task { task < length self.now.image.tasks → result ≡ active (kernel_of self.now.tasking) task }
-        ensures none { length self.now.image.tasks ≤ task → result ≡ 0 }
+        ensures { result ≡ active_asked (kernel_of self.now.tasking) task }
     {
-        if task < self.tasks() {
-            self.execution.tasking().active(task)
-        } else {
-            0
+        let tasking = self.execution.tasking();
+        match tasking.asked(task) {
+            Some(task) => tasking.active(task),
+            None => 0,
         }
     }
 
@@ -183,15 +235,22 @@ impl<'a, R: Ready, D: Delays> Machine<'a, R, D> {
         self.execution.memory().is_open(image, object)
     }
 
-    /// The tasks inside an object, by their numbers (RM 9.5.1). By ceilings alone there is one at most; no task within an action waits; the
-    /// highest runs; and a call is queued only while its barrier is closed or somebody is inside.
+    /// The tasks inside an object, by their numbers, and the handler, which is 255 (RM 9.5.1). By ceilings alone there is one at most; no task within an action
+    /// waits; the highest runs; and a call is queued only while its barrier is closed or somebody is inside.
     pub fn inside(&self, object: u8) -> ArrayVec<u8, TASKS>
-        ensures tasks { result.items ≡ inside (kernel_of self.now.tasking) object }
+        ensures tasks { let k = kernel_of self.now.tasking in result.items ≡ map (told k.partition) (inside k object) }
         ensures one { length result.items ≤ 1 }
         ensures exclusion { FourStatements (is_open self.now.image (world_of self.now).rest.memory) (kernel_of self.now.tasking) }
     {
         four_statements_hold();
-        self.execution.tasking().inside(object)
+        let tasking = self.execution.tasking();
+        let inside = tasking.inside(object);
+        let tasks = inside.as_slice();
+        let mut numbers = ArrayVec::new();
+        for task in tasks {
+            numbers.push(tasking.told(*task));
+        }
+        numbers
     }
 
     /// The task whose call waits in the queue of an object, if there is one (RM D.7).

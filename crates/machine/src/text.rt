@@ -11,8 +11,10 @@ ghost use Rattle.machine.specs.declared.reports.TheConstants.{LINE_BYTES};
 
 use crate::reports::{LineText, Outcome};
 use arrayvec::ArrayVec;
+use base::limits::NAME_LIMIT;
 use execution::Line;
 use image::{Image, Task, Text};
+use image_laws::code_leads_on;
 use itoa::Buffer;
 
 // Appends the bytes, for which there is room.
@@ -66,6 +68,36 @@ pub fn task_name(tasks: &[Task], number: u8) -> &[u8]
     }
 }
 
+/// A name of a task or of the handler of an interrupt.
+pub type ActorName = ArrayVec<u8, NAME_LIMIT>;
+
+/// The name of a task, or of the handler of an interrupt (RM C.3.1), by the number that its lines have.
+pub fn actor_name(image: &Image, number: u8) -> ActorName
+    ensures same { result.items ≡ (names_of image.now).task number }
+    ensures short { array_vec_len result ≤ NAME_LIMIT }
+{
+    code_leads_on();
+    let tasks = image.tasks();
+    let mut name = ArrayVec::new();
+    if usize::from(number) < tasks.len() {
+        let _ = name.try_extend_from_slice(task_name(tasks, number));
+    } else {
+        let channel = number - tasks.len() as u8;
+        let _ = name.try_extend_from_slice(b"INTERRUPT_");
+        let _ = name.try_extend_from_slice(Buffer::new().format(channel).as_bytes());
+    }
+    name
+}
+
+// Appends the name of a task, or of the handler of an interrupt (RM C.3.1).
+fn put_actor(line: &mut LineText, image: &Image, task: u8)
+    requires { array_vec_len line.old + NAME_LIMIT ≤ LINE_BYTES }
+    ensures items { line.new.items ≡ line.old.items ++ (names_of image.now).task task }
+    ensures len { array_vec_len line.new ≤ array_vec_len line.old + NAME_LIMIT }
+{
+    put(line, actor_name(image, task).as_slice());
+}
+
 /// The text of a line of the image.
 pub(crate) fn line_text(image: &Image, line: &Line) -> LineText
     ensures { result.items ≡ line_text (names_of image.now) (line_of image.now line.now) }
@@ -73,7 +105,7 @@ pub(crate) fn line_text(image: &Image, line: &Line) -> LineText
     let mut text = ArrayVec::new();
     put_number(&mut text, line.time);
     put(&mut text, b" ");
-    put(&mut text, task_name(image.tasks(), line.task));
+    put_actor(&mut text, image, line.task);
     put(&mut text, b" ");
     put(&mut text, text_at(image.labels(), usize::from(line.label)));
     put(&mut text, b" ");
@@ -104,7 +136,7 @@ pub fn last_line(image: &Image, outcome: &Outcome) -> LineText
             put(&mut text, b"unhandled ");
             put(&mut text, exception_name(image.exceptions(), *exception));
             put(&mut text, b" in ");
-            put(&mut text, task_name(image.tasks(), *task));
+            put_actor(&mut text, image, *task);
             time
         }
         Outcome::ImageFault { time } => {

@@ -22,6 +22,7 @@ pub mod RowWrites
 pub mod Rows
 pub mod SafeCode
 pub mod Stacking
+pub mod StillSound
 pub mod Stopping
 pub mod TaskGoing
 pub mod TurnMeets

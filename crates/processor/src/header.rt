@@ -25,7 +25,7 @@ pub(crate) struct Headers {
 }
 
 impl Model for Headers {
-    ghost use Rattle.std.specs.Prelude.{◌<◌, ◌≤◌, length, reverse, vec_capacity};
+    ghost use Rattle.std.specs.Prelude.{◌<◌, ◌≤◌, ◌+◌, length, reverse, vec_capacity};
     ghost use Rattle.base.specs.declared.limits.TheConstants.{FRAMES};
     ghost use Rattle.processor.specs.Layout.{HeaderStack, stack_of};
 
@@ -33,7 +33,7 @@ impl Model for Headers {
 
     ghost view = { λ h. stack_of (reverse h.items.items) };
 
-    ghost invariant = { λ h. (0 < length h.items.items) × (length h.items.items ≤ FRAMES) × (FRAMES ≤ vec_capacity h.items) };
+    ghost invariant = { λ h. (0 < length h.items.items) × (length h.items.items ≤ FRAMES + 1) × (FRAMES + 1 ≤ vec_capacity h.items) };
 }
 
 impl Headers {
@@ -44,7 +44,7 @@ impl Headers {
     pub(crate) fn new(alloc: Global, first: Header) -> Result<Headers, AllocError>
         ensures { IfOk result (λ h. h ≡ record { running = first; waiting = [] }) }
     {
-        let mut items = Vec::with_capacity(alloc, FRAMES)?;
+        let mut items = Vec::with_capacity(alloc, FRAMES + 1)?;
         items.push_reserved(first);
         Ok(Headers { items })
     }
@@ -61,7 +61,7 @@ impl Headers {
     #[inline(always)]
     pub(crate) fn waiting(&self) -> usize
         ensures count { result ≡ length self.now.waiting }
-        ensures few { length self.now.waiting < FRAMES }
+        ensures few { length self.now.waiting ≤ FRAMES }
     {
         self.items.len() - 1
     }
@@ -88,10 +88,28 @@ impl Headers {
     /// Another frame runs above the running one.
     #[inline(always)]
     pub(crate) fn push(&mut self, header: Header)
-        requires { length self.old.waiting + 1 < FRAMES }
+        requires { length self.old.waiting < FRAMES }
         ensures { self.new ≡ record { running = header; waiting = self.old.running ∷ self.old.waiting } }
     {
         self.items.push_reserved(header);
+    }
+
+    // One header is left.
+    fn strip(&mut self)
+        ensures { self.new.waiting ≡ [] }
+    {
+        while 0 < self.waiting() {
+            self.pop();
+        }
+    }
+
+    /// This header alone.
+    pub(crate) fn restart(&mut self, first: Header)
+        ensures { self.new ≡ record { running = first; waiting = [] } }
+    {
+        self.strip();
+        let last = self.items.len() - 1;
+        self.items[last] = first;
     }
 
     /// The frame below runs again.

@@ -1,5 +1,6 @@
 mod CallSteps
 mod Examples
+mod FramesLeft
 mod Going
 mod Operands
 mod Plainly

@@ -1,17 +1,17 @@
 -- What a step raises: where it is foreseen that it raises an exception it is that exception's unwinding, and else it is the same whatever handlers there are.
-use Rattle.std.proofs.Common.{◌≡◌, ℕ, ℤ, pos, drop, List, [], ◌∷◌, length, map, Bool, true, false, cond, Option, Some, None, Ok, Err, option_map, refl, sym, ap, ◌∙◌, subst}
+use Rattle.std.proofs.Common.{◌≡◌, ◌+◌, ℕ, ℤ, pos, drop, List, [], ◌∷◌, length, map, Bool, true, false, cond, Option, Some, None, Ok, Err, option_map, refl, sym, ap, ◌∙◌, subst}
 use Rattle.std.proofs.lemmas.List.{length-map}
 use Rattle.std.proofs.lemmas.Option.{none-some, same_Some}
 use Rattle.std.specs.Prelude.{slice_get}
 use Rattle.base.specs.Arithmetic.{Checked, absolute_of, difference_of, modulus_of, negation_of, product_of, quotient_of, remainder_of, sum_of}
 use Rattle.base.specs.declared.schedule.ScheduleLine.{ScheduleLine}
-use Rattle.kernel.specs.State.{Kernel}
+use Rattle.kernel.specs.State.{Kernel, is_task}
 use Rattle.kernel.specs.Effects.{Effect, Delays, Opens, Quiet, Refusal, Views}
 use Rattle.kernel.specs.Worlds.{Solo}
 use Rattle.handlers.specs.declared.rows.Row.{Row}
 use Rattle.image.specs.Sections.{Sections}
 use Rattle.image.specs.Operations.{called, entry_of}
-use Rattle.image.specs.Frames.{Words, Role, Inner, Opened, Serving, Frame, TaskState, arguments, region_words, word_put, words_put}
+use Rattle.image.specs.Frames.{Words, Role, Inner, Opened, Serving, Frame, TaskState, arguments, region_words, word_put, words_put, frames_counted, frames_in_use}
 use Rattle.image.specs.Scalars.{exception_of, in_bounds, input_of}
 use Rattle.image.specs.Steps as steps
 use Rattle.image.specs.Steps.{Stepped, act, unwind}
@@ -44,8 +44,8 @@ module _ (i : Sections) (schedule : List ScheduleLine) (k : Kernel) (t : ℕ) (m
   abbrev Tells : Option ℕ → (List Row → Stepped) → Type 0
   Tells o step = AreRaised i m f fs o step
 
-  abbrev below : ℕ
-  below = length fs
+  abbrev in_use : ℕ
+  in_use = frames_in_use k.partition t fs
 
   -- nothing is raised, whatever the handlers
   abbrev Same : Stepped → Type 0
@@ -132,20 +132,20 @@ module _ (i : Sections) (schedule : List ScheduleLine) (k : Kernel) (t : ℕ) (m
   unless_told (Some r) o go told = raises_told _
 
   frame_told : (o : Option ℕ) (go : List Row → Stepped) → Tells o go
-      → Tells (seen.with_frame below o) (λ rows. steps.with_frame_left (handled i rows) schedule k t m f fs (go rows))
+      → Tells (seen.with_frame in_use o) (λ rows. steps.with_frame_left (handled i rows) schedule k t m f fs (go rows))
   frame_told o go told = cond_told _ o _ go _ told (raises_told _)
 
   enters_told : (e : Effect) (role : Role) (n : ℕ) (s : Subprogram) → death_of e ≡ None
-      → Tells (seen.with_frame below None)
+      → Tells (seen.with_frame in_use None)
       (λ rows. steps.with_frame_left (handled i rows) schedule k t m f fs (steps.enters (handled i rows) schedule k t m f fs e role n s))
   enters_told e role n s calm = frame_told None _ (same (steps.enters i schedule k t m f fs e role n s) calm)
 
-  call_told : (n : ℕ) (c : Option Subprogram) → Tells (seen.of_call below (length f.stack) c) (λ rows. steps.call (handled i rows) schedule k t m f fs n c)
+  call_told : (n : ℕ) (c : Option Subprogram) → Tells (seen.of_call in_use (length f.stack) c) (λ rows. steps.call (handled i rows) schedule k t m f fs n c)
   call_told n None = same _ refl
   call_told n (Some s) = cond_told _ _ None _ _ (enters_told Quiet Inner n s refl) (same _ refl)
 
   external_told : (n : ℕ) (s : Subprogram) (kind : Kind)
-      → Tells (seen.of_external k t below kind) (λ rows. steps.external_call (handled i rows) schedule k t m f fs n s kind)
+      → Tells (seen.of_external k t in_use kind) (λ rows. steps.external_call (handled i rows) schedule k t m f fs n s kind)
   external_told n s (ProtectedProcedure o) = unless_told _ _ _ (enters_told (Opens o) (Opened o) n s refl)
   external_told n s (ProtectedFunction o) = unless_told _ _ _ (enters_told (Views o) (Opened o) n s refl)
   external_told n s Plain = same _ refl
@@ -153,7 +153,7 @@ module _ (i : Sections) (schedule : List ScheduleLine) (k : Kernel) (t : ℕ) (m
   external_told n s TaskBody = same _ refl
 
   protected_told : (n : ℕ) (c : Option Subprogram)
-      → Tells (seen.of_protected k t below (length f.stack) c) (λ rows. steps.protected_call (handled i rows) schedule k t m f fs n c)
+      → Tells (seen.of_protected k t in_use (length f.stack) c) (λ rows. steps.protected_call (handled i rows) schedule k t m f fs n c)
   protected_told n None = same _ refl
   protected_told n (Some s) = cond_told _ _ None _ _ (external_told n s s.kind) (same _ refl)
 
@@ -161,17 +161,17 @@ module _ (i : Sections) (schedule : List ScheduleLine) (k : Kernel) (t : ℕ) (m
   queue_told o = cond_told _ _ None _ _ (raises_told _) (same _ refl)
 
   entry_call_told : (o n : ℕ) (s : Subprogram)
-      → Tells (seen.of_entry_call i k t m below o) (λ rows. steps.entry_call_of (handled i rows) schedule k t m f fs o n s)
+      → Tells (seen.of_entry_call i k t m in_use o) (λ rows. steps.entry_call_of (handled i rows) schedule k t m f fs o n s)
   entry_call_told o n s = cond_told _ _ _ _ _ (raises_told _)
       (frame_told _ _ (cond_told _ None _ _ _ (same (steps.enters i schedule k t m f fs (Opens o) (Opened o) n s) refl) (queue_told o)))
 
   entry_at_told : (o n : ℕ) (c : Option Subprogram)
-      → Tells (seen.of_entry_at i k t m below (length f.stack) o c) (λ rows. steps.entry_call_at (handled i rows) schedule k t m f fs o n c)
+      → Tells (seen.of_entry_at i k t m in_use (length f.stack) o c) (λ rows. steps.entry_call_at (handled i rows) schedule k t m f fs o n c)
   entry_at_told o n None = same _ refl
   entry_at_told o n (Some s) = cond_told _ _ None _ _ (entry_call_told o n s) (same _ refl)
 
   entry_told : (o : ℕ) (e : Option ℕ)
-      → Tells (seen.of_entry i k t m below (length f.stack) o e) (λ rows. steps.entry_call (handled i rows) schedule k t m f fs o e)
+      → Tells (seen.of_entry i k t m in_use (length f.stack) o e) (λ rows. steps.entry_call (handled i rows) schedule k t m f fs o e)
   entry_told o None = same _ refl
   entry_told o (Some n) = entry_at_told o n (called i n)
 
@@ -189,7 +189,7 @@ module _ (i : Sections) (schedule : List ScheduleLine) (k : Kernel) (t : ℕ) (m
   values_told : (value : ℤ → ℤ → Checked) → Tells (seen.of_values value f.stack) (λ rows. steps.binary (handled i rows) schedule k t m f fs value)
   values_told value = two_told f.stack _ _ (λ x y stack. gives_told (value x y) stack)
 
-  operation_told : (o : Operation) → Tells (seen.of_operation i schedule k t m f below o) (λ rows. steps.does_operation (handled i rows) schedule k t m f fs o)
+  operation_told : (o : Operation) → Tells (seen.of_operation i schedule k t m f in_use o) (λ rows. steps.does_operation (handled i rows) schedule k t m f fs o)
   operation_told (op.Push v) = same _ refl
   operation_told op.Drop = one_same f.stack _ (λ x stack. refl)
   operation_told op.Duplicate = one_same f.stack _ (λ x stack. refl)
@@ -237,12 +237,12 @@ module _ (i : Sections) (schedule : List ScheduleLine) (k : Kernel) (t : ℕ) (m
   operation_told op.ReadInput = value_told (input_of schedule k.now)
   operation_told op.Clock = same _ refl
 
-  instruction_told : (x : Option Instr) → Tells (seen.of_instruction i schedule k t m f below x)
+  instruction_told : (x : Option Instr) → Tells (seen.of_instruction i schedule k t m f in_use x)
       (λ rows. steps.does_instruction (handled i rows) schedule k t m f fs x)
   instruction_told None = same _ refl
   instruction_told (Some x) = operation_told x.operation
 
-  act_told : (x : Option ℕ) → Tells (foreseen i schedule k t m f below x) (λ rows. steps.does_or_raises (handled i rows) schedule k t m f fs x)
+  act_told : (x : Option ℕ) → Tells (foreseen i schedule k t m f in_use x) (λ rows. steps.does_or_raises (handled i rows) schedule k t m f fs x)
   act_told None = instruction_told (slice_get i.instructions f.place)
   act_told (Some x) = raises_told x
 
@@ -251,9 +251,14 @@ dies : (i : Sections) (m : Words) (x : ℕ) (f : Frame) (fs : List Frame) → de
 dies i m x f [] = refl
 dies i m x f (c ∷ fs) = dies i m x c fs
 
+-- and it has as many frames
+counted_map : (own : Bool) (fs : List Frame) → frames_counted own (map unopened fs) ≡ frames_counted own fs
+counted_map true fs = ap (λ n. n + 1) (length-map fs unopened)
+counted_map false fs = length-map fs unopened
+
 module _ (i : Sections) (schedule : List ScheduleLine) (k : Kernel) (t : ℕ) (s : Solo Words TaskState) where
   abbrev ahead : Option ℕ
-  ahead = foreseen i schedule k t s.memory s.task.frame (length s.task.callers) s.task.raising
+  ahead = foreseen i schedule k t s.memory s.task.frame (frames_in_use k.partition t s.task.callers) s.task.raising
 
   by_death : (o : Option ℕ) → Raises (unhandled i) s.memory (unopened s.task.frame) (map unopened s.task.callers) o
       (λ rows. act (handled i rows) schedule k t (record s { task = exposed s.task })) → raised i schedule k t s ≡ o
@@ -263,9 +268,9 @@ module _ (i : Sections) (schedule : List ScheduleLine) (k : Kernel) (t : ℕ) (s
   -- what is raised is what is foreseen
   pub raised_is : raised i schedule k t s ≡ ahead
   raised_is =
-      let far = length-map s.task.callers unopened in
+      let far = counted_map (is_task k.partition t) s.task.callers in
       let bare : (n : ℕ) → Option ℕ = λ n. foreseen i schedule k t s.memory s.task.frame n s.task.raising in
-      let o = bare (length (map unopened s.task.callers)) in
+      let o = bare (frames_in_use k.partition t (map unopened s.task.callers)) in
       by_death o (act_told (unhandled i) schedule k t s.memory (unopened s.task.frame) (map unopened s.task.callers) s.task.raising).is ∙ ap bare far
 
   abbrev told : Raises i s.memory s.task.frame s.task.callers ahead (λ rows. act (handled i rows) schedule k t s)
@@ -285,12 +290,12 @@ module _ (i : Sections) (schedule : List ScheduleLine) (k : Kernel) (t : ℕ) (s
   -- what the operation of its instruction raises
   pub operation_raises : (operation : Operation) → s.task.raising ≡ None
       → Some operation ≡ option_map (λ x. x.operation) (slice_get i.instructions s.task.frame.place)
-      → seen.of_operation i schedule k t s.memory s.task.frame (length s.task.callers) operation ≡ raised i schedule k t s
+      → seen.of_operation i schedule k t s.memory s.task.frame (frames_in_use k.partition t s.task.callers) operation ≡ raised i schedule k t s
   operation_raises operation quiet here =
       go (slice_get i.instructions s.task.frame.place) here
-      ∙ ap (foreseen i schedule k t s.memory s.task.frame (length s.task.callers)) (sym quiet) ∙ sym raised_is where
+      ∙ ap (foreseen i schedule k t s.memory s.task.frame (frames_in_use k.partition t s.task.callers)) (sym quiet) ∙ sym raised_is where
         go : (x : Option Instr) → Some operation ≡ option_map (λ x. x.operation) x
             → seen.of_operation i schedule k t s.memory s.task.frame
-            (length s.task.callers) operation ≡ seen.of_instruction i schedule k t s.memory s.task.frame (length s.task.callers) x
+            (frames_in_use k.partition t s.task.callers) operation ≡ seen.of_instruction i schedule k t s.memory s.task.frame (frames_in_use k.partition t s.task.callers) x
         go None e = absurd (none-some operation (sym e))
-        go (Some x) e = ap (seen.of_operation i schedule k t s.memory s.task.frame (length s.task.callers)) (same_Some operation x.operation e)
+        go (Some x) e = ap (seen.of_operation i schedule k t s.memory s.task.frame (frames_in_use k.partition t s.task.callers)) (same_Some operation x.operation e)

@@ -1,5 +1,5 @@
 -- The exception of the next step, operation by operation; nobody has to believe this.
-use Rattle.std.specs.Prelude.{ℕ, ◌+◌, ℤ, List, [], ◌∷◌, length, ◌||◌, nat_le, nat_lt, Option, Some, None, Ok, Err, slice_get, if◌then◌else◌}
+use Rattle.std.specs.Prelude.{ℕ, ℤ, List, [], ◌∷◌, length, ◌||◌, nat_le, nat_lt, Option, Some, None, Ok, Err, slice_get, if◌then◌else◌}
 use Rattle.base.specs.Arithmetic.{Checked, absolute_of, difference_of, modulus_of, negation_of, product_of, quotient_of, remainder_of, sum_of}
 use Rattle.base.specs.Exceptions.{number_of}
 use Rattle.base.specs.declared.exceptions.PredefinedException.TheVariants.{ProgramError, StorageError}
@@ -62,51 +62,51 @@ words_failure operation stack = None
 abbrev pub program_error : Option ℕ
 program_error = Some (number_of ProgramError)
 
--- a call needs its parameters on the operand stack, of so many words, and a frame behind those `below` the running one
+-- a call needs its parameters on the operand stack, of so many words, and a frame behind those `in_use`
 
-abbrev pub with_frame : (below : ℕ) → Option ℕ → Option ℕ
-with_frame below go = if nat_lt (below + 1) FRAMES then go else Some (number_of StorageError)
+abbrev pub with_frame : (in_use : ℕ) → Option ℕ → Option ℕ
+with_frame in_use go = if nat_lt in_use FRAMES then go else Some (number_of StorageError)
 
 abbrev pub with_words : (stack : ℕ) → Subprogram → Option ℕ → Option ℕ
 with_words stack s go = if nat_le s.parameters stack then go else None
 
-abbrev pub of_call : (below stack : ℕ) → Option Subprogram → Option ℕ
-of_call below stack None = None
-of_call below stack (Some s) = with_words stack s (with_frame below None)
+abbrev pub of_call : (in_use stack : ℕ) → Option Subprogram → Option ℕ
+of_call in_use stack None = None
+of_call in_use stack (Some s) = with_words stack s (with_frame in_use None)
 
 abbrev pub unless : Option Refusal → Option ℕ → Option ℕ
 unless None go = go
 unless (Some r) go = program_error
 
-abbrev pub of_external : Kernel → ℕ → (below : ℕ) → Kind → Option ℕ
-of_external k t below (ProtectedProcedure o) = unless (call_refusal k t o) (with_frame below None)
-of_external k t below (ProtectedFunction o) = unless (call_refusal k t o) (with_frame below None)
-of_external k t below kind = None
+abbrev pub of_external : Kernel → ℕ → (in_use : ℕ) → Kind → Option ℕ
+of_external k t in_use (ProtectedProcedure o) = unless (call_refusal k t o) (with_frame in_use None)
+of_external k t in_use (ProtectedFunction o) = unless (call_refusal k t o) (with_frame in_use None)
+of_external k t in_use kind = None
 
-abbrev pub of_protected : Kernel → ℕ → (below stack : ℕ) → Option Subprogram → Option ℕ
-of_protected k t below stack None = None
-of_protected k t below stack (Some s) = with_words stack s (of_external k t below s.kind)
+abbrev pub of_protected : Kernel → ℕ → (in_use stack : ℕ) → Option Subprogram → Option ℕ
+of_protected k t in_use stack None = None
+of_protected k t in_use stack (Some s) = with_words stack s (of_external k t in_use s.kind)
 
 abbrev pub of_queue : Kernel → ℕ → Option ℕ
 of_queue k o = if is_full k o then program_error else None
 
-abbrev pub of_entry_call : Sections → Kernel → ℕ → Words → (below : ℕ) → ℕ → Option ℕ
-of_entry_call i k t m below o =
-    if is_inside_any k t || is_above_ceiling k t o then program_error else with_frame below (if is_open i m o then None else of_queue k o)
+abbrev pub of_entry_call : Sections → Kernel → ℕ → Words → (in_use : ℕ) → ℕ → Option ℕ
+of_entry_call i k t m in_use o =
+    if is_inside_any k t || is_above_ceiling k t o then program_error else with_frame in_use (if is_open i m o then None else of_queue k o)
 
-abbrev pub of_entry_at : Sections → Kernel → ℕ → Words → (below stack : ℕ) → ℕ → Option Subprogram → Option ℕ
-of_entry_at i k t m below stack o None = None
-of_entry_at i k t m below stack o (Some s) = with_words stack s (of_entry_call i k t m below o)
+abbrev pub of_entry_at : Sections → Kernel → ℕ → Words → (in_use stack : ℕ) → ℕ → Option Subprogram → Option ℕ
+of_entry_at i k t m in_use stack o None = None
+of_entry_at i k t m in_use stack o (Some s) = with_words stack s (of_entry_call i k t m in_use o)
 
-abbrev pub of_entry : Sections → Kernel → ℕ → Words → (below stack : ℕ) → ℕ → Option ℕ → Option ℕ
-of_entry i k t m below stack o None = None
-of_entry i k t m below stack o (Some n) = of_entry_at i k t m below stack o (called i n)
+abbrev pub of_entry : Sections → Kernel → ℕ → Words → (in_use stack : ℕ) → ℕ → Option ℕ → Option ℕ
+of_entry i k t m in_use stack o None = None
+of_entry i k t m in_use stack o (Some n) = of_entry_at i k t m in_use stack o (called i n)
 
 abbrev pub of_blocking : Kernel → ℕ → Option ℕ
 of_blocking k t = if is_inside_any k t then program_error else None
 
--- `below` frames stand below the running one
-module _ (i : Sections) (schedule : List ScheduleLine) (k : Kernel) (t : ℕ) (m : Words) (f : Frame) (below : ℕ) where
+-- so many frames are `in_use`
+module _ (i : Sections) (schedule : List ScheduleLine) (k : Kernel) (t : ℕ) (m : Words) (f : Frame) (in_use : ℕ) where
   abbrev pub of_operation : Operation → Option ℕ
   of_operation Negate = of_value negation_of f.stack
   of_operation Absolute = of_value absolute_of f.stack
@@ -117,9 +117,9 @@ module _ (i : Sections) (schedule : List ScheduleLine) (k : Kernel) (t : ℕ) (m
   of_operation Modulo = of_values modulus_of f.stack
   of_operation Remainder = of_values remainder_of f.stack
   of_operation CheckRange = of_three (λ v least most. failure (in_bounds least most v)) f.stack
-  of_operation (Call n) = of_call below (length f.stack) (called i n)
-  of_operation (ProtectedCall n) = of_protected k t below (length f.stack) (called i n)
-  of_operation (EntryCall o) = of_entry i k t m below (length f.stack) o (entry_of (slice_get i.objects o))
+  of_operation (Call n) = of_call in_use (length f.stack) (called i n)
+  of_operation (ProtectedCall n) = of_protected k t in_use (length f.stack) (called i n)
+  of_operation (EntryCall o) = of_entry i k t m in_use (length f.stack) o (entry_of (slice_get i.objects o))
   of_operation Raise = of_one (exception_of (length i.exceptions)) f.stack
   of_operation CheckBlocking = of_blocking k t
   of_operation DelayUntil = of_one (λ until. of_blocking k t) f.stack

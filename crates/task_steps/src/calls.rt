@@ -6,35 +6,42 @@ ghost use Rattle.image.specs.Sections.{object_of};
 ghost use Rattle.image.specs.Steps.{enters, queues, with_frame_left};
 ghost use Rattle.image.specs.declared.instruction.Operation.TheVariants as operations;
 ghost use Rattle.kernel.specs.Effects.{is_above_ceiling, is_inside_any};
-ghost use Rattle.kernel.specs.State.{Kernel};
+ghost use Rattle.kernel.specs.State.{Kernel, is_task as of_task};
 ghost use Rattle.processor.specs.Decoding.{words_in};
 ghost use Rattle.processor.specs.Layout.{role_of};
 ghost use Rattle.task_steps.specs.Acting.{effect_of, stepped_of};
-ghost use Rattle.task_steps.specs.Stepping.{Does, DoesIn, IsObjectKind, IsReadyFor, MayRaise, opening};
+ghost use Rattle.task_steps.specs.Stepping.{DoesAs, DoesIn, IsObjectKind, IsReadyFor, MayRaise, opening};
 ghost use Rattle.tasking.specs.Held.{kernel_of};
-ghost use Rattle.tasking.specs.Orderly.{IsTask};
+ghost use Rattle.tasking.specs.Orderly.{StandsThere};
 
 use crate::acts::{Act, Effect};
-use crate::lookups::{called, entry, first_place, object_number};
+use crate::lookups::{called, entry, first_place, is_full, object_number};
 use crate::memory::Memory;
 use crate::raising::raise_predefined;
 use base::PredefinedException;
 use clock::Delays;
 use dispatch::Ready;
 use image::{Kind, Subprogram};
-use processor::{CALLERS, Program, Role, TaskState};
+use processor::{Program, Role, TaskState};
 use tasking::Tasking;
 
 /// CALL.
-pub(crate) fn call(program: &Program, state: &mut TaskState, memory: &Memory, number: u16) -> Act
+pub(crate) fn call(
+    program: &Program,
+    is_task: bool,
+    state: &mut TaskState,
+    memory: &Memory,
+    number: u16,
+) -> Act
     requires { IsReadyFor program.now state.old (operations.Call number) }
-    ensures { Does program.now (operations.Call number) state.old memory.now result memory.now state.new }
+    ensures { DoesAs program.now (operations.Call number) state.old memory.now result memory.now state.new is_task }
 {
     let Some(subprogram) = called(program, number) else {
         unreachable!()
     };
     enter(
         program,
+        is_task,
         state,
         memory,
         number,
@@ -47,13 +54,13 @@ pub(crate) fn call(program: &Program, state: &mut TaskState, memory: &Memory, nu
 /// PCALL.
 pub(crate) fn protected_call<R: Ready, D: Delays>(
     program: &Program,
-    tasking: &Tasking<R, D>,
+    tasking: &Tasking<'_, R, D>,
     task: u8,
     state: &mut TaskState,
     memory: &Memory,
     number: u16,
 ) -> Act
-    requires task { IsTask (kernel_of tasking.now) task }
+    requires task { StandsThere (kernel_of tasking.now) task }
     requires objects { (kernel_of tasking.now).partition.objects ≡ length program.now.objects }
     requires here { IsReadyFor program.now state.old (operations.ProtectedCall number) }
     ensures { (schedule : List ScheduleLine) → DoesIn program.now (operations.ProtectedCall number) state.old memory.now result memory.now state.new
@@ -70,7 +77,17 @@ pub(crate) fn protected_call<R: Ready, D: Delays>(
         object: u16::from(object),
     };
     let effect = opening(subprogram.kind, object);
-    enter(program, state, memory, number, &subprogram, role, effect)
+    let is_task = tasking.is_task(task);
+    enter(
+        program,
+        is_task,
+        state,
+        memory,
+        number,
+        &subprogram,
+        role,
+        effect,
+    )
 }
 
 /// The object of an external call.
@@ -98,13 +115,13 @@ fn opening(kind: Kind, object: u8) -> Effect
 /// ECALL.
 pub(crate) fn entry_call<R: Ready, D: Delays>(
     program: &Program,
-    tasking: &Tasking<R, D>,
+    tasking: &Tasking<'_, R, D>,
     task: u8,
     state: &mut TaskState,
     memory: &Memory,
     object: u16,
 ) -> Act
-    requires task { IsTask (kernel_of tasking.now) task }
+    requires task { StandsThere (kernel_of tasking.now) task }
     requires objects { (kernel_of tasking.now).partition.objects ≡ length program.now.objects }
     requires here { IsReadyFor program.now state.old (operations.EntryCall object) }
     ensures { (schedule : List ScheduleLine) → DoesIn program.now (operations.EntryCall object) state.old memory.now result memory.now state.new
@@ -120,14 +137,16 @@ pub(crate) fn entry_call<R: Ready, D: Delays>(
     if is_refused(tasking, task, object) {
         return raise_predefined(program, state, memory, PredefinedException::ProgramError);
     }
+    let is_task = tasking.is_task(task);
     if !memory.is_open(program.image(), object) {
-        return queue(program, tasking, state, memory, object);
+        return queue(program, tasking, is_task, state, memory, object);
     }
     let role = Role::Opened {
         object: u16::from(object),
     };
     enter(
         program,
+        is_task,
         state,
         memory,
         number,
@@ -138,8 +157,12 @@ pub(crate) fn entry_call<R: Ready, D: Delays>(
 }
 
 /// Whether an entry call is refused before its barrier is asked: inside any action, or above the ceiling (RM 9.5.1, D.3).
-pub(crate) fn is_refused<R: Ready, D: Delays>(tasking: &Tasking<R, D>, task: u8, object: u8) -> bool
-    requires task { IsTask (kernel_of tasking.now) task }
+pub(crate) fn is_refused<R: Ready, D: Delays>(
+    tasking: &Tasking<'_, R, D>,
+    task: u8,
+    object: u8,
+) -> bool
+    requires task { StandsThere (kernel_of tasking.now) task }
     requires object { object < (kernel_of tasking.now).partition.objects }
     ensures { result ≡ (is_inside_any (kernel_of tasking.now) task || is_above_ceiling (kernel_of tasking.now) task object) }
 {
@@ -149,7 +172,8 @@ pub(crate) fn is_refused<R: Ready, D: Delays>(tasking: &Tasking<R, D>, task: u8,
 // An entry call with a closed barrier waits, where no other does (RM D.7).
 fn queue<R: Ready, D: Delays>(
     program: &Program,
-    tasking: &Tasking<R, D>,
+    tasking: &Tasking<'_, R, D>,
+    is_task: bool,
     state: &mut TaskState,
     memory: &Memory,
     object: u8,
@@ -157,12 +181,12 @@ fn queue<R: Ready, D: Delays>(
     requires object { object < (kernel_of tasking.now).partition.objects }
     requires quiet { state.old.raising ≡ None }
     requires raises { MayRaise program.now state.old }
-    ensures { (schedule : List ScheduleLine) (t : ℕ) → with_frame_left program.now schedule (kernel_of tasking.now) t
-        (words_in program.now memory.now.shared) state.old.frame state.old.callers
+    ensures { (schedule : List ScheduleLine) (t : ℕ) → of_task (kernel_of tasking.now).partition t ≡ is_task → with_frame_left program.now schedule
+        (kernel_of tasking.now) t (words_in program.now memory.now.shared) state.old.frame state.old.callers
         (queues program.now schedule (kernel_of tasking.now) t (words_in program.now memory.now.shared) state.old.frame state.old.callers object)
         ≡ stepped_of program.now result memory.now state.new }
 {
-    if CALLERS <= state.callers() {
+    if is_full(is_task, state) {
         return raise_predefined(program, state, memory, PredefinedException::StorageError);
     }
     if tasking.is_full(object) {
@@ -175,6 +199,7 @@ fn queue<R: Ready, D: Delays>(
 #[inline(always)]
 fn enter(
     program: &Program,
+    is_task: bool,
     state: &mut TaskState,
     memory: &Memory,
     number: u16,
@@ -187,11 +212,12 @@ fn enter(
     requires room { subprogram.now.locals ≤ FRAME_WORDS }
     requires quiet { state.old.raising ≡ None }
     requires raises { MayRaise program.now state.old }
-    ensures { (schedule : List ScheduleLine) (k : Kernel) (t : ℕ) → with_frame_left program.now schedule k t (words_in program.now memory.now.shared)
-        state.old.frame state.old.callers (enters program.now schedule k t (words_in program.now memory.now.shared) state.old.frame state.old.callers
+    ensures { (schedule : List ScheduleLine) (k : Kernel) (t : ℕ) → of_task k.partition t ≡ is_task → with_frame_left program.now schedule k t
+        (words_in program.now memory.now.shared) state.old.frame state.old.callers
+        (enters program.now schedule k t (words_in program.now memory.now.shared) state.old.frame state.old.callers
         (effect_of program.now effect) (role_of role) number subprogram.now) ≡ stepped_of program.now result memory.now state.new }
 {
-    if CALLERS <= state.callers() {
+    if is_full(is_task, state) {
         return raise_predefined(program, state, memory, PredefinedException::StorageError);
     }
     state.call(number, first_place(program, number), subprogram, role);

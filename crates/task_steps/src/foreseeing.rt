@@ -2,21 +2,23 @@
 ghost use Rattle.std.specs.Prelude.{◌≡◌, ◌<◌, ◌≤◌, ◌∷◌, None, Some, drop, length, option_map, slice_get};
 ghost use Rattle.base.specs.Exceptions.{number_of};
 ghost use Rattle.base.specs.declared.limits.TheConstants.{FRAME_WORDS};
+ghost use Rattle.image.specs.Frames.{frames_counted, frames_in_use};
 ghost use Rattle.image.specs.Operations.{called, entry_of};
 ghost use Rattle.image.specs.Scalars.{in_bounds};
 ghost use Rattle.image.specs.declared.instruction.Operation.TheVariants as operations;
 ghost use Rattle.image_laws.specs.Shape.{IsSound};
+ghost use Rattle.kernel.specs.State.{is_task};
 ghost use Rattle.processor.specs.Decoding.{words_in};
 ghost use Rattle.task_steps.specs.Acting.{solo_in};
 ghost use Rattle.task_steps.specs.Foreseen.{failure, of_blocking, of_call, of_entry, of_operation, of_protected, of_three, with_frame, word_failure, words_failure};
 ghost use Rattle.task_steps.specs.Raised.{blocking_cause, cause_here, entry_cause, operation_cause, protected_cause, raised, raising_ahead, where_refused};
 ghost use Rattle.task_steps.specs.Stepping.{IsExternal, IsReadyFor};
 ghost use Rattle.tasking.specs.Held.{kernel_of};
-ghost use Rattle.tasking.specs.Orderly.{IsTask};
+ghost use Rattle.tasking.specs.Orderly.{StandsThere};
 
 use crate::calls::{external_object, is_refused};
 use crate::kernel_steps::{input, operand};
-use crate::lookups::{called, entry, exception, object_number, operation};
+use crate::lookups::{called, entry, exception, is_full, object_number, operation};
 use crate::memory::Memory;
 use base::PredefinedException;
 use base::arithmetic::{
@@ -26,7 +28,7 @@ use clock::{Delays, Schedule};
 use dispatch::Ready;
 use image::Operation;
 use image_laws::frames_have_room;
-use processor::{CALLERS, Program, TaskState};
+use processor::{Program, TaskState};
 use tasking::{Refusal, Tasking};
 
 /// Why a step raises Program_Error: the kernel refuses what it asks for. Objects are their numbers in the image.
@@ -136,10 +138,10 @@ fn of_words(state: &TaskState, operation: Operation) -> Option<u16>
 }
 
 // A call needs a frame behind those that there are.
-fn without_frame(state: &TaskState) -> Option<u16>
-    ensures { result ≡ with_frame (length state.now.callers) None }
+fn without_frame(is_task: bool, state: &TaskState) -> Option<u16>
+    ensures { result ≡ with_frame (frames_counted is_task state.now.callers) None }
 {
-    if CALLERS <= state.callers() {
+    if is_full(is_task, state) {
         Some(PredefinedException::StorageError.number())
     } else {
         None
@@ -147,28 +149,29 @@ fn without_frame(state: &TaskState) -> Option<u16>
 }
 
 // CALL.
-fn of_call(program: &Program, state: &TaskState, number: u16) -> Option<u16>
+fn of_call(program: &Program, is_task: bool, state: &TaskState, number: u16) -> Option<u16>
     requires { IsReadyFor program.now state.now (operations.Call number) }
-    ensures { result ≡ of_call (length state.now.callers) (length state.now.frame.stack) (called program.now number) }
+    ensures { result ≡ of_call (frames_counted is_task state.now.callers) (length state.now.frame.stack) (called program.now number) }
 {
     let Some(_) = called(program, number) else {
         unreachable!()
     };
-    without_frame(state)
+    without_frame(is_task, state)
 }
 
 // PCALL.
 fn of_protected_call<R: Ready, D: Delays>(
     program: &Program,
-    tasking: &Tasking<R, D>,
+    tasking: &Tasking<'_, R, D>,
     task: u8,
     state: &TaskState,
     number: u16,
 ) -> Option<u16>
-    requires task { IsTask (kernel_of tasking.now) task }
+    requires task { StandsThere (kernel_of tasking.now) task }
     requires objects { (kernel_of tasking.now).partition.objects ≡ length program.now.objects }
     requires here { IsReadyFor program.now state.now (operations.ProtectedCall number) }
-    ensures { result ≡ of_protected (kernel_of tasking.now) task (length state.now.callers) (length state.now.frame.stack) (called program.now number) }
+    ensures { let k = kernel_of tasking.now in result ≡ of_protected k task (frames_in_use k.partition task state.now.callers)
+        (length state.now.frame.stack) (called program.now number) }
 {
     let Some(subprogram) = called(program, number) else {
         unreachable!()
@@ -177,23 +180,23 @@ fn of_protected_call<R: Ready, D: Delays>(
     if tasking.call_refusal(task, object).is_some() {
         return Some(PredefinedException::ProgramError.number());
     }
-    without_frame(state)
+    without_frame(tasking.is_task(task), state)
 }
 
 // ECALL.
 fn of_entry_call<R: Ready, D: Delays>(
     program: &Program,
-    tasking: &Tasking<R, D>,
+    tasking: &Tasking<'_, R, D>,
     task: u8,
     state: &TaskState,
     memory: &Memory,
     object: u16,
 ) -> Option<u16>
-    requires task { IsTask (kernel_of tasking.now) task }
+    requires task { StandsThere (kernel_of tasking.now) task }
     requires objects { (kernel_of tasking.now).partition.objects ≡ length program.now.objects }
     requires here { IsReadyFor program.now state.now (operations.EntryCall object) }
-    ensures { result ≡ of_entry program.now (kernel_of tasking.now) task (words_in program.now memory.now.shared) (length state.now.callers)
-        (length state.now.frame.stack) object (entry_of (slice_get program.now.objects object)) }
+    ensures { let k = kernel_of tasking.now in result ≡ of_entry program.now k task (words_in program.now memory.now.shared)
+        (frames_in_use k.partition task state.now.callers) (length state.now.frame.stack) object (entry_of (slice_get program.now.objects object)) }
 {
     let Some(number) = entry(program, object) else {
         unreachable!()
@@ -205,7 +208,7 @@ fn of_entry_call<R: Ready, D: Delays>(
     if is_refused(tasking, task, object) {
         return Some(PredefinedException::ProgramError.number());
     }
-    if CALLERS <= state.callers() {
+    if is_full(tasking.is_task(task), state) {
         return Some(PredefinedException::StorageError.number());
     }
     if !memory.is_open(program.image(), object) && tasking.is_full(object) {
@@ -215,8 +218,8 @@ fn of_entry_call<R: Ready, D: Delays>(
 }
 
 // What may block raises Program_Error inside an action.
-fn of_blocking<R: Ready, D: Delays>(tasking: &Tasking<R, D>, task: u8) -> Option<u16>
-    requires { IsTask (kernel_of tasking.now) task }
+fn of_blocking<R: Ready, D: Delays>(tasking: &Tasking<'_, R, D>, task: u8) -> Option<u16>
+    requires { StandsThere (kernel_of tasking.now) task }
     ensures { result ≡ of_blocking (kernel_of tasking.now) task }
 {
     if tasking.is_inside_any(task) {
@@ -230,17 +233,17 @@ fn of_blocking<R: Ready, D: Delays>(tasking: &Tasking<R, D>, task: u8) -> Option
 fn of_operation<R: Ready, D: Delays>(
     program: &Program,
     schedule: &Schedule,
-    tasking: &Tasking<R, D>,
+    tasking: &Tasking<'_, R, D>,
     task: u8,
     state: &TaskState,
     memory: &Memory,
     operation: Operation,
 ) -> Option<u16>
-    requires task { IsTask (kernel_of tasking.now) task }
+    requires task { StandsThere (kernel_of tasking.now) task }
     requires objects { (kernel_of tasking.now).partition.objects ≡ length program.now.objects }
     requires here { IsReadyFor program.now state.now operation }
     ensures { result ≡ of_operation program.now schedule.now (kernel_of tasking.now) task (words_in program.now memory.now.shared) state.now.frame
-        (length state.now.callers) operation }
+        (frames_in_use (kernel_of tasking.now).partition task state.now.callers) operation }
 {
     match operation {
         Operation::Negate | Operation::Absolute => of_word(state, operation),
@@ -251,7 +254,7 @@ fn of_operation<R: Ready, D: Delays>(
         | Operation::Modulo
         | Operation::Remainder => of_words(state, operation),
         Operation::CheckRange => failure(check_top(state)),
-        Operation::Call(number) => of_call(program, state, number),
+        Operation::Call(number) => of_call(program, tasking.is_task(task), state, number),
         Operation::ProtectedCall(number) => {
             of_protected_call(program, tasking, task, state, number)
         }
@@ -269,14 +272,14 @@ fn of_operation<R: Ready, D: Delays>(
 fn exception_ahead<R: Ready, D: Delays>(
     program: &Program,
     schedule: &Schedule,
-    tasking: &Tasking<R, D>,
+    tasking: &Tasking<'_, R, D>,
     task: u8,
     state: &TaskState,
     memory: &Memory,
 ) -> Option<u16>
-    requires task { IsTask (kernel_of tasking.now) task }
+    requires task { StandsThere (kernel_of tasking.now) task }
     requires objects { (kernel_of tasking.now).partition.objects ≡ length program.now.objects }
-    requires sound { IsSound program.now state.now }
+    requires sound { IsSound program.now (is_task (kernel_of tasking.now).partition task) state.now }
     ensures { result ≡ raised program.now schedule.now (kernel_of tasking.now) task (solo_in program.now memory.now state.now) }
 {
     frames_have_room();
@@ -293,11 +296,11 @@ fn exception_ahead<R: Ready, D: Delays>(
 // Why a call of a procedure or a function of an object is refused.
 fn protected_cause<R: Ready, D: Delays>(
     program: &Program,
-    tasking: &Tasking<R, D>,
+    tasking: &Tasking<'_, R, D>,
     task: u8,
     number: u16,
 ) -> Option<Cause>
-    requires task { IsTask (kernel_of tasking.now) task }
+    requires task { StandsThere (kernel_of tasking.now) task }
     requires objects { (kernel_of tasking.now).partition.objects ≡ length program.now.objects }
     requires external { IsExternal program.now (called program.now number) }
     ensures { result ≡ protected_cause (kernel_of tasking.now) task (called program.now number) }
@@ -315,8 +318,12 @@ fn protected_cause<R: Ready, D: Delays>(
 }
 
 // Why an entry call is refused.
-fn entry_cause<R: Ready, D: Delays>(tasking: &Tasking<R, D>, task: u8, object: u8) -> Option<Cause>
-    requires task { IsTask (kernel_of tasking.now) task }
+fn entry_cause<R: Ready, D: Delays>(
+    tasking: &Tasking<'_, R, D>,
+    task: u8,
+    object: u8,
+) -> Option<Cause>
+    requires task { StandsThere (kernel_of tasking.now) task }
     requires object { object < (kernel_of tasking.now).partition.objects }
     ensures { result ≡ entry_cause (kernel_of tasking.now) task object }
 {
@@ -332,8 +339,8 @@ fn entry_cause<R: Ready, D: Delays>(tasking: &Tasking<R, D>, task: u8, object: u
 }
 
 // Why what may block is refused.
-fn blocking_cause<R: Ready, D: Delays>(tasking: &Tasking<R, D>, task: u8) -> Option<Cause>
-    requires { IsTask (kernel_of tasking.now) task }
+fn blocking_cause<R: Ready, D: Delays>(tasking: &Tasking<'_, R, D>, task: u8) -> Option<Cause>
+    requires { StandsThere (kernel_of tasking.now) task }
     ensures { result ≡ blocking_cause (kernel_of tasking.now) task }
 {
     if tasking.is_inside_any(task) {
@@ -346,12 +353,12 @@ fn blocking_cause<R: Ready, D: Delays>(tasking: &Tasking<R, D>, task: u8) -> Opt
 // Why an operation is refused.
 fn operation_cause<R: Ready, D: Delays>(
     program: &Program,
-    tasking: &Tasking<R, D>,
+    tasking: &Tasking<'_, R, D>,
     task: u8,
     state: &TaskState,
     operation: Operation,
 ) -> Option<Cause>
-    requires task { IsTask (kernel_of tasking.now) task }
+    requires task { StandsThere (kernel_of tasking.now) task }
     requires objects { (kernel_of tasking.now).partition.objects ≡ length program.now.objects }
     requires here { IsReadyFor program.now state.now operation }
     ensures { result ≡ operation_cause program.now (kernel_of tasking.now) task operation }
@@ -369,13 +376,13 @@ fn operation_cause<R: Ready, D: Delays>(
 // Why the instruction of the running frame is refused; an exception that is still to be raised was raised before.
 fn cause_here<R: Ready, D: Delays>(
     program: &Program,
-    tasking: &Tasking<R, D>,
+    tasking: &Tasking<'_, R, D>,
     task: u8,
     state: &TaskState,
 ) -> Option<Cause>
-    requires task { IsTask (kernel_of tasking.now) task }
+    requires task { StandsThere (kernel_of tasking.now) task }
     requires objects { (kernel_of tasking.now).partition.objects ≡ length program.now.objects }
-    requires sound { IsSound program.now state.now }
+    requires sound { IsSound program.now (is_task (kernel_of tasking.now).partition task) state.now }
     ensures { result ≡ cause_here program.now (kernel_of tasking.now) task state.now state.now.raising }
 {
     frames_have_room();
@@ -392,14 +399,14 @@ fn cause_here<R: Ready, D: Delays>(
 // Why an exception is raised, where that is Program_Error and something is refused.
 fn cause_of<R: Ready, D: Delays>(
     program: &Program,
-    tasking: &Tasking<R, D>,
+    tasking: &Tasking<'_, R, D>,
     task: u8,
     state: &TaskState,
     exception: u16,
 ) -> Option<Cause>
-    requires task { IsTask (kernel_of tasking.now) task }
+    requires task { StandsThere (kernel_of tasking.now) task }
     requires objects { (kernel_of tasking.now).partition.objects ≡ length program.now.objects }
-    requires sound { IsSound program.now state.now }
+    requires sound { IsSound program.now (is_task (kernel_of tasking.now).partition task) state.now }
     ensures { result ≡ where_refused (Some exception) (cause_here program.now (kernel_of tasking.now) task state.now state.now.raising) }
 {
     if exception == PredefinedException::ProgramError.number() {
@@ -413,14 +420,14 @@ fn cause_of<R: Ready, D: Delays>(
 pub fn raising_ahead<R: Ready, D: Delays>(
     program: &Program,
     schedule: &Schedule,
-    tasking: &Tasking<R, D>,
+    tasking: &Tasking<'_, R, D>,
     task: u8,
     state: &TaskState,
     memory: &Memory,
 ) -> Option<Raising>
-    requires task { IsTask (kernel_of tasking.now) task }
+    requires task { StandsThere (kernel_of tasking.now) task }
     requires objects { (kernel_of tasking.now).partition.objects ≡ length program.now.objects }
-    requires sound { IsSound program.now state.now }
+    requires sound { IsSound program.now (is_task (kernel_of tasking.now).partition task) state.now }
     ensures { result ≡ raising_ahead program.now schedule.now (kernel_of tasking.now) task (solo_in program.now memory.now state.now) }
 {
     let exception = exception_ahead(program, schedule, tasking, task, state, memory)?;

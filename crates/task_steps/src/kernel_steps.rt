@@ -13,7 +13,7 @@ ghost use Rattle.processor.specs.Decoding.{words_in};
 ghost use Rattle.task_steps.specs.Acting.{stepped_of};
 ghost use Rattle.task_steps.specs.Stepping.{Does, DoesIn, IsReadyFor, MayRaise};
 ghost use Rattle.tasking.specs.Held.{kernel_of};
-ghost use Rattle.tasking.specs.Orderly.{IsTask};
+ghost use Rattle.tasking.specs.Orderly.{StandsThere};
 
 use crate::acts::{Act, Effect};
 use crate::lookups;
@@ -30,12 +30,12 @@ use tasking::Tasking;
 // What may block raises Program_Error inside an action (RM 9.5.1, H.5).
 fn refuse_inside<R: Ready, D: Delays>(
     program: &Program,
-    tasking: &Tasking<R, D>,
+    tasking: &Tasking<'_, R, D>,
     task: u8,
     state: &mut TaskState,
     memory: &Memory,
 ) -> Option<Act>
-    requires task { IsTask (kernel_of tasking.now) task }
+    requires task { StandsThere (kernel_of tasking.now) task }
     requires raises { MayRaise program.now state.old }
     ensures inside { is_some result ≡ is_inside_any (kernel_of tasking.now) task }
     ensures refused { IfSome result (λ act. unwind program.now (words_in program.now memory.now.shared) (number_of ProgramError) state.old.frame
@@ -52,12 +52,12 @@ fn refuse_inside<R: Ready, D: Delays>(
 /// BLK.
 pub(crate) fn check_blocking<R: Ready, D: Delays>(
     program: &Program,
-    tasking: &Tasking<R, D>,
+    tasking: &Tasking<'_, R, D>,
     task: u8,
     state: &mut TaskState,
     memory: &Memory,
 ) -> Act
-    requires task { IsTask (kernel_of tasking.now) task }
+    requires task { StandsThere (kernel_of tasking.now) task }
     requires here { IsReadyFor program.now state.old operations.CheckBlocking }
     ensures { (schedule : List ScheduleLine) → DoesIn program.now operations.CheckBlocking state.old memory.now result memory.now state.new schedule
         (kernel_of tasking.now) task }
@@ -72,12 +72,12 @@ pub(crate) fn check_blocking<R: Ready, D: Delays>(
 /// DLY.
 pub(crate) fn delay_until<R: Ready, D: Delays>(
     program: &Program,
-    tasking: &Tasking<R, D>,
+    tasking: &Tasking<'_, R, D>,
     task: u8,
     state: &mut TaskState,
     memory: &Memory,
 ) -> Act
-    requires task { IsTask (kernel_of tasking.now) task }
+    requires task { StandsThere (kernel_of tasking.now) task }
     requires here { IsReadyFor program.now state.old operations.DelayUntil }
     ensures { (schedule : List ScheduleLine) → DoesIn program.now operations.DelayUntil state.old memory.now result memory.now state.new schedule
         (kernel_of tasking.now) task }
@@ -104,7 +104,7 @@ pub(crate) fn put_line(program: &Program, state: &mut TaskState, memory: &Memory
 pub(crate) fn read_input<R: Ready, D: Delays>(
     program: &Program,
     schedule: &Schedule,
-    tasking: &Tasking<R, D>,
+    tasking: &Tasking<'_, R, D>,
     state: &mut TaskState,
     memory: &Memory,
 ) -> Act
@@ -136,7 +136,7 @@ pub(crate) fn input(schedule: &Schedule, now: i64, channel: i64) -> Checked
 /// CLK.
 pub(crate) fn clock<R: Ready, D: Delays>(
     program: &Program,
-    tasking: &Tasking<R, D>,
+    tasking: &Tasking<'_, R, D>,
     state: &mut TaskState,
     memory: &Memory,
 ) -> Act

@@ -1,10 +1,12 @@
 //! Looking up what instructions name.
-ghost use Rattle.std.specs.Prelude.{◌≡◌, ◌<◌, length, option_map, slice_get};
-ghost use Rattle.image.specs.Frames.{own_object};
+ghost use Rattle.std.specs.Prelude.{◌≡◌, ◌<◌, ◌≤◌, false, length, option_map, slice_get, true};
+ghost use Rattle.base.specs.declared.limits.TheConstants.{FRAMES};
+ghost use Rattle.image.specs.Frames.{frames_counted, own_object};
 ghost use Rattle.image.specs.Operations.{called, entry_of, results_of};
 ghost use Rattle.image.specs.Scalars.{exception_of};
 ghost use Rattle.image.specs.Sections.{first_place};
 
+use base::limits::FRAMES;
 use image::{Operation, Subprogram};
 use image_laws::code_leads_on;
 use processor::{Program, TaskState};
@@ -44,6 +46,15 @@ pub fn first_place(program: &Program, number: u16) -> u16
             .get(usize::from(before))
             .map_or(0, |s| s.end_),
     }
+}
+
+/// Whether no frame is left for a call: the frames of a task are the one that runs and those below it, of which the last one of a handler never runs (C.3.1).
+pub(crate) fn is_full(is_task: bool, state: &TaskState) -> bool
+    ensures left { result ≡ false → frames_counted is_task state.now.callers < FRAMES }
+    ensures none { result ≡ true → FRAMES ≤ frames_counted is_task state.now.callers }
+{
+    let limit = if is_task { FRAMES - 1 } else { FRAMES };
+    limit <= state.callers()
 }
 
 /// How many words the running frame's subprogram gives.

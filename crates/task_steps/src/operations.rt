@@ -2,11 +2,12 @@
 ghost use Rattle.std.specs.Prelude.{◌≡◌, None, Some, length, option_map, slice_get, true};
 ghost use Rattle.image.specs.Steps.{act};
 ghost use Rattle.image_laws.specs.Shape.{IsSound};
+ghost use Rattle.kernel.specs.State.{is_task};
 ghost use Rattle.processor.specs.Decoding.{is_left};
 ghost use Rattle.task_steps.specs.Acting.{solo_in, stepped_of};
 ghost use Rattle.task_steps.specs.Stepping.{DoesIn, IsReadyFor};
 ghost use Rattle.tasking.specs.Held.{kernel_of};
-ghost use Rattle.tasking.specs.Orderly.{IsTask};
+ghost use Rattle.tasking.specs.Orderly.{StandsThere};
 
 use crate::acts::Act;
 use crate::blocks::{copy, load_block, store_block};
@@ -47,15 +48,15 @@ pub(crate) fn is_left(operation: &Operation) -> bool
 pub(crate) fn operate_here<R: Ready, D: Delays>(
     program: &Program,
     schedule: &Schedule,
-    tasking: &Tasking<R, D>,
+    tasking: &Tasking<'_, R, D>,
     task: u8,
     state: &mut TaskState,
     memory: &mut Memory,
     operation: Operation,
 ) -> Act
-    requires task { IsTask (kernel_of tasking.now) task }
+    requires task { StandsThere (kernel_of tasking.now) task }
     requires objects { (kernel_of tasking.now).partition.objects ≡ length program.now.objects }
-    requires sound { IsSound program.now state.old }
+    requires sound { IsSound program.now (is_task (kernel_of tasking.now).partition task) state.old }
     requires quiet { state.old.raising ≡ None }
     requires here { Some operation ≡ option_map (λ x. x.operation) (slice_get program.now.instructions state.old.frame.place) }
     requires left { is_left operation ≡ true }
@@ -71,13 +72,13 @@ pub(crate) fn operate_here<R: Ready, D: Delays>(
 fn operate<R: Ready, D: Delays>(
     program: &Program,
     schedule: &Schedule,
-    tasking: &Tasking<R, D>,
+    tasking: &Tasking<'_, R, D>,
     task: u8,
     state: &mut TaskState,
     memory: &mut Memory,
     operation: Operation,
 ) -> Act
-    requires task { IsTask (kernel_of tasking.now) task }
+    requires task { StandsThere (kernel_of tasking.now) task }
     requires objects { (kernel_of tasking.now).partition.objects ≡ length program.now.objects }
     requires here { IsReadyFor program.now state.old operation }
     requires left { is_left operation ≡ true }
@@ -93,7 +94,7 @@ fn operate<R: Ready, D: Delays>(
             source,
             words,
         } => copy(program, state, memory, target, source, words),
-        Operation::Call(number) => call(program, state, memory, number),
+        Operation::Call(number) => call(program, tasking.is_task(task), state, memory, number),
         Operation::ProtectedCall(number) => {
             protected_call(program, tasking, task, state, memory, number)
         }

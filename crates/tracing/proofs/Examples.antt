@@ -1,10 +1,12 @@
--- Traces of images worked by computation: a preemption, delays, an entry with queue and service, exceptions, and what is refused.
+-- Traces of images worked by computation: a preemption, delays, an entry with queue and service, handlers of interrupts, exceptions, and what is refused.
 use Rattle.std.proofs.Common.{◌≡◌, ℕ, List, [], ◌∷◌, ◌++◌, pos, Option, None, Some, refl}
 use Rattle.std.specs.Prelude.{codes, if◌then◌else◌, nat_eq}
 use Rattle.std.specs.Fmt.{digits}
 use Rattle.base.specs.Names.{predefined}
+use Rattle.base.specs.declared.schedule.ScheduleLine.{ScheduleLine}
 use Rattle.image.specs.ObjectTable.{ObjectRow}
 use Rattle.image.specs.Sections.{Sections}
+use Rattle.image.specs.declared.attachments.Attachment.{Attachment}
 use Rattle.image.specs.declared.instruction.Instr.{Instr}
 use Rattle.image.specs.declared.instruction.Operation.{Operation}
 use Rattle.image.specs.declared.instruction.Operation.TheVariants as op
@@ -31,7 +33,7 @@ task name priority n = record { name = name; priority = priority; subprogram = n
 
 abbrev image_of : List ObjectRow → List Subprogram → List Task → List Instr → Sections
 image_of objects subprograms tasks instructions =
-    record { exceptions = predefined; labels = codes "got" ∷ []; plain_words = []; objects = objects; subprograms = subprograms; tasks = tasks; rows = []; instructions = instructions }
+    record { exceptions = predefined; labels = codes "got" ∷ []; plain_words = []; objects = objects; subprograms = subprograms; tasks = tasks; rows = []; attachments = []; instructions = instructions }
 
 abbrev delay_until : ℕ → List Instr
 delay_until time = at 0 (op.Push (pos time)) ∷ at 1 op.DelayUntil ∷ []
@@ -108,6 +110,31 @@ due_trace : trace_text due [] nowhere [] 100
     ++ codes "0 2 T gives way to MAIN\n0 2 MAIN runs at 5\n0 3 MAIN ends\n0 3 T runs at 5\n0 4 T ends\nended at 0\n"
 unfolding digits
 due_trace = refl
+
+-- Three interrupts of one channel while the only task sleeps: the end of a handler delivers the next one of its time, and lets the clock move
+
+abbrev latch : ObjectRow
+latch = record { ceiling = 31; entry = None; barrier = barriers.Closed; words = [] }
+
+abbrev interrupted : Sections
+interrupted = record
+    (image_of (latch ∷ []) (sub (ProtectedProcedure 0) 3 1 ∷ sub TaskBody 6 1 ∷ []) (task (codes "MAIN") 5 1 ∷ [])
+    (at 0 (op.Push (pos 7)) ∷ at 1 (op.PutLine 0) ∷ at 0 op.Return ∷ delay_until 6 ++ at 0 op.Return ∷ []))
+    { attachments = record { channel = 1; subprogram = 0 } ∷ [] }
+
+abbrev line_at : ℕ → ScheduleLine
+line_at time = record { time = pos time; channel = 1; value = pos 0 }
+
+interrupted_trace : trace_text interrupted (codes "LATCH" ∷ []) nowhere (line_at 3 ∷ line_at 3 ∷ line_at 5 ∷ []) 100
+    ≡ codes "0 0 MAIN is ready\n0 0 MAIN runs at 5\n"
+    ++ codes "0 2 MAIN waits until 6\n3 2 - the clock moves\n3 2 INTERRUPT_1 runs at 31\n"
+    ++ codes "3 4 INTERRUPT_1 writes 3 INTERRUPT_1 got 7\n3 5 INTERRUPT_1 leaves LATCH at 31\n3 5 INTERRUPT_1 ends\n3 5 INTERRUPT_1 runs at 31\n"
+    ++ codes "3 7 INTERRUPT_1 writes 3 INTERRUPT_1 got 7\n3 8 INTERRUPT_1 leaves LATCH at 31\n3 8 INTERRUPT_1 ends\n"
+    ++ codes "5 8 - the clock moves\n5 8 INTERRUPT_1 runs at 31\n"
+    ++ codes "5 10 INTERRUPT_1 writes 5 INTERRUPT_1 got 7\n5 11 INTERRUPT_1 leaves LATCH at 31\n5 11 INTERRUPT_1 ends\n"
+    ++ codes "6 11 - the clock moves\n6 11 MAIN wakes\n6 11 MAIN runs at 5\n6 12 MAIN ends\nended at 6\n"
+unfolding digits
+interrupted_trace = refl
 
 -- An exception is raised in an action, and again at the call once the action is over
 

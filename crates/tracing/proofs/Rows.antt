@@ -84,7 +84,7 @@ step_tells f a n k d None (Some t) grown =
 
 module _ (i : Sections) (schedule : List ScheduleLine) where
   next_code : (n : ℕ) → code i schedule (suc n) ≡ step (among (behaviour i schedule)) (code i schedule n)
-  next_code n = let e : suc n ≡ n + 1 = omega arith in ap (code i schedule) e ∙ run_plus (among (behaviour i schedule)) n 1 (start i)
+  next_code n = let e : suc n ≡ n + 1 = omega arith in ap (code i schedule) e ∙ run_plus (among (behaviour i schedule)) n 1 (start i schedule)
 
   next_lines : LinesGrowOn → (n : ℕ) → (code i schedule (suc n)).kernel.lines ≡ (code i schedule n).kernel.lines ++ lines_told (rows_at i schedule n)
   next_lines grow n =
@@ -97,6 +97,6 @@ module _ (i : Sections) (schedule : List ScheduleLine) where
       (step_tells f (next_raising i schedule w) (suc n) w.kernel w.rest w.kernel.outcome w.kernel.running (g.0, grown))
 
   pub all_lines : LinesGrowOn → LeftUnmoved → (n : ℕ) → lines_told (rows i schedule n) ≡ (code i schedule n).kernel.lines
-  all_lines grow unmoved zero = let k = (code i schedule 0).kernel in told_shown k.now 0 (starts k) ∙ sym (starts_without_lines unmoved i)
+  all_lines grow unmoved zero = let k = (code i schedule 0).kernel in told_shown k.now 0 (starts k) ∙ sym (starts_without_lines unmoved i schedule)
   all_lines grow unmoved (suc n) =
       told-append (rows i schedule n) (rows_at i schedule n) ∙ ap (λ v. v ++ lines_told (rows_at i schedule n)) (all_lines grow unmoved n) ∙ sym (next_lines grow n)

@@ -1,7 +1,7 @@
 -- What a step changes of who runs, who waits and who is inside an object, told by the kernels before and after it.
-use Rattle.std.specs.Prelude.{ℕ, zero, suc, List, [], ◌∷◌, ◌++◌, Option, Some, None, ℤ, Bool, true, false, int_lt, nat_eq, nat_lt, if◌then◌else◌}
+use Rattle.std.specs.Prelude.{ℕ, zero, suc, List, [], ◌∷◌, ◌++◌, length, Option, Some, None, ℤ, Bool, true, false, not, ◌&&◌, ◌||◌, int_lt, nat_eq, nat_lt, if◌then◌else◌}
 use Rattle.kernel.specs.State as kernel
-use Rattle.kernel.specs.State.{Kernel, TaskPlace, IsRunning, IsReady, IsAsleep, IsQueued, IsServed, IsFinished, active, is_object_open}
+use Rattle.kernel.specs.State.{Kernel, TaskPlace, IsRunning, IsReady, IsAsleep, IsQueued, IsServed, IsFinished, active, is_object_open, is_task}
 use Rattle.tasking.specs.Waits.{wake_time}
 use Rattle.task_steps.specs.declared.foreseeing.Cause.{Cause}
 use Rattle.task_steps.specs.declared.foreseeing.Raising.{Raising}
@@ -22,6 +22,10 @@ each (suc n) told = each n told ++ list_of (told n)
 -- the clock moves only where nobody runs or is ready: then each task that runs or is ready after the step has waited for that time
 abbrev pub is_later : Kernel → Kernel → Bool
 is_later k l = int_lt k.now l.now
+
+-- the end of t, a handler, has delivered the next interrupt, which may be of its own channel (RM C.3.1)
+abbrev pub is_followed : Kernel → Kernel → ℕ → Bool
+is_followed k l t = not (is_task l.partition t) && nat_lt (length l.pending) (length k.pending)
 
 -- Exceptions
 
@@ -45,8 +49,9 @@ crossed l t o false true = Some (Enters t o (active l t))
 crossed l t o true false = Some (Leaves t o (active l t))
 crossed l t o _ _ = None
 
+-- a handler that is followed is inside no more: the next one is
 abbrev pub crossing : Kernel → Kernel → ℕ → ℕ → Option Event
-crossing k l t o = crossed l t o (is_object_open o (k.actions t)) (is_object_open o (l.actions t))
+crossing k l t o = crossed l t o (is_object_open o (k.actions t)) (not (is_followed k l t) && is_object_open o (l.actions t))
 
 -- Callers
 
@@ -86,10 +91,17 @@ gave_up l t false IsRunning = None
 gave_up l t true IsReady = Some (waits l t)
 gave_up l t false IsReady = outranked l t l.running
 
+-- where it is behind the step
+abbrev pub place_left : Kernel → Kernel → ℕ → TaskPlace
+place_left k l t = if is_followed k l t then IsFinished else l.place t
+
 -- what has happened when the clock may move: what t raised, what it did, and what that made of callers
 abbrev pub until_clock : Option Raising → Kernel → Kernel → ℕ → List Event
 until_clock r k l t =
-    raising t r ++ each l.partition.objects (crossing k l t) ++ each l.partition.tasks (calling k l t) ++ list_of (gave_up l t (is_later k l) (l.place t))
+    raising t r
+    ++ each l.partition.objects (crossing k l t)
+    ++ each l.partition.tasks (calling k l t)
+    ++ list_of (gave_up l t (is_later k l) (place_left k l t))
 
 -- The clock
 
@@ -113,9 +125,9 @@ waking k l u = woken (is_later k l) u (k.place u) (l.place u)
 abbrev pub runs_now : Kernel → ℕ → Event
 runs_now l r = Runs r (active l r)
 
--- nothing is told where t runs on
+-- nothing is told where t runs on, and not anew
 abbrev pub dispatched : Kernel → ℕ → Bool → Option ℕ → Option Event
-dispatched l t later None = None
+dispatched l t anew None = None
 dispatched l t true (Some r) = Some (runs_now l r)
 dispatched l t false (Some r) = if nat_eq r t then None else Some (runs_now l r)
 
@@ -128,7 +140,7 @@ abbrev pub since_clock : Kernel → Kernel → ℕ → List Event
 since_clock k l t =
     list_of (clock_moved (is_later k l))
     ++ each l.partition.tasks (waking k l)
-    ++ list_of (dispatched l t (is_later k l) l.running)
+    ++ list_of (dispatched l t (is_later k l || is_followed k l t) l.running)
     ++ list_of (stopped l.outcome)
 
 -- At the start all tasks are ready, in order of declaration, and the highest runs (RM 9.2, D.2.1)

@@ -1,9 +1,9 @@
 //! What a step has changed, told by a machine that stands before it and one that stands after it.
-ghost use Rattle.std.specs.Prelude.{◌≡◌, ◌+◌, ◌<◌, ◌≤◌, ◌++◌, ℕ, [], length, Some, int_lt};
+ghost use Rattle.std.specs.Prelude.{◌≡◌, ◌+◌, ◌<◌, ◌≤◌, ◌++◌, ◌||◌, ℕ, [], length, Some, int_lt};
 ghost use Rattle.arrayvec.specs.ArrayVec.{array_vec_len};
 ghost use Rattle.base.specs.declared.limits.TheConstants.{OBJECTS, TASKS};
 ghost use Rattle.tasking.specs.Held.{kernel_of};
-ghost use Rattle.tracing.specs.Changes.{calling, crossing, dispatched, each, first_runs, gave_up, is_later, list_of, outranked, raises, raising, ready, refusal, since_clock, starts, stopped, until_clock, waits, waking};
+ghost use Rattle.tracing.specs.Changes.{calling, crossing, dispatched, each, first_runs, gave_up, is_followed, is_later, list_of, outranked, place_left, raises, raising, ready, refusal, since_clock, starts, stopped, until_clock, waits, waking};
 ghost use Rattle.tracing.specs.declared.comparing.TheConstants.{EVENTS};
 
 use crate::event::Event;
@@ -37,6 +37,18 @@ fn is_later<R: Ready, D: Delays>(before: &Machine<'_, R, D>, after: &Machine<'_,
     before.now() < after.now()
 }
 
+// Whether the task that ran is a handler whose end has delivered the next interrupt (RM C.3.1).
+fn is_followed<R: Ready, D: Delays>(
+    before: &Machine<'_, R, D>,
+    after: &Machine<'_, R, D>,
+    task: u8,
+) -> bool
+    ensures { result ≡ is_followed (kernel_of before.now.tasking) (kernel_of after.now.tasking) task }
+{
+    let is_task = task < after.tasks();
+    !is_task && after.pending() < before.pending()
+}
+
 // Whether the task that ran has entered or left an object.
 fn crossing<R: Ready, D: Delays>(
     before: &Machine<'_, R, D>,
@@ -45,14 +57,14 @@ fn crossing<R: Ready, D: Delays>(
     object: u8,
 ) -> Option<Event>
     requires image { before.now.image ≡ after.now.image }
-    requires task { task < length after.now.image.tasks }
     requires object { object < length after.now.image.objects }
     ensures { result ≡ crossing (kernel_of before.now.tasking) (kernel_of after.now.tasking) task object }
 {
-    let priority = after.active(task);
+    let priority = after.active_of_actor(task);
+    let is_followed = is_followed(before, after, task);
     match (
-        before.is_inside(task, object),
-        after.is_inside(task, object),
+        before.is_actor_inside(task, object),
+        !is_followed && after.is_actor_inside(task, object),
     ) {
         (false, true) => Some(Event::Enters {
             task,
@@ -77,7 +89,7 @@ fn calling<R: Ready, D: Delays>(
 ) -> Option<Event>
     ensures { result ≡ calling (kernel_of before.now.tasking) (kernel_of after.now.tasking) by task }
 {
-    match (before.place(task), after.place(task)) {
+    match (before.place_of_actor(task), after.place_of_actor(task)) {
         (Place::Queued(object), Place::Served(_)) => Some(Event::Served { task, object, by }),
         (Place::Served(object), Place::Ready | Place::Running) => {
             Some(Event::Returns { task, object })
@@ -88,11 +100,10 @@ fn calling<R: Ready, D: Delays>(
 
 // Who runs in the place of a task that is ready again: one that preempts it, or one of its own priority.
 fn outranked<R: Ready, D: Delays>(after: &Machine<'_, R, D>, task: u8) -> Option<Event>
-    requires { task < length after.now.image.tasks }
     ensures { result ≡ outranked (kernel_of after.now.tasking) task (kernel_of after.now.tasking).running }
 {
-    let by = after.running()?;
-    if after.active(task) < after.active(by) {
+    let by = after.actor()?;
+    if after.active_of_actor(task) < after.active_of_actor(by) {
         Some(Event::Preempted { task, by })
     } else {
         Some(Event::GivesWay { task, to: by })
@@ -116,11 +127,13 @@ fn gave_up<R: Ready, D: Delays>(
     after: &Machine<'_, R, D>,
     task: u8,
 ) -> Option<Event>
-    requires { task < length after.now.image.tasks }
     ensures { result ≡ gave_up (kernel_of after.now.tasking) task (is_later (kernel_of before.now.tasking) (kernel_of after.now.tasking))
-        ((kernel_of after.now.tasking).place task) }
+        (place_left (kernel_of before.now.tasking) (kernel_of after.now.tasking) task) }
 {
-    match (is_later(before, after), after.place(task)) {
+    if is_followed(before, after, task) {
+        return Some(Event::Ends { task });
+    }
+    match (is_later(before, after), after.place_of_actor(task)) {
         (_, Place::Asleep) | (true, Place::Running | Place::Ready) => Some(waits(after, task)),
         (_, Place::Queued(object)) => Some(Event::Queues { task, object }),
         (_, Place::Finished) => Some(Event::Ends { task }),
@@ -139,8 +152,8 @@ fn waking<R: Ready, D: Delays>(
 {
     match (
         is_later(before, after),
-        before.place(task),
-        after.place(task),
+        before.place_of_actor(task),
+        after.place_of_actor(task),
     ) {
         (_, Place::Asleep, Place::Ready | Place::Running)
         | (true, Place::Running, Place::Ready | Place::Running) => Some(Event::Wakes { task }),
@@ -154,12 +167,13 @@ fn dispatched<R: Ready, D: Delays>(
     after: &Machine<'_, R, D>,
     ran: u8,
 ) -> Option<Event>
-    ensures { result ≡ dispatched (kernel_of after.now.tasking) ran (is_later (kernel_of before.now.tasking) (kernel_of after.now.tasking))
-        (kernel_of after.now.tasking).running }
+    ensures { let k = kernel_of before.now.tasking in let l = kernel_of after.now.tasking in
+        result ≡ dispatched l ran (is_later k l || is_followed k l ran) l.running }
 {
-    let task = after.running()?;
-    if is_later(before, after) || task != ran {
-        let priority = after.active(task);
+    let task = after.actor()?;
+    let is_anew = is_later(before, after) || is_followed(before, after, ran);
+    if is_anew || task != ran {
+        let priority = after.active_of_actor(task);
         Some(Event::Runs { task, priority })
     } else {
         None
@@ -229,7 +243,6 @@ fn crossings<R: Ready, D: Delays>(
     task: u8,
 )
     requires image { before.now.image ≡ after.now.image }
-    requires task { task < length after.now.image.tasks }
     requires room { array_vec_len events.old ≤ 2 }
     ensures items { events.new.items ≡ events.old.items ++ each (kernel_of after.now.tasking).partition.objects
         (crossing (kernel_of before.now.tasking) (kernel_of after.now.tasking) task) }
@@ -248,7 +261,6 @@ pub(crate) fn until_clock<R: Ready, D: Delays>(
     raised: Option<Raising>,
 ) -> Events
     requires image { before.now.image ≡ after.now.image }
-    requires task { ran < length after.now.image.tasks }
     ensures { result.items ≡ until_clock raised (kernel_of before.now.tasking) (kernel_of after.now.tasking) ran }
 {
     let mut events = raising(ran, raised);
@@ -288,8 +300,8 @@ pub(crate) fn starts<R: Ready, D: Delays>(machine: &Machine<'_, R, D>) -> Events
     for task in 0..machine.tasks() {
         events.push(Event::Ready { task });
     }
-    if let Some(task) = machine.running() {
-        let priority = machine.active(task);
+    if let Some(task) = machine.actor() {
+        let priority = machine.active_of_actor(task);
         events.push(Event::Runs { task, priority });
     }
     events

@@ -12,7 +12,7 @@ use crate::origin::{Origin, Origins};
 use arrayvec::ArrayVec;
 use image::{Image, Text};
 use itoa::Buffer;
-use machine::{Cause, exception_name, task_name};
+use machine::{ActorName, Cause, actor_name, exception_name};
 
 /// The most bytes of a row, its end included, but for a row that ends with a line of the run: this is how many bytes are in front of that.
 pub(crate) const ROW_BYTES: usize = 192;
@@ -64,12 +64,16 @@ fn heading(time: i64, step: u64, task: &[u8]) -> RowText
 }
 
 // The name of the task that an event is told of, or a dash where it is the clock.
-fn task_of<'a>(image: &'a Image, event: &Event) -> &'a [u8]
-    ensures same { result.now ≡ task_of (names_of image.now) event.now }
-    ensures short { length result.now ≤ NAME_LIMIT }
+fn task_of(image: &Image, event: &Event) -> ActorName
+    ensures same { result.items ≡ task_of (names_of image.now) event.now }
+    ensures short { array_vec_len result ≤ NAME_LIMIT }
 {
     match event {
-        Event::ClockMoves => b"-",
+        Event::ClockMoves => {
+            let mut dash = ArrayVec::new();
+            dash.push(b'-');
+            dash
+        }
         Event::Ready { task }
         | Event::Runs { task, .. }
         | Event::Preempted { task, .. }
@@ -85,7 +89,7 @@ fn task_of<'a>(image: &'a Image, event: &Event) -> &'a [u8]
         | Event::Served { task, .. }
         | Event::Returns { task, .. }
         | Event::Ends { task }
-        | Event::Unhandled { task, .. } => task_name(image.tasks(), *task),
+        | Event::Unhandled { task, .. } => actor_name(image, *task),
     }
 }
 
@@ -217,12 +221,15 @@ fn put_event<O: Origins>(
     ensures items { row.new.items ≡ row.old.items ++ event_text (row_names image.now objects.now (O.origin origins.now)) event.now }
     ensures len { array_vec_len row.new ≤ array_vec_len row.old + 108 }
 {
-    let tasks = image.tasks();
     match event {
         Event::Ready { .. } => put(row, b"is ready"),
         Event::Runs { priority, .. } => put_with(row, b"runs at ", *priority),
-        Event::Preempted { by, .. } => put_named(row, b"is preempted by ", task_name(tasks, *by)),
-        Event::GivesWay { to, .. } => put_named(row, b"gives way to ", task_name(tasks, *to)),
+        Event::Preempted { by, .. } => {
+            put_named(row, b"is preempted by ", actor_name(image, *by).as_slice());
+        }
+        Event::GivesWay { to, .. } => {
+            put_named(row, b"gives way to ", actor_name(image, *to).as_slice());
+        }
         Event::Refused { cause, .. } => put_cause(row, objects, cause),
         Event::Raises {
             exception,
@@ -270,7 +277,7 @@ fn put_event<O: Origins>(
         Event::Queues { object, .. } => put_at(row, b"queues at ", objects, *object),
         Event::Served { object, by, .. } => {
             put_at(row, b"is served at ", objects, *object);
-            put_named(row, b" by ", task_name(tasks, *by));
+            put_named(row, b" by ", actor_name(image, *by).as_slice());
         }
         Event::Returns { object, .. } => put_at(row, b"has been served at ", objects, *object),
         Event::Ends { .. } => put(row, b"ends"),
@@ -296,7 +303,7 @@ pub(crate) fn event_row<O: Origins>(
 ) -> RowText
     ensures { result.items ≡ telling_text (row_names image.now objects.now (O.origin origins.now)) time step (Shows event.now) }
 {
-    let mut row = heading(time, step, task_of(image, event));
+    let mut row = heading(time, step, task_of(image, event).as_slice());
     put_event(&mut row, image, objects, origins, event);
     put(&mut row, b"\n");
     row
@@ -306,7 +313,7 @@ pub(crate) fn event_row<O: Origins>(
 pub(crate) fn line_heading(image: &Image, time: i64, step: u64, task: u8) -> RowText
     ensures { result.items ≡ heading time step ((names_of image.now).task task) ++ codes "writes " }
 {
-    let mut row = heading(time, step, task_name(image.tasks(), task));
+    let mut row = heading(time, step, actor_name(image, task).as_slice());
     put(&mut row, b"writes ");
     row
 }

@@ -96,7 +96,7 @@ fn write_step<R: Ready, D: Delays, O: Origins, S: Sink>(
         (step_text (row_names image.now objects.now (O.origin origins.now)) raising (kernel_of before.now.tasking) (kernel_of after.now.tasking) step told.now
         (kernel_of before.now.tasking).running)) }
 {
-    let Some(ran) = before.running() else {
+    let Some(ran) = before.actor() else {
         return Ok(());
     };
     let time = before.now();

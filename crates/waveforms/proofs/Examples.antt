@@ -26,7 +26,7 @@ task name priority n = record { name = name; priority = priority; subprogram = n
 
 abbrev image_of : List ObjectRow → List Subprogram → List Task → List Instr → Sections
 image_of objects subprograms tasks instructions =
-    record { exceptions = predefined; labels = codes "got" ∷ []; plain_words = []; objects = objects; subprograms = subprograms; tasks = tasks; rows = []; instructions = instructions }
+    record { exceptions = predefined; labels = codes "got" ∷ []; plain_words = []; objects = objects; subprograms = subprograms; tasks = tasks; rows = []; attachments = []; instructions = instructions }
 
 -- CONS queues at a closed barrier; MAIN opens it, serves the call, and is preempted by the caller
 

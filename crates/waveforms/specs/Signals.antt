@@ -1,7 +1,7 @@
 -- The values of a run's signals: its time, and the states of its tasks and protected objects, told by the kernel.
 use Rattle.std.specs.Prelude.{ℕ, zero, suc, ◌+◌, List, [], ◌∷◌, ◌++◌, Option, Some, None, Bool, false, nat_eq, slice_get, if◌then◌else◌}
 use Rattle.std.specs.Int.{cast_unsigned, w64}
-use Rattle.kernel.specs.State.{Kernel, Outcome, Unhandled, TaskPlace, IsRunning, IsReady, IsAsleep, IsQueued, IsServed, IsFinished, active, inside}
+use Rattle.kernel.specs.State.{Kernel, Outcome, Unhandled, TaskPlace, IsRunning, IsReady, IsAsleep, IsQueued, IsServed, IsFinished, active, inside, is_task}
 
 -- what stands for each number below n, in their order
 abbrev pub all_below : {X : Type 0} → ℕ → (ℕ → List X) → List X
@@ -36,9 +36,14 @@ abbrev pub from_one : Option ℕ → ℕ
 from_one None = 0
 from_one (Some t) = t + 1
 
--- who is inside, one task at most by ceilings alone (kernel/specs/Exclusion), and whose call waits in the queue of its entry
+-- the handler of an interrupt has the number behind those of the tasks
+abbrev pub shown : Kernel → Option ℕ → Option ℕ
+shown k None = None
+shown k (Some t) = Some (if is_task k.partition t then t else k.partition.tasks)
+
+-- who is inside, one task or handler at most by ceilings alone (kernel/specs/Exclusion), and whose call waits in the queue of its entry
 abbrev pub object_values : Kernel → ℕ → List ℕ
-object_values k o = from_one (slice_get (inside k o) 0) ∷ from_one (k.queued o) ∷ []
+object_values k o = from_one (shown k (slice_get (inside k o) 0)) ∷ from_one (k.queued o) ∷ []
 
 -- All
 

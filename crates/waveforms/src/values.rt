@@ -61,7 +61,7 @@ fn state_number<R: Ready, D: Delays>(machine: &Machine<'_, R, D>, task: u8) -> u
     if is_left(machine, task) {
         6
     } else {
-        place_number(machine.place(task))
+        place_number(machine.place_of_actor(task))
     }
 }
 
@@ -75,11 +75,12 @@ fn from_one(task: Option<u8>) -> u64
     }
 }
 
-// The task inside an object, if there is one.
+// Who is inside an object, if somebody is: a task, or by the number behind those of the tasks a handler.
 fn first_inside<R: Ready, D: Delays>(machine: &Machine<'_, R, D>, object: u8) -> Option<u8>
-    ensures { result ≡ slice_get (inside (kernel_of machine.now.tasking) object) 0 }
+    ensures { let k = kernel_of machine.now.tasking in result ≡ signals.shown k (slice_get (inside k object) 0) }
 {
-    machine.inside(object).as_slice().get(0).copied()
+    let number = machine.inside(object).as_slice().get(0).copied()?;
+    Some(number.min(machine.tasks()))
 }
 
 // Adds the values of the tasks' signals.
@@ -90,7 +91,7 @@ fn add_tasks<R: Ready, D: Delays>(values: &mut Values, machine: &Machine<'_, R, 
     ensures len { array_vec_len values.new ≤ 1 + 2 * TASKS }
 {
     for task in 0..machine.tasks() {
-        let priority = u64::from(machine.active(task));
+        let priority = u64::from(machine.active_of_actor(task));
         add_two(values, state_number(machine, task), priority);
     }
 }

@@ -2,4 +2,4 @@ use Rattle.image_laws.proofs.Exclusion.{linked_in_every_world}
 use Rattle.image_laws.proofs.linked_in_every_world.Goals as goal
 
 pub returns : goal.returns
-returns c = linked_in_every_world c.begins_kept.ensures c.kept_by_every_effect.ensures c.left_unmoved.ensures c.entry_opens.ensures c.reaches_callers.ensures c.four_statements_hold.ensures
+returns c = linked_in_every_world c.begins_kept.ensures c.kept_by_every_effect.ensures c.steps_settle.ensures c.start_settles.ensures c.entry_opens.ensures c.reaches_callers.ensures c.four_statements_hold.ensures

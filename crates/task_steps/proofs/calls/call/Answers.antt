@@ -5,8 +5,8 @@ use Rattle.processor.proofs.PlainCalls.{calls}
 use Rattle.task_steps.proofs.calls.call.Goals as goal
 
 pub returns : goal.returns
-returns c = λ schedule k t.
+returns c = λ schedule k t as_own.
     let i = c.args.program.now in
     let there : called i c.args.number ≡ Some c.in-Some.subprogram = search rules in
     calls i schedule k t (words_in i c.args.memory.now.shared) c.args.state.now.frame c.args.state.now.callers c.args.number c.in-Some.subprogram there (subst (λ o. parameters_of o ≤ length c.args.state.now.frame.stack) there c.requires.there)
-    ∙ c.enter.ensures schedule k t
+    ∙ c.enter.ensures schedule k t as_own

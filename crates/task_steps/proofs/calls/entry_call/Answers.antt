@@ -26,7 +26,7 @@ returns-then-not-is_open g c = λ schedule.
     let allowed : (is_inside_any k c.args.task || is_above_ceiling k c.args.task o) ≡ false = search rules in
     entry_calls i schedule k c.args.task m f fs o n s entry there enough
     ∙ (entry_closed i schedule k c.args.task m f fs o n s allowed closed
-    ∙ subst (λ p. with_frame_left i schedule k c.args.task m f fs (queues i schedule k c.args.task m f fs p) ≡ stepped_of i c.queue.result c.args.memory.now c.queue.new.state) c.object_number-object.ensures (c.queue.ensures schedule c.args.task))
+    ∙ subst (λ p. with_frame_left i schedule k c.args.task m f fs (queues i schedule k c.args.task m f fs p) ≡ stepped_of i c.queue.result c.args.memory.now c.queue.new.state) c.object_number-object.ensures (c.queue.ensures schedule c.args.task (sym c.is_task-is_task.ensures)))
 
 pub returns : goal.returns
 returns g c = λ schedule.
@@ -48,4 +48,4 @@ returns g c = λ schedule.
     entry_calls i schedule k c.args.task m f fs o n s entry there enough
     ∙ (entry_open i schedule k c.args.task m f fs o n s allowed barrier
     ∙ (sym (λ j. with_frame_left i schedule k c.args.task m f fs (enters i schedule k c.args.task m f fs (Opens (number j)) (Opened (object j)) n s))
-    ∙ c.enter.ensures schedule k c.args.task))
+    ∙ c.enter.ensures schedule k c.args.task (sym c.is_task-is_task.ensures)))

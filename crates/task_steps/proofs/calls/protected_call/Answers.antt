@@ -40,4 +40,4 @@ returns g c = λ schedule.
     calls_external i schedule k c.args.task m f fs c.args.number o s there enough external c.external_object-object.ensures
     ∙ (is_not_refused i schedule k c.args.task m f fs (call_refusal k c.args.task o) c.call_refusal.result (with_frame_left i schedule k c.args.task m f fs (enters i schedule k c.args.task m f fs (effect_of i (opening s.kind o)) (Opened o) c.args.number s)) c.call_refusal.ensures (search rules)
     ∙ (sym (λ j. with_frame_left i schedule k c.args.task m f fs (enters i schedule k c.args.task m f fs (effect_of i (c.opening-effect.ensures j)) (Opened (c.from.ensures j)) c.args.number s))
-    ∙ c.enter.ensures schedule k c.args.task))
+    ∙ c.enter.ensures schedule k c.args.task (sym c.is_task-is_task.ensures)))

@@ -1,8 +1,9 @@
+use Rattle.std.proofs.Common.{sym}
 use Rattle.tasking.specs.Held.{kernel_of}
 use Rattle.task_steps.proofs.operations.operate.Goals as goal
 
 pub returns-in-Call : goal.returns-in-Call
-returns-in-Call g c = rw c.in-Call.is (c.call.ensures c.args.schedule.now (kernel_of c.args.tasking.now) c.args.task)
+returns-in-Call g c = rw c.in-Call.is (c.call.ensures c.args.schedule.now (kernel_of c.args.tasking.now) c.args.task (sym c.is_task.ensures))
 
 pub returns-in-Return : goal.returns-in-Return
 returns-in-Return g c = rw c.in-Return.is (c.leave.ensures c.args.schedule.now (kernel_of c.args.tasking.now) c.args.task)

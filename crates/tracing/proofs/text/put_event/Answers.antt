@@ -1,6 +1,6 @@
-use Rattle.std.proofs.Common.{rules, ◌≡◌, ℕ, List, ◌++◌, of_z, to_z, w64, slice_get, sym, ap, ◌∙◌, append_assoc, codes}
+use Rattle.std.proofs.Common.{rules, ◌≡◌, ℕ, List, ◌++◌, of_z, to_z, w64, sym, ap, ◌∙◌, append_assoc, codes}
 use Rattle.std.specs.Fmt.{signed_decimal}
-use Rattle.image.specs.Texts.{name_of, text_from_one}
+use Rattle.image.specs.Texts.{text_from_one}
 use Rattle.tracing.specs.Traces.{event_text, origin_text, row_names}
 use Rattle.tracing.proofs.text.put_event.Goals as goal
 
@@ -11,7 +11,7 @@ two row first last a b e f = f ∙ ap (λ v. v ++ b) e ∙ append_assoc row a b
 pub returns-in-Preempted-clause-items : goal.returns-in-Preempted-clause-items
 returns-in-Preempted-clause-items g c =
     let row = c.args.row.now.items in
-    let name = c.task_name.ensures.same ∙ ap (λ ts. name_of (slice_get ts c.in-Preempted.by)) c.tasks-tasks.ensures.same in
+    let name = c.as_slice.ensures.value ∙ c.actor_name.ensures.same in
     c.put_named.ensures.items
     ∙ ap (λ v. row ++ (codes "is preempted by " ++ v)) name
     ∙ ap (λ e. row ++ event_text (row_names c.args.image.now c.args.objects.now (g.O.Origins.origin c.args.origins.now)) e) (sym c.in-Preempted.is)
@@ -19,7 +19,7 @@ returns-in-Preempted-clause-items g c =
 pub returns-in-GivesWay-clause-items : goal.returns-in-GivesWay-clause-items
 returns-in-GivesWay-clause-items g c =
     let row = c.args.row.now.items in
-    let name = c.task_name-in-GivesWay.ensures.same ∙ ap (λ ts. name_of (slice_get ts c.in-GivesWay.to)) c.tasks-tasks.ensures.same in
+    let name = c.as_slice-in-GivesWay.ensures.value ∙ c.actor_name-in-GivesWay.ensures.same in
     c.put_named-in-GivesWay.ensures.items
     ∙ ap (λ v. row ++ (codes "gives way to " ++ v)) name
     ∙ ap (λ e. row ++ event_text (row_names c.args.image.now c.args.objects.now (g.O.Origins.origin c.args.origins.now)) e) (sym c.in-GivesWay.is)
@@ -70,7 +70,7 @@ returns-in-Queues-clause-items g c =
 
 pub returns-in-Served-clause-items : goal.returns-in-Served-clause-items
 returns-in-Served-clause-items g c =
-    let name = c.task_name-in-Served.ensures.same ∙ ap (λ ts. name_of (slice_get ts c.in-Served.by)) c.tasks-tasks.ensures.same in
+    let name = c.as_slice-in-Served.ensures.value ∙ c.actor_name-in-Served.ensures.same in
     two c.args.row.now.items _ _ _ _ c.put_at-in-Served.ensures.items
     (c.put_named-in-Served.ensures.items ∙ ap (λ v. c.put_at-in-Served.new.row.items ++ (codes " by " ++ v)) name)
     ∙ ap (λ e. c.args.row.now.items ++ event_text (row_names c.args.image.now c.args.objects.now (g.O.Origins.origin c.args.origins.now)) e) (sym c.in-Served.is)

@@ -10,7 +10,7 @@ returns-in-Err-clause-beginning g c =
     let k = kernel_of c.args.before.now.tasking in
     let l = kernel_of c.args.after.now.tasking in
     let time : to_z w64 (of_z w64 c.now-time.result) ≡ c.now-time.result = search rules in
-    let is = step_parts c.args.image.now c.args.objects.now (g.O.Origins.origin c.args.origins.now) c.args.raising k l c.args.step c.args.told.now c.in-Some.ran _ _ l.now _ (since_clock k l c.in-Some.ran) (sym c.running.ensures.same ∙ c.in-Some.is) (time ∙ c.now-time.ensures) refl c.until_clock-until.ensures refl in
+    let is = step_parts c.args.image.now c.args.objects.now (g.O.Origins.origin c.args.origins.now) c.args.raising k l c.args.step c.args.told.now c.in-Some.ran _ _ l.now _ (since_clock k l c.in-Some.ran) (sym c.actor.ensures ∙ c.in-Some.is) (time ∙ c.now-time.ensures) refl c.until_clock-until.ensures refl in
     first_begun _ _ _ _ _ is (first_begun _ _ _ _ _ refl c.in-Err.ensures.beginning)
 
 pub returns-in-Err-write_events-clause-beginning : goal.returns-in-Err-write_events-clause-beginning
@@ -19,7 +19,7 @@ returns-in-Err-write_events-clause-beginning g c =
     let l = kernel_of c.args.after.now.tasking in
     let time : to_z w64 (of_z w64 c.now-time.result) ≡ c.now-time.result = search rules in
     let until = c.as_slice.ensures.value ∙ c.until_clock-until.ensures in
-    let is = step_parts c.args.image.now c.args.objects.now (g.O.Origins.origin c.args.origins.now) c.args.raising k l c.args.step c.args.told.now c.in-Some.ran _ _ l.now _ (since_clock k l c.in-Some.ran) (sym c.running.ensures.same ∙ c.in-Some.is) (time ∙ c.now-time.ensures) refl until refl in
+    let is = step_parts c.args.image.now c.args.objects.now (g.O.Origins.origin c.args.origins.now) c.args.raising k l c.args.step c.args.told.now c.in-Some.ran _ _ l.now _ (since_clock k l c.in-Some.ran) (sym c.actor.ensures ∙ c.in-Some.is) (time ∙ c.now-time.ensures) refl until refl in
     first_begun _ _ _ _ _ is (last_begun _ _ _ _ _ _ refl c.in-Ok.ensures.whole c.in-Err-write_events.ensures.beginning)
 
 pub returns-clause-whole : goal.returns-clause-whole
@@ -30,7 +30,7 @@ returns-clause-whole g c =
     let later : to_z w64 (of_z w64 c.now.result) ≡ c.now.result = search rules in
     let until = c.as_slice.ensures.value ∙ c.until_clock-until.ensures in
     let since = c.as_slice-2.ensures.value ∙ c.since_clock-since.ensures in
-    let is = step_parts c.args.image.now c.args.objects.now (g.O.Origins.origin c.args.origins.now) c.args.raising k l c.args.step c.args.told.now c.in-Some.ran _ _ _ _ _ (sym c.running.ensures.same ∙ c.in-Some.is) (time ∙ c.now-time.ensures) (later ∙ c.now.ensures) until since in
+    let is = step_parts c.args.image.now c.args.objects.now (g.O.Origins.origin c.args.origins.now) c.args.raising k l c.args.step c.args.told.now c.in-Some.ran _ _ _ _ _ (sym c.actor.ensures ∙ c.in-Some.is) (time ∙ c.now-time.ensures) (later ∙ c.now.ensures) until since in
     on_ok _ _ _ (both _ _ _ _ _ _ is (both _ _ _ _ _ _ refl c.in-Ok.ensures.whole c.in-Ok-write_events.ensures.whole)) c.write_events-2.ensures.whole
 
 pub returns-clause-beginning : goal.returns-clause-beginning
@@ -41,5 +41,5 @@ returns-clause-beginning g c =
     let later : to_z w64 (of_z w64 c.now.result) ≡ c.now.result = search rules in
     let until = c.as_slice.ensures.value ∙ c.until_clock-until.ensures in
     let since = c.as_slice-2.ensures.value ∙ c.since_clock-since.ensures in
-    let is = step_parts c.args.image.now c.args.objects.now (g.O.Origins.origin c.args.origins.now) c.args.raising k l c.args.step c.args.told.now c.in-Some.ran _ _ _ _ _ (sym c.running.ensures.same ∙ c.in-Some.is) (time ∙ c.now-time.ensures) (later ∙ c.now.ensures) until since in
+    let is = step_parts c.args.image.now c.args.objects.now (g.O.Origins.origin c.args.origins.now) c.args.raising k l c.args.step c.args.told.now c.in-Some.ran _ _ _ _ _ (sym c.actor.ensures ∙ c.in-Some.is) (time ∙ c.now-time.ensures) (later ∙ c.now.ensures) until since in
     on_err _ _ _ (last_begun _ _ _ _ _ _ is (both _ _ _ _ _ _ refl c.in-Ok.ensures.whole c.in-Ok-write_events.ensures.whole)) c.write_events-2.ensures.beginning

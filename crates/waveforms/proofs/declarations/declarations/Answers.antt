@@ -1,12 +1,26 @@
-use Rattle.std.proofs.Common.{◌∙◌, ◌++◌, ap, codes, slice_get}
-use Rattle.image.specs.Texts.{name_of}
+use Rattle.std.proofs.Common.{◌≡◌, ◌<◌, ◌∙◌, ◌++◌, ap, sym, codes, length, slice_get, ℕ}
+use Rattle.std.proofs.lemmas.Bool.{lt-ltb}
+use Rattle.std.specs.Prelude.{◌-◌, if◌then◌else◌}
+use Rattle.image.specs.Texts.{name_of, names_of}
+use Rattle.kernel.specs.Interrupts.{interrupt_name}
 use Rattle.waveforms.specs.Signals.{all_below}
-use Rattle.waveforms.specs.Waves.{object_scope, task_scope}
+use Rattle.waveforms.specs.Waves.{declaration_text, object_scope, preamble, task_scope}
+use Rattle.waveforms.proofs.Added.{below_same}
 use Rattle.waveforms.proofs.declarations.declarations.Goals as goal
 
 pub returns : goal.returns
 returns c =
+    let i = c.args.image.now in
+    let count = length i.tasks in
+    let scopes : all_below count (task_scope (λ t. name_of (slice_get i.tasks t))) ≡ all_below count (task_scope (names_of i).task) =
+    below_same count _ _
+    (λ t less.
+    let named : name_of (slice_get i.tasks t) ≡ (names_of i).task t =
+    sym (ap (λ b. if b then name_of (slice_get i.tasks t) else interrupt_name (t - count)) (lt-ltb t count less)) in
+    ap (λ n. task_scope (λ u. n) t) named) in
     let time = c.in_ok-extend_from_slice.ensures.items ∙ (λ j. c.in_ok-text.ensures j ++ (c.as_slice.ensures.value ∙ c.declaration.ensures) j) in
-    let tasks = c.in_ok-add_tasks.ensures ∙ (λ j. time j ++ all_below (c.requires.tasks j) (task_scope (λ t. name_of (slice_get (c.tasks.ensures.same j) t)))) in
+    let tasks = c.in_ok-add_tasks.ensures
+    ∙ (λ j. time j ++ all_below (c.requires.tasks j) (task_scope (λ t. name_of (slice_get (c.tasks.ensures.same j) t))))
+    ∙ ap (λ v. preamble ++ declaration_text (codes "64") 0 (codes "time") ++ v) scopes in
     let objects = c.in_ok-add_objects.ensures ∙ (λ j. tasks j ++ all_below (c.requires.objects j) (object_scope c.args.names.now (c.requires.tasks j))) in
     c.in_ok-extend_from_slice-2.ensures.items ∙ ap (λ v. v ++ codes "$upscope $end\n$enddefinitions $end\n") objects

@@ -14,8 +14,8 @@ invariant_of-self g c =
     let a = c.self.inside.state in
     let b = c.go-went.new.self in
     let left = c.go-went.result.left in
-    let went = subst (λ o. HasGone steps unseen a b c.go-went.ensures.well_formed c.args.task c.args.limit left c.self.invariant runs c.go-went.ensures.moved o) c.in-None.is c.go-went.ensures.went in
-    gone_whole steps unseen a b c.go-went.ensures.well_formed c.args.task c.args.limit left c.self.invariant runs c.go-went.ensures.moved went
+    let went = subst (λ o. HasGone steps unseen a b c.go-went.ensures.well_formed c.args.task c.args.limit left c.self.invariant runs c.go-went.ensures.moved c.go-went.ensures.there o) c.in-None.is c.go-went.ensures.went in
+    gone_whole steps unseen a b c.go-went.ensures.well_formed c.args.task c.args.limit left c.self.invariant runs c.go-went.ensures.moved c.go-went.ensures.there went
 
 pub settle-line-requires-clause-owes : goal.settle-line-requires-clause-owes
 settle-line-requires-clause-owes g c =
@@ -25,8 +25,8 @@ settle-line-requires-clause-owes g c =
     let a = c.self.inside.state in
     let b = c.go-went.new.self in
     let left = c.go-went.result.left in
-    let went = subst (λ o. HasGone steps unseen a b c.go-went.ensures.well_formed c.args.task c.args.limit left c.self.invariant runs c.go-went.ensures.moved o) c.in-Some.is c.go-went.ensures.went in
-    (acted steps unseen a b c.go-went.ensures.well_formed c.args.task c.args.limit left c.self.invariant runs c.go-went.ensures.moved _ went).owes
+    let went = subst (λ o. HasGone steps unseen a b c.go-went.ensures.well_formed c.args.task c.args.limit left c.self.invariant runs c.go-went.ensures.moved c.go-went.ensures.there o) c.in-Some.is c.go-went.ensures.went in
+    (acted steps unseen a b c.go-went.ensures.well_formed c.args.task c.args.limit left c.self.invariant runs c.go-went.ensures.moved c.go-went.ensures.there _ went).owes
 
 pub settle-line-requires-clause-passed : goal.settle-line-requires-clause-passed
 settle-line-requires-clause-passed g c =
@@ -37,9 +37,9 @@ settle-line-requires-clause-passed g c =
     let b = c.go-went.new.self in
     let left = c.go-went.result.left in
     let moved = c.go-went.ensures.moved in
-    let went = subst (λ o. HasGone steps unseen a b c.go-went.ensures.well_formed c.args.task c.args.limit left c.self.invariant runs moved o) c.in-Some.is c.go-went.ensures.went in
-    let owes = (acted steps unseen a b c.go-went.ensures.well_formed c.args.task c.args.limit left c.self.invariant runs moved _ went).owes in
-    let w = subst IsWellFormed (sym (image steps unseen a b c.go-went.ensures.well_formed c.args.task c.args.limit left c.self.invariant runs moved)) c.go-went.ensures.well_formed in
+    let went = subst (λ o. HasGone steps unseen a b c.go-went.ensures.well_formed c.args.task c.args.limit left c.self.invariant runs moved c.go-went.ensures.there o) c.in-Some.is c.go-went.ensures.went in
+    let owes = (acted steps unseen a b c.go-went.ensures.well_formed c.args.task c.args.limit left c.self.invariant runs moved c.go-went.ensures.there _ went).owes in
+    let w = subst IsWellFormed (sym (image steps unseen a b c.go-went.ensures.well_formed c.args.task c.args.limit left c.self.invariant runs moved c.go-went.ensures.there)) c.go-went.ensures.well_formed in
     has_passed c.effects_named.ensures c.steps_whole.ensures.passes b w c.args.task _ owes
 
 pub invariant_of-self-in-Some : goal.invariant_of-self-in-Some
@@ -51,9 +51,9 @@ invariant_of-self-in-Some g c =
     let b = c.go-went.new.self in
     let left = c.go-went.result.left in
     let moved = c.go-went.ensures.moved in
-    let went = subst (λ o. HasGone steps unseen a b c.go-went.ensures.well_formed c.args.task c.args.limit left c.self.invariant runs moved o) c.in-Some.is c.go-went.ensures.went in
-    let q = acted steps unseen a b c.go-went.ensures.well_formed c.args.task c.args.limit left c.self.invariant runs moved _ went in
-    settled_whole steps unseen a b c.go-went.ensures.well_formed c.args.task c.args.limit left c.self.invariant runs moved _ q c.settle-line.new.self _ c.settle-line.ensures.settles c.kept_with_lines.ensures
+    let went = subst (λ o. HasGone steps unseen a b c.go-went.ensures.well_formed c.args.task c.args.limit left c.self.invariant runs moved c.go-went.ensures.there o) c.in-Some.is c.go-went.ensures.went in
+    let q = acted steps unseen a b c.go-went.ensures.well_formed c.args.task c.args.limit left c.self.invariant runs moved c.go-went.ensures.there _ went in
+    settled_whole steps unseen a b c.go-went.ensures.well_formed c.args.task c.args.limit left c.self.invariant runs moved c.go-went.ensures.there _ q c.settle-line.new.self _ c.settle-line.ensures.settles c.kept_with_lines.ensures
 
 pub returns-in-None-clause-leads : goal.returns-in-None-clause-leads
 returns-in-None-clause-leads g c =
@@ -64,9 +64,9 @@ returns-in-None-clause-leads g c =
     let b = c.go-went.new.self in
     let left = c.go-went.result.left in
     let moved = c.go-went.ensures.moved in
-    let went = subst (λ o. HasGone steps unseen a b c.go-went.ensures.well_formed c.args.task c.args.limit left c.self.invariant runs moved o) c.in-None.is c.go-went.ensures.went in
+    let went = subst (λ o. HasGone steps unseen a b c.go-went.ensures.well_formed c.args.task c.args.limit left c.self.invariant runs moved c.go-went.ensures.there o) c.in-None.is c.go-went.ensures.went in
     subst (λ h. Leads (c.args.limit - left) h b []) c.self.view_is
-    (gone_leads steps unseen a b c.go-went.ensures.well_formed c.args.task c.args.limit left c.self.invariant runs moved c.lines_apart.ensures c.lines_unread.ensures went)
+    (gone_leads steps unseen a b c.go-went.ensures.well_formed c.args.task c.args.limit left c.self.invariant runs moved c.go-went.ensures.there c.lines_apart.ensures c.lines_unread.ensures went)
 
 pub returns-in-Some-clause-leads : goal.returns-in-Some-clause-leads
 returns-in-Some-clause-leads g c =
@@ -77,9 +77,9 @@ returns-in-Some-clause-leads g c =
     let b = c.go-went.new.self in
     let left = c.go-went.result.left in
     let moved = c.go-went.ensures.moved in
-    let went = subst (λ o. HasGone steps unseen a b c.go-went.ensures.well_formed c.args.task c.args.limit left c.self.invariant runs moved o) c.in-Some.is c.go-went.ensures.went in
-    let q = acted steps unseen a b c.go-went.ensures.well_formed c.args.task c.args.limit left c.self.invariant runs moved _ went in
-    let here = image steps unseen a b c.go-went.ensures.well_formed c.args.task c.args.limit left c.self.invariant runs moved ∙ ap (λ h. h.image) c.self.view_is in
+    let went = subst (λ o. HasGone steps unseen a b c.go-went.ensures.well_formed c.args.task c.args.limit left c.self.invariant runs moved c.go-went.ensures.there o) c.in-Some.is c.go-went.ensures.went in
+    let q = acted steps unseen a b c.go-went.ensures.well_formed c.args.task c.args.limit left c.self.invariant runs moved c.go-went.ensures.there _ went in
+    let here = image steps unseen a b c.go-went.ensures.well_formed c.args.task c.args.limit left c.self.invariant runs moved c.go-went.ensures.there ∙ ap (λ h. h.image) c.self.view_is in
     subst (λ i. Leads (c.args.limit - left) c.args.self.now c.settle-line.new.self (lines_of i c.settle-line.result)) here
     (subst (λ h. Leads (c.args.limit - left) h c.settle-line.new.self (lines_of b.image c.settle-line.result)) c.self.view_is
-    (settled_leads steps unseen a b c.go-went.ensures.well_formed c.args.task c.args.limit left c.self.invariant runs moved _ q c.settle-line.new.self _ c.settle-line.ensures.settles c.lines_apart.ensures c.lines_unread.ensures))
+    (settled_leads steps unseen a b c.go-went.ensures.well_formed c.args.task c.args.limit left c.self.invariant runs moved c.go-went.ensures.there _ q c.settle-line.new.self _ c.settle-line.ensures.settles c.lines_apart.ensures c.lines_unread.ensures))

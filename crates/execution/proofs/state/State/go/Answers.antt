@@ -1,36 +1,93 @@
-use Rattle.std.proofs.Common.{◌≡◌, get_or, sym, ap, ◌∙◌, subst}
+use Rattle.std.proofs.Common.{◌≡◌, ◌<◌, length, get_or, inr, refl, sym, ap, ◌∙◌, subst}
 use Rattle.std.specs.Prelude.{slice_set}
-use Rattle.image.specs.Code.{initial_state}
+use Rattle.image.specs.Code.{initial_state, partition_of}
 use Rattle.image_laws.specs.Shape.{IsSound}
 use Rattle.image_laws.specs.Whole.{IsWhole}
 use Rattle.kernel.specs.Calm.{IsRunner}
+use Rattle.kernel.specs.State.{is_task}
 use Rattle.task_steps.specs.Acting.{ComesToAct, solo_in}
 use Rattle.tasking.specs.Held.{kernel_of}
-use Rattle.execution.specs.Held.{task_at, world_of}
-use Rattle.execution.proofs.Tasks.{task_there}
+use Rattle.execution.specs.Held.{row_of, task_at, tasks_of, world_of}
+use Rattle.execution.specs.Settling.{RunsThere}
+use Rattle.execution.proofs.Tasks.{at_row, task_there, there_in}
 use Rattle.execution.proofs.state.State.go.Goals as goal
+
+pub go-requires-clause-task : goal.go-requires-clause-task
+go-requires-clause-task g c =
+    let runs = subst (λ h. IsRunner (kernel_of h.tasking) c.args.task) (sym c.self.view_is) c.requires.runs in
+    inr runs.running
+
+pub go-requires-clause-objects : goal.go-requires-clause-objects
+go-requires-clause-objects g c =
+    let whole = subst (λ h. IsWhole h.image (world_of h)) (sym c.self.view_is) c.requires.whole in
+    ap (λ p. p.objects) whole.partition
 
 pub go-requires-clause-sound : goal.go-requires-clause-sound
 go-requires-clause-sound g c =
+    let program = c.self.inside.program in
+    let task = c.args.task in
     let whole = subst (λ h. IsWhole h.image (world_of h)) (sym c.self.view_is) c.requires.whole in
-    let runs = subst (λ h. IsRunner (kernel_of h.tasking) c.args.task) (sym c.self.view_is) c.requires.runs in
-    let sound = (c.steps_whole.ensures.runner c.self.inside.program c.self.invariant.0 _ c.args.task whole runs.running).1 in
-    let there : c.in-Some.state.now ≡ task_at c.self.inside.program c.self.inside.tasks.items c.args.task = c.in-Some.ensures.item.3.1 (initial_state c.self.inside.program c.args.task) ∙ ap (λ n. get_or c.self.inside.tasks.items n (initial_state c.self.inside.program c.args.task)) c.from.ensures in
-    subst (IsSound c.self.inside.program) (sym there) sound
+    let runs = subst (λ h. IsRunner (kernel_of h.tasking) task) (sym c.self.view_is) c.requires.runs in
+    let sound = (c.steps_whole.ensures.runner program c.self.invariant.0 _ task whole runs.running).1 in
+    let t = subst (λ h. RunsThere h.image h.tasking.handler c.args.task) (sym c.self.view_is)
+    (there_in _ c.args.self.now c.args.task _ c.self.view_is c.handler-handler.ensures.same c.handler-handler.ensures.running c.requires.whole.partition c.requires.runs.running) in
+    let row = c.row-row.ensures ∙ ap (λ h. row_of h.image task) (sym c.self.view_is) in
+    let here : c.in-Some.state.now ≡ task_at program c.self.inside.tasking.handler c.self.inside.tasks.items task =
+    c.in-Some.ensures.item.3.1 (initial_state program task)
+    ∙ (ap (λ n. get_or c.self.inside.tasks.items n (initial_state program task)) row
+    ∙ sym (at_row program c.self.inside.tasking.handler c.self.inside.tasks.items task t.here)) in
+    subst (λ p. IsSound program (is_task p task) c.in-Some.state.now) (sym whole.partition) (subst (IsSound program (is_task (partition_of program) task)) (sym here) sound)
+
+pub returns-clause-there : goal.returns-clause-there
+returns-clause-there g c =
+    there_in _ c.args.self.now c.args.task _ c.self.view_is c.handler-handler.ensures.same c.handler-handler.ensures.running c.requires.whole.partition c.requires.runs.running
 
 pub returns-clause-went : goal.returns-clause-went
 returns-clause-went g c =
     let program = c.self.inside.program in
     let task = c.args.task in
+    let rows = c.self.inside.tasks.items in
+    let handler = c.self.inside.tasking.handler in
     let whole = subst (λ h. IsWhole h.image (world_of h)) (sym c.self.view_is) c.requires.whole in
     let runs = subst (λ h. IsRunner (kernel_of h.tasking) task) (sym c.self.view_is) c.requires.runs in
     let calm = c.runner_is_calm.ensures _ (kernel_of c.self.inside.tasking) task whole.kept runs in
-    let there : c.in-Some.state.now ≡ task_at program c.self.inside.tasks.items task = c.in-Some.ensures.item.3.1 (initial_state program task) ∙ ap (λ n. get_or c.self.inside.tasks.items n (initial_state program task)) c.from.ensures in
-    let later : c.go.new.state ≡ task_at program (slice_set c.self.inside.tasks.items c.from.result c.go.new.state) task =
-    sym (task_there program c.self.inside.tasks.items c.from.result c.go.new.state c.in-Some.ensures.item.3.0 task (sym c.from.ensures)) in
+    let row = c.row-row.ensures ∙ ap (λ h. row_of h.image task) (sym c.self.view_is) in
+    let t = subst (λ h. RunsThere h.image h.tasking.handler c.args.task) (sym c.self.view_is)
+    (there_in _ c.args.self.now c.args.task _ c.self.view_is c.handler-handler.ensures.same c.handler-handler.ensures.running c.requires.whole.partition c.requires.runs.running) in
+    let here : c.in-Some.state.now ≡ task_at program handler rows task =
+    c.in-Some.ensures.item.3.1 (initial_state program task)
+    ∙ (ap (λ n. get_or rows n (initial_state program task)) row ∙ sym (at_row program handler rows task t.here)) in
+    let moved = slice_set rows c.row-row.result c.go.new.state in
+    let later : c.go.new.state ≡ task_at program handler moved task =
+    sym (ap (λ r. task_at program handler (slice_set rows r c.go.new.state) task) row
+    ∙ task_there program handler rows t.beyond task t.here c.go.new.state (subst (λ r. r < length rows) row c.in-Some.ensures.item.3.0) task refl) in
     let went = c.go.ensures.went calm in
     subst
-    (λ h. ComesToAct h.image h.schedule (kernel_of h.tasking) task c.args.limit c.go.result.left (solo_in h.image h.memory (task_at h.image h.tasks task)) c.go.result.act c.go.new.memory (task_at program (slice_set c.self.inside.tasks.items c.from.result c.go.new.state) task))
+    (λ h. ComesToAct h.image h.schedule (kernel_of h.tasking) task c.args.limit c.go.result.left (solo_in h.image h.memory (tasks_of h task)) c.go.result.act c.go.new.memory
+    (task_at program handler moved task))
     c.self.view_is
-    (subst (λ s. ComesToAct program c.self.inside.schedule.now (kernel_of c.self.inside.tasking) task c.args.limit c.go.result.left (solo_in program c.self.inside.memory s) c.go.result.act c.go.new.memory (task_at program (slice_set c.self.inside.tasks.items c.from.result c.go.new.state) task)) there
-    (subst (λ s. ComesToAct program c.self.inside.schedule.now (kernel_of c.self.inside.tasking) task c.args.limit c.go.result.left (solo_in program c.self.inside.memory c.in-Some.state.now) c.go.result.act c.go.new.memory s) later went))
+    (subst (λ s. ComesToAct program c.self.inside.schedule.now (kernel_of c.self.inside.tasking) task c.args.limit c.go.result.left (solo_in program c.self.inside.memory s) c.go.result.act
+    c.go.new.memory (task_at program handler moved task)) here
+    (subst (λ s. ComesToAct program c.self.inside.schedule.now (kernel_of c.self.inside.tasking) task c.args.limit c.go.result.left
+    (solo_in program c.self.inside.memory c.in-Some.state.now) c.go.result.act c.go.new.memory s) later went))
+
+pub returns-clause-moved : goal.returns-clause-moved
+returns-clause-moved g c =
+    let program = c.self.inside.program in
+    let task = c.args.task in
+    let rows = c.self.inside.tasks.items in
+    let handler = c.self.inside.tasking.handler in
+    let row = c.row-row.ensures ∙ ap (λ h. row_of h.image task) (sym c.self.view_is) in
+    let t = subst (λ h. RunsThere h.image h.tasking.handler c.args.task) (sym c.self.view_is)
+    (there_in _ c.args.self.now c.args.task _ c.self.view_is c.handler-handler.ensures.same c.handler-handler.ensures.running c.requires.whole.partition c.requires.runs.running) in
+    let moved = slice_set rows c.row-row.result c.go.new.state in
+    let later : c.go.new.state ≡ task_at program handler moved task =
+    sym (ap (λ r. task_at program handler (slice_set rows r c.go.new.state) task) row
+    ∙ task_there program handler rows t.beyond task t.here c.go.new.state (subst (λ r. r < length rows) row c.in-Some.ensures.item.3.0) task refl) in
+    λ j. record {
+      image = (c.self.view_is j).image;
+      schedule = (c.self.view_is j).schedule;
+      memory = c.go.new.memory;
+      tasks = slice_set (c.self.view_is j).tasks (c.row-row.ensures j) (later j);
+      tasking = (c.self.view_is j).tasking;
+    }

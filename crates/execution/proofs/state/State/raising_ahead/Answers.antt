@@ -1,27 +1,40 @@
-use Rattle.std.proofs.Common.{◌≡◌, get_or, sym, ap, ◌∙◌, subst}
-use Rattle.image.specs.Code.{initial_state}
+use Rattle.std.proofs.Common.{◌≡◌, get_or, inr, sym, ap, ◌∙◌, subst}
+use Rattle.image.specs.Code.{initial_state, partition_of}
 use Rattle.image_laws.specs.Shape.{IsSound}
 use Rattle.image_laws.specs.Whole.{IsWhole}
 use Rattle.kernel.specs.Calm.{IsRunner}
+use Rattle.kernel.specs.State.{is_task}
 use Rattle.kernel.specs.Worlds.{solo_of}
 use Rattle.task_steps.specs.Acting.{solo_in}
 use Rattle.task_steps.specs.Raised.{raising_ahead}
 use Rattle.tasking.specs.Held.{kernel_of}
-use Rattle.execution.specs.Held.{rest_of, task_at, world_of}
+use Rattle.execution.specs.Held.{rest_of, row_of, task_at, world_of}
+use Rattle.execution.specs.Settling.{RunsThere}
 use Rattle.execution.proofs.Ahead.{ahead_same}
+use Rattle.execution.proofs.Tasks.{at_row, there_in}
 use Rattle.execution.proofs.state.State.raising_ahead.Goals as goal
+
+pub raising_ahead-requires-clause-task : goal.raising_ahead-requires-clause-task
+raising_ahead-requires-clause-task g c =
+    let runs = subst (λ h. IsRunner (kernel_of h.tasking) c.args.task) (sym c.self.view_is) c.requires.runs in
+    inr runs.running
 
 pub raising_ahead-requires-clause-sound : goal.raising_ahead-requires-clause-sound
 raising_ahead-requires-clause-sound g c =
     let program = c.self.inside.program in
-    let start = initial_state program c.args.task in
+    let task = c.args.task in
+    let start = initial_state program task in
     let whole = subst (λ h. IsWhole h.image (world_of h)) (sym c.self.view_is) c.requires.whole in
-    let runs = subst (λ h. IsRunner (kernel_of h.tasking) c.args.task) (sym c.self.view_is) c.requires.runs in
-    let sound = (c.steps_whole.ensures.runner program c.self.invariant.0 _ c.args.task whole runs.running).1 in
-    let there : c.in-Some.state.now ≡ task_at program c.self.inside.tasks.items c.args.task =
-    c.in-Some.ensures.lookup.3.1 start ∙ ap (λ n. get_or c.deref.result.now n start) c.from.ensures
-    ∙ ap (λ ts. get_or ts c.args.task start) c.deref.ensures.value in
-    subst (IsSound program) (sym there) sound
+    let runs = subst (λ h. IsRunner (kernel_of h.tasking) task) (sym c.self.view_is) c.requires.runs in
+    let sound = (c.steps_whole.ensures.runner program c.self.invariant.0 _ task whole runs.running).1 in
+    let t = subst (λ h. RunsThere h.image h.tasking.handler c.args.task) (sym c.self.view_is)
+    (there_in _ c.args.self.now c.args.task _ c.self.view_is c.handler-handler.ensures.same c.handler-handler.ensures.running c.requires.whole.partition c.requires.runs.running) in
+    let row = c.row-row.ensures ∙ ap (λ h. row_of h.image task) (sym c.self.view_is) in
+    let here : c.in-Some.state.now ≡ task_at program c.self.inside.tasking.handler c.self.inside.tasks.items task =
+    c.in-Some.ensures.lookup.3.1 start ∙ ap (λ n. get_or c.deref.result.now n start) row
+    ∙ (ap (λ ts. get_or ts (row_of program task) start) c.deref.ensures.value
+    ∙ sym (at_row program c.self.inside.tasking.handler c.self.inside.tasks.items task t.here)) in
+    subst (λ p. IsSound program (is_task p task) c.in-Some.state.now) (sym whole.partition) (subst (IsSound program (is_task (partition_of program) task)) (sym here) sound)
 
 pub returns : goal.returns
 returns g c = λ lines.
@@ -30,11 +43,16 @@ returns g c = λ lines.
     let start = initial_state program task in
     let k = kernel_of c.self.inside.tasking in
     let schedule = c.self.inside.schedule.now in
-    let there : c.in-Some.state.now ≡ task_at program c.self.inside.tasks.items task =
-    c.in-Some.ensures.lookup.3.1 start ∙ ap (λ n. get_or c.deref.result.now n start) c.from.ensures ∙ ap (λ ts. get_or ts task start) c.deref.ensures.value in
+    let t = subst (λ h. RunsThere h.image h.tasking.handler c.args.task) (sym c.self.view_is)
+    (there_in _ c.args.self.now c.args.task _ c.self.view_is c.handler-handler.ensures.same c.handler-handler.ensures.running c.requires.whole.partition c.requires.runs.running) in
+    let row = c.row-row.ensures ∙ ap (λ h. row_of h.image task) (sym c.self.view_is) in
+    let here : c.in-Some.state.now ≡ task_at program c.self.inside.tasking.handler c.self.inside.tasks.items task =
+    c.in-Some.ensures.lookup.3.1 start ∙ ap (λ n. get_or c.deref.result.now n start) row
+    ∙ (ap (λ ts. get_or ts (row_of program task) start) c.deref.ensures.value
+    ∙ sym (at_row program c.self.inside.tasking.handler c.self.inside.tasks.items task t.here)) in
     subst (λ h. c.raising_ahead.result ≡ raising_ahead h.image h.schedule (record (kernel_of h.tasking) { lines = lines }) task (solo_of task (rest_of h)))
     c.self.view_is
     (c.raising_ahead.ensures
-    ∙ ap (λ s. raising_ahead program schedule k task (solo_in program c.self.inside.memory s)) there
+    ∙ ap (λ s. raising_ahead program schedule k task (solo_in program c.self.inside.memory s)) here
     ∙ sym (ahead_same program k lines task c.lines_unread.ensures schedule
-    (solo_in program c.self.inside.memory (task_at program c.self.inside.tasks.items task))))
+    (solo_in program c.self.inside.memory (task_at program c.self.inside.tasking.handler c.self.inside.tasks.items task))))

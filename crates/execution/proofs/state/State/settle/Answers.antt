@@ -1,26 +1,33 @@
-use Rattle.std.proofs.Common.{◌≡◌, [], of_z, rules, to_z, w64, sym, ap, subst, ◌∙◌}
-use Rattle.kernel.specs.Effects.{Breaks, after}
-use Rattle.kernel.specs.Worlds.{ending}
-use Rattle.task_steps.specs.Acting.{effect_of}
+use Rattle.std.proofs.Common.{◌≡◌, ◌+◌, None, length, ap, subst, sym, ◌∙◌}
+use Rattle.std.specs.Prelude.{IfSome}
+use Rattle.image.specs.Rules.{IsWellFormed}
+use Rattle.kernel.specs.Interrupts.{actor_if}
 use Rattle.tasking.specs.Held.{kernel_of}
-use Rattle.execution.specs.Held.{HeldWorld, line_of}
-use Rattle.execution.specs.Settling.{Settles}
-use Rattle.execution.proofs.Settle.{settles_alone, settles_line, settles_quiet}
+use Rattle.execution.specs.Held.{HeldWorld}
+use Rattle.execution.proofs.Settle.{settles_begun, still_there}
 use Rattle.execution.proofs.state.State.settle.Goals as goal
 
-pub returns-in-Quiet-clause-settles : goal.returns-in-Quiet-clause-settles
-returns-in-Quiet-clause-settles g c =
-    settles_quiet c.args.self.now c.args.task c.args.act c.runner_is_calm.ensures c.quiet_stays.ensures c.requires.owes (ap (effect_of c.args.self.now.image) c.in-Quiet.is)
+pub prepare_if_begun-requires : goal.prepare_if_begun-requires
+prepare_if_begun-requires g c =
+    let w = subst (λ h. IsWellFormed h.image) c.self.view_is c.self.invariant.0 in
+    let before =
+    subst (λ h. h.tasking.handler ≡ actor_if (kernel_of h.tasking).partition (kernel_of h.tasking).running) c.self.view_is
+    (sym c.handler-before.ensures.same ∙ c.handler-before.ensures.running) in
+    still_there c.steps_whole.ensures.steps c.steps_whole.ensures.goes_on c.args.self.now c.does-settled.new.self w c.args.task c.args.act _ _ c.requires.owes before
+    c.does-settled.ensures.does
 
-pub returns-in-Says-clause-settles : goal.returns-in-Says-clause-settles
-returns-in-Says-clause-settles g c =
-    let back : to_z w64 (of_z w64 c.in-Says.value) ≡ c.in-Says.value = search rules in
-    settles_line c.args.self.now c.args.task c.args.act c.runner_is_calm.ensures c.says_on.ensures c.requires.owes _ c.in-Says.value
-    (ap (effect_of c.args.self.now.image) c.in-Says.is) _ back (line_of c.args.self.now.image c.line.result) (ap (line_of c.args.self.now.image) c.line.ensures)
+pub returns-clause-settles : goal.returns-clause-settles
+returns-clause-settles g c =
+    let w = subst (λ h. IsWellFormed h.image) c.self.view_is c.self.invariant.0 in
+    let size = subst (λ h. length h.tasks ≡ length h.image.tasks + 1) c.self.view_is c.self.invariant.1 in
+    let before =
+    subst (λ h. h.tasking.handler ≡ actor_if (kernel_of h.tasking).partition (kernel_of h.tasking).running) c.self.view_is
+    (sym c.handler-before.ensures.same ∙ c.handler-before.ensures.running) in
+    settles_begun c.steps_whole.ensures.steps c.steps_whole.ensures.goes_on c.args.self.now c.does-settled.new.self w c.args.task c.args.act _ _ c.requires.owes before
+    c.does-settled.ensures.does c.prepare_if_begun.new.self c.handler-before.result size (c.handler-before.ensures.same ∙ ap (λ h. h.tasking.handler) c.self.view_is)
+    c.prepare_if_begun.ensures.handler c.prepare_if_begun.ensures.state
 
-pub returns-in-Breaks-clause-settles : goal.returns-in-Breaks-clause-settles
-returns-in-Breaks-clause-settles g c =
-    let is = ap (effect_of c.args.self.now.image) c.in-Breaks.is in
-    let kernel = c.break_off.ensures c.args.task ∙ (ap (λ h. after c.args.task Breaks (kernel_of h.tasking)) c.self-in-Breaks.view_is ∙ ap (λ e. after c.args.task e (kernel_of c.args.self.now.tasking)) (sym is)) in
-    subst (λ n. Settles c.args.self.now n c.args.task c.args.act []) (sym (ap {A = HeldWorld} (λ h. record h { tasking = c.break_off.new.self }) c.self-in-Breaks.view_is))
-    (settles_alone c.args.self.now c.args.task c.args.act c.break_off.new.self kernel (ap (ending (kernel_of c.args.self.now.tasking) c.args.task) is))
+pub returns-clause-going : goal.returns-clause-going
+returns-clause-going g c =
+    subst (λ h. IfSome c.does-settled.result.line (λ line. (kernel_of h.tasking).outcome ≡ None))
+    (sym (ap {A = HeldWorld} (λ h. record c.does-settled.new.self { tasking = h.tasking }) c.prepare_if_begun.ensures.state)) c.does-settled.ensures.going

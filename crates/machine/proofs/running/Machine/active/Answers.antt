@@ -1,0 +1,16 @@
+use Rattle.std.proofs.Common.{ap, sym, ◌∙◌}
+use Rattle.tasking.specs.Held.{kernel_of}
+use Rattle.machine.specs.TaskStates.{active_asked, active_if}
+use Rattle.machine.proofs.running.Machine.active.Goals as goal
+
+pub returns-in-Some : goal.returns-in-Some
+returns-in-Some g c =
+    let same = c.tasking-tasking.ensures.same ∙ ap (λ h. h.tasking) c.self.view_is in
+    let k = kernel_of c.tasking-tasking.result.now in
+    c.active.ensures.same ∙ (ap (active_if k) (sym c.in-Some.is ∙ c.asked.ensures.same) ∙ ap (λ t. active_asked (kernel_of t) c.args.task) same)
+
+pub returns-in-None : goal.returns-in-None
+returns-in-None g c =
+    let same = c.tasking-tasking.ensures.same ∙ ap (λ h. h.tasking) c.self.view_is in
+    let k = kernel_of c.tasking-tasking.result.now in
+    ap (active_if k) (sym c.in-None.is ∙ c.asked.ensures.same) ∙ ap (λ t. active_asked (kernel_of t) c.args.task) same
