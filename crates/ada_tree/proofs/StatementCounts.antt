@@ -57,7 +57,7 @@ task_counts l d =
     fewer (joins one_at (later (joins (any {p = aspect l} (aspect_counts l) d.aspect) (sooner (any {p = task_definition} task_definition_counts d.definition))))) (omega arith)
 
 operation_counts : (l : Limit) (d : OperationTree) → AtLeast (operation_size d) (operation l d)
-operation_counts l (OfSubprogram d) = sooner (subprogram_counts l d)
+operation_counts l (OfSubprogram d a) = joins (subprogram_counts l d) (sooner (any {p = aspect l} (aspect_counts l) a))
 operation_counts l (OfEntry d) = sooner (entry_counts l d)
 
 protected_component_counts : (l : Limit) (c : ProtectedComponentTree) → AtLeast (protected_component_size c) (protected_component l c)

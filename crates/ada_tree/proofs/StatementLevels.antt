@@ -51,7 +51,7 @@ pub entry_levels : (d : EntryTree) → Levels (entry_depth d) (λ l. entry l d)
 entry_levels d = after (after (formals_levels d.formals))
 
 operation_levels : (d : OperationTree) → Levels (operation_depth d) (λ l. operation l d)
-operation_levels (OfSubprogram d) = before (subprogram_levels d)
+operation_levels (OfSubprogram d a) = both (subprogram_levels d) (before (any {p = aspect} aspect_levels a))
 operation_levels (OfEntry d) = before (entry_levels d)
 
 pub protected_levels : (d : ProtectedTree) → Levels (protected_depth d) (λ l. protected l d)

@@ -87,7 +87,7 @@ abbrev pub entry_depth : EntryTree → ℕ
 entry_depth d = formals_depth d.formals
 
 abbrev pub operation_depth : OperationTree → ℕ
-operation_depth (OfSubprogram d) = subprogram_depth d
+operation_depth (OfSubprogram d a) = max (subprogram_depth d) (depth_if_any aspect_depth a)
 operation_depth (OfEntry d) = entry_depth d
 
 abbrev pub protected_depth : ProtectedTree → ℕ

@@ -88,7 +88,7 @@ abbrev pub entry_size : EntryTree → ℕ
 entry_size d = 1 + length d.formals
 
 abbrev pub operation_size : OperationTree → ℕ
-operation_size (statements.OfSubprogram d) = subprogram_size d
+operation_size (statements.OfSubprogram d a) = subprogram_size d + size_if_any aspect_size a
 operation_size (statements.OfEntry d) = entry_size d
 
 abbrev pub protected_component_size : ProtectedComponentTree → ℕ

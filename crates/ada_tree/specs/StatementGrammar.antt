@@ -77,7 +77,7 @@ abbrev pub task : Limit → TaskTree → Tokens → Type 0
 task limit d = word_at words.Task d.place ⨾ task_rest limit d.name d.aspect d.definition
 
 abbrev pub operation : Limit → OperationTree → Tokens → Type 0
-operation limit (OfSubprogram d) = subprogram limit d ⨾ mark marks.Semicolon
+operation limit (OfSubprogram d a) = subprogram limit d ⨾ optional (aspect limit) a ⨾ mark marks.Semicolon
 operation limit (OfEntry d) = entry limit d ⨾ mark marks.Semicolon
 
 abbrev pub protected_component : Limit → ProtectedComponentTree → Tokens → Type 0

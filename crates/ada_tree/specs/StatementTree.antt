@@ -90,11 +90,11 @@ abbrev pub entry_tree : EntryDeclaration → EntryTree
 entry_tree d = record { place = d.place; name = d.name; formals = d.formals.items }
 
 pub data OperationTree : Type 0 where
-  OfSubprogram : SubprogramTree → OperationTree
+  OfSubprogram : SubprogramTree → Option AspectTree → OperationTree
   OfEntry : EntryTree → OperationTree
 
 abbrev pub operation_tree : Operation → OperationTree
-operation_tree (operation.Subprogram d) = OfSubprogram (subprogram_tree d)
+operation_tree (operation.Subprogram d a) = OfSubprogram (subprogram_tree d) (optional_tree aspect_tree a)
 operation_tree (operation.Entry d) = OfEntry (entry_tree d)
 
 pub record ProtectedComponentTree : Type 0 where

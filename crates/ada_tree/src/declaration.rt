@@ -98,9 +98,9 @@ pub struct TaskDeclaration {
     pub definition: Option<TaskDefinition>,
 }
 
-/// An operation of a protected object (RM 9.4).
+/// An operation of a protected object (RM 9.4); a procedure may have an aspect that makes it the handler of an interrupt (RM C.3.1).
 pub enum Operation {
-    Subprogram(Subprogram),
+    Subprogram(Subprogram, Option<Aspect>),
     Entry(EntryDeclaration),
 }
 
@@ -267,7 +267,7 @@ impl Drop for TaskDeclaration {
 impl Drop for Operation {
     fn drop(self) {
         match self {
-            Operation::Subprogram(_) => {}
+            Operation::Subprogram(_, _) => {}
             Operation::Entry(_) => {}
         }
     }

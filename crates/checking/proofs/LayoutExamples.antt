@@ -37,7 +37,7 @@ protected name components =
       place = 0;
       name = identifier name;
       aspect = None;
-      operations = OfSubprogram (procedure (codes "GO")) ∷ [];
+      operations = OfSubprogram (procedure (codes "GO")) None ∷ [];
       components = components;
       end_name = identifier name;
     })

@@ -27,7 +27,7 @@ store = OfProtected (record {
   place = 0;
   name = identifier 1 (codes "P");
   aspect = None;
-  operations = OfSubprogram (procedure (identifier 2 (codes "GIVE"))) ∷ OfEntry (record { place = 0; name = identifier 3 (codes "TAKE"); formals = [] }) ∷ [];
+  operations = OfSubprogram (procedure (identifier 2 (codes "GIVE"))) None ∷ OfEntry (record { place = 0; name = identifier 3 (codes "TAKE"); formals = [] }) ∷ [];
   components = record { name = identifier 4 (codes "FULL"); subtype = identifier 5 (codes "BOOLEAN"); value = None } ∷ [];
   end_name = identifier 6 (codes "P");
 })

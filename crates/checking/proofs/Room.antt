@@ -2,7 +2,7 @@
 use Rattle.std.proofs.Common.{◌≡◌, ◌<◌, ◌≤◌, ℕ, ◌+◌, Bool, true, false, List, [], ◌∷◌, ◌++◌, length, drop, Option, Some, None, refl, sym, ap, ◌∙◌, arith}
 use Rattle.std.proofs.lemmas.List.{take-append-drop}
 use Rattle.std.specs.Prelude.{⊤, if◌then◌else◌}
-use Rattle.base.specs.declared.limits.TheConstants.{TASK_PRIORITY, WORDS}
+use Rattle.base.specs.declared.limits.TheConstants.{CEILING, TASK_PRIORITY, WORDS}
 use Rattle.ada_tree.specs.declared.expression.Identifier.{Identifier}
 use Rattle.ada_tree.specs.StatementTree.{ProtectedComponentTree}
 use Rattle.ada_tree.specs.ProgramTree.{BodyItemTree, OfItem, SubprogramBody, TaskBody, ProtectedBody, DefinitionTree, Integer, Array, Record, Subtype as SubtypeOf, ItemTree, OfType, OfObject, OfException, OfSubprogram, OfTask, OfProtected, PackageTree}
@@ -165,7 +165,7 @@ item_held adding shapes s all (OfProtected d) made first =
     let parts = counted_words (components_things s d.components) in
     let more = adding.joined (operations_things d.operations) (components_things s d.components) in
     let here = held_with all s d.name.name (protected_entity s d) parts
-    (protected_borne all (protected_count s) (priority_of s TASK_PRIORITY default_ceiling d.aspect) (object_operations s d.operations) (object_components s d.components) parts (parts_bear shapes s all d.components made first)) in
+    (protected_borne all (protected_count s) (priority_of s CEILING (default_ceiling d.operations) d.aspect) (object_operations s d.operations) (object_components s d.components) parts (parts_bear shapes s all d.components made first)) in
     omega (arith, here, more)
 
 -- ---- lists of declarations and bodies

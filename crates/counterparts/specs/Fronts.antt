@@ -43,11 +43,11 @@ local_name (LocalTask d) = d.name
 local_name (LocalProtected d) = d.name
 
 abbrev pub part_name : OperationTree → Identifier
-part_name (OfSubprogram d) = d.name
+part_name (OfSubprogram d a) = d.name
 part_name (OfEntry d) = d.name
 
 abbrev pub part_formals : OperationTree → List Formal
-part_formals (OfSubprogram d) = d.formals
+part_formals (OfSubprogram d a) = d.formals
 part_formals (OfEntry d) = d.formals
 
 abbrev pub first_formal : List ℕ → ℕ → List Formal → Option ℕ

@@ -68,7 +68,7 @@ pub(crate) fn part_name(operation: &Operation) -> &Identifier
     ensures { result.now ≡ fronts.part_name (operation_tree operation.now) }
 {
     match operation {
-        Operation::Subprogram(declared) => &declared.name,
+        Operation::Subprogram(declared, _) => &declared.name,
         Operation::Entry(declared) => &declared.name,
     }
 }
@@ -77,7 +77,7 @@ pub(crate) fn part_formals(operation: &Operation) -> &[Formal]
     ensures { result.now ≡ fronts.part_formals (operation_tree operation.now) }
 {
     match operation {
-        Operation::Subprogram(declared) => &declared.formals,
+        Operation::Subprogram(declared, _) => &declared.formals,
         Operation::Entry(declared) => &declared.formals,
     }
 }

@@ -154,7 +154,7 @@ local_object_is_visible : least (locals_faults package_scope (LocalProtected (re
     name = (identifier 24 (codes "A1"));
     formals = [];
     result = Some (identifier 34 (codes "INTEGER"));
-  }) ∷ [];
+  }) None ∷ [];
   components = [];
   end_name = (identifier 47 (codes "Z"));
 }) ∷ LocalObject (object_of (identifier 0 (codes "Y")) false (identifier 4 (codes
@@ -172,7 +172,7 @@ local_object_is_not_static : least (fixed_locals_faults package_scope (LocalProt
     formals = [];
     result = Some (identifier 34 (codes
         "INTEGER"));
-  }) ∷ [];
+  }) None ∷ [];
   components = [];
   end_name = (identifier 47 (codes "Z"));
 }) ∷ LocalObject (object_of (identifier 0 (codes "Y")) false

@@ -33,13 +33,13 @@ a_protected_object : least (protected_faults package_scope (record {
           "SMALL"));
     } ∷ [];
     result = None;
-  }) ∷ OfSubprogram (record {
+  }) None ∷ OfSubprogram (record {
     place = 64;
     name = (identifier 73 (codes "A2"));
     formals = [];
     result = Some
         (identifier 83 (codes "SMALL"));
-  }) ∷ OfEntry (record {
+  }) None ∷ OfEntry (record {
     place = 90;
     name = (identifier 96 (codes "A3"));
     formals = record {
@@ -84,7 +84,7 @@ operation_like_a_visible_name : least (protected_faults package_scope (record {
   place = 0;
   name = (identifier 10 (codes "Z"));
   aspect = None;
-  operations = OfSubprogram (record { place = 15; name = (identifier 25 (codes "X")); formals = []; result = None }) ∷ [];
+  operations = OfSubprogram (record { place = 15; name = (identifier 25 (codes "X")); formals = []; result = None }) None ∷ [];
   components = [];
   end_name
       = (identifier 32 (codes "Z"));
@@ -97,7 +97,7 @@ operation_like_its_object : least (protected_faults package_scope (record {
   name = (identifier 10 (codes "Z"));
   aspect = None;
   operations =
-      OfSubprogram (record { place = 15; name = (identifier 25 (codes "Z")); formals = []; result = None }) ∷ [];
+      OfSubprogram (record { place = 15; name = (identifier 25 (codes "Z")); formals = []; result = None }) None ∷ [];
   components = [];
   end_name =
       (identifier 32 (codes "Z"));
@@ -110,7 +110,7 @@ operations_of_one_name : least (protected_faults package_scope (record {
   name = (identifier 10 (codes "Z"));
   aspect = None;
   operations =
-      OfSubprogram (record { place = 15; name = (identifier 24 (codes "A1")); formals = []; result = Some (identifier 34 (codes "SMALL")) }) ∷ OfEntry
+      OfSubprogram (record { place = 15; name = (identifier 24 (codes "A1")); formals = []; result = Some (identifier 34 (codes "SMALL")) }) None ∷ OfEntry
       (record { place = 41; name = (identifier 47 (codes "A1")); formals = [] }) ∷ [];
   components = [];
   end_name = (identifier 55 (codes "Z"));
@@ -123,7 +123,7 @@ component_like_a_visible_name : least (protected_faults package_scope (record {
   place = 0;
   name = (identifier 10 (codes "Z"));
   aspect = None;
-  operations = OfSubprogram (record { place = 15; name = (identifier 25 (codes "A1")); formals = []; result = None }) ∷ [];
+  operations = OfSubprogram (record { place = 15; name = (identifier 25 (codes "A1")); formals = []; result = None }) None ∷ [];
   components = record {
     name = (identifier 37 (codes "X"));
     subtype = (identifier 41 (codes "SMALL"));
@@ -140,7 +140,7 @@ component_like_its_object : least (protected_faults package_scope (record {
   name = (identifier 10 (codes "Z"));
   aspect = None;
   operations =
-      OfSubprogram (record { place = 15; name = (identifier 25 (codes "A1")); formals = []; result = None }) ∷ [];
+      OfSubprogram (record { place = 15; name = (identifier 25 (codes "A1")); formals = []; result = None }) None ∷ [];
   components = record {
     name =
         (identifier 37 (codes "Z"));
@@ -158,7 +158,7 @@ component_like_an_operation : least (protected_faults package_scope (record {
   name = (identifier 10 (codes "Z"));
   aspect = None;
   operations
-      = OfSubprogram (record { place = 15; name = (identifier 25 (codes "A1")); formals = []; result = None }) ∷ [];
+      = OfSubprogram (record { place = 15; name = (identifier 25 (codes "A1")); formals = []; result = None }) None ∷ [];
   components = record {
     name =
         (identifier 37 (codes "A1"));
@@ -208,8 +208,8 @@ names_of_another_object : least (protected_faults package_scope (record {
   name = (identifier 10 (codes "Z"));
   aspect = None;
   operations =
-      OfSubprogram (record { place = 15; name = (identifier 24 (codes "GET")); formals = []; result = Some (identifier 35 (codes "SMALL")) }) ∷
-      OfSubprogram (record { place = 42; name = (identifier 52 (codes "GIVE")); formals = []; result = None }) ∷ [];
+      OfSubprogram (record { place = 15; name = (identifier 24 (codes "GET")); formals = []; result = Some (identifier 35 (codes "SMALL")) }) None ∷
+      OfSubprogram (record { place = 42; name = (identifier 52 (codes "GIVE")); formals = []; result = None }) None ∷ [];
   components = record {
     name =
         (identifier 66 (codes "LEVEL"));
@@ -235,12 +235,12 @@ formal_like_an_operation : least (protected_faults package_scope (record {
           subtype = (identifier 34 (codes "SMALL"));
         } ∷ [];
         result = None;
-      }) ∷ OfSubprogram (record {
+      }) None ∷ OfSubprogram (record {
         place = 42;
         name = (identifier 52 (codes "A2"));
         formals = record { name = (identifier 56 (codes "A1")); mode = mode.In; subtype = (identifier 61 (codes "SMALL")) } ∷ [];
         result = None;
-      }) ∷ [];
+      }) None ∷ [];
   components = [];
   end_name = (identifier 73 (codes "Z"));
 })) ≡ None
@@ -261,7 +261,7 @@ formal_of_an_operation_like_a_visible_name : least (protected_faults package_sco
       subtype = (identifier 33 (codes "SMALL"));
     } ∷ [];
     result = None;
-  }) ∷ [];
+  }) None ∷ [];
   components = [];
   end_name = (identifier 45 (codes "Z"));
 })) ≡ broken 11 29
@@ -325,7 +325,7 @@ out_formal_of_a_protected_function : least (protected_faults package_scope (reco
       subtype = (identifier 36 (codes "SMALL"));
     } ∷ [];
     result = Some (identifier 50 (codes "SMALL"));
-  }) ∷ [];
+  }) None ∷ [];
   components = [];
   end_name =
       (identifier 61 (codes "Z"));
@@ -342,7 +342,7 @@ result_of_hidden_in_an_object : least (protected_faults package_scope (record {
     name = (identifier 24 (codes "A1"));
     formals = [];
     result = Some (identifier 34 (codes "NOBODY"));
-  }) ∷ [];
+  }) None ∷ [];
   components = [];
   end_name = (identifier 46 (codes "Z"));
 })) ≡ broken 10 34
@@ -501,7 +501,7 @@ operation_before_component : least (protected_faults package_scope (record {
           subtype = (identifier 33 (codes "NOBODY"));
         } ∷ [];
         result = None;
-      }) ∷ [];
+      }) None ∷ [];
   components = record {
     name = (identifier 50 (codes "A4"));
     subtype =
@@ -562,7 +562,7 @@ declares_an_object : declared_object (record {
     formals = record { name = (identifier 52 (codes "C")); mode = mode.In; subtype = (identifier 56 (codes "SMALL")) } ∷ [];
     result =
         None;
-  }) ∷ OfSubprogram (record { place = 64; name = (identifier 73 (codes "A2")); formals = []; result = Some (identifier 83 (codes "SMALL")) }) ∷
+  }) None ∷ OfSubprogram (record { place = 64; name = (identifier 73 (codes "A2")); formals = []; result = Some (identifier 83 (codes "SMALL")) }) None ∷
       OfEntry (record {
         place = 90;
         name = (identifier 96 (codes "A3"));
@@ -623,7 +623,7 @@ object_without_an_aspect : declared_object (record {
 object_without_an_aspect = refl
 
 -- `protected Z with Priority => 31 is end Z;`
-ceiling_above_the_highest : declared_object (record {
+highest_ceiling : declared_object (record {
   place = 0;
   name = (identifier 10 (codes "Z"));
   aspect = Some (record {
@@ -631,6 +631,23 @@ ceiling_above_the_highest : declared_object (record {
     name =
         (identifier 17 (codes "PRIORITY"));
     value = num 29 31;
+  });
+  operations = [];
+  components = [];
+  end_name = (identifier 39 (codes "Z"));
+}) ≡ Some
+    (Protected (record { number = 1; ceiling = 31; operations = []; components = []; barrier = None }))
+highest_ceiling = refl
+
+-- `protected Z with Priority => 32 is end Z;`
+ceiling_above_the_highest : declared_object (record {
+  place = 0;
+  name = (identifier 10 (codes "Z"));
+  aspect = Some (record {
+    place = 12;
+    name =
+        (identifier 17 (codes "PRIORITY"));
+    value = num 29 32;
   });
   operations = [];
   components = [];

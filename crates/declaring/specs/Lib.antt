@@ -2,6 +2,7 @@ pub use Rattle.expr_rules.specs.Faults
 pub use Rattle.expr_rules.specs.Typing
 pub use Rattle.type_rules.specs.SubtypeNames
 pub mod TaskRules
+pub mod HandlerChannels
 pub mod ProtectedRules
 pub mod LocalRules
 pub mod ItemRules

@@ -2,7 +2,7 @@
 use Rattle.std.specs.Prelude.{ℕ, ◌+◌, Bool, true, false, ◌||◌, List, [], ◌∷◌, ◌++◌, Option, Some, None, bytes_eq}
 use Rattle.std.specs.List.{list_any}
 use Rattle.base.specs.declared.faults.TheConstants.{DECLARED_TWICE}
-use Rattle.base.specs.declared.limits.TheConstants.{TASK_PRIORITY}
+use Rattle.base.specs.declared.limits.TheConstants.{CEILING, TASK_PRIORITY}
 use Rattle.ada_tree.specs.declared.expression.Identifier.{Identifier}
 use Rattle.ada_tree.specs.StatementTree.{OperationTree, OfSubprogram, OfEntry, ProtectedComponentTree, ProtectedTree}
 use Rattle.types.specs.declared.entity.RecordComponent.{RecordComponent}
@@ -14,12 +14,12 @@ use Rattle.expr_rules.specs.Faults.{Faults, rule}
 use Rattle.type_rules.specs.ObjectRules.{fixed_faults}
 use Rattle.type_rules.specs.ProfileRules.{formal_parameters, formals_faults, profile_faults, profile_with}
 use Rattle.type_rules.specs.SubtypeNames.{declared_twice, end_rule, subtype_of, subtype_faults}
-use Rattle.declaring.specs.TaskRules.{aspect_faults, priority_of}
+use Rattle.declaring.specs.TaskRules.{aspect_faults, is_attachment, operation_aspect_faults, priority_of}
 
 -- ---- operations
 
 abbrev pub operation_name : OperationTree → Identifier
-operation_name (OfSubprogram d) = d.name
+operation_name (OfSubprogram d a) = d.name
 operation_name (OfEntry d) = d.name
 
 abbrev pub operation_bytes : OperationTree → List ℕ
@@ -33,7 +33,7 @@ abbrev pub is_operation_like : Scope → (own : Identifier) → (before : List O
 is_operation_like s own before name = is_visible s name || bytes_eq own.name name || is_operation_in before name
 
 abbrev pub operation_profile_faults : Scope → OperationTree → Faults
-operation_profile_faults s (OfSubprogram d) = profile_faults s d
+operation_profile_faults s (OfSubprogram d a) = profile_faults s d ++ operation_aspect_faults s a
 operation_profile_faults s (OfEntry d) = formals_faults s [] d.formals
 
 abbrev pub operation_faults : Scope → (own : Identifier) → (before : List OperationTree) → OperationTree → Faults
@@ -91,11 +91,11 @@ protected_faults s d =
 -- ---- what calls and bodies see of it
 
 abbrev pub operation_profile : Scope → OperationTree → Option Profile
-operation_profile s (OfSubprogram d) = profile_with s (formal_parameters s d.formals) d.result
+operation_profile s (OfSubprogram d a) = profile_with s (formal_parameters s d.formals) d.result
 operation_profile s (OfEntry d) = profile_with s (formal_parameters s d.formals) None
 
 abbrev pub is_entry : OperationTree → Bool
-is_entry (OfSubprogram d) = false
+is_entry (OfSubprogram d a) = false
 is_entry (OfEntry d) = true
 
 abbrev pub operation_and : OperationTree → Option Profile → Option (List Operation) → Option (List Operation)
@@ -116,9 +116,18 @@ abbrev pub object_components : Scope → List ProtectedComponentTree → Option 
 object_components s [] = Some []
 object_components s (c ∷ cs) = part_and c (subtype_of s c.subtype) (object_components s cs)
 
--- the ceiling of an object without an aspect (RM D.3)
-abbrev pub default_ceiling : ℕ
-default_ceiling = 30
+-- an operation that is to be the handler of an interrupt (RM C.3.1)
+abbrev pub is_handler : OperationTree → Bool
+is_handler (OfSubprogram d (Some a)) = is_attachment a
+is_handler (OfSubprogram d None) = false
+is_handler (OfEntry d) = false
+
+abbrev pub has_handler : List OperationTree → Bool
+has_handler operations = list_any is_handler operations
+
+-- the ceiling of an object without an aspect (RM D.3), the highest where it has a handler
+abbrev pub default_ceiling : List OperationTree → ℕ
+default_ceiling operations = elim (has_handler operations) [ true ↦ CEILING | false ↦ TASK_PRIORITY ]
 
 abbrev pub object_with : (number ceiling : ℕ) → Option (List Operation) → Option (List RecordComponent) → Entity
 object_with number ceiling (Some operations) (Some components) = Protected
@@ -126,7 +135,7 @@ object_with number ceiling (Some operations) (Some components) = Protected
 object_with number ceiling operations components = Doubtful
 
 abbrev pub protected_entity : Scope → ProtectedTree → Entity
-protected_entity s d = object_with (protected_count s) (priority_of s TASK_PRIORITY default_ceiling d.aspect) (object_operations s d.operations)
+protected_entity s d = object_with (protected_count s) (priority_of s CEILING (default_ceiling d.operations) d.aspect) (object_operations s d.operations)
     (object_components s d.components)
 
 -- the name is visible from the end of the declaration

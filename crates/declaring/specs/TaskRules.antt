@@ -18,7 +18,8 @@ use Rattle.type_rules.specs.SubtypeNames.{declared_twice, end_rule}
 abbrev pub exception_scope : Scope → Identifier → Scope
 exception_scope s name = with_name s name.name Exception
 
--- ---- aspects: the expression of a Priority is an Integer; one of another aspect, which is refused for itself (38), has at least a meaning
+-- ---- aspects: the expression of a Priority, or of an operation's Attach_Handler, is an Integer; one of another aspect, which is refused for itself (38),
+-- has at least a meaning
 
 abbrev pub aspect_wanted : Bool → Wanted
 aspect_wanted true = wanted.OfType integer_type
@@ -30,6 +31,14 @@ is_priority a = bytes_eq a.name.name (codes "PRIORITY")
 abbrev pub aspect_faults : Scope → Option AspectTree → Faults
 aspect_faults s (Some a) = faults_of s (aspect_wanted (is_priority a)) a.value
 aspect_faults s None = []
+
+-- the aspect that attaches a procedure to a channel, an Integer (RM C.3.1)
+abbrev pub is_attachment : AspectTree → Bool
+is_attachment a = bytes_eq a.name.name (codes "ATTACH_HANDLER")
+
+abbrev pub operation_aspect_faults : Scope → Option AspectTree → Faults
+operation_aspect_faults s (Some a) = faults_of s (aspect_wanted (is_attachment a)) a.value
+operation_aspect_faults s None = []
 
 -- the priority that an aspect gives, or this one; where it is not static, or not one up to the highest, it is refused for itself (38)
 abbrev pub priority_within : (highest other : ℕ) → Option Value → ℕ

@@ -14,8 +14,8 @@ pub use bodies::{
 };
 pub use items::{declare_item, declare_items, item_fault};
 pub use locals::{declare_locals, declare_task_locals};
-pub use protected::{DEFAULT_CEILING, declare_protected, operation_name, protected_fault};
+pub use protected::{declare_protected, has_handler, operation_name, protected_fault};
 pub use tasks::{
-    DEFAULT_PRIORITY, aspect_fault, declare_exception, declare_task, is_priority, priority_of,
-    task_fault,
+    DEFAULT_PRIORITY, aspect_fault, attached_channel, declare_exception, declare_task,
+    is_attachment, is_priority, priority_of, task_fault,
 };

@@ -1,18 +1,19 @@
 //! Protected objects (RM 9.4, 9.5.2, D.3).
 ghost use Rattle.std.specs.Prelude.{◌≡◌, ◌++◌, ◌||◌, List, [], IfOk, OnErr, OnOk, bytes_eq, map, option_map};
+ghost use Rattle.std.specs.List.{list_any};
 ghost use Rattle.ada_tree.specs.StatementTree.{OperationTree, operation_tree, protected_component_tree, protected_tree};
 ghost use Rattle.types.specs.Entities.{entity_value, operation_value, profile_value};
 ghost use Rattle.types.specs.Scopes.{is_visible};
 ghost use Rattle.types.specs.Seen.{AreNames, is_seen};
 ghost use Rattle.expr_rules.specs.Faults.{least};
-ghost use Rattle.declaring.specs.ProtectedRules.{component_initial_faults, is_entry, like_operation_faults, like_part_faults, object_components, object_operations, object_with, operation_bytes, operation_name, operation_profile, operation_profile_faults, operations_faults, parts_faults, protected_entity, protected_faults, protected_scope};
+ghost use Rattle.declaring.specs.ProtectedRules.{component_initial_faults, default_ceiling, has_handler, is_entry, is_handler, like_operation_faults, like_part_faults, object_components, object_operations, object_with, operation_bytes, operation_name, operation_profile, operation_profile_faults, operations_faults, parts_faults, protected_entity, protected_faults, protected_scope};
 
-use crate::tasks::{aspect_fault, priority_of};
+use crate::tasks::{aspect_fault, is_attachment, operation_aspect_fault, priority_of};
 use ada_tree::{
     Identifier, Operation as OperationDeclaration, ProtectedComponent, ProtectedDeclaration,
 };
 use base::faults::DECLARED_TWICE;
-use base::limits::TASK_PRIORITY;
+use base::limits::{CEILING, TASK_PRIORITY};
 use expr_rules::laws::{least_by_parts, sooner_associates};
 use expr_rules::{rule, sooner};
 use lexer::Fault;
@@ -25,15 +26,46 @@ use types::{
     Entity, Operation, Operations, Profile, ProtectedObject, RecordComponent, Scope, SeenNames,
 };
 
-/// The ceiling of a protected object without an aspect (RM D.3).
-pub const DEFAULT_CEILING: u8 = 30;
+/// Whether an operation is to be the handler of an interrupt (RM C.3.1).
+pub fn is_handler(operation: &OperationDeclaration) -> bool
+    ensures { result ≡ is_handler (operation_tree operation.now) }
+{
+    match operation {
+        OperationDeclaration::Subprogram(_, Some(aspect)) => is_attachment(aspect),
+        _ => false,
+    }
+}
+
+fn any_handler(operations: &[OperationDeclaration]) -> bool
+    ensures { result ≡ list_any (λ o. is_handler (operation_tree o)) operations.now }
+{
+    operations.iter().any(is_handler)
+}
+
+/// Whether one of them is.
+pub fn has_handler(operations: &[OperationDeclaration]) -> bool
+    ensures { result ≡ has_handler (map operation_tree operations.now) }
+{
+    any_handler(operations)
+}
+
+// The ceiling of a protected object without an aspect (RM D.3), the highest where it has a handler (RM C.3.1).
+fn default_ceiling(operations: &[OperationDeclaration]) -> u8
+    ensures { result ≡ default_ceiling (map operation_tree operations.now) }
+{
+    if has_handler(operations) {
+        CEILING
+    } else {
+        TASK_PRIORITY
+    }
+}
 
 /// The name of an operation or entry.
 pub fn operation_name(operation: &OperationDeclaration) -> &Identifier
     ensures { result.now ≡ operation_name (operation_tree operation.now) }
 {
     match operation {
-        OperationDeclaration::Subprogram(subprogram) => &subprogram.name,
+        OperationDeclaration::Subprogram(subprogram, _) => &subprogram.name,
         OperationDeclaration::Entry(entry) => &entry.name,
     }
 }
@@ -46,7 +78,11 @@ fn operation_profile_fault(
     ensures { IfOk result (λ f. f ≡ least (operation_profile_faults scope.now (operation_tree operation.now))) }
 {
     match operation {
-        OperationDeclaration::Subprogram(subprogram) => profile_fault(alloc, scope, subprogram),
+        OperationDeclaration::Subprogram(subprogram, aspect) => {
+            least_by_parts();
+            let profile = profile_fault(alloc, scope, subprogram)?;
+            Ok(sooner(profile, operation_aspect_fault(scope, aspect.as_ref())))
+        }
         OperationDeclaration::Entry(entry) => formals_fault(alloc, scope, &entry.formals),
     }
 }
@@ -184,7 +220,7 @@ fn operation_profile(
     ensures { IfOk result (λ o. option_map (λ p. profile_value p) o ≡ operation_profile scope.now (operation_tree operation.now)) }
 {
     match operation {
-        OperationDeclaration::Subprogram(subprogram) => {
+        OperationDeclaration::Subprogram(subprogram, _) => {
             let formals = formal_parameters(alloc, scope, &subprogram.formals)?;
             Ok(profile_with(scope, formals, subprogram.result.as_ref()))
         }
@@ -199,7 +235,7 @@ fn is_entry(operation: &OperationDeclaration) -> bool
     ensures { result ≡ is_entry (operation_tree operation.now) }
 {
     match operation {
-        OperationDeclaration::Subprogram(_) => false,
+        OperationDeclaration::Subprogram(_, _) => false,
         OperationDeclaration::Entry(_) => true,
     }
 }
@@ -280,8 +316,8 @@ fn protected_entity(
     let components = object_components(alloc, scope, &object.components)?;
     let ceiling = priority_of(
         scope,
-        TASK_PRIORITY,
-        DEFAULT_CEILING,
+        CEILING,
+        default_ceiling(&object.operations),
         object.aspect.as_ref(),
     );
     object_with(

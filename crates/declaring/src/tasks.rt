@@ -1,12 +1,14 @@
 //! Exceptions, tasks and priorities (RM 11.1, 9.1, D.1).
-ghost use Rattle.std.specs.Prelude.{◌≡◌, ◌≤◌, ◌++◌, OnErr, OnOk, codes, option_map};
+ghost use Rattle.std.specs.Prelude.{◌≡◌, ◌≤◌, ◌++◌, IfSome, OnErr, OnOk, codes, option_map};
+ghost use Rattle.base.specs.declared.limits.TheConstants.{CHANNELS};
 ghost use Rattle.ada_tree.specs.StatementTree.{aspect_tree, optional_tree, task_definition_tree, task_tree};
 ghost use Rattle.types.specs.Values.{value_of};
 ghost use Rattle.expr_rules.specs.Faults.{least};
-ghost use Rattle.declaring.specs.TaskRules.{aspect_faults, aspect_wanted, exception_scope, is_priority, priority_of, priority_within, task_end_faults, task_faults, task_scope};
+ghost use Rattle.declaring.specs.HandlerChannels.{attached_channel, channel_of};
+ghost use Rattle.declaring.specs.TaskRules.{aspect_faults, aspect_wanted, exception_scope, is_attachment, is_priority, operation_aspect_faults, priority_of, priority_within, task_end_faults, task_faults, task_scope};
 
 use ada_tree::{Aspect, Identifier, TaskDeclaration, TaskDefinition};
-use base::limits::TASK_PRIORITY;
+use base::limits::{CHANNELS, TASK_PRIORITY};
 use expr_rules::laws::least_by_parts;
 use expr_rules::{Wanted, expression_fault, sooner, static_scalar};
 use lexer::Fault;
@@ -53,6 +55,47 @@ pub fn aspect_fault(scope: &Scope, aspect: Option<&Aspect>) -> Option<Fault>
         }
         None => None,
     }
+}
+
+/// Whether the aspect is Attach_Handler (RM C.3.1).
+pub fn is_attachment(aspect: &Aspect) -> bool
+    ensures { result ≡ is_attachment (aspect_tree aspect.now) }
+{
+    aspect.name.name.as_bytes() == "ATTACH_HANDLER".as_bytes()
+}
+
+/// The least fault of the expression of an operation's aspect: that of an Attach_Handler is an Integer (RM C.3.1).
+pub fn operation_aspect_fault(scope: &Scope, aspect: Option<&Aspect>) -> Option<Fault>
+    ensures { result ≡ least (operation_aspect_faults scope.now (option_map (λ a. aspect_tree a.now) aspect.entry)) }
+{
+    match aspect {
+        Some(aspect) => {
+            let wanted = aspect_wanted(is_attachment(aspect));
+            expression_fault(scope, wanted, &aspect.value)
+        }
+        None => None,
+    }
+}
+
+fn channel_of(value: Option<Value>) -> Option<u8>
+    ensures same { result ≡ channel_of (option_map (λ v. value_of v) value) }
+    ensures within { IfSome result (λ c. c ≤ CHANNELS) }
+{
+    match value {
+        Some(Value::Number(number)) if 1 <= number && number <= CHANNELS as i64 => {
+            Some(number as u8)
+        }
+        _ => None,
+    }
+}
+
+/// The channel that an aspect Attach_Handler names, where it is static and one of those that there are (RM C.3.1).
+pub fn attached_channel(scope: &Scope, aspect: &Aspect) -> Option<u8>
+    ensures same { result ≡ attached_channel scope.now (aspect_tree aspect.now) }
+    ensures within { IfSome result (λ c. c ≤ CHANNELS) }
+{
+    let wanted = Wanted::OfType(Subtype::INTEGER.type_number);
+    channel_of(static_scalar(scope, wanted, None, &aspect.value))
 }
 
 fn priority_within(highest: u8, other: u8, value: Option<Value>) -> u8

@@ -6,14 +6,16 @@ use Rattle.explanations.specs.declared.rules.TheConstants as rules
 use Rattle.explanations.specs.declared.restrictions.TheConstants as restrictions
 use Rattle.explanations.specs.declared.images.TheConstants as images
 use Rattle.explanations.specs.declared.schedules.TheConstants as schedules
+use Rattle.explanations.specs.declared.handlers.TheConstants as handlers
 
 -- from the first of two numbers to the second one
 abbrev pub is_from : ℕ → ℕ → ℕ → Bool
 is_from first last n = nat_le first n && nat_le n last
 
--- the numbers of faults: of spelling and grammar, of rules, of restrictions, of images, of schedules, and that of memory
+-- the numbers of faults: of spelling and grammar, of rules, of restrictions, of images, of schedules, that of memory, and of handlers of interrupts
 abbrev pub is_fault_number : ℕ → Bool
-is_fault_number n = is_from 1 7 n || (is_from 10 23 n || (is_from 30 39 n || (is_from 40 47 n || (is_from 50 53 n || nat_eq n 60))))
+is_fault_number n =
+    is_from 1 7 n || (is_from 10 23 n || (is_from 30 39 n || (is_from 40 47 n || (is_from 50 53 n || (nat_eq n 60 || is_from 70 73 n)))))
 
 abbrev pub of_spelling : ℕ → Option (List ℕ)
 of_spelling n =
@@ -78,6 +80,14 @@ of_schedules n =
     else (if nat_eq n 53 then Some schedules.TOO_MANY_LINES.now
     else None)))
 
+abbrev pub of_handlers : ℕ → Option (List ℕ)
+of_handlers n =
+    if nat_eq n 70 then Some handlers.HANDLER_PROFILE.now
+    else (if nat_eq n 71 then Some handlers.WRONG_INTERRUPT.now
+    else (if nat_eq n 72 then Some handlers.SECOND_HANDLER.now
+    else (if nat_eq n 73 then Some handlers.HANDLER_CEILING.now
+    else None)))
+
 -- what is told of the fault of this number
 abbrev pub explanation_of : ℕ → Option (List ℕ)
 explanation_of n =
@@ -87,4 +97,5 @@ explanation_of n =
     else (if is_from 40 47 n then of_images n
     else (if is_from 50 53 n then of_schedules n
     else (if nat_eq n 60 then Some memory.MEMORY_REFUSED.now
-    else None)))))
+    else (if is_from 70 73 n then of_handlers n
+    else None))))))

@@ -21,7 +21,7 @@ pub(crate) fn explanation(number: u64) -> Option<&'static str>
 const WRONG_HEADER: &str = "\
 40 No image of this version
 
-An image begins with the magic `ARVN` and version 1.
+An image begins with the magic `ARVN` and version 1, or 2 where it has handlers of interrupts.
 
     from byte 0: 00
 

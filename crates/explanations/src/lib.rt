@@ -4,6 +4,7 @@
 ghost use Rattle.std.specs.Prelude.{◌≡◌, is_some, option_map};
 ghost use Rattle.explanations.specs.Explained.{explanation_of, is_fault_number};
 
+mod handlers;
 mod images;
 mod memory;
 mod restrictions;
@@ -25,6 +26,7 @@ pub fn explanation(number: u64) -> Option<&'static str>
         40..=47 => images::explanation(number),
         50..=53 => schedules::explanation(number),
         60 => Some(MEMORY_REFUSED),
+        70..=73 => handlers::explanation(number),
         _ => None,
     }
 }

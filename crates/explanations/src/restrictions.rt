@@ -230,10 +230,11 @@ The place is the statement. Let the caller call again.
 ";
 
 const WRONG_ASPECT: &str = "\
-38 An aspect that gives no priority
+38 A wrong aspect
 
-The aspect of a task, a protected object or main is Priority, with a static Integer from 0 to 30 \
-(RM D.1, D.3; other aspects are no part of this language).
+The aspect of a task or main is Priority, with a static Integer from 0 to 30, that of a protected \
+object likewise, to 31, and that of a protected object's subprogram is Attach_Handler (RM C.3.1, \
+D.1, D.3; other aspects are no part of this language).
 
     pragma Profile (Ravenscar);
     package App is

@@ -28,7 +28,7 @@ use Rattle.type_rules.specs.ObjectRules.{called_faults, fixed_faults, fixed_obje
 use Rattle.type_rules.specs.ProfileRules.{formal_faults, formals_faults, function_faults, profile_faults, result_faults, subprogram_faults}
 use Rattle.declaring.specs.ProtectedRules.{operation_faults, operation_name, operation_profile_faults, operations_faults, part_faults, parts_faults, protected_faults}
 use Rattle.type_rules.specs.SubtypeNames.{declared_twice, end_rule, if_integer, named_entity, subtype_faults, subtype_of, subtype_rule, wanted_by}
-use Rattle.declaring.specs.TaskRules.{aspect_faults, aspect_wanted, is_priority, task_end_faults, task_faults}
+use Rattle.declaring.specs.TaskRules.{aspect_faults, aspect_wanted, is_attachment, is_priority, operation_aspect_faults, task_end_faults, task_faults}
 use Rattle.type_rules.specs.TypeRules.{array_faults, component_faults, components_faults, definition_faults, index_faults, index_place, narrowed_faults, null_rule, range_faults, static_whole, subtype_range_faults, type_faults}
 use Rattle.fault_numbers.proofs.Ranges.{Legality, ◌⊕◌, asked, none}
 use Rattle.fault_numbers.proofs.Expressions.{of_expression, of_form, of_mismatch, of_static, of_static_value, unless_broken}
@@ -164,6 +164,10 @@ pub of_aspect : (s : Scope) (a : Option AspectTree) → Legality (aspect_faults 
 of_aspect s (Some a) = of_expression s (aspect_wanted (is_priority a)) a.value
 of_aspect s None = none
 
+of_operation_aspect : (s : Scope) (a : Option AspectTree) → Legality (operation_aspect_faults s a)
+of_operation_aspect s (Some a) = of_expression s (aspect_wanted (is_attachment a)) a.value
+of_operation_aspect s None = none
+
 of_task_end : (name : Identifier) (definition : Option TaskDefinitionTree) → Legality (task_end_faults name definition)
 of_task_end name (Some d) = of_end_name name d.end_name
 of_task_end name None = none
@@ -174,7 +178,7 @@ of_task s d = of_aspect s d.aspect ⊕ of_task_end d.name d.definition ⊕ of_ne
 -- ---- protected objects
 
 of_operation_profile : (s : Scope) (o : OperationTree) → Legality (operation_profile_faults s o)
-of_operation_profile s (OfOperation d) = of_profile s d
+of_operation_profile s (OfOperation d a) = of_profile s d ⊕ of_operation_aspect s a
 of_operation_profile s (OfEntry d) = of_formals s [] d.formals
 
 of_operation : (s : Scope) (own : Identifier) (before : List OperationTree) (o : OperationTree) → Legality (operation_faults s own before o)

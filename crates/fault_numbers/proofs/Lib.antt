@@ -4,6 +4,7 @@ mod Expressions
 mod Packages
 mod Programs
 mod Ranges
+mod RestrictionRanges
 mod Restrictions
 mod Sizes
 mod Statements

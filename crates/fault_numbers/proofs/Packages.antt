@@ -24,7 +24,7 @@ use Rattle.fault_numbers.proofs.Bodies.{of_body_items}
 -- ---- declarations without a body
 
 of_missing_operation : (behind : List BodyItemTree) (object : Identifier) (o : OperationTree) → Legality (missing_operation_rule behind object o)
-of_missing_operation behind object (OfSubprogram d) = asked UNMATCHED_BODY d.name.place _ refl
+of_missing_operation behind object (OfSubprogram d aspect) = asked UNMATCHED_BODY d.name.place _ refl
 of_missing_operation behind object (OfEntry d) = asked UNMATCHED_BODY d.name.place _ refl
 
 of_missing_operations : (behind : List BodyItemTree) (object : Identifier) (os : List OperationTree) → Legality (missing_operations_faults behind object os)

@@ -4,7 +4,7 @@ use Rattle.std.proofs.lemmas.Bool.{and_parts, leb-true}
 use Rattle.std.proofs.lemmas.List.Elements.{All-append, All-cons, All-nil}
 use Rattle.std.specs.List.{list_all}
 use Rattle.std.specs.Prelude.{nat_le, ◌&&◌}
-use Rattle.base.specs.declared.faults.TheConstants.{LIMIT_PASSED, LOCAL_TASKING, NAME_NOT_VISIBLE, WRONG_PRAGMAS}
+use Rattle.base.specs.declared.faults.TheConstants.{LIMIT_PASSED, NAME_NOT_VISIBLE}
 use Rattle.lexer.specs.declared.fault.Fault.{Fault}
 use Rattle.expr_rules.specs.Faults.{Faults, rule}
 use Rattle.fault_numbers.specs.Numbers.{AreNumberedWithin, IsNumbered}
@@ -13,12 +13,9 @@ use Rattle.fault_numbers.specs.Numbers.{AreNumberedWithin, IsNumbered}
 pub record Within (first last : ℕ) (faults : Faults) : Type 0 where
   pub each : AreNumberedWithin first last faults
 
--- the rules from 10 to 23, and those from 30 to 39
+-- the rules from 10 to 23
 abbrev pub Legality : Faults → Type 0
 Legality faults = Within NAME_NOT_VISIBLE LIMIT_PASSED faults
-
-abbrev pub Restrictions : Faults → Type 0
-Restrictions faults = Within LOCAL_TASKING WRONG_PRAGMAS faults
 
 pub none : {first last : ℕ} → Within first last []
 none {first} {last} = record { each = All-nil (IsNumbered first last) }

@@ -1,7 +1,7 @@
 -- Which numbers the faults of each layer have (docs/LANGUAGE.md, "Faults"), as statements; each law is the contract of a public function.
-use Rattle.std.specs.Prelude.{◌≤◌, ℕ, List}
+use Rattle.std.specs.Prelude.{◌≤◌, ◌⊎◌, ℕ, List}
 use Rattle.std.specs.List.{All}
-use Rattle.base.specs.declared.faults.TheConstants.{LIMIT_PASSED, LOCAL_TASKING, NAME_NOT_VISIBLE, TEXT_TOO_LONG, TOO_MANY_LEVELS, UNEXPECTED_TOKEN, WRONG_LABEL, WRONG_PRAGMAS}
+use Rattle.base.specs.declared.faults.TheConstants.{HANDLER_CEILING, HANDLER_PROFILE, LIMIT_PASSED, LOCAL_TASKING, NAME_NOT_VISIBLE, TEXT_TOO_LONG, TOO_MANY_LEVELS, UNEXPECTED_TOKEN, WRONG_LABEL, WRONG_PRAGMAS}
 use Rattle.lexer.specs.Spelling.{IsBroken}
 use Rattle.lexer.specs.declared.fault.Fault.{Fault}
 use Rattle.lexer.specs.declared.token.Token.{Token}
@@ -31,6 +31,9 @@ GrammarNumbers = (tokens : List Token) (fault : Fault) → IsFaulty tokens fault
 abbrev pub LegalityNumbers : Type 0
 LegalityNumbers = (tree : ProgramTree) → AreNumberedWithin NAME_NOT_VISIBLE LIMIT_PASSED (program_faults tree)
 
--- the restrictions of the profile: 30 to 39
+-- the restrictions of the profile, 30 to 39, and those of handlers of interrupts, 70 to 73
+abbrev pub IsRestrictionNumbered : Fault → Type 0
+IsRestrictionNumbered fault = IsNumbered LOCAL_TASKING WRONG_PRAGMAS fault ⊎ IsNumbered HANDLER_PROFILE HANDLER_CEILING fault
+
 abbrev pub RestrictionNumbers : Type 0
-RestrictionNumbers = (tree : ProgramTree) → AreNumberedWithin LOCAL_TASKING WRONG_PRAGMAS (restriction_faults tree)
+RestrictionNumbers = (tree : ProgramTree) → All IsRestrictionNumbered (restriction_faults tree)

@@ -18,7 +18,7 @@ pub fn legality_numbers()
     ensures { LegalityNumbers }
 {}
 
-/// Each restriction of the profile that a program breaks has a number from 30 to 39.
+/// Each restriction of the profile that a program breaks has a number from 30 to 39, or from 70 to 73.
 pub fn restriction_numbers()
     ensures { RestrictionNumbers }
 {}

@@ -489,7 +489,7 @@ an_object : least (package_faults standard (record {
       aspect = None;
       operations =
           OfSubprogram (subprogram_of 74 (identifier 84 (codes "GIVE")) (formal_of (identifier 90 (codes "X")) mode.In (identifier 94 (codes "INTEGER")) ∷
-          []) None) ∷ OfSubprogram (subprogram_of 104 (identifier 113 (codes "GET")) ([]) (Some (identifier 124 (codes "INTEGER")))) ∷ OfEntry (record {
+          []) None) None ∷ OfSubprogram (subprogram_of 104 (identifier 113 (codes "GET")) ([]) (Some (identifier 124 (codes "INTEGER")))) None ∷ OfEntry (record {
             place = 133;
             name = (identifier 139 (codes "TAKE"));
             formals = formal_of (identifier 145 (codes "X")) mode.Out (identifier 153 (codes "INTEGER"))
@@ -545,8 +545,8 @@ operations_gone_behind_the_body : least (package_faults standard (record {
           name = (identifier 69 (codes "P"));
           aspect = None;
           operations = OfSubprogram (subprogram_of 74 (identifier 84 (codes "GIVE")) (formal_of (identifier 90 (codes "X")) mode.In
-              (identifier 94 (codes "INTEGER")) ∷ []) None) ∷ OfSubprogram (subprogram_of 104 (identifier 113 (codes "GET")) ([]) (Some (identifier 124 (codes
-              "INTEGER")))) ∷ OfEntry (record {
+              (identifier 94 (codes "INTEGER")) ∷ []) None) None ∷ OfSubprogram (subprogram_of 104 (identifier 113 (codes "GET")) ([]) (Some (identifier 124 (codes
+              "INTEGER")))) None ∷ OfEntry (record {
                 place = 133;
                 name = (identifier 139 (codes "TAKE"));
                 formals = formal_of (identifier 145 (codes "X")) mode.Out
@@ -604,8 +604,8 @@ operations_back_behind_the_body : least (package_faults standard (record {
           name = (identifier 69 (codes "P"));
           aspect = None;
           operations = OfSubprogram (subprogram_of 74 (identifier 84 (codes "GIVE")) (formal_of (identifier 90 (codes "X")) mode.In
-              (identifier 94 (codes "INTEGER")) ∷ []) None) ∷ OfSubprogram (subprogram_of 104 (identifier 113 (codes "GET")) ([]) (Some (identifier 124 (codes
-              "INTEGER")))) ∷ OfEntry (record {
+              (identifier 94 (codes "INTEGER")) ∷ []) None) None ∷ OfSubprogram (subprogram_of 104 (identifier 113 (codes "GET")) ([]) (Some (identifier 124 (codes
+              "INTEGER")))) None ∷ OfEntry (record {
                 place = 133;
                 name = (identifier 139 (codes "TAKE"));
                 formals = formal_of (identifier 145 (codes "X")) mode.Out

@@ -83,8 +83,8 @@ items =
       name = (identifier 222 (codes "P"));
       aspect = None;
       operations = OfSubprogram (subprogram_of 227 (identifier 237
-          (codes "GIVE")) (formal_of (identifier 243 (codes "X")) mode.In (identifier 247 (codes "INTEGER")) ∷ []) None) ∷ OfSubprogram (subprogram_of 257
-          (identifier 266 (codes "GET")) ([]) (Some (identifier 277 (codes "INTEGER")))) ∷ OfEntry (record {
+          (codes "GIVE")) (formal_of (identifier 243 (codes "X")) mode.In (identifier 247 (codes "INTEGER")) ∷ []) None) None ∷ OfSubprogram (subprogram_of 257
+          (identifier 266 (codes "GET")) ([]) (Some (identifier 277 (codes "INTEGER")))) None ∷ OfEntry (record {
             place = 286;
             name = (identifier 292 (codes
                 "TAKE"));

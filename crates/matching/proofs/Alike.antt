@@ -162,7 +162,7 @@ unlike_found k body is = any_as (declares_unlike k (subprogram_profile body)) (i
     at = key_at k kind.Subprogram body.name.name body.name.name is
 
     none : (object : Identifier) (o : OperationTree) → declares_unlike_operation k (subprogram_profile body) object o ≡ false
-    none object (OfSubprogram o) = ap (λ b. b && not (are_alike (subprogram_profile o) (subprogram_profile body))) (at kind.Operation object.name o.name.name)
+    none object (OfSubprogram o aspect) = ap (λ b. b && not (are_alike (subprogram_profile o) (subprogram_profile body))) (at kind.Operation object.name o.name.name)
     none object (OfEntry o) = ap (λ b. b && not (are_alike (entry_profile o) (subprogram_profile body))) (at kind.Entry object.name o.name.name)
 
     each : (d : ItemTree) → declares_unlike k (subprogram_profile body) d ≡ is_unlike_subprogram body d
@@ -179,11 +179,11 @@ module _ (k : Key) (object : Identifier) (i : ProtectedItemTree) (is : IsKeyOf k
 
 pub operation_unlike : (k : Key) (object own : Identifier) (i : ProtectedItemTree) → IsKeyOf k (operation_kind (operation_is_entry i)) object.name (operation_name i).name
     → (o : OperationTree) → declares_unlike_operation k (body_profile i) own o ≡ (same_name own object && is_unlike_operation i o)
-operation_unlike k object own (OperationBody d b) is (OfSubprogram o) =
+operation_unlike k object own (OperationBody d b) is (OfSubprogram o aspect) =
     ap (λ c. c && not (conforms o d)) (at k object (OperationBody d b) is kind.Operation own.name o.name.name) ∙ and_assoc (same_name own object) (same_name o.name d.name) (not (conforms o d))
 operation_unlike k object own (OperationBody d b) is (OfEntry o) =
     ap (λ c. c && not (are_alike (entry_profile o) (subprogram_profile d))) (at k object (OperationBody d b) is kind.Entry own.name o.name.name) ∙ sym (and-false (same_name own object))
-operation_unlike k object own (EntryBody d barrier b) is (OfSubprogram o) =
+operation_unlike k object own (EntryBody d barrier b) is (OfSubprogram o aspect) =
     ap (λ c. c && not (are_alike (subprogram_profile o) (entry_profile d))) (at k object (EntryBody d barrier b) is kind.Operation own.name o.name.name) ∙ sym (and-false (same_name own object))
 operation_unlike k object own (EntryBody d barrier b) is (OfEntry o) =
     (λ j. at k object (EntryBody d barrier b) is kind.Entry own.name o.name.name j && not (and-true (same_formals o.formals d.formals) j))

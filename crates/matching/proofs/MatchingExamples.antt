@@ -50,7 +50,7 @@ no_body_of_an_object : least (matching_faults (OfDeclared (subprogram_of 0 (iden
       15;
   name = (identifier 25 (codes "P"));
   aspect = None;
-  operations = OfSubprogram (subprogram_of 30 (identifier 40 (codes "GO")) ([]) None) ∷ [];
+  operations = OfSubprogram (subprogram_of 30 (identifier 40 (codes "GO")) ([]) None) None ∷ [];
   components = [];
   end_name = (identifier 48 (codes "P"));
 }) ∷ []) (SubprogramBody (subprogram_of 71 (identifier 81 (codes "RUN")) ([]) None)
@@ -104,7 +104,7 @@ two_bodies_of_an_object : least (matching_faults (OfProtected (record {
   name = (identifier 10 (codes "P"));
   aspect = None;
   operations =
-      OfSubprogram (subprogram_of 15 (identifier 25 (codes "GO")) ([]) None) ∷ [];
+      OfSubprogram (subprogram_of 15 (identifier 25 (codes "GO")) ([]) None) None ∷ [];
   components = [];
   end_name = (identifier 33 (codes "P"));
 }) ∷ [])
@@ -208,8 +208,8 @@ an_object : least (matching_faults (OfProtected (record {
   name = (identifier 10 (codes "P"));
   aspect = None;
   operations = OfSubprogram
-      (subprogram_of 15 (identifier 25 (codes "GIVE")) (formal_of (identifier 31 (codes "X")) mode.In (identifier 35 (codes "INTEGER")) ∷ []) None) ∷
-      OfSubprogram (subprogram_of 45 (identifier 54 (codes "GET")) ([]) (Some (identifier 65 (codes "INTEGER")))) ∷ OfEntry (record {
+      (subprogram_of 15 (identifier 25 (codes "GIVE")) (formal_of (identifier 31 (codes "X")) mode.In (identifier 35 (codes "INTEGER")) ∷ []) None) None ∷
+      OfSubprogram (subprogram_of 45 (identifier 54 (codes "GET")) ([]) (Some (identifier 65 (codes "INTEGER")))) None ∷ OfEntry (record {
         place = 74;
         name =
             (identifier 80 (codes "TAKE"));
@@ -247,7 +247,7 @@ operation_without_body : least (matching_faults (OfProtected (record {
   aspect = None;
   operations =
       OfSubprogram (subprogram_of 15 (identifier 25 (codes "GIVE")) (formal_of (identifier 31 (codes "X")) mode.In (identifier 35 (codes "INTEGER")) ∷
-      []) None) ∷ OfSubprogram (subprogram_of 45 (identifier 54 (codes "GET")) ([]) (Some (identifier 65 (codes "INTEGER")))) ∷ OfEntry (record {
+      []) None) None ∷ OfSubprogram (subprogram_of 45 (identifier 54 (codes "GET")) ([]) (Some (identifier 65 (codes "INTEGER")))) None ∷ OfEntry (record {
         place
             = 74;
         name = (identifier 80 (codes "TAKE"));
@@ -285,7 +285,7 @@ entry_without_body : least (matching_faults (OfProtected (record {
   aspect = None;
   operations =
       OfSubprogram (subprogram_of 15 (identifier 25 (codes "GIVE")) (formal_of (identifier 31 (codes "X")) mode.In (identifier 35 (codes "INTEGER")) ∷
-      []) None) ∷ OfSubprogram (subprogram_of 45 (identifier 54 (codes "GET")) ([]) (Some (identifier 65 (codes "INTEGER")))) ∷ OfEntry (record {
+      []) None) None ∷ OfSubprogram (subprogram_of 45 (identifier 54 (codes "GET")) ([]) (Some (identifier 65 (codes "INTEGER")))) None ∷ OfEntry (record {
         place
             = 74;
         name = (identifier 80 (codes "TAKE"));
@@ -317,7 +317,7 @@ procedure_for_an_entry : least (matching_faults (OfProtected (record {
   aspect = None;
   operations =
       OfSubprogram (subprogram_of 15 (identifier 25 (codes "GIVE")) (formal_of (identifier 31 (codes "X")) mode.In (identifier 35 (codes "INTEGER")) ∷
-      []) None) ∷ OfSubprogram (subprogram_of 45 (identifier 54 (codes "GET")) ([]) (Some (identifier 65 (codes "INTEGER")))) ∷ OfEntry (record {
+      []) None) None ∷ OfSubprogram (subprogram_of 45 (identifier 54 (codes "GET")) ([]) (Some (identifier 65 (codes "INTEGER")))) None ∷ OfEntry (record {
         place
             = 74;
         name = (identifier 80 (codes "TAKE"));
@@ -353,7 +353,7 @@ operation_twice : least (matching_faults (OfProtected (record {
   aspect = None;
   operations =
       OfSubprogram (subprogram_of 15 (identifier 25 (codes "GIVE")) (formal_of (identifier 31 (codes "X")) mode.In (identifier 35 (codes "INTEGER")) ∷
-      []) None) ∷ OfSubprogram (subprogram_of 45 (identifier 54 (codes "GET")) ([]) (Some (identifier 65 (codes "INTEGER")))) ∷ OfEntry (record {
+      []) None) None ∷ OfSubprogram (subprogram_of 45 (identifier 54 (codes "GET")) ([]) (Some (identifier 65 (codes "INTEGER")))) None ∷ OfEntry (record {
         place
             = 74;
         name = (identifier 80 (codes "TAKE"));
@@ -395,8 +395,8 @@ entry_twice : least (matching_faults (OfProtected (record {
   name = (identifier 10 (codes "P"));
   aspect = None;
   operations = OfSubprogram
-      (subprogram_of 15 (identifier 25 (codes "GIVE")) (formal_of (identifier 31 (codes "X")) mode.In (identifier 35 (codes "INTEGER")) ∷ []) None) ∷
-      OfSubprogram (subprogram_of 45 (identifier 54 (codes "GET")) ([]) (Some (identifier 65 (codes "INTEGER")))) ∷ OfEntry (record {
+      (subprogram_of 15 (identifier 25 (codes "GIVE")) (formal_of (identifier 31 (codes "X")) mode.In (identifier 35 (codes "INTEGER")) ∷ []) None) None ∷
+      OfSubprogram (subprogram_of 45 (identifier 54 (codes "GET")) ([]) (Some (identifier 65 (codes "INTEGER")))) None ∷ OfEntry (record {
         place = 74;
         name =
             (identifier 80 (codes "TAKE"));
@@ -440,7 +440,7 @@ procedure_for_a_function_of_an_object : least (matching_faults (OfProtected (rec
   name = (identifier 10 (codes "P"));
   aspect = None;
   operations = OfSubprogram (subprogram_of 15 (identifier 25 (codes "GIVE")) (formal_of (identifier 31 (codes "X")) mode.In (identifier 35 (codes
-      "INTEGER")) ∷ []) None) ∷ OfSubprogram (subprogram_of 45 (identifier 54 (codes "GET")) ([]) (Some (identifier 65 (codes "INTEGER")))) ∷ OfEntry
+      "INTEGER")) ∷ []) None) None ∷ OfSubprogram (subprogram_of 45 (identifier 54 (codes "GET")) ([]) (Some (identifier 65 (codes "INTEGER")))) None ∷ OfEntry
       (record {
         place = 74;
         name = (identifier 80 (codes "TAKE"));
@@ -475,7 +475,7 @@ entry_with_fewer_formals : least (matching_faults (OfProtected (record {
   aspect = None;
   operations =
       OfSubprogram (subprogram_of 15 (identifier 25 (codes "GIVE")) (formal_of (identifier 31 (codes "X")) mode.In (identifier 35 (codes "INTEGER")) ∷
-      []) None) ∷ OfSubprogram (subprogram_of 45 (identifier 54 (codes "GET")) ([]) (Some (identifier 65 (codes "INTEGER")))) ∷ OfEntry (record {
+      []) None) None ∷ OfSubprogram (subprogram_of 45 (identifier 54 (codes "GET")) ([]) (Some (identifier 65 (codes "INTEGER")))) None ∷ OfEntry (record {
         place
             = 74;
         name = (identifier 80 (codes "TAKE"));
@@ -513,7 +513,7 @@ operation_without_declaration : least (matching_faults (OfProtected (record {
   aspect = None;
   operations
       = OfSubprogram (subprogram_of 15 (identifier 25 (codes "GIVE")) (formal_of (identifier 31 (codes "X")) mode.In (identifier 35 (codes "INTEGER")) ∷
-      []) None) ∷ OfSubprogram (subprogram_of 45 (identifier 54 (codes "GET")) ([]) (Some (identifier 65 (codes "INTEGER")))) ∷ OfEntry (record {
+      []) None) None ∷ OfSubprogram (subprogram_of 45 (identifier 54 (codes "GET")) ([]) (Some (identifier 65 (codes "INTEGER")))) None ∷ OfEntry (record {
         place
             = 74;
         name = (identifier 80 (codes "TAKE"));
@@ -552,7 +552,7 @@ operations_of_two_objects : least (matching_faults (OfProtected (record {
   name = (identifier 10 (codes "P"));
   aspect = None;
   operations =
-      OfSubprogram (subprogram_of 15 (identifier 25 (codes "GO")) ([]) None) ∷ [];
+      OfSubprogram (subprogram_of 15 (identifier 25 (codes "GO")) ([]) None) None ∷ [];
   components = [];
   end_name = (identifier 33 (codes "P"));
 }) ∷
@@ -561,7 +561,7 @@ operations_of_two_objects : least (matching_faults (OfProtected (record {
       name = (identifier 46 (codes "Q"));
       aspect = None;
       operations = OfSubprogram (subprogram_of 51 (identifier 61
-          (codes "GO")) ([]) None) ∷ [];
+          (codes "GO")) ([]) None) None ∷ [];
       components = [];
       end_name = (identifier 69 (codes "Q"));
     }) ∷ []) (ProtectedBody (identifier 107 (codes "P"))
@@ -579,7 +579,7 @@ object_declared_in_the_body : least (matching_faults (OfDeclared (subprogram_of 
       name = (identifier 83 (codes "P"));
       aspect = None;
       operations = OfSubprogram (subprogram_of 88
-          (identifier 98 (codes "GO")) ([]) None) ∷ [];
+          (identifier 98 (codes "GO")) ([]) None) None ∷ [];
       components = [];
       end_name = (identifier 106 (codes "P"));
     })) ∷ ProtectedBody (identifier 124 (codes

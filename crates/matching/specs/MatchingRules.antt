@@ -66,7 +66,7 @@ abbrev pub missing_body_rule : (behind : List BodyItemTree) → BodyOf → Ident
 missing_body_rule behind kind name = rule UNMATCHED_BODY name.place (not (list_any (is_body_of kind name) behind))
 
 abbrev pub missing_operation_rule : (behind : List BodyItemTree) → (object : Identifier) → OperationTree → Faults
-missing_operation_rule behind object (OfSubprogram d) = rule UNMATCHED_BODY d.name.place (not (list_any (has_operation object false d.name) behind))
+missing_operation_rule behind object (OfSubprogram d a) = rule UNMATCHED_BODY d.name.place (not (list_any (has_operation object false d.name) behind))
 missing_operation_rule behind object (OfEntry d) = rule UNMATCHED_BODY d.name.place (not (list_any (has_operation object true d.name) behind))
 
 abbrev pub missing_operations_faults : (behind : List BodyItemTree) → (object : Identifier) → List OperationTree → Faults
@@ -107,7 +107,7 @@ second_rule before kind name = rule UNMATCHED_BODY name.place (list_any (is_body
 
 -- the same of the operations of an object
 abbrev pub is_unlike_operation : (body : ProtectedItemTree) → OperationTree → Bool
-is_unlike_operation (OperationBody d b) (OfSubprogram o) = same_name o.name d.name && not (conforms o d)
+is_unlike_operation (OperationBody d b) (OfSubprogram o a) = same_name o.name d.name && not (conforms o d)
 is_unlike_operation (EntryBody d barrier b) (OfEntry o) = same_name o.name d.name && not (same_formals o.formals d.formals)
 is_unlike_operation body o = false
 

@@ -135,7 +135,7 @@ is_unlike (Some d) p = not (d.is_alike && are_alike (profile_tree d.profile) p)
 
 -- what this key has is declared here with another profile
 abbrev pub declares_unlike_operation : Key → ProfileTree → (object : Identifier) → OperationTree → Bool
-declares_unlike_operation k p object (OfSubprogram d) = is_key k kind.Operation object.name d.name.name && not (are_alike (subprogram_profile d) p)
+declares_unlike_operation k p object (OfSubprogram d a) = is_key k kind.Operation object.name d.name.name && not (are_alike (subprogram_profile d) p)
 declares_unlike_operation k p object (OfEntry d) = is_key k kind.Entry object.name d.name.name && not (are_alike (entry_profile d) p)
 
 abbrev pub declares_unlike : Key → ProfileTree → ItemTree → Bool

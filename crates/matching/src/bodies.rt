@@ -48,7 +48,7 @@ fn missing_operation_rule<'a>(
     ensures { result ≡ least (missing_operation_rule (map body_item_tree (drop start bodies.now)) object.now (operation_tree operation.now)) }
 {
     match operation {
-        Operation::Subprogram(subprogram) => {
+        Operation::Subprogram(subprogram, _) => {
             let name = &subprogram.name;
             let is_there = bodies.has_operation(start, object, false, name);
             rule(UNMATCHED_BODY, name.place, !is_there)

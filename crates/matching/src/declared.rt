@@ -93,7 +93,7 @@ impl<'a> Profiles<'a> {
             (λ k p. declares_unlike_operation k p object.now (operation_tree operation.now))) }
     {
         match operation {
-            Operation::Subprogram(subprogram) => {
+            Operation::Subprogram(subprogram, _) => {
                 let key = Key::of_operation(object, false, &subprogram.name);
                 self.declare(key, Profile::of_subprogram(subprogram))
             }

@@ -117,13 +117,14 @@ task_at k = mapped (λ x. task_of x.0 x.1) (seq (word_of words.Task) (task_rest_
 
 -- ---- protected objects
 
-abbrev pub operation_of : Either EntryTree SubprogramTree → OperationTree
+abbrev pub operation_of : Either EntryTree (SubprogramTree × Option AspectTree) → OperationTree
 operation_of (Left d) = OfEntry d
-operation_of (Right d) = OfSubprogram d
+operation_of (Right d) = OfSubprogram d.0 d.1
 
 abbrev pub operation_at : ℕ → Reader OperationTree
 operation_at k =
-    mapped operation_of (either (is_word words.Entry) (ended (entry_at k) (skip_mark marks.Semicolon)) (ended (subprogram_at k) (skip_mark marks.Semicolon)))
+    mapped operation_of (either (is_word words.Entry) (ended (entry_at k) (skip_mark marks.Semicolon))
+    (seq (subprogram_at k) (ended (aspect_part k) (skip_mark marks.Semicolon))))
 
 abbrev pub begins_operation : Option Token → Bool
 begins_operation o = is_word words.Procedure o || (is_word words.Function o || is_word words.Entry o)

@@ -349,8 +349,9 @@ impl<'a> Parser<'a> {
             return Ok(Operation::Entry(entry));
         }
         let subprogram = self.subprogram(levels)?;
+        let aspect = self.aspect_part(levels)?;
         self.mark(Delimiter::Semicolon)?;
-        Ok(Operation::Subprogram(subprogram))
+        Ok(Operation::Subprogram(subprogram, aspect))
     }
 
     fn operations(&mut self, levels: u8) -> Result<Vec<Operation>, Refusal>

@@ -1,1 +1,2 @@
+mod HandlerExamples
 mod ProgramExamples

@@ -1,6 +1,7 @@
 -- Pragmas, aspects, entries and whole programs with all that they break, worked by computation.
 use Rattle.std.proofs.Common.{◌≡◌, ℕ, ◌+◌, List, [], ◌∷◌, Option, Some, None, true, false, refl}
 use Rattle.std.specs.Prelude.{codes, map}
+use Rattle.base.specs.declared.limits.TheConstants.{TASK_PRIORITY}
 use Rattle.ada_tree.specs.declared.expression.UnaryOperator.TheVariants as unary
 use Rattle.ada_tree.specs.declared.expression.BinaryOperator.TheVariants as binary
 use Rattle.ada_tree.specs.declared.program.MainStatement.TheVariants as main_statement
@@ -27,13 +28,13 @@ abbrev visible : Scope
 visible = item_scope standard top
 
 -- 0, 30, `Top`, `Top - 30`
-priorities : map (λ e. aspect_faults visible (priority 4 e)) (
+priorities : map (λ e. aspect_faults visible TASK_PRIORITY (priority 4 e)) (
     number 9 0 ∷ number 9 30 ∷ named 9 (codes "TOP") ∷ Binary binary.Subtract (named 9 (codes "TOP")) (number 15 30) ∷ []
     ) ≡ [] ∷ [] ∷ [] ∷ [] ∷ []
 priorities = refl
 
 -- 31, -1, `Top + 1`, `1 / 0`, an if expression, a truth value
-no_priorities : map (λ e. aspect_faults visible (priority 4 e)) (
+no_priorities : map (λ e. aspect_faults visible TASK_PRIORITY (priority 4 e)) (
     number 9 31
     ∷ Unary unary.Minus 9 (number 10 1)
     ∷ Binary binary.Add (named 9 (codes "TOP")) (number 15 1)
@@ -44,14 +45,14 @@ no_priorities : map (λ e. aspect_faults visible (priority 4 e)) (
     ) ≡ (fault 38 4 ∷ []) ∷ (fault 38 4 ∷ []) ∷ (fault 38 4 ∷ []) ∷ (fault 38 4 ∷ []) ∷ (fault 38 4 ∷ []) ∷ (fault 38 4 ∷ []) ∷ []
 no_priorities = refl
 
-another_aspect : aspect_faults visible (Some (aspect 4 (codes "STORAGE_SIZE") (number 9 3))) ≡ fault 38 4 ∷ []
+another_aspect : aspect_faults visible TASK_PRIORITY (Some (aspect 4 (codes "STORAGE_SIZE") (number 9 3))) ≡ fault 38 4 ∷ []
 another_aspect = refl
 
 -- ---- entries
 
 first_entry_alone : map (entries_faults false) (
     (OfEntry (entry 1 (codes "A")) ∷ [])
-    ∷ (OfSubprogram (procedure 1 (codes "A")) ∷ OfEntry (entry 2 (codes "B")) ∷ OfSubprogram (procedure 3 (codes "C")) ∷ OfEntry (entry 4 (codes "D")) ∷ OfEntry (entry 5 (codes "E")) ∷ [])
+    ∷ (OfSubprogram (procedure 1 (codes "A")) None ∷ OfEntry (entry 2 (codes "B")) ∷ OfSubprogram (procedure 3 (codes "C")) None ∷ OfEntry (entry 4 (codes "D")) ∷ OfEntry (entry 5 (codes "E")) ∷ [])
     ∷ []
     ) ≡ [] ∷ (fault 31 4 ∷ fault 31 5 ∷ []) ∷ []
 first_entry_alone = refl
@@ -152,7 +153,7 @@ broken_program = record {
       ∷ []
       ) (
       OfItem (OfTask (task 530 (codes "U") (Some (aspect 540 (codes "SIZE") (number 550 1)))))
-      ∷ OfItem (OfProtected (object 560 (codes "Q") (priority 570 (number 580 31)) []))
+      ∷ OfItem (OfProtected (object 560 (codes "Q") (priority 570 (number 580 32)) []))
       ∷ TaskBody (identifier 650 (codes "T")) (slow 660 (codes "T"))
       ∷ SubprogramBody (procedure 680 (codes "RUN")) (slow 690 (codes "RUN"))
       ∷ ProtectedBody (identifier 710 (codes "P")) (

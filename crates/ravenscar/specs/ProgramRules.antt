@@ -1,7 +1,8 @@
--- The rules from 30 to 39 of a whole program (docs/LANGUAGE.md, "Rules of the profile"): which are broken where, what a restricted program is, and which
--- broken rule is told. Names mean what they do for the rules from 10 to 23.
-use Rattle.std.specs.Prelude.{◌≡◌, ◌⊎◌, ℕ, List, [], ◌∷◌, ◌++◌, Option, Some, None}
+-- The rules from 30 to 39 and from 70 to 73 of a whole program (docs/LANGUAGE.md, "Rules of the profile"): which are broken where, what a restricted
+-- program is, and which broken rule is told. Names mean what they do for the rules from 10 to 23.
+use Rattle.std.specs.Prelude.{◌≡◌, ◌⊎◌, ℕ, Bool, List, [], ◌∷◌, ◌++◌, Option, Some, None}
 use Rattle.std.specs.List.{Contains}
+use Rattle.base.specs.declared.limits.TheConstants.{TASK_PRIORITY}
 use Rattle.lexer.specs.Fault.{memory_fault}
 use Rattle.lexer.specs.declared.fault.Fault.{Fault}
 use Rattle.ada_tree.specs.declared.expression.Identifier.{Identifier}
@@ -15,19 +16,29 @@ use Rattle.type_rules.specs.SubtypeNames.{named_entity}
 use Rattle.legality.specs.MainRules.{main_scope}
 use Rattle.declaring.specs.PackageNames.{body_item_scope, inside_scope, specified_scope}
 use Rattle.ravenscar.specs.PragmaRules.{pragma_faults}
+use Rattle.ravenscar.specs.HandlerRules.{none_taken, taken_by_all}
 use Rattle.ravenscar.specs.TaskingRules.{aspect_faults, protected_faults, task_faults}
 use Rattle.body_restrictions.specs.BodyRules.{body_faults, operations_faults}
 
 -- ---- the package, in the order of its declarations and bodies
 
-abbrev pub item_faults : Scope → ItemTree → Faults
-item_faults s (OfTask d) = task_faults s d
-item_faults s (OfProtected d) = protected_faults s d
-item_faults s d = []
+-- `taken` are the channels that have handlers before
+abbrev pub item_faults : Scope → (taken : List Bool) → ItemTree → Faults
+item_faults s taken (OfTask d) = task_faults s d
+item_faults s taken (OfProtected d) = protected_faults s taken d
+item_faults s taken d = []
 
-abbrev pub items_faults : Scope → List ItemTree → Faults
-items_faults s [] = []
-items_faults s (d ∷ ds) = item_faults s d ++ items_faults (item_scope s d) ds
+abbrev pub taken_by_item : Scope → (taken : List Bool) → ItemTree → List Bool
+taken_by_item s taken (OfProtected d) = taken_by_all s taken d.operations
+taken_by_item s taken d = taken
+
+abbrev pub items_faults : Scope → (taken : List Bool) → List ItemTree → Faults
+items_faults s taken [] = []
+items_faults s taken (d ∷ ds) = item_faults s taken d ++ items_faults (item_scope s d) (taken_by_item s taken d) ds
+
+abbrev pub taken_by_items : Scope → (taken : List Bool) → List ItemTree → List Bool
+taken_by_items s taken [] = taken
+taken_by_items s taken (d ∷ ds) = taken_by_items (item_scope s d) (taken_by_item s taken d) ds
 
 -- the components of the protected object of this name; none, where it is not known
 abbrev pub components_in : Option Entity → List RecordComponent
@@ -37,18 +48,25 @@ components_in e = []
 abbrev pub components_named : Scope → Identifier → List RecordComponent
 components_named s name = components_in (named_entity s name)
 
-abbrev pub body_item_faults : Scope → BodyItemTree → Faults
-body_item_faults s (OfItem d) = item_faults s d
-body_item_faults s (SubprogramBody d b) = body_faults b
-body_item_faults s (TaskBody name b) = body_faults b
-body_item_faults s (ProtectedBody name items end_name) = operations_faults (components_named s name) items
+abbrev pub body_item_faults : Scope → (taken : List Bool) → BodyItemTree → Faults
+body_item_faults s taken (OfItem d) = item_faults s taken d
+body_item_faults s taken (SubprogramBody d b) = body_faults b
+body_item_faults s taken (TaskBody name b) = body_faults b
+body_item_faults s taken (ProtectedBody name items end_name) = operations_faults (components_named s name) items
 
-abbrev pub body_items_faults : Scope → List BodyItemTree → Faults
-body_items_faults s [] = []
-body_items_faults s (i ∷ is) = body_item_faults s i ++ body_items_faults (body_item_scope s i) is
+abbrev pub taken_by_body_item : Scope → (taken : List Bool) → BodyItemTree → List Bool
+taken_by_body_item s taken (OfItem d) = taken_by_item s taken d
+taken_by_body_item s taken i = taken
+
+abbrev pub body_items_faults : Scope → (taken : List Bool) → List BodyItemTree → Faults
+body_items_faults s taken [] = []
+body_items_faults s taken (i ∷ is) = body_item_faults s taken i ++ body_items_faults (body_item_scope s i) (taken_by_body_item s taken i) is
 
 abbrev pub package_faults : PackageTree → Faults
-package_faults p = items_faults (inside_scope standard p) p.declaration.items ++ body_items_faults (specified_scope standard p) p.body.items
+package_faults p =
+    let inside = inside_scope standard p in
+    items_faults inside none_taken p.declaration.items
+    ++ body_items_faults (specified_scope standard p) (taken_by_items inside none_taken p.declaration.items) p.body.items
 
 abbrev pub package_part_faults : Option PackageTree → Faults
 package_part_faults (Some p) = package_faults p
@@ -56,9 +74,9 @@ package_part_faults None = []
 
 -- ---- the program
 
--- each rule from 30 to 39 that is broken, with its place
+-- each rule from 30 to 39, and from 70 to 73, that is broken, with its place
 abbrev pub restriction_faults : ProgramTree → Faults
-restriction_faults t = pragma_faults t ++ package_part_faults t.package_ ++ aspect_faults (main_scope t.package_) t.main.aspect
+restriction_faults t = pragma_faults t ++ package_part_faults t.package_ ++ aspect_faults (main_scope t.package_) TASK_PRIORITY t.main.aspect
 
 -- the rule with this number is broken at this place
 abbrev pub IsRestrictionBroken : (number place : ℕ) → ProgramTree → Type 0

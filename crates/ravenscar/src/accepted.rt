@@ -2,6 +2,7 @@
 ghost use Rattle.std.specs.Prelude.{◌≡◌, IfErr, IfOk, OnOk, option_map, slice_get};
 ghost use Rattle.ada_tree.specs.Parsed.{IsParsed};
 ghost use Rattle.ada_tree.specs.ProgramTree.{main_tree, package_tree, program_tree};
+ghost use Rattle.base.specs.declared.limits.TheConstants.{TASK_PRIORITY};
 ghost use Rattle.declaring.specs.PackageNames.{program_scope};
 ghost use Rattle.checking.specs.ProgramLayouts.{object_layouts, variables_layout};
 ghost use Rattle.checking.specs.ProgramRules.{IsLegal};
@@ -14,6 +15,7 @@ use crate::package::package_part_fault;
 use crate::pragmas::pragma_fault;
 use crate::tasking::aspect_fault;
 use ada_tree::{Main, Package, Program};
+use base::limits::TASK_PRIORITY;
 use checking::Checked;
 use expr_rules::laws::{least_by_parts, least_is_least};
 use expr_rules::sooner;
@@ -47,7 +49,7 @@ impl Model for Accepted {
 }
 
 impl Accepted {
-    /// The program, which breaks no rule from 10 to 39.
+    /// The program, which breaks no rule from 10 to 39 and from 70 to 73.
     pub fn program(&self) -> &Program
         ensures same { result.now ≡ self.now }
         ensures legal { IsLegal (program_tree self.now) }
@@ -84,10 +86,11 @@ fn main_fault(
     package_: Option<&Package>,
     main: &Main,
 ) -> Result<Option<Fault>, AllocError>
-    ensures { IfOk result (λ f. f ≡ least (aspect_faults (main_scope (option_map (λ p. package_tree p.now) package_.entry)) (main_tree main.now).aspect)) }
+    ensures { IfOk result (λ f. f ≡ least (aspect_faults (main_scope (option_map (λ p. package_tree p.now) package_.entry)) TASK_PRIORITY
+        (main_tree main.now).aspect)) }
 {
     let scope = main_scope(alloc, package_)?;
-    Ok(aspect_fault(&scope, main.aspect.as_ref()))
+    Ok(aspect_fault(&scope, TASK_PRIORITY, main.aspect.as_ref()))
 }
 
 // The least restriction that a program breaks, if it breaks one.
@@ -101,8 +104,8 @@ fn restriction_fault(alloc: Global, program: &Program) -> Result<Option<Fault>, 
     Ok(sooner(sooner(pragma_fault(program), inside), main))
 }
 
-/// Asks of a legal program that it keeps the restrictions of the Ravenscar profile, the rules from 30 to 39. What keeps them is refused for want of memory
-/// alone.
+/// Asks of a legal program that it keeps the restrictions of the Ravenscar profile, the rules from 30 to 39 and from 70 to 73. What keeps them is refused for
+/// want of memory alone.
 ///
 /// # Errors
 /// The restriction that is broken at the least place, and of several there the one with the least number (docs/LANGUAGE.md, "Rules of the profile"); 60, at

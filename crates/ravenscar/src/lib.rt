@@ -1,7 +1,8 @@
-//! The restrictions of the Ravenscar profile (docs/LANGUAGE.md, "Rules of the profile", the faults from 30 to 39).
+//! The restrictions of the Ravenscar profile (docs/LANGUAGE.md, "Rules of the profile", the faults from 30 to 39 and from 70 to 73).
 #![tactic(auto)]
 
 mod accepted;
+mod handlers;
 mod package;
 mod pragmas;
 mod tasking;

@@ -5,8 +5,9 @@ ghost use Rattle.declaring.specs.ItemRules.{items_scope};
 ghost use Rattle.expr_rules.specs.Faults.{least};
 ghost use Rattle.types.specs.Entities.{entity_value};
 ghost use Rattle.body_restrictions.specs.BodyRules.{operations_faults};
-ghost use Rattle.ravenscar.specs.ProgramRules.{body_item_faults, body_items_faults, components_in, components_named, item_faults, items_faults, package_faults, package_part_faults};
+ghost use Rattle.ravenscar.specs.ProgramRules.{body_item_faults, body_items_faults, components_in, components_named, item_faults, items_faults, package_faults, package_part_faults, taken_by_body_item, taken_by_item, taken_by_items};
 
+use crate::handlers::{CHANNEL_NUMBERS, none_taken};
 use crate::tasking::{protected_fault, task_fault};
 use ada_tree::{BodyItem, Identifier, Item, Package, ProtectedBodyItem};
 use body_restrictions::{body_fault, operations_fault};
@@ -19,12 +20,13 @@ use std::alloc::{AllocError, Global};
 use type_rules::named_entity;
 use types::{Entity, RecordComponent, Scope};
 
-fn item_fault(scope: &Scope, item: &Item) -> Option<Fault>
-    ensures { result ≡ least (item_faults scope.now (item_tree item.now)) }
+fn item_fault(scope: &Scope, taken: &mut [bool; CHANNEL_NUMBERS], item: &Item) -> Option<Fault>
+    ensures fault { result ≡ least (item_faults scope.now taken.old (item_tree item.now)) }
+    ensures taken { taken.new ≡ taken_by_item scope.now taken.old (item_tree item.now) }
 {
     match item {
         Item::Task(task) => task_fault(scope, task),
-        Item::Protected(object) => protected_fault(scope, object),
+        Item::Protected(object) => protected_fault(scope, taken, object),
         _ => None,
     }
 }
@@ -33,16 +35,18 @@ fn item_fault(scope: &Scope, item: &Item) -> Option<Fault>
 fn items_fault(
     alloc: Global,
     scope: &mut Scope,
+    taken: &mut [bool; CHANNEL_NUMBERS],
     items: &[Item],
 ) -> Result<Option<Fault>, AllocError>
-    ensures fault { IfOk result (λ f. f ≡ least (items_faults scope.old (map item_tree items.now))) }
+    ensures fault { IfOk result (λ f. f ≡ least (items_faults scope.old taken.old (map item_tree items.now))) }
     ensures scope { OnOk result (scope.new ≡ items_scope scope.old (map item_tree items.now)) }
+    ensures taken { OnOk result (taken.new ≡ taken_by_items scope.old taken.old (map item_tree items.now)) }
 {
     least_by_parts();
     sooner_associates();
     let mut fault = None;
     for item in items {
-        fault = sooner(fault, item_fault(scope, item));
+        fault = sooner(fault, item_fault(scope, taken, item));
         declare_item(alloc, scope, item)?;
     }
     Ok(fault)
@@ -69,11 +73,16 @@ fn object_body_fault(scope: &Scope, name: &Identifier, items: &[ProtectedBodyIte
     operations_fault(components_named(scope, name), items)
 }
 
-fn body_item_fault(scope: &Scope, item: &BodyItem) -> Option<Fault>
-    ensures { result ≡ least (body_item_faults scope.now (body_item_tree item.now)) }
+fn body_item_fault(
+    scope: &Scope,
+    taken: &mut [bool; CHANNEL_NUMBERS],
+    item: &BodyItem,
+) -> Option<Fault>
+    ensures fault { result ≡ least (body_item_faults scope.now taken.old (body_item_tree item.now)) }
+    ensures taken { taken.new ≡ taken_by_body_item scope.now taken.old (body_item_tree item.now) }
 {
     match item {
-        BodyItem::Item(item) => item_fault(scope, item),
+        BodyItem::Item(item) => item_fault(scope, taken, item),
         BodyItem::Subprogram(_, body) => body_fault(body),
         BodyItem::Task(_, body) => body_fault(body),
         BodyItem::Protected(name, items, _) => object_body_fault(scope, name, items),
@@ -83,15 +92,16 @@ fn body_item_fault(scope: &Scope, item: &BodyItem) -> Option<Fault>
 fn body_items_fault(
     alloc: Global,
     scope: &mut Scope,
+    taken: &mut [bool; CHANNEL_NUMBERS],
     items: &[BodyItem],
 ) -> Result<Option<Fault>, AllocError>
-    ensures { IfOk result (λ f. f ≡ least (body_items_faults scope.old (map body_item_tree items.now))) }
+    ensures { IfOk result (λ f. f ≡ least (body_items_faults scope.old taken.old (map body_item_tree items.now))) }
 {
     least_by_parts();
     sooner_associates();
     let mut fault = None;
     for item in items {
-        fault = sooner(fault, body_item_fault(scope, item));
+        fault = sooner(fault, body_item_fault(scope, taken, item));
         see_body_item(alloc, scope, item)?;
     }
     Ok(fault)
@@ -102,8 +112,9 @@ fn package_fault(alloc: Global, package_: &Package) -> Result<Option<Fault>, All
 {
     least_by_parts();
     let mut scope = inside_scope(alloc, package_)?;
-    let declared = items_fault(alloc, &mut scope, &package_.declaration.items)?;
-    let bodies = body_items_fault(alloc, &mut scope, &package_.body.items)?;
+    let mut taken = none_taken();
+    let declared = items_fault(alloc, &mut scope, &mut taken, &package_.declaration.items)?;
+    let bodies = body_items_fault(alloc, &mut scope, &mut taken, &package_.body.items)?;
     Ok(sooner(declared, bodies))
 }
 

@@ -43,7 +43,7 @@ specified =
       name = (identifier 186 (codes "P"));
       aspect = None;
       operations = OfSubprogram (subprogram_of 191 (identifier
-          200 (codes "GET")) ([]) (Some (identifier 211 (codes "INTEGER")))) ∷ OfEntry (record {
+          200 (codes "GET")) ([]) (Some (identifier 211 (codes "INTEGER")))) None ∷ OfEntry (record {
             place = 220;
             name = (identifier 226 (codes "TAKE"));
             formals = formal_of (identifier 232 (codes "K")) mode.In (identifier 236 (codes "INTEGER")) ∷ [];

@@ -23,7 +23,7 @@ abbrev pub object_things : Scope → ObjectTree → Things
 object_things s d = elim d.constant [ true ↦ [] | false ↦ sized_object s d.name d.subtype ∷ [] ]
 
 abbrev pub operation_place : OperationTree → ℕ
-operation_place (operation.OfSubprogram d) = d.place
+operation_place (operation.OfSubprogram d a) = d.place
 operation_place (operation.OfEntry d) = d.place
 
 -- the operations of a protected object count as subprograms

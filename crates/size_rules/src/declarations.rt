@@ -37,7 +37,7 @@ fn operation_place(operation: &Operation) -> u32
     ensures { result ≡ operation_place (operation_tree operation.now) }
 {
     match operation {
-        Operation::Subprogram(subprogram) => subprogram.place,
+        Operation::Subprogram(subprogram, _) => subprogram.place,
         Operation::Entry(entry) => entry.place,
     }
 }

@@ -509,7 +509,7 @@ local_protected_object : found procedure (MoreStmts (Block 0 (LocalProtected (re
   name = (identifier 18 (codes "Z"));
   aspect = None;
   operations = OfSubprogram (subprogram_of 23 (identifier 33 (codes "GIVE")) (formal_of (identifier 39 (codes "K")) mode.In (identifier 43 (codes
-      "NOBODY")) ∷ []) None) ∷ [];
+      "NOBODY")) ∷ []) None) None ∷ [];
   components = [];
   end_name = (identifier 56 (codes "Z"));
 }) ∷ []) (MoreStmts (Call (name_of (identifier 65 (codes "Z"))

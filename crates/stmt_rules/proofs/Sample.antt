@@ -94,9 +94,9 @@ items =
       name = (identifier 440 (codes "P"));
       aspect = (Some (record { place = 442; name = (identifier 447 (codes "PRIORITY")); value = (num 459 10) }));
       operations =
-          OfSubprogram (subprogram_of 465 (identifier 474 (codes "GET")) ([]) (Some (identifier 485 (codes "SMALL"))))
+          OfSubprogram (subprogram_of 465 (identifier 474 (codes "GET")) ([]) (Some (identifier 485 (codes "SMALL")))) None
           ∷ OfSubprogram (subprogram_of 492 (identifier 502 (codes "GIVE"))
-          (formal_of (identifier 508 (codes "Z")) mode.In (identifier 512 (codes "INTEGER")) ∷ []) None)
+          (formal_of (identifier 508 (codes "Z")) mode.In (identifier 512 (codes "INTEGER")) ∷ []) None) None
           ∷ OfEntry (record { place = 522; name = (identifier 528 (codes "TAKE")); formals = formal_of (identifier 534 (codes "Z")) mode.Out (identifier 542 (codes "INTEGER")) ∷ [] })
           ∷ [];
       components = record { name = (identifier 560 (codes "LEVEL")); subtype = (identifier 568 (codes "SMALL")); value = None } ∷ [];

@@ -372,16 +372,26 @@ entry_heads k d =
     heads_then (kinds.Word words.Entry) (word_at words.Entry d.place) (identifier d.name ⨾ formals (Some k) d.formals)
     (heads_placed (kinds.Word words.Entry) d.place)
 
-abbrev pub EntryOrSubprogram : ℕ → Either EntryTree SubprogramTree → Tokens → Type 0
-EntryOrSubprogram k = EitherSpells (λ d. entry (Some k) d ⨾ mark marks.Semicolon) (λ d. subprogram (Some k) d ⨾ mark marks.Semicolon)
+subprogram_aspect : (k : ℕ) (x : SubprogramTree) (y : Option AspectTree) (v r : Tokens) → (optional (aspect (Some k)) y ⨾ mark marks.Semicolon) v
+    → SubprogramStops x (first (v ++ r))
+subprogram_aspect k x None v r g =
+    at_both (SubprogramStops x) nothing (mark marks.Semicolon) v r g
+    (λ s t h i. at_nothing (SubprogramStops x) s (t ++ r) h (at_token (SubprogramStops x) semicolon (λ b e. subprogram_stop _ refl x) t r i))
+subprogram_aspect k x (Some a) v r g =
+    at_both (SubprogramStops x) (aspect (Some k) a) (mark marks.Semicolon) v r g
+    (λ s t h i. at_placed (SubprogramStops x) (kinds.Word words.With) a.place (λ b e. subprogram_stop _ refl x) s (t ++ r) h)
 
-operation_to : (k : ℕ) (x : Either EntryTree SubprogramTree) (ts : Tokens) → EntryOrSubprogram k x ts → operation (Some k) (operation_of x) ts
+abbrev pub EntryOrSubprogram : ℕ → Either EntryTree (SubprogramTree × Option AspectTree) → Tokens → Type 0
+EntryOrSubprogram k =
+    EitherSpells (λ d. entry (Some k) d ⨾ mark marks.Semicolon) (λ d. subprogram (Some k) d.0 ⨾ optional (aspect (Some k)) d.1 ⨾ mark marks.Semicolon)
+
+operation_to : (k : ℕ) (x : Either EntryTree (SubprogramTree × Option AspectTree)) (ts : Tokens) → EntryOrSubprogram k x ts → operation (Some k) (operation_of x) ts
 operation_to k (Left d) ts g = g
 operation_to k (Right d) ts g = g
 
 operation_back : (k : ℕ) (y : OperationTree) (ts : Tokens) → operation (Some k) y ts
-    → (x : Either EntryTree SubprogramTree) × EntryOrSubprogram k x ts × (operation_of x ≡ y)
-operation_back k (OfSubprogram d) ts g = (Right d, g, refl)
+    → (x : Either EntryTree (SubprogramTree × Option AspectTree)) × EntryOrSubprogram k x ts × (operation_of x ≡ y)
+operation_back k (OfSubprogram d a) ts g = (Right (d, a), g, refl)
 operation_back k (OfEntry d) ts g = (Left d, g, refl)
 
 either_free : {A B : Type 0} (x : Either A B) (o : Option Token) → EitherStops {A = A} {B = B} Free Free x o
@@ -394,17 +404,19 @@ operation_exact k =
     (either_exact (is_word words.Entry)
     (ended_exact (entry_exact k) (exact_skipped semicolon refl)
     (λ x v r g. at_token (FormalsStops x.formals) semicolon (λ s e. formals_stop _ refl x.formals) v r g))
-    (ended_exact (subprogram_exact k) (exact_skipped semicolon refl)
-    (λ x v r g. at_token (SubprogramStops x) semicolon (λ s e. subprogram_stop _ refl x) v r g))
+    (then_exact (subprogram_exact k)
+    (ended_exact (aspect_part_exact k) (exact_skipped semicolon refl)
+    (λ x v r g. at_token (AspectStops x) semicolon (aspect_before semicolon semicolon_stops refl x) v r g))
+    (λ x y v r g st. subprogram_aspect k x y v r g))
     (λ x s r g. at_head (λ o. is_word words.Entry o ≡ true) (kinds.Word words.Entry) (entry (Some k) x ⨾ mark marks.Semicolon)
     (heads_then (kinds.Word words.Entry) (entry (Some k) x) (mark marks.Semicolon) (entry_heads k x)) (λ _ _. refl) s r g)
-    (λ y s r g st. at_both (λ o. is_word words.Entry o ≡ false) (subprogram (Some k) y) (mark marks.Semicolon) s r g
-    (λ u v h i. at_subprogram (λ o. is_word words.Entry o ≡ false) (λ _ _. refl) (λ _ _. refl) k y u (v ++ r) h)))
+    (λ y s r g st. at_both (λ o. is_word words.Entry o ≡ false) (subprogram (Some k) y.0) (optional (aspect (Some k)) y.1 ⨾ mark marks.Semicolon) s r g
+    (λ u v h i. at_subprogram (λ o. is_word words.Entry o ≡ false) (λ _ _. refl) (λ _ _. refl) k y.0 u (v ++ r) h)))
     either_free (operation_to k) (operation_back k)
 
 pub operation_begins : (k : ℕ) (x : OperationTree) (s r : Tokens) → operation (Some k) x s → begins_operation (first (s ++ r)) ≡ true
-operation_begins k (OfSubprogram d) s r g =
-    at_both (λ o. begins_operation o ≡ true) (subprogram (Some k) d) (mark marks.Semicolon) s r g
+operation_begins k (OfSubprogram d a) s r g =
+    at_both (λ o. begins_operation o ≡ true) (subprogram (Some k) d) (optional (aspect (Some k)) a ⨾ mark marks.Semicolon) s r g
     (λ u v h i. at_subprogram (λ o. begins_operation o ≡ true) (λ _ _. refl) (λ _ _. refl) k d u (v ++ r) h)
 operation_begins k (OfEntry d) s r g =
     at_head (λ o. begins_operation o ≡ true) (kinds.Word words.Entry) (entry (Some k) d ⨾ mark marks.Semicolon)

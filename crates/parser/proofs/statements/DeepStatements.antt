@@ -183,7 +183,7 @@ deep_task k = deep_changed k _ (deep_placed k (kinds.Word words.Task) refl (deep
 deep_operation : (k : ℕ) → Deep k (operation_at k)
 deep_operation k =
     deep_changed k _ (deep_either k (is_word words.Entry) (deep_ended k (entry_exact k) (deep_entry_at k) (deep_skipped k semicolon))
-    (deep_ended k (subprogram_exact k) (deep_subprogram k) (deep_skipped k semicolon)))
+    (deep_both k (subprogram_exact k) (deep_subprogram k) (deep_ended k (aspect_part_exact k) (deep_aspect k) (deep_skipped k semicolon))))
 
 deep_component : (k : ℕ) → Deep k (protected_component_at k)
 deep_component k =

@@ -154,7 +154,8 @@ goes_task k = goes_mapped _ (goes_placed (kinds.Word words.Task) refl (goes_task
 operation_on : (k : ℕ) → GoesOn (operation_at k)
 operation_on k =
     (goes_mapped _ (goes_either (is_word words.Entry) refl (goes_ended (entry_exact k) (goes_entry k) goes_semicolon (λ x. formals_stop _ refl x.formals)).on
-    (goes_ended (subprogram_exact k) (goes_subprogram k) goes_semicolon (λ x. subprogram_stop _ refl x)))).on
+    (goes_both (subprogram_exact k) (goes_subprogram k) (goes_ended (aspect_part_exact k) (goes_aspect k) goes_semicolon (λ x. aspect_stop k _ refl refl x))
+    (λ x. subprogram_stop _ refl x)))).on
 
 component_on : (k : ℕ) → GoesOn (protected_component_at k)
 component_on k = (goes_mapped _ (goes_named (goes_past (kinds.Delimiter marks.Colon) refl (goes_named (goes_initial_end k))))).on

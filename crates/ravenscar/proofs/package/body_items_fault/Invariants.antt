@@ -6,5 +6,5 @@ use Rattle.ravenscar.proofs.package.body_items_fault.Given as goal
 
 abbrev pub invariant-loop-item : goal.invariant-loop-item
 invariant-loop-item l =
-    sooner l.fault (least (body_items_faults l.scope (map body_item_tree (drop l.item-index l.items))))
-    ≡ least (body_items_faults l.fn.scope (map body_item_tree l.items))
+    sooner l.fault (least (body_items_faults l.scope l.taken (map body_item_tree (drop l.item-index l.items))))
+    ≡ least (body_items_faults l.fn.scope l.fn.taken (map body_item_tree l.items))

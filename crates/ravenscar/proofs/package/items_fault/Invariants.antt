@@ -2,12 +2,15 @@ use Rattle.std.proofs.Common.{◌≡◌, drop, map}
 use Rattle.ada_tree.specs.ProgramTree.{item_tree}
 use Rattle.declaring.specs.ItemRules.{items_scope}
 use Rattle.expr_rules.specs.Faults.{least, sooner}
-use Rattle.ravenscar.specs.ProgramRules.{items_faults}
+use Rattle.ravenscar.specs.ProgramRules.{items_faults, taken_by_items}
 use Rattle.ravenscar.proofs.package.items_fault.Given as goal
 
 abbrev pub invariant-loop-item : goal.invariant-loop-item
 invariant-loop-item l =
     record {
-      fault : sooner l.fault (least (items_faults l.scope (map item_tree (drop l.item-index l.items)))) ≡ least (items_faults l.fn.scope (map item_tree l.items));
+      fault :
+          sooner l.fault (least (items_faults l.scope l.taken (map item_tree (drop l.item-index l.items))))
+          ≡ least (items_faults l.fn.scope l.fn.taken (map item_tree l.items));
       scope : items_scope l.scope (map item_tree (drop l.item-index l.items)) ≡ items_scope l.fn.scope (map item_tree l.items);
+      taken : taken_by_items l.scope l.taken (map item_tree (drop l.item-index l.items)) ≡ taken_by_items l.fn.scope l.fn.taken (map item_tree l.items);
     }
