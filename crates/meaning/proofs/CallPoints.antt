@@ -30,7 +30,7 @@ handlers_stand_once_the_sequence_has_begun = refl
 -- body B is begin P.Give (7); Put ("b", X); end B; procedure Run is begin null; end Run;
 abbrev pub results_are_copied_back_when_the_caller_runs_tree : ProgramTree
 results_are_copied_back_when_the_caller_runs_tree = app (OfObject (object "X" "INTEGER" (Some (num 1))) ∷ OfProtected (protected "P" (num 10) (OfSubprogram
-    (procedure "GIVE" (formal "X" mode.In "INTEGER" ∷ [])) ∷ OfEntry (entry "TAKE" (formal "X" mode.Out "INTEGER" ∷ [])) ∷ []) (component "V" "INTEGER" (Some
+    (procedure "GIVE" (formal "X" mode.In "INTEGER" ∷ [])) None ∷ OfEntry (entry "TAKE" (formal "X" mode.Out "INTEGER" ∷ [])) ∷ []) (component "V" "INTEGER" (Some
     (num 0)) ∷ component "FULL" "BOOLEAN" (Some (v "FALSE")) ∷ [])) ∷ OfTask (task "A" (num 9)) ∷ OfTask (task "B" (num 9)) ∷ []) (ProtectedBody (id "P")
     (OperationBody (procedure "GIVE" (formal "X" mode.In "INTEGER" ∷ [])) (body ([]) (stmts_of ((assign "V" [] (v "X")) ∷ (assign "FULL" [] (v "TRUE")) ∷ []))
     NoHandlers) ∷ EntryBody (entry "TAKE" (formal "X" mode.Out "INTEGER" ∷ [])) (v "FULL") (body ([]) (stmts_of ((assign "X" [] (v "V")) ∷ (assign "FULL" []

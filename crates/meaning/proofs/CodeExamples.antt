@@ -3,12 +3,14 @@ use Rattle.std.proofs.Common.{◌≡◌, ℕ, zero, suc, List, [], ◌∷◌, �
 use Rattle.std.specs.Prelude.{pos, codes}
 use Rattle.std.specs.Fmt.{digits}
 use Rattle.base.specs.declared.schedule.ScheduleLine.{ScheduleLine}
-use Rattle.kernel.specs.State.{Ended}
-use Rattle.kernel.specs.Worlds.{among}
+use Rattle.kernel.specs.Effects.{begin}
+use Rattle.kernel.specs.State.{Ended, Interrupt}
+use Rattle.kernel.specs.Worlds.{among, run}
 use Rattle.kernel.specs.RunLaws.{run_over}
 use Rattle.image.specs.Sections.{Sections}
 use Rattle.image.specs.Steps.{behaviour}
-use Rattle.image.specs.Code.{code, code_text}
+use Rattle.image.specs.Attachments.{interrupts}
+use Rattle.image.specs.Code.{CodeWorld, code, code_text, initial_state, initial_words, partition_of}
 use Rattle.image.specs.declared.instruction.Instr.{Instr}
 use Rattle.image.specs.declared.instruction.Operation.{Operation}
 use Rattle.image.specs.declared.instruction.Operation.TheVariants as op
@@ -38,6 +40,7 @@ image_of labels end instructions =
       subprograms = record { kind = TaskBody; end_ = 2; parameters = 0; results = 0; locals = 0; stack = 0 } ∷ record { kind = Plain; end_ = end; parameters = 0; results = 0; locals = 0; stack = 3 } ∷ [];
       tasks = record { name = codes "MAIN"; priority = default_priority; subprogram = 0 } ∷ [];
       rows = [];
+      attachments = [];
       instructions = at 0 (op.Call 1) ∷ at 0 op.Return ∷ (instructions ++ at 0 op.Return ∷ []);
     }
 
@@ -70,9 +73,22 @@ overflow_code = overflow_written ∙ sym overflow_text
 abbrev idle_image : Sections
 idle_image = return_image (codes "MAIN")
 
+-- it has no handlers, so no line is one of an interrupt
+none_attached : (schedule : List ScheduleLine) → interrupts idle_image schedule ≡ []
+none_attached [] = refl
+none_attached (l ∷ ls) = none_attached ls
+
+abbrev idle_with : List ScheduleLine → List Interrupt → ℕ → CodeWorld
+idle_with schedule pending m =
+    run (among (behaviour idle_image schedule)) m (record { kernel = begin (partition_of idle_image) pending; rest = record { memory = initial_words idle_image; tasks = initial_state idle_image } })
+
 idle_after : (schedule : List ScheduleLine) (m : ℕ) → (code idle_image schedule m).kernel.lines ≡ []
-idle_after schedule zero = refl
-idle_after schedule (suc m) = ap (λ w. w.kernel.lines) (run_over (among (behaviour idle_image schedule)) m (code idle_image schedule 1) Ended refl)
+idle_after schedule zero = ap (λ q. (idle_with schedule q 0).kernel.lines) (none_attached schedule)
+idle_after schedule (suc m) =
+    ap (λ w. w.kernel.lines)
+    (run_over (among (behaviour idle_image schedule)) m (code idle_image schedule 1) Ended
+    (ap (λ q. (idle_with schedule q 1).kernel.outcome) (none_attached schedule)))
+    ∙ ap (λ q. (idle_with schedule q 1).kernel.lines) (none_attached schedule)
 
 sums_lines : (source sums [] 3).kernel.lines ≡ record { time = pos 0; task = 0; label = codes "a"; value = pos 14 } ∷ []
 sums_lines = refl

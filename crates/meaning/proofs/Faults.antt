@@ -3,10 +3,11 @@ use Rattle.std.proofs.Common.{◌≡◌, ◌≢◌, ℕ, zero, suc, List, [], �
 use Rattle.std.specs.Prelude.{int_lt}
 use Rattle.base.specs.declared.limits.TheConstants.{PRIORITIES}
 use Rattle.base.specs.declared.schedule.ScheduleLine.{ScheduleLine}
-use Rattle.kernel.specs.State.{Kernel, Sleeper, Action, Outcome, Ended, WaitsForever, ImageFault, active}
+use Rattle.kernel.specs.State.{Interrupt, Kernel, Sleeper, Action, Outcome, Ended, WaitsForever, ImageFault, active}
 use Rattle.kernel.specs.Dispatching.{leaves, becomes_ready, runs_head, runs_from, preempted, preempts, dispatch_from, dispatch, highest}
-use Rattle.kernel.specs.Clock.{falls_asleep, released, least, some_queued, wakes_if_due, wakes_due, time_moves, clock_from, clock}
-use Rattle.kernel.specs.Effects.{Effect, Quiet, Says, Delays, Opens, Queues, Ends, Finishes, Dies, Refusal, Ending, Closes, TakesOver, HandsBack, ending_of, ends, outer_of, effect, after, blank, activated, call_refusal, is_above_ceiling, is_full, is_inside_any}
+use Rattle.kernel.specs.Interrupts.{delivers, starts}
+use Rattle.kernel.specs.Clock.{falls_asleep, released, next, some_queued, wakes_if_due, wakes_due, time_moves, clock_from, clock}
+use Rattle.kernel.specs.Effects.{Effect, Quiet, Says, Delays, Opens, Queues, Ends, Finishes, Dies, Refusal, Ending, Closes, TakesOver, HandsBack, ending_of, ends, goes_if, is_over, outer_of, effect, after, blank, activated, call_refusal, is_above_ceiling, is_full, is_inside_any}
 use Rattle.kernel.specs.Worlds.{World, Tasks, among, run, solo_of, step, step_of}
 use Rattle.ada_tree.specs.declared.expression.Identifier.{Identifier}
 use Rattle.ada_tree.specs.declared.program.MainStatement.{MainStatement}
@@ -23,12 +24,12 @@ use Rattle.types.specs.Evaluations.{Val, Gives, Raises, Meaningless, and_then}
 use Rattle.types.specs.Evaluating.{passed}
 use Rattle.type_rules.specs.SubtypeNames.{named_entity}
 use Rattle.meaning.specs.Programs.{Procedure, subtype_named}
-use Rattle.meaning.specs.Works.{Target, Item, Declares, DeclaresParameter, Sequence, Does, DoesMain, Repeats, RepeatsWhile, RepeatsFor, Handles, EndsHandler, EndsCall, EndsAction, EndsServed, Queued, Work, Goes, Copies, Raising, Activation, TaskWork, Store, GivenToCaller, frames_left}
+use Rattle.meaning.specs.Works.{Target, Item, Declares, DeclaresParameter, Sequence, Does, DoesMain, Repeats, RepeatsWhile, RepeatsFor, Handles, EndsHandler, EndsCall, EndsAction, EndsServed, Queued, Work, Goes, Copies, Raising, Activation, TaskWork, Store, GivenToCaller}
 use Rattle.meaning.specs.Targets.{target}
 use Rattle.meaning.specs.Calls.{Callee, Actuals, actuals, is_open, procedure_here, callee_by}
-use Rattle.meaning.specs.SourceSteps.{Here, SourceStepped, here_of, before, behind_loop, otherwise, alternative_for, handler_for, place_of, evaluate, goes, with_object, stores, leaves as gone, with_value, declared_value, declare, condition, for_turn, for_range, begin_loop, next_number, if_frame_left, run_body, plain_call, unless_refused, external_call, queue_call, entry_call, with_actuals_of, procedure_call, entry_call_of, call_of, put_line, put_call, call_or_put, raise_number, raise_named, delay_until, alternative, statement_step, main_call, main_step, item_step, copying, copy_step, handled, raise_step, work_step}
+use Rattle.meaning.specs.SourceSteps.{Here, SourceStepped, here_of, before, behind_loop, otherwise, alternative_for, handler_for, place_of, evaluate, goes, with_object, stores, leaves as gone, with_value, declared_value, declare, condition, for_turn, for_range, begin_loop, next_number, frames_here, if_frame_left, run_body, plain_call, unless_refused, external_call, queue_call, entry_call, with_actuals_of, procedure_call, entry_call_of, call_of, put_line, put_call, call_or_put, raise_number, raise_named, delay_until, alternative, statement_step, main_call, main_step, item_step, copying, copy_step, handled, raise_step, work_step}
 use Rattle.meaning.specs.Source.{partition_of, source_behaviour, source_start}
-use Rattle.meaning.specs.Programs.{program_of}
+use Rattle.meaning.specs.Programs.{program_interrupts, program_of}
 use Rattle.meaning.specs.Laws.{SourceNeverFaults, MeaningNeverFaults}
 
 pub either : {A : Type 0} (P : A → Type 0) (b : Bool) (x y : A) → P x → P y → P (cond b x y)
@@ -71,15 +72,25 @@ Sane k = k.outcome ≢ Some ImageFault
 sane_as : (l k : Kernel) → Same l k → Sane k → Sane l
 sane_as l k e h f = h (sym e ∙ f)
 
-time_sane : (ss : List Sleeper) (k : Kernel) → Sane k → Sane (time_moves ss k)
-time_sane [] k h = either (λ o. Some o ≢ Some ImageFault) (some_queued k.queued k.partition.objects) WaitsForever Ended (λ e. cc) (λ e. cc)
-time_sane (s ∷ ss) k h =
-    let l : Kernel = record k { now = least s.wake ss; sleepers = [] } in
-    sane_as (dispatch (wakes_due (s ∷ ss) l)) k (dispatch_same (wakes_due (s ∷ ss) l) ∙ wakes_same (s ∷ ss) l) h
+pub delivers_same : (is : List Interrupt) (k : Kernel) → Same (delivers is k) k
+delivers_same [] k = refl
+delivers_same (i ∷ is) k = either (λ l. Same l k) (int_lt k.now i.time) k (starts i (record k { pending = is })) refl refl
+
+pub goes_same : (c : Bool) (t : ℕ) (k : Kernel) → Same (goes_if c t k) k
+goes_same false t k = refl
+goes_same true t k = delivers_same k.pending (leaves t k)
+
+time_sane : (o : Option ℤ) (k : Kernel) → Sane k → Sane (time_moves o k)
+time_sane None k h = either (λ o. Some o ≢ Some ImageFault) (some_queued k.queued k.partition.objects) WaitsForever Ended (λ e. cc) (λ e. cc)
+time_sane (Some n) k h =
+    let l : Kernel = record k { now = n; sleepers = [] } in
+    let woken = wakes_due k.sleepers l in
+    let told = delivers woken.pending woken in
+    sane_as (dispatch told) k (dispatch_same told ∙ (delivers_same woken.pending woken ∙ wakes_same k.sleepers l)) h
 
 clock_sane_at : (r : Option ℕ) (k : Kernel) → Sane k → Sane (clock_from r k)
 clock_sane_at (Some t) k h = h
-clock_sane_at None k h = time_sane k.sleepers k h
+clock_sane_at None k h = time_sane (next k) k h
 
 settled_sane : (k : Kernel) → Sane k → Sane (clock (dispatch k))
 settled_sane k h = clock_sane_at (dispatch k).running (dispatch k) (sane_as (dispatch k) k (dispatch_same k) h)
@@ -95,7 +106,7 @@ data Plain : Effect → Type 0 where
   IsEnd : Plain Finishes
   IsDeath : {x : ℕ} → Plain (Dies x)
 
-ends_same : (t : ℕ) (e : Ending) (outer : List Action) (k : Kernel) → Same (ends t e outer k) k
+pub ends_same : (t : ℕ) (e : Ending) (outer : List Action) (k : Kernel) → Same (ends t e outer k) k
 ends_same t Closes outer k = refl
 ends_same t (TakesOver o u) outer k = refl
 ends_same t (HandsBack u) outer k = refl
@@ -107,7 +118,10 @@ plain_sane t k (IsDelay {until = until}) h =
     settled_sane (effect t (Delays until) k) (sane_as (effect t (Delays until) k) k (either (λ l. Same l k) (int_lt k.now until) (falls_asleep t until (leaves t k)) (becomes_ready t (leaves t k)) refl refl) h)
 plain_sane t k (IsOpening {object = o}) h = settled_sane (effect t (Opens o) k) h
 plain_sane t k (IsWaiting {object = o}) h = settled_sane (effect t (Queues o) k) h
-plain_sane t k (IsEnding {is_open = b}) h = settled_sane (effect t (Ends b) k) (sane_as (effect t (Ends b) k) k (ends_same t (ending_of b (k.actions t) k.queued) (outer_of (k.actions t)) k) h)
+plain_sane t k (IsEnding {is_open = b}) h =
+    let e = ending_of b (k.actions t) k.queued in
+    let l = ends t e (outer_of (k.actions t)) k in
+    settled_sane (effect t (Ends b) k) (sane_as (effect t (Ends b) k) k (goes_same (is_over k.partition t (k.actions t) e) t l ∙ ends_same t e (outer_of (k.actions t)) k) h)
 plain_sane t k IsEnd h = settled_sane (effect t Finishes k) h
 plain_sane t k IsDeath h = λ e. cc
 
@@ -154,7 +168,7 @@ module _ (h : Here) where
   frame_fine (suc n) items go f = f
 
   plain_call_fine : (q : Procedure) (a : Actuals) (items : List Item) → Fine (plain_call h q a items)
-  plain_call_fine q a items = frame_fine (frames_left items) items (run_body h Quiet None q a items) IsQuiet
+  plain_call_fine q a items = frame_fine (frames_here h items) items (run_body h Quiet None q a items) IsQuiet
 
   refused_fine : (r : Option Refusal) (items : List Item) (go : SourceStepped) → Fine go → Fine (unless_refused h r items go)
   refused_fine None items go f = f
@@ -162,8 +176,8 @@ module _ (h : Here) where
 
   external_fine : (o : ℕ) (q : Procedure) (a : Actuals) (items : List Item) → Fine (external_call h o q a items)
   external_fine o q a items =
-      let go = if_frame_left h (frames_left items) items (run_body h (Opens o) (Some o) q a items) in
-      refused_fine (call_refusal h.kernel h.task o) items go (frame_fine (frames_left items) items (run_body h (Opens o) (Some o) q a items) IsOpening)
+      let go = if_frame_left h (frames_here h items) items (run_body h (Opens o) (Some o) q a items) in
+      refused_fine (call_refusal h.kernel h.task o) items go (frame_fine (frames_here h items) items (run_body h (Opens o) (Some o) q a items) IsOpening)
 
   queue_fine : (o : ℕ) (q : Procedure) (a : Actuals) (items : List Item) → Fine (queue_call h o q a items)
   queue_fine o q a items = either Fine (is_full h.kernel o) _ _ IsQuiet IsWaiting
@@ -172,8 +186,8 @@ module _ (h : Here) where
   entry_fine o q a items =
       let runs = run_body h (Opens o) (Some o) q a items in
       let go = cond (is_open h.program h.memory o) runs (queue_call h o q a items) in
-      chosen (is_above_ceiling h.kernel h.task o) _ (if_frame_left h (frames_left items) items go) IsQuiet
-      (frame_fine (frames_left items) items go (chosen (is_open h.program h.memory o) runs (queue_call h o q a items) IsOpening (queue_fine o q a items)))
+      chosen (is_above_ceiling h.kernel h.task o) _ (if_frame_left h (frames_here h items) items go) IsQuiet
+      (frame_fine (frames_here h items) items go (chosen (is_open h.program h.memory o) runs (queue_call h o q a items) IsOpening (queue_fine o q a items)))
 
   actuals_fine : (c : Callee) (items : List Item) (go : Actuals → SourceStepped) → ((a : Actuals) → Fine (go a)) → Fine (with_actuals_of h c items go)
   actuals_fine c items go f = value_fine (actuals (place_of h items) h.memory h.own c.procedure.parameters c.arguments) items go f
@@ -320,7 +334,10 @@ activated_sane zero k h = h
 activated_sane (suc n) k h = activated_sane n k h
 
 pub source_never_faults : SourceNeverFaults
-source_never_faults p schedule n = run_sane p schedule n (source_start p) (settled_sane (activated (partition_of p).tasks (blank (partition_of p))) (activated_sane (partition_of p).tasks (blank (partition_of p)) (λ e. cc)))
+source_never_faults p schedule n =
+    let q = partition_of p in
+    let is = program_interrupts (program_of p) schedule in
+    run_sane p schedule n (source_start p schedule) (settled_sane (activated q.tasks (blank q is)) (activated_sane q.tasks (blank q is) (λ e. cc)))
 
 pub meaning_never_faults : MeaningNeverFaults
 meaning_never_faults p i same schedule ok m e =

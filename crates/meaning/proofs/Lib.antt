@@ -4,6 +4,7 @@ pub mod Refuted
 pub mod Nulls
 pub mod CodeExamples
 pub mod Faults
+pub mod Handled
 pub mod Trees
 pub mod Sequential
 pub mod Tasking

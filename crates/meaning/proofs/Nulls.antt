@@ -1,14 +1,17 @@
 -- The small compiler by the laws of met steps: null statements are met by no step, the end of main by the return.
-use Rattle.std.proofs.Common.{◌≡◌, inl, ℕ, zero, suc, ◌<◌, List, [], ◌∷◌, map, length, None, Bool, true, false, refl, sym, ap, ◌∙◌, subst, arith}
+use Rattle.std.proofs.Common.{◌≡◌, inl, ℕ, zero, suc, ◌<◌, ◌≤◌, List, [], ◌∷◌, map, length, Some, None, Bool, true, false, cond, refl, sym, ap, ◌∙◌, subst, arith, ⊎_elim}
+use Rattle.std.proofs.lemmas.Bool.{cases_lt, le-ltb}
 use Rattle.base.specs.declared.schedule.ScheduleLine.{ScheduleLine}
 use Rattle.kernel.specs.State.{Kernel, put}
-use Rattle.kernel.specs.Effects.{Finishes, effect, after, blank, activated, begin}
-use Rattle.kernel.specs.Worlds.{Tasks, Solo, among, ending, reached, solo_of}
+use Rattle.kernel.specs.Dispatching.{leaves}
+use Rattle.kernel.specs.Effects.{Finishes, after, blank, activated, begin, is_inside_any}
+use Rattle.kernel.specs.Worlds.{Tasks, Solo, among, ending, reached, restarted, solo_of}
 use Rattle.kernel.specs.Calm.{IsRunner}
-use Rattle.kernel.specs.Invariant.{Kept, Passed}
-use Rattle.kernel.specs.Laws.{BeginsKept, KeptByEvery, LeftUnmoved, LinesGrow, QuietStays, ReachesCallers, RunnerIsCalm}
-use Rattle.kernel.specs.PutLaws.{by_put}
+use Rattle.kernel.specs.Invariant.{AreAttached, Fits, IsInOwn, Kept, Passed}
+use Rattle.kernel.specs.Laws.{BeginsKept, KeptByEvery, LinesGrow, QuietStays, ReachesCallers, RunnerIsCalm, SettlesTo, StartSettles, StepsSettle}
+use Rattle.kernel.specs.PutLaws.{put_same}
 use Rattle.kernel.specs.RunLaws.{Behaves, run_kept}
+use Rattle.image.specs.Attachments.{interrupts}
 use Rattle.image.specs.Sections.{Sections}
 use Rattle.image.specs.Texts.{names_of}
 use Rattle.image.specs.Frames.{Words, TaskState}
@@ -20,7 +23,8 @@ use Rattle.ada_tree.specs.declared.expression.Identifier.{Identifier}
 use Rattle.ada_tree.specs.ProgramTree.{ProgramTree}
 use Rattle.meaning.specs.Meeting.{Relation, Last, Met, Still, Moves, Owed, Meets, Related}
 use Rattle.meaning.specs.Works.{DoesMain, Goes, TaskWork, Store, GivenToCaller}
-use Rattle.meaning.specs.Programs.{program_of}
+use Rattle.meaning.specs.Programs.{program_interrupts, program_of}
+use Rattle.meaning.specs.Starts.{handler_work, task_work}
 use Rattle.meaning.specs.SourceSteps.{here_of, items_of, work_step}
 use Rattle.meaning.specs.Source.{partition_of, source_names, source_behaviour, source_start, initial_work}
 use Rattle.meaning.specs.SameMeaning.{frames_of}
@@ -32,13 +36,14 @@ module _ (name : Identifier) where
   abbrev code_image : Sections
   code_image = return_image name.name
 
-  -- where a task stands that has not returned; after the return it is as it was
+  -- where the task stands that has not returned; after the return it is as it was
   abbrev first_state : TaskState
   first_state = initial_state code_image 0
 
-  initial_first : (t : ℕ) → initial_state code_image t ≡ first_state
-  initial_first zero = refl
-  initial_first (suc t) = refl
+  -- the image has no handlers
+  none_heard : (schedule : List ScheduleLine) → interrupts code_image schedule ≡ []
+  none_heard [] = refl
+  none_heard (l ∷ ls) = none_heard ls
 
   module _ (schedule : List ScheduleLine) where
     act_first : (k : Kernel) (t : ℕ) (s : Solo Words TaskState) → s.task ≡ first_state → (behaviour code_image schedule).act k t s ≡ does Finishes s.memory first_state.frame [] None None
@@ -48,23 +53,51 @@ module _ (name : Identifier) where
     closed d o = false
 
     pub record Own (w : CodeWorld) : Type 0 where
+      pub partition : w.kernel.partition ≡ image.partition_of code_image
       pub bare : (t : ℕ) → w.kernel.actions t ≡ []
-      pub first : (t : ℕ) → w.rest.tasks t ≡ first_state
+      pub none : w.kernel.pending ≡ []
+      pub first : w.rest.tasks 0 ≡ first_state
 
-    behaves : LeftUnmoved → (k : Kernel) (t : ℕ) (d : Tasks Words TaskState) → Own (record { kernel = k; rest = d }) → Kept (closed d) k → IsRunner k t → Behaves (among (behaviour code_image schedule)) closed Own k t d
-    behaves unmoved k t d own kept runs =
+    -- only the one task runs
+    zero_runs : (k : Kernel) (t : ℕ) (d : Tasks Words TaskState) → Own (record { kernel = k; rest = d }) → Kept (closed d) k → k.running ≡ Some t → t ≡ 0
+    zero_runs k t d own kept runs =
+        let one : k.partition.tasks ≡ 1 = ap (λ p. p.tasks) own.partition in
+        ⊎_elim
+        (λ lt. omega arith)
+        (λ le. let within : IsInOwn [] = subst IsInOwn (own.bare t) (kept.within t le runs) in absurd within)
+        (cases_lt t k.partition.tasks)
+
+    -- with no interrupts pending none is delivered
+    abbrev Bare : Kernel → Type 0
+    Bare k = (k.partition ≡ image.partition_of code_image) × ((t : ℕ) → k.actions t ≡ []) × (k.pending ≡ [])
+
+    settled_bare : (k l : Kernel) → SettlesTo k l → Bare k → Bare l
+    settled_bare k l h bare =
+        ⊎_elim
+        (λ e. (h.partition ∙ bare.0, λ t. ap (λ f. f t) e.1 ∙ bare.1 t, e.0 ∙ bare.2))
+        (λ x. let no : x.0 ∷ l.pending ≡ [] = sym x.1.first ∙ bare.2 in absurd (cc))
+        h.actions
+
+    behaves : StepsSettle → (k : Kernel) (t : ℕ) (d : Tasks Words TaskState) → Own (record { kernel = k; rest = d }) → Kept (closed d) k → IsRunner k t → Behaves (among (behaviour code_image schedule)) closed Own k t d
+    behaves settles k t d own kept runs =
         let g = behaviour code_image schedule in
         let a = g.act k t (solo_of t d) in
-        let is : a ≡ does Finishes d.memory first_state.frame [] None None = act_first k t (solo_of t d) (own.first t) in
+        let here : t ≡ 0 = zero_runs k t d own kept runs.running in
+        let is : a ≡ does Finishes d.memory first_state.frame [] None None = act_first k t (solo_of t d) (ap d.tasks here ∙ own.first) in
         let finishes : a.effect ≡ Finishes = ap (λ x. x.effect) is in
         let stands : (among g k t d).rest.tasks ≡ put t first_state d.tasks =
         ap (λ x. reached g t (ending k t x.effect) x.given (put t x.solo.task d.tasks)) is in
+        let passed : is_inside_any k t ≡ false = ap (λ l. elim l [ [] ↦ false | x ∷ outer ↦ true ]) (own.bare t) in
+        let settled : SettlesTo (leaves t k) (after t Finishes k) = settles (closed d) (closed d) k t Finishes runs.running (λ o. inl refl) passed kept in
+        let bare : Bare (after t Finishes k) = settled_bare (leaves t k) (after t Finishes k) settled (own.partition, own.bare, own.none) in
         record {
           held = λ o. inl refl;
-          passed = subst (λ e. Passed (closed (among g k t d).rest) k t e) (sym finishes) (ap (λ l. elim l [ [] ↦ false | x ∷ outer ↦ true ]) (own.bare t));
+          passed = subst (λ e. Passed (closed (among g k t d).rest) k t e) (sym finishes) passed;
           own = record {
-            bare = λ u. ap (λ x. (after t x k).actions u) finishes ∙ ap (λ f. f u) (unmoved (effect t Finishes k)).actions ∙ own.bare u;
-            first = λ u. ap (λ f. f u) stands ∙ by_put (λ x. x ≡ first_state) t u first_state d.tasks (λ e. refl) (λ ne. own.first u);
+            partition = ap (λ x. (after t x k).partition) finishes ∙ bare.0;
+            bare = λ u. ap (λ x. (after t x k).actions u) finishes ∙ bare.1 u;
+            none = ap (λ x. (after t x k).pending) finishes ∙ bare.2;
+            first = ap (λ f. f 0) stands ∙ put_same t 0 first_state d.tasks (sym here);
           };
         }
 
@@ -75,7 +108,7 @@ module _ (name : Identifier) where
   Shared m words = m.variables ≡ []
 
   record Stands (k : Kernel) (u : ℕ) (w : TaskWork) (s : TaskState) : Type 0 where
-    first : s ≡ first_state
+    first : u ≡ 0 → s ≡ first_state
     left : ℕ
     work : w.work ≡ Goes (map DoesMain (nulls left))
 
@@ -98,23 +131,25 @@ module _ (name : Identifier) where
 
     met_by : (i : ℕ) (k : Kernel) (t : ℕ) (a : Solo Store TaskWork) (b : Solo Words TaskState) → Shared a.memory b.memory → b.task ≡ first_state → a.task.work ≡ Goes (map DoesMain (nulls i)) → Meet k t a b
     met_by zero k t a b sh first e =
-        let is = ap (λ w. work_step (here_of (program_of p) schedule k t a) w) e in
+        let is = ap (λ w. restarted (initial_work (program_of p) t) k t (work_step (here_of (program_of p) schedule k t a) w)) e in
         let there = act_first schedule k t b first in
         Moves 1 b (Last refl) (omega arith) (ap (λ y. y.effect) there ∙ sym (ap (λ y. y.effect) is)) (ap (λ y. y.solo.memory.variables) is ∙ sh)
-        (ap (λ y. y.effect) is, record { first = ap (λ y. y.solo.task) there; left = 0; work = ap (λ y. y.solo.task.work) is })
+        (ap (λ y. y.effect) is, record { first = λ zero_. ap (λ y. y.solo.task) there; left = 0; work = ap (λ y. y.solo.task.work) is })
     met_by (suc i) k t a b sh first e =
-        let is = ap (λ w. work_step (here_of (program_of p) schedule k t a) w) e in
+        let is = ap (λ w. restarted (initial_work (program_of p) t) k t (work_step (here_of (program_of p) schedule k t a) w)) e in
         let less : size ((source_behaviour p schedule).act k t a).solo.task ≡ length (map DoesMain (nulls i)) = ap (λ y. size y.solo.task) is in
         let more : size a.task ≡ length (map DoesMain (nulls (suc i))) = ap (λ w. length (items_of w)) e in
-        Still (ap (λ y. y.effect) is) (ap (λ y. y.solo.memory.variables) is ∙ sh) (record { first = first; left = i; work = ap (λ y. y.solo.task.work) is }) (omega (arith, less, more))
+        Still (ap (λ y. y.effect) is) (ap (λ y. y.solo.memory.variables) is ∙ sh) (record { first = λ zero_. first; left = i; work = ap (λ y. y.solo.task.work) is }) (omega (arith, less, more))
 
-    module _ (begins : BeginsKept) (every : KeptByEvery) (unmoved : LeftUnmoved) (reaches : ReachesCallers) (calm : RunnerIsCalm) where
+    module _ (begins : BeginsKept) (every : KeptByEvery) (settles : StepsSettle) (starts_settled : StartSettles) (reaches : ReachesCallers) (calm : RunnerIsCalm) where
       meets : Meets (source_behaviour p schedule) (behaviour code_image schedule) rel frames_of limit (λ v. Unit {0}) (Keeps schedule)
       meets = record {
         kept_ones = λ v h. tt;
-        kept_others = λ w h. run_kept (among (behaviour code_image schedule)) (closed schedule) (Own schedule) every (behaves schedule unmoved) 1 w h.0 h.1;
+        kept_others = λ w h. run_kept (among (behaviour code_image schedule)) (closed schedule) (Own schedule) every (behaves schedule settles) 1 w h.0 h.1;
         runner = λ w t h runs. record { calm = calm (closed schedule w.rest) w.kernel t h.1 runs; reaches = λ e. reaches (closed schedule w.rest) w.kernel t e runs.running h.1 };
-        met = λ note k t c d r. met_by (r.stand t).left k t (solo_of t c) (solo_of t d) r.shared (r.stand t).first (r.stand t).work;
+        met = λ note k t c d r.
+            let here = zero_runs schedule k t d r.others.0 r.others.1 r.runner.calm.runs.running in
+            met_by (r.stand t).left k t (solo_of t c) (solo_of t d) r.shared ((r.stand t).first here) (r.stand t).work;
         owed = λ note k t c d e a b given gives m. (
           tt,
           subst
@@ -138,23 +173,44 @@ module _ (name : Identifier) where
       base_low zero = omega arith
       base_low (suc t) = omega arith
 
-      stands_first : (u : ℕ) → Stands (source_start p).kernel u (initial_work (program_of p) u) (initial_state code_image u)
-      stands_first zero = record { first = refl; left = n; work = refl }
-      stands_first (suc u) = record { first = initial_first (suc u); left = 0; work = refl }
+      base_high : (u : ℕ) → 1 ≤ u → suc ((image.partition_of code_image).base u) ≡ 32
+      base_high zero le = absurd (omega arith)
+      base_high (suc u) le = refl
+
+      fits : Fits (image.partition_of code_image)
+      fits = record { base_low = base_low; ceiling_low = λ o. omega arith; urgent = base_high }
+
+      none_due : (lines : List ScheduleLine) → program_interrupts (program_of p) lines ≡ []
+      none_due [] = refl
+      none_due (l ∷ ls) = none_due ls
+
+      stands_first : (u : ℕ) → Stands (source_start p schedule).kernel u (initial_work (program_of p) u) (initial_state code_image u)
+      stands_first zero = record { first = λ e. refl; left = n; work = refl }
+      stands_first (suc u) =
+          record {
+            first = λ e. absurd (omega (arith, e));
+            left = 0;
+            work = ap (λ b. (cond b (task_work (program_of p) (suc u)) (handler_work (program_of p) None)).work) (le-ltb (suc u) 1 (omega arith));
+          }
 
       starts : Related (source_behaviour p schedule) (behaviour code_image schedule) rel frames_of limit (λ v. Unit {0}) (Keeps schedule)
-          (source_start p) (start code_image)
-      starts = record {
-        same = ap begin same_partition;
-        ones = tt;
-        note = tt;
-        others = (
-          record { bare = λ t. ap (λ f. f t) (unmoved (activated 1 (blank (image.partition_of code_image)))).actions; first = initial_first },
-          begins (λ o. false) (image.partition_of code_image) (record { base_low = base_low; ceiling_low = λ o. omega arith }),
-        );
-        shared = refl;
-        stands = stands_first;
-      }
+          (source_start p schedule) (start code_image schedule)
+      starts =
+          let q = image.partition_of code_image in
+          let is = interrupts code_image schedule in
+          let attached : AreAttached q is = subst (AreAttached q) (sym (none_heard schedule)) tt in
+          let bare = settled_bare schedule (activated 1 (blank q is)) (begin q is) (starts_settled q is fits attached) (refl, λ t. refl, none_heard schedule) in
+          record {
+            same = λ j. begin (same_partition j) ((none_due schedule ∙ sym (none_heard schedule)) j);
+            ones = tt;
+            note = tt;
+            others = (
+              record { partition = bare.0; bare = bare.1; none = bare.2; first = refl },
+              begins (λ o. false) q is fits attached,
+            );
+            shared = refl;
+            stands = stands_first;
+          }
 
       under : MeetsUnder p code_image rel limit (λ s v. Unit {0}) Keeps schedule
       under = record { meets = meets; starts = starts }
@@ -163,9 +219,9 @@ module _ (name : Identifier) where
   task_named zero = refl
   task_named (suc t) = refl
 
-pub return_means_nulls : BeginsKept → KeptByEvery → LeftUnmoved → LinesGrow → QuietStays → ReachesCallers → RunnerIsCalm → ReturnMeansNulls
-return_means_nulls begins every unmoved grow quiet reaches calm name n =
+pub return_means_nulls : BeginsKept → KeptByEvery → StepsSettle → StartSettles → LinesGrow → QuietStays → ReachesCallers → RunnerIsCalm → ReturnMeansNulls
+return_means_nulls begins every settles starts grow quiet reaches calm name n =
     let i = return_image name.name in
     count_gives_meaning grow (null_program name n) i (limit name) (record { tasks = task_named name; exceptions = λ x. refl })
     (met_keeps_count (null_program name n) i (rel name) (limit name) (λ schedule v. Unit {0}) (Keeps name) grow quiet
-    (λ schedule ok. under name n schedule begins every unmoved reaches calm))
+    (λ schedule ok. under name n schedule begins every settles starts reaches calm))

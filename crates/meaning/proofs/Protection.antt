@@ -17,7 +17,7 @@ use Rattle.meaning.proofs.Trees.{num, v, named, dot, args, range_of, object, for
 -- P.Take (N); Put ("got", N); end loop; end Cons; task body Prod is begin P.Give (7); Put ("gave", 7); P.Give (8); Put ("gave", 8); end Prod; procedure Run
 -- is begin null; end Run;
 abbrev producer_and_consumer_tree : ProgramTree
-producer_and_consumer_tree = app (OfProtected (protected "P" (num 10) (OfSubprogram (procedure "GIVE" (formal "X" mode.In "INTEGER" ∷ [])) ∷ OfEntry (entry
+producer_and_consumer_tree = app (OfProtected (protected "P" (num 10) (OfSubprogram (procedure "GIVE" (formal "X" mode.In "INTEGER" ∷ [])) None ∷ OfEntry (entry
     "TAKE" (formal "X" mode.Out "INTEGER" ∷ [])) ∷ []) (component "V" "INTEGER" (Some (num 0)) ∷ component "FULL" "BOOLEAN" (Some (v "FALSE")) ∷ [])) ∷ OfTask
     (task "CONS" (num 10)) ∷ OfTask (task "PROD" (num 5)) ∷ []) (ProtectedBody (id "P") (OperationBody (procedure "GIVE" (formal "X" mode.In "INTEGER" ∷ []))
     (body ([]) (stmts_of ((assign "V" [] (v "X")) ∷ (assign "FULL" [] (v "TRUE")) ∷ [])) NoHandlers) ∷ EntryBody (entry "TAKE" (formal "X" mode.Out "INTEGER"
@@ -37,7 +37,7 @@ producer_and_consumer = refl
 -- (N); Put ("got", N); exception when Program_Error => Put ("pe", 0); end T1; task body T2 is N : Integer := 0; begin P.Take (N); Put ("got", N); exception
 -- when Program_Error => Put ("pe", 0); end T2; task body T3 is begin P.Give (4); end T3; procedure Run is begin null; end Run;
 abbrev second_caller_is_refused_tree : ProgramTree
-second_caller_is_refused_tree = app (OfProtected (protected "P" (num 10) (OfSubprogram (procedure "GIVE" (formal "X" mode.In "INTEGER" ∷ [])) ∷ OfEntry (entry
+second_caller_is_refused_tree = app (OfProtected (protected "P" (num 10) (OfSubprogram (procedure "GIVE" (formal "X" mode.In "INTEGER" ∷ [])) None ∷ OfEntry (entry
     "TAKE" (formal "X" mode.Out "INTEGER" ∷ [])) ∷ []) (component "V" "INTEGER" (Some (num 0)) ∷ component "FULL" "BOOLEAN" (Some (v "FALSE")) ∷ [])) ∷ OfTask
     (task "T1" (num 9)) ∷ OfTask (task "T2" (num 9)) ∷ OfTask (task "T3" (num 5)) ∷ []) (ProtectedBody (id "P") (OperationBody (procedure "GIVE" (formal "X"
     mode.In "INTEGER" ∷ [])) (body ([]) (stmts_of ((assign "V" [] (v "X")) ∷ (assign "FULL" [] (v "TRUE")) ∷ [])) NoHandlers) ∷ EntryBody (entry "TAKE"
@@ -58,7 +58,7 @@ second_caller_is_refused = refl
 -- Take (X : out Integer) when Full is begin X := V; Full := False; end Take; end P; task body Hi is begin P.Give (3); exception when Program_Error => Put
 -- ("pe", 1); end Hi; task body Eq is N : Integer := 0; begin P.Give (5); P.Take (N); Put ("got", N); end Eq; procedure Run is begin null; end Run;
 abbrev caller_above_the_ceiling_tree : ProgramTree
-caller_above_the_ceiling_tree = app (OfProtected (protected "P" (num 10) (OfSubprogram (procedure "GIVE" (formal "X" mode.In "INTEGER" ∷ [])) ∷ OfEntry (entry
+caller_above_the_ceiling_tree = app (OfProtected (protected "P" (num 10) (OfSubprogram (procedure "GIVE" (formal "X" mode.In "INTEGER" ∷ [])) None ∷ OfEntry (entry
     "TAKE" (formal "X" mode.Out "INTEGER" ∷ [])) ∷ []) (component "V" "INTEGER" (Some (num 0)) ∷ component "FULL" "BOOLEAN" (Some (v "FALSE")) ∷ [])) ∷ OfTask
     (task "HI" (num 12)) ∷ OfTask (task "EQ" (num 10)) ∷ []) (ProtectedBody (id "P") (OperationBody (procedure "GIVE" (formal "X" mode.In "INTEGER" ∷ []))
     (body ([]) (stmts_of ((assign "V" [] (v "X")) ∷ (assign "FULL" [] (v "TRUE")) ∷ [])) NoHandlers) ∷ EntryBody (entry "TAKE" (formal "X" mode.Out "INTEGER"
@@ -81,11 +81,11 @@ caller_above_the_ceiling = refl
 -- is begin Put ("touch", 2); end Touch; end P; task body T1 is begin P.Go; Put ("done", 4); end T1; task body T3 is N : Integer := 0; begin R.Take (N); Put
 -- ("t3", 3); end T3; task body T4 is N : Integer := 0; begin Q.Take (N); P.Touch; end T4; procedure Run is begin null; end Run;
 abbrev nested_actions_tree : ProgramTree
-nested_actions_tree = app (OfProtected (protected "Q" (num 10) (OfSubprogram (procedure "GIVE" (formal "X" mode.In "INTEGER" ∷ [])) ∷ OfEntry (entry "TAKE"
+nested_actions_tree = app (OfProtected (protected "Q" (num 10) (OfSubprogram (procedure "GIVE" (formal "X" mode.In "INTEGER" ∷ [])) None ∷ OfEntry (entry "TAKE"
     (formal "X" mode.Out "INTEGER" ∷ [])) ∷ []) (component "V" "INTEGER" (Some (num 0)) ∷ component "FULL" "BOOLEAN" (Some (v "FALSE")) ∷ [])) ∷ OfProtected
-    (protected "R" (num 15) (OfSubprogram (procedure "GIVE" (formal "X" mode.In "INTEGER" ∷ [])) ∷ OfEntry (entry "TAKE" (formal "X" mode.Out "INTEGER" ∷ []))
+    (protected "R" (num 15) (OfSubprogram (procedure "GIVE" (formal "X" mode.In "INTEGER" ∷ [])) None ∷ OfEntry (entry "TAKE" (formal "X" mode.Out "INTEGER" ∷ []))
     ∷ []) (component "V" "INTEGER" (Some (num 0)) ∷ component "FULL" "BOOLEAN" (Some (v "FALSE")) ∷ [])) ∷ OfProtected (protected "P" (num 10) (OfSubprogram
-    (procedure "GO" []) ∷ OfSubprogram (procedure "TOUCH" []) ∷ []) ([])) ∷ OfTask (task "T1" (num 5)) ∷ OfTask (task "T3" (num 15)) ∷ OfTask (task "T4" (num
+    (procedure "GO" []) None ∷ OfSubprogram (procedure "TOUCH" []) None ∷ []) ([])) ∷ OfTask (task "T1" (num 5)) ∷ OfTask (task "T3" (num 15)) ∷ OfTask (task "T4" (num
     10)) ∷ []) (ProtectedBody (id "Q") (OperationBody (procedure "GIVE" (formal "X" mode.In "INTEGER" ∷ [])) (body ([]) (stmts_of ((assign "V" [] (v "X")) ∷
     (assign "FULL" [] (v "TRUE")) ∷ [])) NoHandlers) ∷ EntryBody (entry "TAKE" (formal "X" mode.Out "INTEGER" ∷ [])) (v "FULL") (body ([]) (stmts_of ((assign
     "X" [] (v "V")) ∷ (assign "FULL" [] (v "FALSE")) ∷ [])) NoHandlers) ∷ []) (id "Q") ∷ ProtectedBody (id "R") (OperationBody (procedure "GIVE" (formal "X"
@@ -108,7 +108,7 @@ nested_actions = refl
 -- end P; task body C is begin P.Take; exception when Bad => Put ("bad", 1); end C; task body D is begin P.Open; Put ("on", 2); end D; procedure Run is begin
 -- null; end Run;
 abbrev pub exception_of_an_entry_body_tree : ProgramTree
-exception_of_an_entry_body_tree = app (OfException (id "BAD") ∷ OfProtected (protected "P" (num 10) (OfSubprogram (procedure "OPEN" []) ∷ OfEntry (entry
+exception_of_an_entry_body_tree = app (OfException (id "BAD") ∷ OfProtected (protected "P" (num 10) (OfSubprogram (procedure "OPEN" []) None ∷ OfEntry (entry
     "TAKE" []) ∷ []) (component "FULL" "BOOLEAN" (Some (v "FALSE")) ∷ [])) ∷ OfTask (task "C" (num 10)) ∷ OfTask (task "D" (num 5)) ∷ []) (ProtectedBody (id
     "P") (OperationBody (procedure "OPEN" []) (body ([]) (stmts_of ((assign "FULL" [] (v "TRUE")) ∷ [])) NoHandlers) ∷ EntryBody (entry "TAKE" []) (v "FULL")
     (body ([]) (stmts_of ((assign "FULL" [] (v "FALSE")) ∷ (Raise 0 (Some (id "BAD"))) ∷ [])) NoHandlers) ∷ []) (id "P") ∷ TaskBody (id "C") (body ([])
@@ -125,7 +125,7 @@ exception_of_an_entry_body = refl
 -- ("body", 1); end Take; end P; task body C is begin P.Take; Put ("c", 2); end C; task body D is begin P.Open; exception when Bad => Put ("bad", 3); end D;
 -- procedure Run is begin null; end Run;
 abbrev service_after_an_exception_tree : ProgramTree
-service_after_an_exception_tree = app (OfException (id "BAD") ∷ OfProtected (protected "P" (num 10) (OfSubprogram (procedure "OPEN" []) ∷ OfEntry (entry
+service_after_an_exception_tree = app (OfException (id "BAD") ∷ OfProtected (protected "P" (num 10) (OfSubprogram (procedure "OPEN" []) None ∷ OfEntry (entry
     "TAKE" []) ∷ []) (component "FULL" "BOOLEAN" (Some (v "FALSE")) ∷ [])) ∷ OfTask (task "C" (num 10)) ∷ OfTask (task "D" (num 5)) ∷ []) (ProtectedBody (id
     "P") (OperationBody (procedure "OPEN" []) (body ([]) (stmts_of ((assign "FULL" [] (v "TRUE")) ∷ (Raise 0 (Some (id "BAD"))) ∷ [])) NoHandlers) ∷ EntryBody
     (entry "TAKE" []) (v "FULL") (body ([]) (stmts_of ((assign "FULL" [] (v "FALSE")) ∷ (put "body" (num 1)) ∷ [])) NoHandlers) ∷ []) (id "P") ∷ TaskBody (id
@@ -142,7 +142,7 @@ service_after_an_exception = refl
 -- when Full is begin Full := False; Put ("body", 1); end Take; end P; task body C is begin P.Take; Put ("c", 2); end C; task body D is begin P.Open;
 -- exception when Program_Error => Put ("pe", 3); end D; procedure Run is begin null; end Run;
 abbrev delay_inside_an_action_tree : ProgramTree
-delay_inside_an_action_tree = app (OfException (id "BAD") ∷ OfProtected (protected "P" (num 10) (OfSubprogram (procedure "OPEN" []) ∷ OfEntry (entry "TAKE"
+delay_inside_an_action_tree = app (OfException (id "BAD") ∷ OfProtected (protected "P" (num 10) (OfSubprogram (procedure "OPEN" []) None ∷ OfEntry (entry "TAKE"
     []) ∷ []) (component "FULL" "BOOLEAN" (Some (v "FALSE")) ∷ [])) ∷ OfTask (task "C" (num 10)) ∷ OfTask (task "D" (num 5)) ∷ []) (SubprogramBody (procedure
     "NAP" []) (body ([]) (stmts_of ((DelayUntil 0 (v "CLOCK")) ∷ [])) NoHandlers) ∷ ProtectedBody (id "P") (OperationBody (procedure "OPEN" []) (body ([])
     (stmts_of ((assign "FULL" [] (v "TRUE")) ∷ (call "NAP" []) ∷ [])) NoHandlers) ∷ EntryBody (entry "TAKE" []) (v "FULL") (body ([]) (stmts_of ((assign
@@ -159,7 +159,7 @@ delay_inside_an_action = refl
 -- task C with Priority => 10; protected body P is procedure Give (X : Integer) is begin V := X; Full := True; end Give; entry Take (X : out Integer) when
 -- Full is begin X := V; Full := False; end Take; end P; task body C is N : Integer := 0; begin P.Take (N); end C; procedure Run is begin null; end Run;
 abbrev a_call_that_nobody_serves_tree : ProgramTree
-a_call_that_nobody_serves_tree = app (OfProtected (protected "P" (num 10) (OfSubprogram (procedure "GIVE" (formal "X" mode.In "INTEGER" ∷ [])) ∷ OfEntry
+a_call_that_nobody_serves_tree = app (OfProtected (protected "P" (num 10) (OfSubprogram (procedure "GIVE" (formal "X" mode.In "INTEGER" ∷ [])) None ∷ OfEntry
     (entry "TAKE" (formal "X" mode.Out "INTEGER" ∷ [])) ∷ []) (component "V" "INTEGER" (Some (num 0)) ∷ component "FULL" "BOOLEAN" (Some (v "FALSE")) ∷ [])) ∷
     OfTask (task "C" (num 10)) ∷ []) (ProtectedBody (id "P") (OperationBody (procedure "GIVE" (formal "X" mode.In "INTEGER" ∷ [])) (body ([]) (stmts_of
     ((assign "V" [] (v "X")) ∷ (assign "FULL" [] (v "TRUE")) ∷ [])) NoHandlers) ∷ EntryBody (entry "TAKE" (formal "X" mode.Out "INTEGER" ∷ [])) (v "FULL")
@@ -175,8 +175,8 @@ a_call_that_nobody_serves = refl
 -- protected body Low is procedure Set is begin Put ("low", 1); end Set; end Low; protected body High is procedure Go is begin Put ("high", 1); Low.Set; end
 -- Go; end High; task body T is begin Low.Set; High.Go; exception when Program_Error => Put ("pe", 2); end T; procedure Run is begin null; end Run;
 abbrev second_call_of_the_same_object_tree : ProgramTree
-second_call_of_the_same_object_tree = app (OfProtected (protected "LOW" (num 8) (OfSubprogram (procedure "SET" []) ∷ []) ([])) ∷ OfProtected (protected "HIGH"
-    (num 10) (OfSubprogram (procedure "GO" []) ∷ []) ([])) ∷ OfTask (task "T" (num 5)) ∷ []) (ProtectedBody (id "LOW") (OperationBody (procedure "SET" [])
+second_call_of_the_same_object_tree = app (OfProtected (protected "LOW" (num 8) (OfSubprogram (procedure "SET" []) None ∷ []) ([])) ∷ OfProtected (protected "HIGH"
+    (num 10) (OfSubprogram (procedure "GO" []) None ∷ []) ([])) ∷ OfTask (task "T" (num 5)) ∷ []) (ProtectedBody (id "LOW") (OperationBody (procedure "SET" [])
     (body ([]) (stmts_of ((put "low" (num 1)) ∷ [])) NoHandlers) ∷ []) (id "LOW") ∷ ProtectedBody (id "HIGH") (OperationBody (procedure "GO" []) (body ([])
     (stmts_of ((put "high" (num 1)) ∷ (call "LOW" (dot "SET" ∷ [])) ∷ [])) NoHandlers) ∷ []) (id "HIGH") ∷ TaskBody (id "T") (body ([]) (stmts_of ((call "LOW"
     (dot "SET" ∷ [])) ∷ (call "HIGH" (dot "GO" ∷ [])) ∷ [])) (MoreHandlers (Chosen (id "PROGRAM_ERROR") ∷ []) (stmts_of ((put "pe" (num 2)) ∷ []))
@@ -190,7 +190,7 @@ second_call_of_the_same_object = refl
 -- P.F; end Peek; protected body P is function F return Integer is begin return 1; end F; procedure Go is begin Put ("x", Peek); end Go; end P; task body T is
 -- begin P.Go; exception when Program_Error => Put ("pe", 1); end T; procedure Run is begin null; end Run;
 abbrev function_of_the_same_object_tree : ProgramTree
-function_of_the_same_object_tree = app (OfProtected (protected "P" (num 10) (OfSubprogram (function "F" [] "INTEGER") ∷ OfSubprogram (procedure "GO" []) ∷ [])
+function_of_the_same_object_tree = app (OfProtected (protected "P" (num 10) (OfSubprogram (function "F" [] "INTEGER") None ∷ OfSubprogram (procedure "GO" []) None ∷ [])
     ([])) ∷ OfTask (task "T" (num 5)) ∷ []) (SubprogramBody (function "PEEK" [] "INTEGER") (body ([]) (stmts_of ((Return 0 (Some (named "P" (dot "F" ∷ []))))
     ∷ [])) NoHandlers) ∷ ProtectedBody (id "P") (OperationBody (function "F" [] "INTEGER") (body ([]) (stmts_of ((Return 0 (Some (num 1))) ∷ [])) NoHandlers)
     ∷ OperationBody (procedure "GO" []) (body ([]) (stmts_of ((put "x" (v "PEEK")) ∷ [])) NoHandlers) ∷ []) (id "P") ∷ TaskBody (id "T") (body ([]) (stmts_of
@@ -205,7 +205,7 @@ function_of_the_same_object = refl
 -- with Priority => 5; protected body P is procedure Open is begin Full := True; end Open; entry Take when Full is begin Full := False; return; end Take; end
 -- P; task body C is begin P.Take; Put ("c", 1); end C; task body D is begin P.Open; Put ("on", 2); end D; procedure Run is begin null; end Run;
 abbrev pub return_out_of_an_entry_body_tree : ProgramTree
-return_out_of_an_entry_body_tree = app (OfException (id "BAD") ∷ OfProtected (protected "P" (num 10) (OfSubprogram (procedure "OPEN" []) ∷ OfEntry (entry
+return_out_of_an_entry_body_tree = app (OfException (id "BAD") ∷ OfProtected (protected "P" (num 10) (OfSubprogram (procedure "OPEN" []) None ∷ OfEntry (entry
     "TAKE" []) ∷ []) (component "FULL" "BOOLEAN" (Some (v "FALSE")) ∷ [])) ∷ OfTask (task "C" (num 10)) ∷ OfTask (task "D" (num 5)) ∷ []) (ProtectedBody (id
     "P") (OperationBody (procedure "OPEN" []) (body ([]) (stmts_of ((assign "FULL" [] (v "TRUE")) ∷ [])) NoHandlers) ∷ EntryBody (entry "TAKE" []) (v "FULL")
     (body ([]) (stmts_of ((assign "FULL" [] (v "FALSE")) ∷ (Return 0 None) ∷ [])) NoHandlers) ∷ []) (id "P") ∷ TaskBody (id "C") (body ([]) (stmts_of ((call

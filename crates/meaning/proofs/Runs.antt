@@ -20,20 +20,20 @@ use Rattle.meaning.specs.Laws.{SourceStays, SourceLinesGrow, CountGivesMeaning, 
 pub source_stays : SourceStays
 source_stays p schedule n j o e =
     let f = among (source_behaviour p schedule) in
-    run_plus f n j (source_start p) ∙ run_over f j (source p schedule n) o e
+    run_plus f n j (source_start p schedule) ∙ run_over f j (source p schedule n) o e
 
 pub source_lines_grow : LinesGrow → SourceLinesGrow
 source_lines_grow grow p schedule n j =
     let f = among (source_behaviour p schedule) in
     let x = run_lines f grow j (source p schedule n) in
-    (x.0, ap (λ w. w.kernel.lines) (run_plus f n j (source_start p)) ∙ x.1)
+    (x.0, ap (λ w. w.kernel.lines) (run_plus f n j (source_start p schedule)) ∙ x.1)
 
 pub count_gives_meaning : LinesGrow → CountGivesMeaning
 count_gives_meaning grow p i limit names count = record {
   names = names;
   shows = λ schedule ok.
       let x = count schedule ok in
-      paced_same (among (source_behaviour p schedule)) (among (behaviour i schedule)) (Counted (behaviour i schedule) frames_of limit) (source_start p) (start i) x.0 grow x.1;
+      paced_same (among (source_behaviour p schedule)) (among (behaviour i schedule)) (Counted (behaviour i schedule) frames_of limit) (source_start p schedule) (start i schedule) x.0 grow x.1;
 }
 
 lines_text_append : (names : Names) (ls ms : List Line) → lines_text names (ls ++ ms) ≡ lines_text names ls ++ lines_text names ms

@@ -1,5 +1,5 @@
 -- Points of the meaning of tasks and protected objects at which a run could differ, each by a program of its own, worked by computation.
-use Rattle.std.proofs.Common.{◌≡◌, [], ◌∷◌, Some, refl}
+use Rattle.std.proofs.Common.{◌≡◌, [], ◌∷◌, Some, refl, None}
 use Rattle.std.specs.Prelude.{codes}
 use Rattle.std.specs.Fmt.{digits}
 use Rattle.ada_tree.specs.declared.expression.BinaryOperator.TheVariants as binary
@@ -28,7 +28,7 @@ a_sleeping_task_has_not_finished = refl
 -- ("pass", 4); end Pass; end V; task body C is begin V.Pass; Put ("c", 5); end C; task body D is begin V.Open; Put ("d", 6); end D; procedure Run is begin
 -- null; end Run;
 abbrev another_task_runs_before_the_exception_goes_on_tree : ProgramTree
-another_task_runs_before_the_exception_goes_on_tree = app (OfException (id "BAD") ∷ OfProtected (protected "V" (num 12) (OfSubprogram (procedure "OPEN" []) ∷
+another_task_runs_before_the_exception_goes_on_tree = app (OfException (id "BAD") ∷ OfProtected (protected "V" (num 12) (OfSubprogram (procedure "OPEN" []) None ∷
     OfEntry (entry "PASS" []) ∷ []) (component "FULL" "BOOLEAN" (Some (v "FALSE")) ∷ [])) ∷ OfTask (task "C" (num 10)) ∷ OfTask (task "D" (num 5)) ∷ [])
     (ProtectedBody (id "V") (OperationBody (procedure "OPEN" []) (body ([]) (stmts_of ((assign "FULL" [] (v "TRUE")) ∷ (Raise 0 (Some (id "BAD"))) ∷ []))
     NoHandlers) ∷ EntryBody (entry "PASS" []) (v "FULL") (body ([]) (stmts_of ((assign "FULL" [] (v "FALSE")) ∷ (put "pass" (num 4)) ∷ [])) NoHandlers) ∷ [])
@@ -47,7 +47,7 @@ another_task_runs_before_the_exception_goes_on = refl
 -- begin null; end Run;
 abbrev an_entry_call_at_the_last_frame_tree : ProgramTree
 an_entry_call_at_the_last_frame_tree = app (OfObject (object "X" "INTEGER" (Some (num 0))) ∷ OfDeclared (procedure "DEEP" (formal "N" mode.In "INTEGER" ∷ []))
-    ∷ OfProtected (protected "P" (num 10) (OfSubprogram (procedure "GIVE" (formal "X" mode.In "INTEGER" ∷ [])) ∷ OfEntry (entry "TAKE" (formal "X" mode.Out
+    ∷ OfProtected (protected "P" (num 10) (OfSubprogram (procedure "GIVE" (formal "X" mode.In "INTEGER" ∷ [])) None ∷ OfEntry (entry "TAKE" (formal "X" mode.Out
     "INTEGER" ∷ [])) ∷ []) (component "V" "INTEGER" (Some (num 0)) ∷ component "FULL" "BOOLEAN" (Some (v "FALSE")) ∷ [])) ∷ OfTask (task "T" (num 5)) ∷ [])
     (ProtectedBody (id "P") (OperationBody (procedure "GIVE" (formal "X" mode.In "INTEGER" ∷ [])) (body ([]) (stmts_of ((assign "V" [] (v "X")) ∷ (assign
     "FULL" [] (v "TRUE")) ∷ [])) NoHandlers) ∷ EntryBody (entry "TAKE" (formal "X" mode.Out "INTEGER" ∷ [])) (v "FULL") (body ([]) (stmts_of ((assign "X" []
@@ -67,7 +67,7 @@ an_entry_call_at_the_last_frame = refl
 -- end T; procedure Run is begin null; end Run;
 abbrev pub nothing_of_an_entry_call_in_an_action_is_evaluated_tree : ProgramTree
 nothing_of_an_entry_call_in_an_action_is_evaluated_tree = app (OfProtected (protected "Q" (num 12) (OfEntry (entry "TAKE" (formal "X" mode.In "INTEGER" ∷ []))
-    ∷ []) ([])) ∷ OfProtected (protected "P" (num 10) (OfSubprogram (procedure "GO" []) ∷ []) ([])) ∷ OfTask (task "T" (num 5)) ∷ []) (SubprogramBody
+    ∷ []) ([])) ∷ OfProtected (protected "P" (num 10) (OfSubprogram (procedure "GO" []) None ∷ []) ([])) ∷ OfTask (task "T" (num 5)) ∷ []) (SubprogramBody
     (function "BAD_ONE" [] "INTEGER") (body ([]) (stmts_of ((Return 0 (Some (Binary binary.Divide (num 1) (Parenthesized 0 (Binary binary.Subtract (num 1)
     (num 1)))))) ∷ [])) NoHandlers) ∷ ProtectedBody (id "Q") (EntryBody (entry "TAKE" (formal "X" mode.In "INTEGER" ∷ [])) (v "TRUE") (body ([]) (stmts_of
     ((Null 0) ∷ [])) NoHandlers) ∷ []) (id "Q") ∷ ProtectedBody (id "P") (OperationBody (procedure "GO" []) (body ([]) (stmts_of ((call "Q" (dot "TAKE" ∷ args
@@ -83,7 +83,7 @@ nothing_of_an_entry_call_in_an_action_is_evaluated = refl
 -- Clear is begin V := V - 1; end Clear; procedure Own is begin Clear; Put ("v", V); end Own; procedure Go is begin Own; Clear; Put ("v", V); end Go; end P;
 -- task body T is begin P.Go; end T; procedure Run is begin null; end Run;
 abbrev an_internal_call_takes_a_frame_alone_tree : ProgramTree
-an_internal_call_takes_a_frame_alone_tree = app (OfProtected (protected "P" (num 10) (OfSubprogram (procedure "GO" []) ∷ OfSubprogram (procedure "OWN" []) ∷
+an_internal_call_takes_a_frame_alone_tree = app (OfProtected (protected "P" (num 10) (OfSubprogram (procedure "GO" []) None ∷ OfSubprogram (procedure "OWN" []) None ∷
     []) (component "V" "INTEGER" (Some (num 3)) ∷ [])) ∷ OfTask (task "T" (num 5)) ∷ []) (ProtectedBody (id "P") (OperationBody (procedure "CLEAR" []) (body
     ([]) (stmts_of ((assign "V" [] (Binary binary.Subtract (v "V") (num 1))) ∷ [])) NoHandlers) ∷ OperationBody (procedure "OWN" []) (body ([]) (stmts_of
     ((call "CLEAR" []) ∷ (put "v" (v "V")) ∷ [])) NoHandlers) ∷ OperationBody (procedure "GO" []) (body ([]) (stmts_of ((call "OWN" []) ∷ (call "CLEAR" []) ∷
@@ -98,7 +98,7 @@ an_internal_call_takes_a_frame_alone = refl
 -- 5; protected body P is procedure Give is begin Full := True; end Give; entry Take when Full is begin Put ("served", 1); end Take; end P; task body C is
 -- begin P.Take; Put ("c", 2); end C; task body D is begin P.Give; Put ("d", 3); end D; procedure Run is begin null; end Run;
 abbrev a_served_body_runs_as_the_server_tree : ProgramTree
-a_served_body_runs_as_the_server_tree = app (OfProtected (protected "P" (num 10) (OfSubprogram (procedure "GIVE" []) ∷ OfEntry (entry "TAKE" []) ∷ [])
+a_served_body_runs_as_the_server_tree = app (OfProtected (protected "P" (num 10) (OfSubprogram (procedure "GIVE" []) None ∷ OfEntry (entry "TAKE" []) ∷ [])
     (component "FULL" "BOOLEAN" (Some (v "FALSE")) ∷ [])) ∷ OfTask (task "C" (num 10)) ∷ OfTask (task "D" (num 5)) ∷ []) (ProtectedBody (id "P")
     (OperationBody (procedure "GIVE" []) (body ([]) (stmts_of ((assign "FULL" [] (v "TRUE")) ∷ [])) NoHandlers) ∷ EntryBody (entry "TAKE" []) (v "FULL") (body
     ([]) (stmts_of ((put "served" (num 1)) ∷ [])) NoHandlers) ∷ []) (id "P") ∷ TaskBody (id "C") (body ([]) (stmts_of ((call "P" (dot "TAKE" ∷ [])) ∷ (put "c"
@@ -114,7 +114,7 @@ a_served_body_runs_as_the_server = refl
 -- is begin X := V; Full := False; end Take; end P; task body T is N : Integer := 0; begin P.Give (4); P.Take (N); Put ("n", N); end T; procedure Run is begin
 -- null; end Run;
 abbrev an_open_barrier_lets_the_caller_in_tree : ProgramTree
-an_open_barrier_lets_the_caller_in_tree = app (OfProtected (protected "P" (num 10) (OfSubprogram (procedure "GIVE" (formal "X" mode.In "INTEGER" ∷ [])) ∷
+an_open_barrier_lets_the_caller_in_tree = app (OfProtected (protected "P" (num 10) (OfSubprogram (procedure "GIVE" (formal "X" mode.In "INTEGER" ∷ [])) None ∷
     OfEntry (entry "TAKE" (formal "X" mode.Out "INTEGER" ∷ [])) ∷ []) (component "V" "INTEGER" (Some (num 0)) ∷ component "FULL" "BOOLEAN" (Some (v "FALSE"))
     ∷ [])) ∷ OfTask (task "T" (num 5)) ∷ []) (ProtectedBody (id "P") (OperationBody (procedure "GIVE" (formal "X" mode.In "INTEGER" ∷ [])) (body ([])
     (stmts_of ((assign "V" [] (v "X")) ∷ (assign "FULL" [] (v "TRUE")) ∷ [])) NoHandlers) ∷ EntryBody (entry "TAKE" (formal "X" mode.Out "INTEGER" ∷ [])) (v

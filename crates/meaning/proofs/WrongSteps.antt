@@ -35,7 +35,7 @@ changed_behaviour change p schedule =
     record (program_behaviour p schedule) { act = λ k t s. step_or (change (here_of p schedule k t s) s.task.work) (work_step (here_of p schedule k t s) s.task.work) }
 
 abbrev changed_text : Change → Program → ℕ → List ℕ
-changed_text change p n = text (program_names p) (run (among (changed_behaviour change p [])) n (start_of p)).kernel
+changed_text change p n = text (program_names p) (run (among (changed_behaviour change p [])) n (start_of p [])).kernel
 
 -- two bytes that differ
 
@@ -100,7 +100,7 @@ early_serves o (Goes (Queued q vs xs ∷ items)) t =
 early_serves o w t = t
 
 abbrev early_text : Program → ℕ → List ℕ
-early_text p n = text (program_names p) (run (among (record (program_behaviour p []) { serving = λ o caller u t. early_serves o u.work t })) n (start_of p)).kernel
+early_text p n = text (program_names p) (run (among (record (program_behaviour p []) { serving = λ o caller u t. early_serves o u.work t })) n (start_of p [])).kernel
 
 early : early_text (program_of results_are_copied_back_when_the_caller_runs_tree) 80 ≡ codes "0 B b 7\n0 A x 7\nended at 0\n"
 unfolding digits

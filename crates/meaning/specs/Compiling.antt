@@ -23,13 +23,14 @@ module _ {Note : Type 0} (p : ProgramTree) (i : Sections) (rel : Relation Note S
   -- under one schedule: each step is met, and the starts are related
   pub record MeetsUnder (schedule : List ScheduleLine) : Type 0 where
     pub meets : Meets (source_behaviour p schedule) (behaviour i schedule) rel frames_of limit (Ones schedule) (Others schedule)
-    pub starts : Related (source_behaviour p schedule) (behaviour i schedule) rel frames_of limit (Ones schedule) (Others schedule) (source_start p) (start i)
+    pub starts : Related (source_behaviour p schedule) (behaviour i schedule) rel frames_of limit (Ones schedule) (Others schedule)
+        (source_start p schedule) (start i schedule)
 
   pub met_keeps_count : LinesGrow → QuietStays → ((schedule : List ScheduleLine) → is_schedule schedule ≡ true → MeetsUnder schedule) → KeepsCount p i limit
   met_keeps_count grow quiet all schedule ok =
       let f = source_behaviour p schedule in
       let g = behaviour i schedule in
       let x = all schedule ok in (
-        steps_of_other f g rel frames_of limit (Ones schedule) (Others schedule) grow quiet x.meets (source_start p) (start i) x.starts,
-        met_paced f g rel frames_of limit (Ones schedule) (Others schedule) grow quiet x.meets (source_start p) (start i) x.starts,
+        steps_of_other f g rel frames_of limit (Ones schedule) (Others schedule) grow quiet x.meets (source_start p schedule) (start i schedule) x.starts,
+        met_paced f g rel frames_of limit (Ones schedule) (Others schedule) grow quiet x.meets (source_start p schedule) (start i schedule) x.starts,
       )

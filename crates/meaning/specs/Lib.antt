@@ -15,6 +15,7 @@ pub mod Programs
 pub mod Works
 pub mod Targets
 pub mod Calls
+pub mod Starts
 pub mod SourceSteps
 pub mod Source
 pub mod SameMeaning

@@ -1,12 +1,17 @@
 -- Laws for those who show that steps are met: counted steps one behind another, and met steps by what the two sides are known to do. Proved terms.
-use Rattle.std.proofs.Common.{◌≡◌, ◌≢◌, ℕ, zero, suc, ◌+◌, ◌<◌, ◌≤◌, Option, Some, refl, sym, ap, ◌∙◌, subst, arith}
+use Rattle.std.proofs.Common.{◌≡◌, ◌≢◌, ℕ, zero, suc, ◌+◌, ◌<◌, ◌≤◌, Option, Some, false, cond, refl, sym, ap, ◌∙◌, subst, arith}
 use Rattle.kernel.specs.State.{Kernel, IsQueued, IsServed}
 use Rattle.kernel.specs.Effects.{Effect, Quiet, Ending, Closes, TakesOver, HandsBack, after}
-use Rattle.kernel.specs.Worlds.{Solo, Act, Behaviour, ending}
+use Rattle.kernel.specs.Worlds.{Solo, Act, Behaviour, ending, is_handler_over, restarted}
 use Rattle.kernel.specs.Calm.{IsRunner, Calm}
 use Rattle.kernel.specs.Counting.{Alone, Spends, Done, Own, Calls, next_kernel, next_solo}
 use Rattle.kernel.specs.Laws.{QuietStays, Reaches}
 use Rattle.meaning.specs.Meeting.{Relation, Takes, Last, OwnStep, Over, Within, taken, Met, Still, Moves, Walks, Owed}
+
+-- a step at which no handler is over leaves what it holds
+pub unrestarted : {M T G : Type 0} (start : T) (k : Kernel) (t : ℕ) (a : Act M T G) → is_handler_over k t a.effect ≡ false → restarted start k t a ≡ a
+unrestarted start k t a on =
+    λ j. record { effect = a.effect; solo = record { memory = a.solo.memory; task = cond (on j) start a.solo.task }; given = a.given }
 
 module _ {N T H : Type 0} (g : Behaviour N T H) (t : ℕ) (frames limit : T → ℕ) where
   pub takes_more : {d n : ℕ} {k l : Kernel} {s r : Solo N T} (m : ℕ) → n ≤ m → Takes g t frames limit d n k s l r → Takes g t frames limit d m k s l r

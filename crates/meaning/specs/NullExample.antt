@@ -29,6 +29,7 @@ return_image name =
       subprograms = record { kind = TaskBody; end_ = 1; parameters = 0; results = 0; locals = 0; stack = 0 } ∷ [];
       tasks = record { name = name; priority = default_priority; subprogram = 0 } ∷ [];
       rows = [];
+      attachments = [];
       instructions = record { depth = 0; operation = Return } ∷ [];
     }
 

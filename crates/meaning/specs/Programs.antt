@@ -1,8 +1,10 @@
 -- What a program declares, as its runs need it (RM 3, 6, 7, 9, 11): visible names, subprograms, objects with their initial values, tasks, exceptions.
-use Rattle.std.specs.Prelude.{ℕ, suc, List, [], ◌∷◌, ◌++◌, length, map, Option, Some, None, bytes_eq, option_map, position, slice_get, if◌then◌else◌}
+use Rattle.std.specs.Prelude.{ℕ, suc, List, [], ◌∷◌, ◌++◌, length, map, Option, Some, None, bytes_eq, nat_eq, option_map, position, slice_get, if◌then◌else◌}
 use Rattle.base.specs.Names.{predefined}
-use Rattle.base.specs.declared.limits.TheConstants.{TASK_PRIORITY}
-use Rattle.kernel.specs.State.{Partition}
+use Rattle.base.specs.declared.limits.TheConstants.{CEILING, TASK_PRIORITY}
+use Rattle.base.specs.declared.schedule.ScheduleLine.{ScheduleLine}
+use Rattle.kernel.specs.State.{Interrupt, Partition}
+use Rattle.kernel.specs.Interrupts.{interrupts_of, names_of_all}
 use Rattle.kernel.specs.Text.{Names}
 use Rattle.image.specs.Texts.{text_at, text_from_one}
 use Rattle.ada_tree.specs.declared.expression.Identifier.{Identifier}
@@ -10,7 +12,7 @@ use Rattle.ada_tree.specs.declared.declaration.Formal.{Formal}
 use Rattle.ada_tree.specs.declared.declaration.Mode.{Mode}
 use Rattle.ada_tree.specs.declared.program.MainStatement.{MainStatement}
 use Rattle.ada_tree.specs.ExpressionTree.{ExprTree}
-use Rattle.ada_tree.specs.StatementTree.{AspectTree, ObjectTree, SubprogramTree, TaskTree, ProtectedComponentTree, StmtTrees, NoStmts, MoreStmts, Return}
+use Rattle.ada_tree.specs.StatementTree.{AspectTree, ObjectTree, SubprogramTree, TaskTree, OperationTree, OfSubprogram, OfEntry, ProtectedComponentTree, StmtTrees, NoStmts, MoreStmts, Return}
 use Rattle.ada_tree.specs.ProgramTree.{ProgramTree, PackageTree, BodyTree, ItemTree, OfObject, OfException, OfTask, OfProtected, BodyItemTree, OfItem, SubprogramBody, TaskBody, ProtectedBody, ProtectedItemTree, OperationBody, EntryBody}
 use Rattle.types.specs.declared.entity.Subtype.{Subtype}
 use Rattle.types.specs.Scopes.{Scope, integer, protected_of}
@@ -23,7 +25,8 @@ use Rattle.types.specs.Statics.{static_place}
 use Rattle.types.specs.Evaluating.{val}
 use Rattle.declaring.specs.ProtectedRules.{protected_count}
 use Rattle.type_rules.specs.SubtypeNames.{named_entity, subtype_of}
-use Rattle.declaring.specs.TaskRules.{default_priority, priority_of}
+use Rattle.declaring.specs.TaskRules.{default_priority, is_attachment, priority_of}
+use Rattle.declaring.specs.HandlerChannels.{attached_channel}
 use Rattle.declaring.specs.PackageNames.{program_scope}
 
 -- a formal parameter (RM 6.1)
@@ -51,6 +54,12 @@ pub record Task : Type 0 where
   pub priority : ℕ
   pub duty : Duty
 
+-- the handler of a channel's interrupts: a procedure of a protected object, without parameters (RM C.3.1)
+pub record Attached : Type 0 where
+  pub channel : ℕ
+  pub object : ℕ
+  pub name : List ℕ
+
 pub record Program : Type 0 where
   -- the names of the package
   pub scope : Scope
@@ -64,6 +73,7 @@ pub record Program : Type 0 where
   -- in the order of their declarations, main last
   pub tasks : List Task
   pub objects : ℕ
+  pub handlers : List Attached
 
 -- ---- names: none of a package hides another one, so those that are visible behind it serve for all of it (RM 8.3)
 
@@ -223,6 +233,26 @@ tasks_among s bodies (d ∷ rest) = tasks_among s bodies rest
 abbrev pub main_task : Scope → ProgramTree → Task
 main_task s p = record { name = p.main.name.name; priority = base_priority s p.main.aspect; duty = OfMain p.main.statements }
 
+-- ---- handlers of interrupts, by the aspects of operations (RM C.3.1)
+
+abbrev pub attached_by : (name : List ℕ) → (object channel : Option ℕ) → List Attached
+attached_by name (Some o) (Some c) = record { channel = c; object = o; name = name } ∷ []
+attached_by name object channel = []
+
+abbrev pub attached_operation : Scope → (object : Option ℕ) → OperationTree → List Attached
+attached_operation s object (OfSubprogram d (Some a)) = if is_attachment a then attached_by d.name.name object (attached_channel s a) else []
+attached_operation s object (OfSubprogram d None) = []
+attached_operation s object (OfEntry d) = []
+
+abbrev pub attached_operations : Scope → (object : Option ℕ) → List OperationTree → List Attached
+attached_operations s object [] = []
+attached_operations s object (o ∷ os) = attached_operation s object o ++ attached_operations s object os
+
+abbrev pub handlers_among : Scope → List ItemTree → List Attached
+handlers_among s [] = []
+handlers_among s (OfProtected d ∷ rest) = attached_operations s (object_numbered s d.name) d.operations ++ handlers_among s rest
+handlers_among s (d ∷ rest) = handlers_among s rest
+
 -- ---- the whole
 
 abbrev pub program_with : Scope → List ItemTree → List BodyItemTree → ProgramTree → Program
@@ -236,6 +266,7 @@ program_with s items bodies p =
       exceptions = predefined ++ exceptions_among items;
       tasks = tasks_among s bodies items ++ main_task s p ∷ [];
       objects = protected_count s;
+      handlers = handlers_among s items;
     }
 
 abbrev pub program_of : ProgramTree → Program
@@ -243,12 +274,30 @@ program_of p = program_with (program_scope p) (package_items p.package_) (packag
 
 -- ---- what the kernel and the text of a run take from it
 
-abbrev pub priority_or_zero : Option Task → ℕ
-priority_or_zero (Some t) = t.priority
-priority_or_zero None = 0
+-- beyond the tasks are the actors of handlers, which have the highest priority
+abbrev pub priority_or_highest : Option Task → ℕ
+priority_or_highest (Some t) = t.priority
+priority_or_highest None = CEILING
 
 abbrev pub program_partition : Program → Partition
-program_partition p = record { tasks = length p.tasks; objects = p.objects; base = λ t. priority_or_zero (slice_get p.tasks t); ceiling = ceiling_of p.scope }
+program_partition p = record {
+  tasks = length p.tasks;
+  objects = p.objects;
+  base = λ t. priority_or_highest (slice_get p.tasks t);
+  ceiling = ceiling_of p.scope;
+}
+
+-- the handler of a channel
+abbrev pub handler_at : ℕ → List Attached → Option Attached
+handler_at channel [] = None
+handler_at channel (a ∷ rest) = if nat_eq a.channel channel then Some a else handler_at channel rest
+
+abbrev pub object_attached : Option Attached → Option ℕ
+object_attached (Some a) = Some a.object
+object_attached None = None
+
+abbrev pub program_interrupts : Program → List ScheduleLine → List Interrupt
+program_interrupts p schedule = interrupts_of (λ channel. object_attached (handler_at channel p.handlers)) schedule
 
 abbrev pub exception_name : Program → ℕ → List ℕ
 exception_name p x = text_from_one p.exceptions x
@@ -260,4 +309,4 @@ abbrev pub task_name : Task → List ℕ
 task_name t = t.name
 
 abbrev pub program_names : Program → Names
-program_names p = record { task = λ t. text_at (map task_name p.tasks) t; exception = exception_name p }
+program_names p = record { task = names_of_all (length p.tasks) (λ t. text_at (map task_name p.tasks) t); exception = exception_name p }

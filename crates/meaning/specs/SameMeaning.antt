@@ -25,7 +25,7 @@ pub record SameMeaning (p : ProgramTree) (i : Sections) : Type 0 where
   pub names : SameNames p i
   pub shows : (schedule : List ScheduleLine) → is_schedule schedule ≡ true → ShowSame (λ n. (source p schedule n).kernel) (λ m. (code i schedule m).kernel)
 
--- the frames of a task
+-- the frames of a task; of a handler one of them never runs
 abbrev pub frames_of : TaskState → ℕ
 frames_of s = suc (length s.callers)
 
@@ -36,4 +36,4 @@ KeepsCount p i limit =
     (schedule : List ScheduleLine)
     → is_schedule schedule ≡ true
     → (at : ℕ → ℕ) × Paced (among (source_behaviour p schedule)) (among (behaviour i schedule)) (Counted (behaviour i schedule) frames_of limit)
-    (source_start p) (start i) at
+    (source_start p schedule) (start i schedule) at

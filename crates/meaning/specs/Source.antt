@@ -1,33 +1,22 @@
 -- The run of a program under a schedule: its start, and its world after n steps.
-use Rattle.std.specs.Prelude.{ℕ, List, [], ◌∷◌, ◌++◌, map, Option, Some, None, slice_get}
+use Rattle.std.specs.Prelude.{ℕ, List}
 use Rattle.base.specs.declared.schedule.ScheduleLine.{ScheduleLine}
 use Rattle.kernel.specs.State.{Partition}
 use Rattle.kernel.specs.Effects.{begin}
 use Rattle.kernel.specs.Worlds.{World, Tasks, Behaviour, among, run}
 use Rattle.kernel.specs.Text.{Names, text}
 use Rattle.ada_tree.specs.ProgramTree.{ProgramTree}
-use Rattle.meaning.specs.Works.{Item, Declares, DoesMain, Sequence, Goes, TaskWork, Store, GivenToCaller}
-use Rattle.meaning.specs.Programs.{Duty, OfBody, OfMain, Task, Program, program_names, program_of, program_partition}
+pub use Rattle.meaning.specs.Starts.{duty_items, handler_work, initial_work, items_work, outermost, procedure_work, task_items, task_work}
+use Rattle.meaning.specs.Works.{TaskWork, Store, GivenToCaller}
+use Rattle.meaning.specs.Programs.{Program, program_interrupts, program_names, program_of, program_partition}
 use Rattle.meaning.specs.SourceSteps.{program_behaviour}
-
--- a task at the start has its body to do (RM 9.2)
-abbrev pub duty_items : Duty → List Item
-duty_items (OfBody b) = map Declares b.declarations ++ Sequence b.statements b.handlers ∷ []
-duty_items (OfMain statements) = map DoesMain statements
-
-abbrev pub task_items : Option Task → List Item
-task_items (Some t) = duty_items t.duty
-task_items None = []
-
-abbrev pub initial_work : Program → ℕ → TaskWork
-initial_work p t = record { work = Goes (task_items (slice_get p.tasks t)); own = record { within = None; locals = [] }; callers = [] }
 
 abbrev pub SourceWorld : Type 0
 SourceWorld = World (Tasks Store TaskWork)
 
-abbrev pub start_of : Program → SourceWorld
-start_of p = record {
-  kernel = begin (program_partition p);
+abbrev pub start_of : Program → List ScheduleLine → SourceWorld
+start_of p schedule = record {
+  kernel = begin (program_partition p) (program_interrupts p schedule);
   rest = record {
     memory = record { variables = p.variables; components = p.components };
     tasks = initial_work p;
@@ -36,7 +25,7 @@ start_of p = record {
 
 -- the world after n steps
 abbrev pub run_of : Program → List ScheduleLine → ℕ → SourceWorld
-run_of p schedule n = run (among (program_behaviour p schedule)) n (start_of p)
+run_of p schedule n = run (among (program_behaviour p schedule)) n (start_of p schedule)
 
 -- what the run writes that is cut after n steps
 abbrev pub text_of : Program → List ScheduleLine → ℕ → List ℕ
@@ -53,8 +42,8 @@ source_names p = program_names (program_of p)
 abbrev pub source_behaviour : ProgramTree → List ScheduleLine → Behaviour Store TaskWork GivenToCaller
 source_behaviour p schedule = program_behaviour (program_of p) schedule
 
-abbrev pub source_start : ProgramTree → SourceWorld
-source_start p = start_of (program_of p)
+abbrev pub source_start : ProgramTree → List ScheduleLine → SourceWorld
+source_start p schedule = start_of (program_of p) schedule
 
 abbrev pub source : ProgramTree → List ScheduleLine → ℕ → SourceWorld
 source p schedule n = run_of (program_of p) schedule n

@@ -5,9 +5,9 @@ use Rattle.base.specs.Exceptions.{number_of}
 use Rattle.base.specs.declared.schedule.ScheduleLine.{ScheduleLine}
 use Rattle.base.specs.declared.exceptions.PredefinedException.{PredefinedException}
 use Rattle.base.specs.declared.exceptions.PredefinedException.TheVariants.{ProgramError, StorageError}
-use Rattle.kernel.specs.State.{Kernel, object_of}
+use Rattle.kernel.specs.State.{Kernel, is_task, object_of}
 use Rattle.kernel.specs.Effects.{Effect, Quiet, Says, Delays, Opens, Queues, Ends, Finishes, Dies, Refusal, call_refusal, is_above_ceiling, is_full, is_inside_any}
-use Rattle.kernel.specs.Worlds.{Act, Behaviour, Solo}
+use Rattle.kernel.specs.Worlds.{Act, Behaviour, Solo, restarted}
 use Rattle.ada_tree.specs.declared.expression.Identifier.{Identifier}
 use Rattle.ada_tree.specs.declared.statement.ExceptionChoice.{ExceptionChoice}
 use Rattle.ada_tree.specs.declared.statement.ExceptionChoice.TheVariants as choice
@@ -29,6 +29,7 @@ use Rattle.type_rules.specs.SubtypeNames.{named_entity}
 use Rattle.meaning.specs.Programs.{Parameter, Procedure, Program, exception_name, exception_number, subtype_named}
 use Rattle.meaning.specs.Works.{Target, Completion, Completed, Pending, Item, Declares, DeclaresParameter, Sequence, Does, DoesMain, Repeats, RepeatsWhile, RepeatsFor, Handles, EndsHandler, EndsCall, EndsAction, EndsServed, Queued, Work, Goes, Copies, Raising, Activation, TaskWork, Store, GivenToCaller, Results, Raised, frames_left, turn_subtype}
 use Rattle.meaning.specs.Targets.{target, store_with, activation_with}
+use Rattle.meaning.specs.Starts.{initial_work}
 use Rattle.meaning.specs.Calls.{Callee, callee_by, Actuals, actuals, activation_of, body_items, is_open, procedure_here, results, results_in}
 
 -- what a step does: its effect, the store and the task's work after it, and what a served caller is given
@@ -141,6 +142,9 @@ number_computed (Ok z) = Gives z
 number_computed (Err x) = raise x
 
 module _ (h : Here) where
+  abbrev pub frames_here : List Item → ℕ
+  frames_here items = frames_left (is_task h.kernel.partition h.task) items
+
   -- where the task evaluates, with these items behind (RM 4)
   abbrev pub place_of : List Item → Place
   place_of items =
@@ -155,7 +159,7 @@ module _ (h : Here) where
         within = h.own.within;
         actions = map object_of (h.kernel.actions h.task);
         priority = h.kernel.partition.base h.task;
-        frames_left = frames_left items;
+        frames_left = frames_here items;
       }
 
   abbrev pub evaluate : List Item → ExprTree → Val Value
@@ -293,7 +297,7 @@ module _ (h : Here) where
   run_body e opened q a items = enters e (activation_of q a.values) (body_items q (EndsCall (results q.parameters) opened a.targets) items)
 
   abbrev pub plain_call : Procedure → Actuals → List Item → SourceStepped
-  plain_call q a items = if_frame_left (frames_left items) items (run_body Quiet None q a items)
+  plain_call q a items = if_frame_left (frames_here items) items (run_body Quiet None q a items)
 
   abbrev pub unless_refused : Option Refusal → List Item → SourceStepped → SourceStepped
   unless_refused None items go = go
@@ -301,7 +305,7 @@ module _ (h : Here) where
 
   abbrev pub external_call : ℕ → Procedure → Actuals → List Item → SourceStepped
   external_call o q a items = unless_refused (call_refusal h.kernel h.task o) items
-      (if_frame_left (frames_left items) items (run_body (Opens o) (Some o) q a items))
+      (if_frame_left (frames_here items) items (run_body (Opens o) (Some o) q a items))
 
   -- with a closed barrier the call waits, where none does
   abbrev pub queue_call : ℕ → Procedure → Actuals → List Item → SourceStepped
@@ -310,7 +314,7 @@ module _ (h : Here) where
   abbrev pub entry_call : ℕ → Procedure → Actuals → List Item → SourceStepped
   entry_call o q a items =
       if is_above_ceiling h.kernel h.task o then raises_predefined ProgramError items
-      else if_frame_left (frames_left items) items (if is_open h.program h.memory o then run_body (Opens o) (Some o) q a items else queue_call o q a items)
+      else if_frame_left (frames_here items) items (if is_open h.program h.memory o then run_body (Opens o) (Some o) q a items else queue_call o q a items)
 
   abbrev pub with_actuals_of : Callee → List Item → (Actuals → SourceStepped) → SourceStepped
   with_actuals_of c items go = with_value (actuals (place_of items) h.memory h.own c.procedure.parameters c.arguments) items go
@@ -471,11 +475,11 @@ received g w = w
 abbrev pub here_of : Program → List ScheduleLine → Kernel → ℕ → Solo Store TaskWork → Here
 here_of p schedule k t s = record { program = p; schedule = schedule; kernel = k; task = t; memory = s.memory; own = s.task.own; callers = s.task.callers }
 
--- how tasks behave
+-- how tasks and handlers behave
 abbrev pub program_behaviour : Program → List ScheduleLine → Behaviour Store TaskWork GivenToCaller
 program_behaviour p schedule =
     record {
-      act = λ k t s. work_step (here_of p schedule k t s) s.task.work;
+      act = λ k t s. restarted (initial_work p t) k t (work_step (here_of p schedule k t s) s.task.work);
       taken = λ o u. u;
       serving = λ o caller u t. serving o u t;
       receives = λ g u. record u { work = received g u.work };

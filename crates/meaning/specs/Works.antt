@@ -1,5 +1,5 @@
 -- What a task still has to do, as a list of items, and what it holds meanwhile.
-use Rattle.std.specs.Prelude.{ℕ, suc, ◌-◌, ℤ, Bool, List, [], ◌∷◌, Option}
+use Rattle.std.specs.Prelude.{ℕ, suc, ◌-◌, ℤ, Bool, true, false, List, [], ◌∷◌, Option}
 use Rattle.base.specs.declared.limits.TheConstants.{FRAMES}
 use Rattle.ada_tree.specs.declared.program.MainStatement.{MainStatement}
 use Rattle.ada_tree.specs.ExpressionTree.{ExprTree}
@@ -103,6 +103,11 @@ ends_of_calls (EndsCall results opened targets ∷ items) = suc (ends_of_calls i
 ends_of_calls (EndsServed object results completion ∷ items) = suc (ends_of_calls items)
 ends_of_calls (i ∷ items) = ends_of_calls items
 
--- the frames that the task may still open
-abbrev pub frames_left : List Item → ℕ
-frames_left items = FRAMES - suc (ends_of_calls items)
+-- the frames in use: a handler has no body below its procedure's
+abbrev pub frames_in_use : (is_task : Bool) → List Item → ℕ
+frames_in_use true items = suc (ends_of_calls items)
+frames_in_use false items = ends_of_calls items
+
+-- the frames that the task or handler may still open
+abbrev pub frames_left : (is_task : Bool) → List Item → ℕ
+frames_left is_task items = FRAMES - frames_in_use is_task items

@@ -3,8 +3,8 @@ ghost use Rattle.meaning.specs.Laws.{CountGivesMeaning, MeaningIsWritten, Meanin
 ghost use Rattle.meaning.specs.NullExample.{ReturnMeansNulls};
 
 use kernel::laws::{
-    begins_kept, kept_by_every_effect, left_unmoved, lines_grow, quiet_stays, reaches_callers,
-    runner_is_calm,
+    begins_kept, kept_by_every_effect, lines_grow, quiet_stays, reaches_callers, runner_is_calm,
+    start_settles, steps_settle,
 };
 
 /// A world of a source run that has an outcome does not change.
@@ -48,7 +48,8 @@ pub fn return_means_nulls()
 {
     begins_kept();
     kept_by_every_effect();
-    left_unmoved();
+    steps_settle();
+    start_settles();
     lines_grow();
     quiet_stays();
     reaches_callers();

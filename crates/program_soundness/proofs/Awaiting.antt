@@ -1,8 +1,8 @@
 -- In whose entry call a task waits is told by the queues and the open actions alone, which dispatching and the clock leave as they are (RM 9.5.3).
 use Rattle.std.proofs.Common.{◌≡◌, ◌≢◌, ◌⊎◌, inl, inr, ℕ, List, [], ◌∷◌, Option, Some, None, Bool, true, false, ◌||◌, eqb, refl, sym, ap, subst, ⊎_elim}
-use Rattle.kernel.specs.State.{Kernel, TaskPlace, IsRunning, IsReady, IsAsleep, IsFinished, IsQueued, IsServed, Action, Reads, Serves, Writes, is_object_open, object_of, put}
+use Rattle.kernel.specs.State.{Kernel, Interrupt, TaskPlace, IsRunning, IsReady, IsAsleep, IsFinished, IsQueued, IsServed, Action, Reads, Serves, Writes, actor, is_object_open, object_of, put}
 use Rattle.kernel.specs.Invariant.{IsInsideObject, HasAction, Kept, Once, ServesCall}
-use Rattle.kernel.specs.Laws.{FourHold}
+use Rattle.kernel.specs.Laws.{FourHold, HandlerBegins, SettlesTo}
 use Rattle.kernel.specs.PutLaws.{eqb_same, of_put, put_other, put_same, same_or_not}
 use Rattle.program_soundness.specs.SoundWorlds.{awaited}
 
@@ -79,6 +79,39 @@ module _ (t : ℕ) (new : List Action) (actions : ℕ → List Action) (u o : �
       → (v : ℕ) × HasAction (ServesCall o u) (actions v)
   served_before back has =
       of_put (HasAction (ServesCall o u)) ((v : ℕ) × HasAction (ServesCall o u) (actions v)) t has.0 new actions has.1 (λ e i. (t, back i)) (λ ne i. (has.0, i))
+
+-- ---- a handler that begins serves nobody
+
+nobody_served : (o u p : ℕ) → HasAction (ServesCall o u) (Writes p ∷ []) → ⊥
+nobody_served o u p (inl h) = h
+nobody_served o u p (inr h) = h
+
+module _ (x l : Kernel) (s : SettlesTo x l) (u o : ℕ) where
+  abbrev new_of : Interrupt → List Action
+  new_of i = Writes i.object ∷ []
+
+  -- who waits in the kernel that settles, and before
+  pub awaits_before : Awaits l.queued l.actions u o → Awaits x.queued x.actions u o
+  awaits_before awaits = by_start s.actions
+    where
+      by_start : ((l.pending ≡ x.pending) × (l.actions ≡ x.actions)) ⊎ ((i : Interrupt) × HandlerBegins x l i) → Awaits x.queued x.actions u o
+      by_start (inl same) = awaits_as l.queued x.queued l.actions x.actions u o (sym s.queued) (sym same.1) awaits
+      by_start (inr h) =
+          let a = actor x.partition h.0.channel in
+          ⊎_elim inl
+          (λ served. inr (served_before a (new_of h.0) x.actions u o (λ f. absurd (nobody_served o u h.0.object f)) served))
+          (awaits_as l.queued x.queued l.actions (put a (new_of h.0) x.actions) u o (sym s.queued) (sym h.1.actions) awaits)
+
+  pub awaits_after : Awaits x.queued x.actions u o → Awaits l.queued l.actions u o
+  awaits_after awaits = by_start s.actions
+    where
+      by_start : ((l.pending ≡ x.pending) × (l.actions ≡ x.actions)) ⊎ ((i : Interrupt) × HandlerBegins x l i) → Awaits l.queued l.actions u o
+      by_start (inl same) = awaits_as x.queued l.queued x.actions l.actions u o s.queued same.1 awaits
+      by_start (inr h) =
+          let a = actor x.partition h.0.channel in
+          awaits_as x.queued l.queued (put a (new_of h.0) x.actions) l.actions u o s.queued h.1.actions
+          (⊎_elim inl
+          (λ served. inr (served_then a (new_of h.0) x.actions u o (λ f. absurd (subst (HasAction (ServesCall o u)) h.1.idle f)) served)) awaits)
 
 -- ---- who is served is served by one task, in one action
 

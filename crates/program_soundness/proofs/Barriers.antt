@@ -2,6 +2,7 @@
 use Rattle.std.proofs.Common.{◌≡◌, ◌++◌, ℕ, List, [], ◌∷◌, map, Bool, true, false, not, ◌&&◌, Option, Some, None, refl, sym, ap, ◌∙◌}
 use Rattle.std.specs.Prelude.{⊤, cond, is_some}
 use Rattle.expr_soundness.specs.base.specs.declared.faults.TheConstants.{WRONG_BARRIER}
+use Rattle.expr_soundness.specs.base.specs.declared.limits.TheConstants.{TASK_PRIORITY}
 use Rattle.expr_soundness.specs.ada_tree.specs.declared.expression.Identifier.{Identifier}
 use Rattle.expr_soundness.specs.ada_tree.specs.ExpressionTree.{ExprTree, Named, NoSelectors, bare_name}
 use Rattle.expr_soundness.specs.ada_tree.specs.StatementTree.{SubprogramTree}
@@ -22,7 +23,8 @@ use Rattle.declaring.specs.PackageNames.{body_item_scope, inside_scope, program_
 use Rattle.legality.specs.MainRules.{main_scope}
 use Rattle.step_soundness.specs.body_restrictions.specs.BodyRules.{barrier_rule, body_faults, is_simple_name, operation_faults, operations_faults}
 use Rattle.ravenscar.specs.PragmaRules.{pragma_faults}
-use Rattle.ravenscar.specs.ProgramRules.{IsRestricted, body_item_faults, body_items_faults, components_named, items_faults, package_part_faults}
+use Rattle.ravenscar.specs.HandlerRules.{none_taken}
+use Rattle.ravenscar.specs.ProgramRules.{IsRestricted, body_item_faults, body_items_faults, components_named, items_faults, package_part_faults, taken_by_body_item, taken_by_items}
 use Rattle.ravenscar.specs.TaskingRules.{aspect_faults}
 use Rattle.expr_soundness.specs.meaning.specs.Programs.{Procedure, object_numbered, operation_procedures, package_bodies, parameter, procedure_of, procedures_among, program_of}
 use Rattle.expr_soundness.specs.meaning.specs.Calls.{barrier_of, barrier_place, holds_at, is_open, is_true}
@@ -72,20 +74,23 @@ operations_bare s components o (EntryBody d barrier b ∷ items) h =
       operations_bare s components o items (back_empty (operation_faults components (EntryBody d barrier b)) (operations_faults components items) h),
     )
 
-bodies_bare : (s walked : Scope) (bodies : List BodyItemTree) → body_items_faults walked bodies ≡ [] → AreBare (procedures_among s bodies)
-bodies_bare s walked [] h = tt
-bodies_bare s walked (OfItem d ∷ bodies) h =
-    bodies_bare s (body_item_scope walked (OfItem d)) bodies (back_empty (body_item_faults walked (OfItem d)) (body_items_faults (body_item_scope walked (OfItem d)) bodies) h)
-bodies_bare s walked (TaskBody n b ∷ bodies) h = bodies_bare s walked bodies (back_empty (body_item_faults walked (TaskBody n b)) (body_items_faults walked bodies) h)
-bodies_bare s walked (SubprogramBody d b ∷ bodies) h =
+bodies_bare : (s walked : Scope) (taken : List Bool) (bodies : List BodyItemTree) → body_items_faults walked taken bodies ≡ [] → AreBare (procedures_among s bodies)
+bodies_bare s walked taken [] h = tt
+bodies_bare s walked taken (OfItem d ∷ bodies) h =
+    let next = body_item_scope walked (OfItem d) in
+    let behind = taken_by_body_item walked taken (OfItem d) in
+    bodies_bare s next behind bodies (back_empty (body_item_faults walked taken (OfItem d)) (body_items_faults next behind bodies) h)
+bodies_bare s walked taken (TaskBody n b ∷ bodies) h =
+    bodies_bare s walked taken bodies (back_empty (body_item_faults walked taken (TaskBody n b)) (body_items_faults walked taken bodies) h)
+bodies_bare s walked taken (SubprogramBody d b ∷ bodies) h =
     let next = body_item_scope walked (SubprogramBody d b) in
     all_bare (procedure_of s None d b) (procedures_among s bodies) (procedure_bare s None d b)
-    (bodies_bare s next bodies (back_empty (body_item_faults walked (SubprogramBody d b)) (body_items_faults next bodies) h))
-bodies_bare s walked (ProtectedBody n items end_name ∷ bodies) h =
-    let here = body_item_faults walked (ProtectedBody n items end_name) in
-    let later = body_items_faults walked bodies in
+    (bodies_bare s next taken bodies (back_empty (body_item_faults walked taken (SubprogramBody d b)) (body_items_faults next taken bodies) h))
+bodies_bare s walked taken (ProtectedBody n items end_name ∷ bodies) h =
+    let here = body_item_faults walked taken (ProtectedBody n items end_name) in
+    let later = body_items_faults walked taken bodies in
     all_bare (operation_procedures s (object_numbered s n) items) (procedures_among s bodies)
-    (operations_bare s (components_named walked n) (object_numbered s n) items (front_empty here later h)) (bodies_bare s walked bodies (back_empty here later h))
+    (operations_bare s (components_named walked n) (object_numbered s n) items (front_empty here later h)) (bodies_bare s walked taken bodies (back_empty here later h))
 
 pub program_bare : (t : ProgramTree) → IsRestricted t → AreBare (procedures_among (program_scope t) (package_bodies t.package_))
 program_bare t h = by_package t.package_ parts
@@ -93,13 +98,14 @@ program_bare t h = by_package t.package_ parts
     parts : package_part_faults t.package_ ≡ []
     parts =
         back_empty (pragma_faults t) (package_part_faults t.package_)
-        (front_empty (pragma_faults t ++ package_part_faults t.package_) (aspect_faults (main_scope t.package_) t.main.aspect) h)
+        (front_empty (pragma_faults t ++ package_part_faults t.package_) (aspect_faults (main_scope t.package_) TASK_PRIORITY t.main.aspect) h)
 
     by_package : (o : Option PackageTree) → package_part_faults o ≡ [] → AreBare (procedures_among (program_scope t) (package_bodies o))
     by_package None k = tt
     by_package (Some p) k =
-        bodies_bare (program_scope t) (specified_scope standard p) p.body.items
-        (back_empty (items_faults (inside_scope standard p) p.declaration.items) (body_items_faults (specified_scope standard p) p.body.items) k)
+        let taken = taken_by_items (inside_scope standard p) none_taken p.declaration.items in
+        bodies_bare (program_scope t) (specified_scope standard p) taken p.body.items
+        (back_empty (items_faults (inside_scope standard p) none_taken p.declaration.items) (body_items_faults (specified_scope standard p) taken p.body.items) k)
 
 pub barrier_bare : (procedures : List Procedure) (o : ℕ) → AreBare procedures → IsBare (barrier_of procedures o)
 barrier_bare [] o h = tt

@@ -3,7 +3,7 @@ use Rattle.std.proofs.Common.{◌≡◌, ◌++◌, length, List, [], ◌∷◌, 
 use Rattle.std.specs.Prelude.{nat_le}
 use Rattle.std.proofs.lemmas.Bool.{or_parts}
 use Rattle.expr_soundness.specs.base.specs.declared.faults.TheConstants.{DECLARED_TWICE, LIMIT_PASSED, NOT_STATIC, WRONG_FUNCTION}
-use Rattle.expr_soundness.specs.base.specs.declared.limits.TheConstants.{FORMALS, TASK_PRIORITY}
+use Rattle.expr_soundness.specs.base.specs.declared.limits.TheConstants.{CEILING, FORMALS, TASK_PRIORITY}
 use Rattle.expr_soundness.specs.ada_tree.specs.declared.declaration.Formal.{Formal}
 use Rattle.expr_soundness.specs.ada_tree.specs.declared.declaration.Mode.{Mode}
 use Rattle.expr_soundness.specs.ada_tree.specs.declared.declaration.Mode.TheVariants as mode
@@ -33,7 +33,7 @@ use Rattle.declaring.specs.ItemRules.{item_faults, item_scope, items_faults, ite
 use Rattle.declaring.specs.LocalRules.{fixed_local_faults, fixed_locals_faults, local_faults, local_scope, locals_faults, locals_scope}
 use Rattle.declaring.specs.ProtectedRules.{component_initial_faults, default_ceiling, is_component_like, is_operation_like, object_components, object_operations, object_with, operation_and, operation_faults, operation_name, operation_profile, operation_profile_faults, operations_faults, part_and, part_faults, parts_faults, protected_count, protected_entity, protected_faults}
 use Rattle.declaring.specs.ProtectedRules as objects
-use Rattle.declaring.specs.TaskRules.{aspect_faults, priority_of}
+use Rattle.declaring.specs.TaskRules.{aspect_faults, operation_aspect_faults, priority_of}
 use Rattle.expr_soundness.specs.SoundScopes.{AreIn, AreKnown, AreKnownParts, AreSoundOperations, IsKnown, IsSoundObject, IsSoundOperation, IsSoundProfile, SoundScope}
 use Rattle.expr_soundness.proofs.Widening.{subtype_known}
 use Rattle.program_soundness.proofs.Extending.{Extends, SameSubtypes, extends_more, name_extends, subtype_stays}
@@ -226,7 +226,9 @@ module _ (s : Scope) (sound : SoundScope s) where
     pub profiled : IsSoundOperation s (objects.is_entry o) profile
 
   pub operation_known : (o : OperationTree) → operation_profile_faults s o ≡ [] → HasOperation o
-  operation_known (OfOperation d) h = let x = profile_here d h in record { profile = x.profile; is = x.is; profiled = x.profiled }
+  operation_known (OfOperation d a) h =
+      let x = profile_here d (front_empty (profile_faults s d) (operation_aspect_faults s a) h) in
+      record { profile = x.profile; is = x.is; profiled = x.profiled }
   operation_known (OfEntry d) h =
       let x = formals_known s s sound sound (λ name. refl) [] d.formals h in
       record { profile = record { formals = x.formals; result = None }; is = λ j. profile_with s (x.is j) None; profiled = record { known = x.known; none = refl } }
@@ -297,7 +299,7 @@ module _ (s : Scope) (sound : SoundScope s) where
   protected_sound d h =
       let x = object_known d h in
       added s d.name.name (protected_entity s d) sound
-      (subst (IsFresh s) (sym (λ j. object_with (protected_count s) (priority_of s TASK_PRIORITY default_ceiling d.aspect) (x.operations.is j) (x.components.is j)))
+      (subst (IsFresh s) (sym (λ j. object_with (protected_count s) (priority_of s CEILING (default_ceiling d.operations) d.aspect) (x.operations.is j) (x.components.is j)))
       (record { sound = (x.operations.profiled, x.components.known); untimed = refl }))
 
 -- ---- all of them

@@ -17,7 +17,7 @@ use Rattle.expr_soundness.specs.type_rules.specs.TypeRules.{array_entity, compos
 use Rattle.expr_soundness.specs.expr_rules.specs.declared.own.Wanted.TheVariants as wanted
 use Rattle.declaring.specs.ProtectedRules.{default_ceiling, object_components, object_operations, object_with, protected_count, protected_entity}
 use Rattle.declaring.specs.TaskRules.{priority_of}
-use Rattle.expr_soundness.specs.base.specs.declared.limits.TheConstants.{TASK_PRIORITY}
+use Rattle.expr_soundness.specs.base.specs.declared.limits.TheConstants.{CEILING, TASK_PRIORITY}
 use Rattle.declaring.specs.PackageNames.{units_scope}
 use Rattle.checking.proofs.Made.{NoUnits, Times, Io, TimesIo, IoTimes, Units, clauses_seen, seen}
 use Rattle.expr_soundness.proofs.Positions.{same_some}
@@ -101,7 +101,7 @@ module _ (test : Entity → Bool) (no_doubt : test Doubtful ≡ false) where
   with_plain none number ceiling None b = no_doubt
 
   pub protected_plain : ((o : ProtectedObject) → test (Protected o) ≡ false) → (s : Scope) (d : ProtectedTree) → test (protected_entity s d) ≡ false
-  protected_plain none s d = with_plain none (protected_count s) (priority_of s TASK_PRIORITY default_ceiling d.aspect) (object_operations s d.operations) (object_components s d.components)
+  protected_plain none s d = with_plain none (protected_count s) (priority_of s CEILING (default_ceiling d.operations) d.aspect) (object_operations s d.operations) (object_components s d.components)
 
 passes : (test : Entity → Bool) (a b : Entity) → a ≡ b → test a ≡ false → test b ≡ true → ⊥
 passes test a b h fails holds = let never = sym fails ∙ ap test h ∙ holds in cc
@@ -242,7 +242,7 @@ pub declares_object : (s : Scope) (d : ItemTree) (o : ProtectedObject) → decla
 declares_object s (OfProtected d) o h = by_parts (object_operations s d.operations) (object_components s d.components) refl refl
   where
     ceiling : ℕ
-    ceiling = priority_of s TASK_PRIORITY default_ceiling d.aspect
+    ceiling = priority_of s CEILING (default_ceiling d.operations) d.aspect
 
     by_parts : (a : Option (List Operation)) (b : Option (List RecordComponent)) → object_operations s d.operations ≡ a → object_components s d.components ≡ b
         → DeclaresObject s (OfProtected d) o

@@ -21,6 +21,7 @@ pub mod FirstValues
 pub mod Awaiting
 mod Outcomes
 mod Entries
+pub mod Handling
 mod Others
 mod Nexts
 mod Runs
@@ -50,6 +51,9 @@ pub mod Parted
 pub mod Offering
 pub mod ObjectFits
 pub mod Procedures
+pub mod Numbers
+mod Attached
+mod HandlerWorks
 pub mod Assembled
 mod Returned
 mod Entering

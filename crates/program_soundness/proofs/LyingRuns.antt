@@ -1,28 +1,29 @@
 -- Every world of a run has its values in their subtypes, where the start has: by the steps of its tasks, and what the end of an action makes of two of them.
-use Rattle.std.proofs.Common.{◌≡◌, ◌≢◌, ℕ, zero, suc, List, [], ◌∷◌, ◌++◌, map, Bool, true, false, Option, Some, None, inl, inr, refl, sym, ap, ◌∙◌, subst}
-use Rattle.std.specs.Prelude.{slice_get}
+use Rattle.std.proofs.Common.{◌≡◌, ◌≢◌, ◌-◌, ℕ, zero, suc, List, [], ◌∷◌, ◌++◌, length, map, Bool, true, false, cond, Option, Some, None, inl, inr, refl, sym, ap, ◌∙◌, subst}
+use Rattle.std.specs.Prelude.{nat_lt, slice_get}
 use Rattle.expr_soundness.specs.base.specs.declared.schedule.ScheduleLine.{ScheduleLine}
 use Rattle.kernel.specs.State.{Action, Kernel, Outcome, Reads, Serves, Writes, put}
 use Rattle.kernel.specs.Effects.{Breaks, Delays, Dies, Effect, Ending, Ends, Finishes, HandsBack, Opens, Queues, Quiet, Says, TakesOver, Views, ending_of, service}
 use Rattle.kernel.specs.Invariant.{HasAction, ServesCall}
 use Rattle.kernel.specs.PutLaws.{by_put, put_other}
-use Rattle.kernel.specs.Worlds.{Local, Tasks, World, among, ending, reached, run, solo_of, step, step_of}
+use Rattle.kernel.specs.Worlds.{Local, Tasks, World, among, ending, is_handler_over, reached, run, solo_of, step, step_of}
+use Rattle.expr_soundness.specs.Lying.{ObjectsLie}
 use Rattle.expr_soundness.specs.ada_tree.specs.declared.program.MainStatement.{MainStatement}
 use Rattle.expr_soundness.specs.ada_tree.specs.StatementTree.{DeclarationTree}
 use Rattle.types.specs.Scopes.{Scope}
 use Rattle.step_soundness.specs.stmt_rules.specs.declared.around.Around.{Around}
-use Rattle.expr_soundness.specs.meaning.specs.Programs.{Duty, OfBody, OfMain, Procedure, Program, Task}
+use Rattle.expr_soundness.specs.meaning.specs.Programs.{Attached, Duty, OfBody, OfMain, Procedure, Program, Task, handler_at}
 use Rattle.expr_soundness.specs.meaning.specs.Works.{Activation, Copies, Declares, DeclaresParameter, Does, DoesMain, EndsAction, EndsCall, EndsHandler, EndsServed, GivenToCaller, Goes, Handles, Item, Queued, Raised, Raising, Repeats, RepeatsFor, RepeatsWhile, Results, Sequence, Store, TaskWork, Work}
-use Rattle.expr_soundness.specs.meaning.specs.Calls.{is_open, results}
-use Rattle.expr_soundness.specs.meaning.specs.Source.{SourceWorld, duty_items, run_of, start_of, task_items}
+use Rattle.expr_soundness.specs.meaning.specs.Calls.{bound, is_open, procedure_among, results}
+use Rattle.expr_soundness.specs.meaning.specs.Source.{SourceWorld, duty_items, handler_work, initial_work, items_work, procedure_work, run_of, start_of, task_items, task_work}
 use Rattle.expr_soundness.specs.meaning.specs.SourceSteps.{completion_of, here_of, items_of, program_behaviour, received, serves, work_step}
 use Rattle.step_soundness.specs.Fitting.{result_types}
 use Rattle.step_soundness.specs.Opened.{ForCall, ForCaller, Opened}
 use Rattle.step_soundness.specs.Judged.{IsQueuedWork, Waiting}
 use Rattle.step_soundness.specs.Holding.{IsSoundTask}
 use Rattle.step_soundness.specs.Laws.{Matches, Premises}
-use Rattle.step_soundness.specs.Starting.{IsSoundStart}
-use Rattle.step_soundness.specs.InSubtypes.{CompletionLies, GivenLies, ItemsLie, PartsLie, StepLies, StepsKeepSubtypes, TaskLies, WorkLies}
+use Rattle.step_soundness.specs.Starting.{IsSoundHandler, IsSoundStart}
+use Rattle.step_soundness.specs.InSubtypes.{CompletionLies, GivenLies, IsBegun, ItemsLie, PartsLie, StepLies, StepsKeepSubtypes, TaskLies, WorkLies}
 use Rattle.step_soundness.proofs.Lookups.{same_some}
 use Rattle.step_soundness.proofs.LyingSteps.{body_lies, copying_lies, types_of_targets}
 use Rattle.program_soundness.specs.SoundWorlds.{IsSoundWorld, awaited}
@@ -30,6 +31,7 @@ use Rattle.program_soundness.specs.RunLaws.{RunsAreSound}
 use Rattle.program_soundness.specs.LyingWorlds.{RunsKeepSubtypes, StartLies, WorldLies}
 use Rattle.program_soundness.proofs.Awaiting.{awaited_if, runner_awaits}
 use Rattle.program_soundness.proofs.Entries.{opened_of}
+use Rattle.program_soundness.proofs.Handling.{runner_matches}
 
 -- ---- what the end of an action makes of two tasks
 
@@ -86,7 +88,8 @@ module _ (program : Program) where
 
 -- ---- a step
 
-module _ (steps : StepsKeepSubtypes) (program : Program) (schedule : List ScheduleLine) (laws : Premises program) (start : StartLies program) where
+module _ (steps : StepsKeepSubtypes) (program : Program) (schedule : List ScheduleLine) (laws : Premises program) (start : StartLies program)
+    (first : (u : ℕ) → TaskLies program.scope (initial_work program u)) where
   abbrev Lies : TaskWork → Type 0
   Lies t = TaskLies program.scope t
 
@@ -98,8 +101,14 @@ module _ (steps : StepsKeepSubtypes) (program : Program) (schedule : List Schedu
     awake : awaited (k.place t) ≡ None
     awake = runner_awaits before k world.kernel t runs
 
+    -- what the task has to do after its step: a handler that is over what its next start needs
+    abbrev mine : TaskWork
+    mine =
+        let x = work_step (here_of program schedule k t (solo_of t d)) (d.tasks t).work in
+        cond (is_handler_over k t x.effect) (initial_work program t) x.solo.task
+
     abbrev after : ℕ → TaskWork
-    after = put t (work_step (here_of program schedule k t (solo_of t d)) (d.tasks t).work).solo.task d.tasks
+    after = put t mine d.tasks
 
     abbrev given : Option GivenToCaller
     given = (work_step (here_of program schedule k t (solo_of t d)) (d.tasks t).work).given
@@ -109,9 +118,14 @@ module _ (steps : StepsKeepSubtypes) (program : Program) (schedule : List Schedu
         steps program schedule k t (solo_of t d) laws start.begun world.store
         (subst (λ w. IsSoundTask program d.memory w (d.tasks t)) awake (world.tasks t)) lies.store (lies.tasks t)
 
+    mine_lies : (b : Bool) (x : TaskWork) → Lies x → Lies (cond b (initial_work program t) x)
+    mine_lies true x l = first t
+    mine_lies false x l = l
+
     own_lies : (u : ℕ) → Lies (after u)
-    own_lies u = by_put Lies t u (work_step (here_of program schedule k t (solo_of t d)) (d.tasks t).work).solo.task d.tasks
-        (λ e. stepped.task) (λ ne. lies.tasks u)
+    own_lies u =
+        let x = work_step (here_of program schedule k t (solo_of t d)) (d.tasks t).work in
+        by_put Lies t u mine d.tasks (λ e. mine_lies (is_handler_over k t x.effect) x.solo.task stepped.task) (λ ne. lies.tasks u)
 
     abbrev tasks_after : Ending → Option GivenToCaller → ℕ → TaskWork
     tasks_after e g = reached (program_behaviour program schedule) t e g after
@@ -134,7 +148,7 @@ module _ (steps : StepsKeepSubtypes) (program : Program) (schedule : List Schedu
     given_lies o c outer g waits of u =
         by_put Lies c u (record (after c) { work = received g (after c).work }) after
         (λ e. subst (λ w. Lies (record w { work = received g w.work }))
-        (sym (put_other t c (work_step (here_of program schedule k t (solo_of t d)) (d.tasks t).work).solo.task d.tasks (elsewhere o c waits))) caller)
+        (sym (put_other t c mine d.tasks (elsewhere o c waits))) caller)
         (λ ne. own_lies u)
       where
         sound : IsSoundTask program d.memory (Some o) (d.tasks c)
@@ -172,7 +186,7 @@ module _ (steps : StepsKeepSubtypes) (program : Program) (schedule : List Schedu
     ended_lies b (Reads o ∷ outer) acts u = own_lies u
     ended_lies b (Writes o ∷ outer) acts u = serviced_lies b o (k.queued o) given u
     ended_lies b (Serves o c ∷ outer) acts u =
-        served_lies o c outer (opened_of (d.tasks t)) given acts (subst (λ l. Matches l (opened_of (d.tasks t))) acts (world.actions t)) stepped.given u
+        served_lies o c outer (opened_of (d.tasks t)) given acts (subst (λ l. Matches l (opened_of (d.tasks t))) acts (runner_matches program (record { kernel = k; rest = d }) world t runs)) stepped.given u
 
     effect_lies : (e : Effect) (u : ℕ) → Lies (tasks_after (ending k t e) given u)
     effect_lies (Ends b) u = ended_lies b (k.actions t) refl u
@@ -219,20 +233,42 @@ task_lies s (Some t) = by_duty t.duty
     by_duty (OfBody b) = duty_lies s b.declarations (Sequence b.statements b.handlers ∷ []) (tt, tt)
     by_duty (OfMain xs) = main_lies s xs
 
+-- a handler has no parameters, and its body begins in their subtypes
+procedure_lies : (program : Program) → IsBegun program → (a : Attached) → IsSoundHandler program a → TaskLies program.scope (procedure_work a.object (procedure_among program.procedures (Some a.object) a.name))
+procedure_lies program begun a h =
+    subst (λ o. TaskLies program.scope (procedure_work a.object o)) (sym h.is)
+    (record {
+      work = body_lies program.scope h.procedure (EndsCall [] (Some a.object) []) [] (begun.procedures (Some a.object) a.name h.procedure h.is) tt tt;
+      own = subst (λ ps. ObjectsLie program.scope (bound ps [])) (sym h.plain) tt;
+      callers = (tt, tt);
+    })
+
+none_lies : (s : Scope) (items : List Item) → ItemsLie s items → TaskLies s (items_work items)
+none_lies s items l = record { work = l; own = tt; callers = tt }
+
+pub initial_lies : (program : Program) → IsSoundStart program → IsBegun program → (u : ℕ) → TaskLies program.scope (initial_work program u)
+initial_lies program start begun u = by_number (nat_lt u (length program.tasks))
+  where
+    by_handler : (o : Option Attached) → handler_at (u - length program.tasks) program.handlers ≡ o → TaskLies program.scope (handler_work program o)
+    by_handler None e = none_lies program.scope [] tt
+    by_handler (Some a) e = procedure_lies program begun a (start.handlers (u - length program.tasks) a e)
+
+    by_number : (b : Bool)
+        → TaskLies program.scope (cond b (task_work program u) (handler_work program (handler_at (u - length program.tasks) program.handlers)))
+    by_number true = none_lies program.scope (task_items (slice_get program.tasks u)) (task_lies program.scope (slice_get program.tasks u))
+    by_number false = by_handler (handler_at (u - length program.tasks) program.handlers) refl
+
 last_step : {D : Type 0} (f : Local D) (n : ℕ) (w : World D) → run f (suc n) w ≡ step f (run f n w)
 last_step f zero w = refl
 last_step f (suc n) w = last_step f n (step f w)
 
 pub runs_keep_subtypes : StepsKeepSubtypes → RunsAreSound → ((program : Program) → IsSoundStart program → Premises program) → RunsKeepSubtypes
 runs_keep_subtypes steps runs premises program schedule zero sound start =
-    record {
-      store = start.store;
-      tasks = λ u. record { work = task_lies program.scope (slice_get program.tasks u); own = tt; callers = tt };
-    }
+    record { store = start.store; tasks = initial_lies program sound start.begun }
 runs_keep_subtypes steps runs premises program schedule (suc n) sound start =
-    subst (WorldLies program) (sym (last_step (among (program_behaviour program schedule)) n (start_of program)))
+    subst (WorldLies program) (sym (last_step (among (program_behaviour program schedule)) n (start_of program schedule)))
     (by_world (run_of program schedule n) (runs program schedule n sound) (runs_keep_subtypes steps runs premises program schedule n sound start))
   where
     by_world : (w : SourceWorld) → IsSoundWorld program w → WorldLies program w → WorldLies program (step (among (program_behaviour program schedule)) w)
     by_world w world lies =
-        step_lies steps program schedule (premises program sound) start w.kernel w.rest w.kernel.outcome w.kernel.running refl world lies
+        step_lies steps program schedule (premises program sound) start (initial_lies program sound start.begun) w.kernel w.rest w.kernel.outcome w.kernel.running refl world lies

@@ -1,11 +1,11 @@
 -- Declarations of a legal package and their bodies: each has one, like it.
-use Rattle.std.proofs.Common.{◌≡◌, ◌++◌, ℕ, List, [], ◌∷◌, map, Bool, true, false, not, ◌||◌, ◌⊎◌, inl, inr, Some, refl, sym, ap, ◌∙◌}
+use Rattle.std.proofs.Common.{◌≡◌, ◌++◌, ℕ, List, [], ◌∷◌, map, Bool, true, false, not, ◌||◌, ◌⊎◌, inl, inr, Option, Some, refl, sym, ap, ◌∙◌}
 use Rattle.std.specs.List.{list_any}
 use Rattle.std.proofs.lemmas.Bool.{or_parts}
 use Rattle.std.proofs.lemmas.List.{append_assoc, append-nil}
 use Rattle.expr_soundness.specs.base.specs.declared.faults.TheConstants.{UNMATCHED_BODY}
 use Rattle.expr_soundness.specs.ada_tree.specs.declared.expression.Identifier.{Identifier}
-use Rattle.expr_soundness.specs.ada_tree.specs.StatementTree.{OperationTree, ProtectedTree, SubprogramTree}
+use Rattle.expr_soundness.specs.ada_tree.specs.StatementTree.{AspectTree, OperationTree, ProtectedTree, SubprogramTree}
 use Rattle.expr_soundness.specs.ada_tree.specs.StatementTree.{OfSubprogram as OfOperation}
 use Rattle.expr_soundness.specs.ada_tree.specs.ProgramTree.{BodyItemTree, BodyTree, OfItem, SubprogramBody, TaskBody, ProtectedBody, ItemTree, OfSubprogram, OfProtected, PackageTree, ProgramTree, ProtectedItemTree}
 use Rattle.expr_soundness.specs.expr_rules.specs.Faults.{rule}
@@ -281,11 +281,11 @@ module _ (t : ProgramTree) (p : PackageTree) (legal : IsLegal t) (is : t.package
       operations_at items object before o later (back_empty (missing_operation_rule items object x) (missing_operations_faults items object (before ++ o ∷ later)) h)
 
   pub operation_body : (front : List BodyItemTree) (object : ProtectedTree) (behind : List BodyItemTree) → all_items p ≡ front ++ OfItem (OfProtected object) ∷ behind
-      → (earlier : List OperationTree) (d : SubprogramTree) (later : List OperationTree) → object.operations ≡ earlier ++ OfOperation d ∷ later
+      → (earlier : List OperationTree) (d : SubprogramTree) (a : Option AspectTree) (later : List OperationTree) → object.operations ≡ earlier ++ OfOperation d a ∷ later
       → HasAt (all_items p) (has_operation object.name false d.name)
-  operation_body front object behind split earlier d later at =
+  operation_body front object behind split earlier d a later at =
       let x = has_behind front (OfProtected object) behind split in
       let test = has_operation object.name false d.name in
       let all = operations_complete x.behind object x.complete in
-      let one = operations_at x.behind object.name earlier (OfOperation d) later (ap (missing_operations_faults x.behind object.name) (sym at) ∙ all) in
+      let one = operations_at x.behind object.name earlier (OfOperation d a) later (ap (missing_operations_faults x.behind object.name) (sym at) ∙ all) in
       any_found test (all_items p) (wide test x.before x.behind x.split (asked test x.behind d.name.place one))

@@ -514,7 +514,7 @@ module _ (program : Program) (s : Scope) (all : List BodyItemTree) (w : IsPackag
 
     conforming : (i : ProtectedItemTree) (t : OperationTree) (p : Profile) → is_unlike_operation i t ≡ false → (operation_name t).name ≡ unit_name i
         → declared.is_entry t ≡ matching.operation_is_entry i → operation_profile (scope_at s all k0) t ≡ Some p → OwnProfile i p
-    conforming (OperationBody e b) (operation.OfSubprogram x) p unlike named kinds own =
+    conforming (OperationBody e b) (operation.OfSubprogram x a) p unlike named kinds own =
         let alike =
         both_true (same_formals x.formals e.formals) (same_result x.result e.result)
         (judged (same_name x.name e.name) (conforms x e) unlike (equal_bytes x.name.name e.name.name named)) in
@@ -525,7 +525,7 @@ module _ (program : Program) (s : Scope) (all : List BodyItemTree) (w : IsPackag
         sym (profile_same program.scope x.formals e.formals None None alike refl)
         ∙ profile_kept (scope_at s all k0) program.scope (kept program s all w k0) x.formals None p own
     conforming (OperationBody e b) (operation.OfEntry x) p unlike named kinds own = cc
-    conforming (EntryBody e barrier b) (operation.OfSubprogram x) p unlike named kinds own = cc
+    conforming (EntryBody e barrier b) (operation.OfSubprogram x a) p unlike named kinds own = cc
 
     pub kept_ended : (j : ℕ) (name : List ℕ) (e : Entity) → stands (at_ j) name ≡ Some e → stands ended name ≡ Some e
     kept_ended j name e h = kept_at begun inner j name e h

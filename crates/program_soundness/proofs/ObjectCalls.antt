@@ -40,8 +40,8 @@ use Rattle.program_soundness.proofs.ObjectBodies as bodies
 one_entry_from : (ts : List OperationTree) (has_entry : Bool) (k : ℕ) (t : OperationTree) → profile.entries_faults has_entry ts ≡ [] → slice_get ts k ≡ Some t
     → declared.is_entry t ≡ true → has_entry ≡ false
 one_entry_from [] b k t h at is = cc
-one_entry_from (operation.OfSubprogram d ∷ ts) b zero t h at is = let bad = ap declared.is_entry (same_some (operation.OfSubprogram d) t at) ∙ is in cc
-one_entry_from (operation.OfSubprogram d ∷ ts) b (suc k) t h at is = one_entry_from ts b k t h at is
+one_entry_from (operation.OfSubprogram d a ∷ ts) b zero t h at is = let bad = ap declared.is_entry (same_some (operation.OfSubprogram d a) t at) ∙ is in cc
+one_entry_from (operation.OfSubprogram d a ∷ ts) b (suc k) t h at is = one_entry_from ts b k t h at is
 one_entry_from (operation.OfEntry d ∷ ts) b k t h at is = unbroken _ d.place b (front_empty _ (profile.entries_faults true ts) h)
 
 one_entry : (ts : List OperationTree) (b : Bool) (j k : ℕ) (t u : OperationTree) → profile.entries_faults b ts ≡ [] → slice_get ts j ≡ Some t
@@ -49,13 +49,13 @@ one_entry : (ts : List OperationTree) (b : Bool) (j k : ℕ) (t u : OperationTre
     → declared.is_entry t ≡ true → declared.is_entry u ≡ true → t ≡ u
 one_entry [] b j k t u h at there is other = cc
 one_entry (x ∷ ts) b zero zero t u h at there is other = sym (same_some x t at) ∙ same_some x u there
-one_entry (operation.OfSubprogram d ∷ ts) b (suc j) (suc k) t u h at there is other = one_entry ts b j k t u h at there is other
+one_entry (operation.OfSubprogram d a ∷ ts) b (suc j) (suc k) t u h at there is other = one_entry ts b j k t u h at there is other
 one_entry (operation.OfEntry d ∷ ts) b (suc j) (suc k) t u h at there is other =
     one_entry ts true j k t u (back_empty _ (profile.entries_faults true ts) h) at there is other
-one_entry (operation.OfSubprogram d ∷ ts) b zero (suc k) t u h at there is other =
-    let bad = ap declared.is_entry (same_some (operation.OfSubprogram d) t at) ∙ is in cc
-one_entry (operation.OfSubprogram d ∷ ts) b (suc j) zero t u h at there is other =
-    let bad = ap declared.is_entry (same_some (operation.OfSubprogram d) u there) ∙ other in cc
+one_entry (operation.OfSubprogram d a ∷ ts) b zero (suc k) t u h at there is other =
+    let bad = ap declared.is_entry (same_some (operation.OfSubprogram d a) t at) ∙ is in cc
+one_entry (operation.OfSubprogram d a ∷ ts) b (suc j) zero t u h at there is other =
+    let bad = ap declared.is_entry (same_some (operation.OfSubprogram d a) u there) ∙ other in cc
 one_entry (operation.OfEntry d ∷ ts) b zero (suc k) t u h at there is other =
     absurd (not_both true refl (one_entry_from ts true k u (back_empty _ (profile.entries_faults true ts) h) there other))
 one_entry (operation.OfEntry d ∷ ts) b (suc j) zero t u h at there is other =
@@ -268,7 +268,7 @@ module _ (program : Program) (s : Scope) (all : List BodyItemTree) (w : IsPackag
       entries_legal : profile.entries_faults false (bodies.d program s all w k nm items end_name at).operations ≡ []
       entries_legal =
           let mine = bodies.declared_at program s all w k nm items end_name at in
-          back_empty _ (profile.entries_faults false mine.tree.operations) (restricted_at s all w.list mine.place (OfItem (OfProtected mine.tree)) mine.at)
+          back_empty _ (profile.entries_faults false mine.tree.operations) (front_empty _ _ (restricted_at s all w.list mine.place (OfItem (OfProtected mine.tree)) mine.at))
 
       single : (j : ℕ) (i : ProtectedItemTree) → slice_get items j ≡ Some i → is_second_operation (take j items) i ≡ false
       single j i h = (bodies.item_matched program s all w k nm items end_name at j i h).0

@@ -67,14 +67,14 @@ pub record IsDeclared (s : Scope) (operations : List OperationTree) (k : ℕ) (o
   pub kind : o.is_entry ≡ is_entry tree
   pub profile : operation_profile s tree ≡ Some o.profile
 
-record HasTwo (s : Scope) (t : OperationTree) (ts : List OperationTree) (os : List Operation) : Type 0 where
-  profile : Profile
-  rest : List Operation
-  own : operation_profile s t ≡ Some profile
-  further : object_operations s ts ≡ Some rest
-  is : os ≡ record { name = (operation_name t).name; is_entry = is_entry t; profile = profile } ∷ rest
+pub record HasTwo (s : Scope) (t : OperationTree) (ts : List OperationTree) (os : List Operation) : Type 0 where
+  pub profile : Profile
+  pub rest : List Operation
+  pub own : operation_profile s t ≡ Some profile
+  pub further : object_operations s ts ≡ Some rest
+  pub is : os ≡ record { name = (operation_name t).name; is_entry = is_entry t; profile = profile } ∷ rest
 
-first_operation : (s : Scope) (t : OperationTree) (ts : List OperationTree) (os : List Operation) → object_operations s (t ∷ ts) ≡ Some os → HasTwo s t ts os
+pub first_operation : (s : Scope) (t : OperationTree) (ts : List OperationTree) (os : List Operation) → object_operations s (t ∷ ts) ≡ Some os → HasTwo s t ts os
 first_operation s t ts os h = by_parts (operation_profile s t) (object_operations s ts) refl refl h
   where
     by_parts : (p : Option Profile) (r : Option (List Operation)) → operation_profile s t ≡ p → object_operations s ts ≡ r → operation_and t p r ≡ Some os

@@ -14,7 +14,7 @@ use Rattle.expr_soundness.specs.expr_rules.proofs.TypedLaw.{back_empty, front_em
 use Rattle.expr_soundness.specs.type_rules.specs.SubtypeNames.{declared_twice, end_rule}
 use Rattle.declaring.specs.ProtectedRules.{default_ceiling, is_entry, object_components, object_operations, object_with, operation_and, operation_name, operation_profile, operations_faults, parts_faults, protected_entity, protected_faults}
 use Rattle.declaring.specs.TaskRules.{aspect_faults, priority_of}
-use Rattle.expr_soundness.specs.base.specs.declared.limits.TheConstants.{TASK_PRIORITY}
+use Rattle.expr_soundness.specs.base.specs.declared.limits.TheConstants.{CEILING, TASK_PRIORITY}
 use Rattle.legality.specs.MainRules.{item_name}
 use Rattle.declaring.specs.PackageNames.{body_item_scope}
 use Rattle.checking.specs.ProgramRules.{IsLegal}
@@ -172,7 +172,7 @@ module _ (t : ProgramTree) (p : PackageTree) (legal : IsLegal t) (is : t.package
   object_entity front d behind split =
       let s = scope_of p front in
       let x = object_known s (at t p legal is front (OfItem (OfProtected d)) behind split).sound d (object_faults front d behind split).0 in
-      (_, λ j. object_with (protected_count s) (priority_of s TASK_PRIORITY default_ceiling d.aspect) (x.operations.is j) (x.components.is j))
+      (_, λ j. object_with (protected_count s) (priority_of s CEILING (default_ceiling d.operations) d.aspect) (x.operations.is j) (x.components.is j))
 
   -- ---- counts
 

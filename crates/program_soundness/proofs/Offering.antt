@@ -98,12 +98,12 @@ missing_at behind object (x ∷ xs) (suc k) t h at =
 
 operation_behind : (behind : List BodyItemTree) (object : Identifier) (t : OperationTree) → missing_operation_rule behind object t ≡ []
     → list_any (has_operation object (declared.is_entry t) (declared.operation_name t)) behind ≡ true
-operation_behind behind object (operation.OfSubprogram d) h = not_true (list_any (has_operation object false d.name) behind) (unbroken _ d.name.place _ h)
+operation_behind behind object (operation.OfSubprogram d a) h = not_true (list_any (has_operation object false d.name) behind) (unbroken _ d.name.place _ h)
 operation_behind behind object (operation.OfEntry d) h = not_true (list_any (has_operation object true d.name) behind) (unbroken _ d.name.place _ h)
 
 entry_no_result : (s : Scope) (t : OperationTree) (p : Profile) → declared.is_entry t ≡ true → declared.operation_profile s t ≡ Some p → p.result ≡ None
 entry_no_result s (operation.OfEntry d) p h own = profile_none s (formal_parameters s d.formals) p own
-entry_no_result s (operation.OfSubprogram d) p h own = cc
+entry_no_result s (operation.OfSubprogram d a) p h own = cc
 
 module _ (program : Program) (s : Scope) (all : List BodyItemTree) (w : IsPackage program s all) where
   module _ (k : ℕ) (nm : Identifier) (items : List ProtectedItemTree) (end_name : Identifier) (at : slice_get all k ≡ Some (ProtectedBody nm items end_name))

@@ -20,6 +20,7 @@ use Rattle.legality.specs.PackageRules.{behind_faults, specification_faults}
 use Rattle.legality.specs.PackageRules as rules
 use Rattle.checking.specs.LikeNames.{behind_item_faults, between_faults, body_like_faults, like_rule, specification_like_faults, specified_faults, behind_specified_faults, like_name_faults}
 use Rattle.checking.specs.ProgramRules.{package_part_faults}
+use Rattle.ravenscar.specs.HandlerRules.{none_taken}
 use Rattle.ravenscar.specs.ProgramRules as profile
 use Rattle.program_soundness.specs.Fronts.{declared_in, scope_at, start_in}
 use Rattle.program_soundness.proofs.Listing.{same_some}
@@ -41,14 +42,21 @@ legal_joined s (d ∷ ds) body h k =
     let rest = items_faults (item_scope s d) ds in
     both_empty (item_faults s d) _ (front_empty (item_faults s d) rest h) (legal_joined (item_scope s d) ds body (back_empty (item_faults s d) rest h) k)
 
-restricted_joined : (s : Scope) (ds : List ItemTree) (body : List BodyItemTree) → profile.items_faults s ds ≡ []
-    → profile.body_items_faults (items_scope s ds) body ≡ []
-    → profile.body_items_faults s (map OfItem ds ++ body) ≡ []
-restricted_joined s [] body h k = k
-restricted_joined s (d ∷ ds) body h k =
-    let rest = profile.items_faults (item_scope s d) ds in
-    both_empty (profile.item_faults s d) _ (front_empty (profile.item_faults s d) rest h)
-    (restricted_joined (item_scope s d) ds body (back_empty (profile.item_faults s d) rest h) k)
+restricted_joined : (s : Scope) (taken : List Bool) (ds : List ItemTree) (body : List BodyItemTree) → profile.items_faults s taken ds ≡ []
+    → profile.body_items_faults (items_scope s ds) (profile.taken_by_items s taken ds) body ≡ []
+    → profile.body_items_faults s taken (map OfItem ds ++ body) ≡ []
+restricted_joined s taken [] body h k = k
+restricted_joined s taken (d ∷ ds) body h k =
+    let next = profile.taken_by_item s taken d in
+    let rest = profile.items_faults (item_scope s d) next ds in
+    both_empty (profile.item_faults s taken d) _ (front_empty (profile.item_faults s taken d) rest h)
+    (restricted_joined (item_scope s d) next ds body (back_empty (profile.item_faults s taken d) rest h) k)
+
+-- the channels that have handlers in front of a place
+abbrev pub taken_before : Scope → (taken : List Bool) → List BodyItemTree → (place : ℕ) → List Bool
+taken_before s taken [] place = taken
+taken_before s taken (x ∷ xs) zero = taken
+taken_before s taken (x ∷ xs) (suc place) = taken_before (body_item_scope s x) (profile.taken_by_body_item s taken x) xs place
 
 -- ---- bodies and declarations
 
@@ -74,7 +82,7 @@ is_object_body name i = false
 operations_behind : (ds : List ItemTree) (body : List BodyItemTree) (object : Identifier) (os : List OperationTree)
     → missing_operations_faults (map OfItem ds ++ body) object os ≡ missing_operations_faults body object os
 operations_behind ds body object [] = refl
-operations_behind ds body object (operation.OfSubprogram d ∷ os) =
+operations_behind ds body object (operation.OfSubprogram d a ∷ os) =
     let same = any_behind (has_operation object false d.name) ds body (λ i. refl) in
     let rest = operations_behind ds body object os in λ j. rule UNMATCHED_BODY d.name.place (not (same j)) ++ rest j
 operations_behind ds body object (operation.OfEntry d ∷ os) =
@@ -181,7 +189,7 @@ pub record IsLegalList (s : Scope) (all : List BodyItemTree) : Type 0 where
   pub legal : body_items_faults s all ≡ []
   pub matched : items_matching [] [] all ≡ []
   pub like : body_like_faults all ≡ []
-  pub restricted : profile.body_items_faults s all ≡ []
+  pub restricted : profile.body_items_faults s none_taken all ≡ []
 
 package_legal : (p : PackageTree) → package_part_faults standard (Some p) ≡ [] → profile.package_faults p ≡ []
     → IsLegalList (inside_scope standard p) (map OfItem p.declaration.items ++ p.body.items)
@@ -205,9 +213,10 @@ package_legal p h k =
           (ap (λ l. items_matching [] l body) (sym (append-nil (map OfItem ds))) ∙ items_same ds [] body ∙ matched);
       like = like_joined ds body (front_empty _ (body_like_faults body) like) (back_empty (specification_like_faults body ds) (body_like_faults body) like);
       restricted =
-          restricted_joined (inside_scope standard p) ds body
-          (front_empty _ (profile.body_items_faults (specified_scope standard p) body) k)
-          (back_empty (profile.items_faults (inside_scope standard p) ds) (profile.body_items_faults (specified_scope standard p) body) k);
+          let first = inside_scope standard p in
+          let first_faults = profile.items_faults first none_taken ds in
+          let later = profile.body_items_faults (specified_scope standard p) (profile.taken_by_items first none_taken ds) body in
+          restricted_joined first none_taken ds body (front_empty first_faults later k) (back_empty first_faults later k);
     }
 
 pub all_legal : (o : Option PackageTree) → package_part_faults standard o ≡ [] → profile.package_part_faults o ≡ [] → IsLegalList (start_in o) (declared_in o)
@@ -239,14 +248,16 @@ module _ (s : Scope) (all : List BodyItemTree) (whole : IsLegalList s all) where
   pub like_at : (k : ℕ) (d : ProtectedTree) → slice_get all k ≡ Some (OfItem (OfProtected d)) → between_faults d (drop (suc k) all) ≡ []
   like_at k d at = like_from all k (OfItem (OfProtected d)) whole.like at
 
-  restricted_from : (u : Scope) (rest : List BodyItemTree) (k : ℕ) (i : BodyItemTree) → profile.body_items_faults u rest ≡ [] → slice_get rest k ≡ Some i
-      → profile.body_item_faults (scope_at u rest k) i ≡ []
-  restricted_from u [] k i h at = cc
-  restricted_from u (x ∷ xs) zero i h at =
-      subst (λ y. profile.body_item_faults u y ≡ []) (same_some x i at)
-      (front_empty (profile.body_item_faults u x) (profile.body_items_faults (body_item_scope u x) xs) h)
-  restricted_from u (x ∷ xs) (suc k) i h at =
-      restricted_from (body_item_scope u x) xs k i (back_empty (profile.body_item_faults u x) (profile.body_items_faults (body_item_scope u x) xs) h) at
+  restricted_from : (u : Scope) (taken : List Bool) (rest : List BodyItemTree) (k : ℕ) (i : BodyItemTree) → profile.body_items_faults u taken rest ≡ []
+      → slice_get rest k ≡ Some i → profile.body_item_faults (scope_at u rest k) (taken_before u taken rest k) i ≡ []
+  restricted_from u taken [] k i h at = cc
+  restricted_from u taken (x ∷ xs) zero i h at =
+      subst (λ y. profile.body_item_faults u taken y ≡ []) (same_some x i at)
+      (front_empty (profile.body_item_faults u taken x) (profile.body_items_faults (body_item_scope u x) (profile.taken_by_body_item u taken x) xs) h)
+  restricted_from u taken (x ∷ xs) (suc k) i h at =
+      let next = profile.taken_by_body_item u taken x in
+      restricted_from (body_item_scope u x) next xs k i
+      (back_empty (profile.body_item_faults u taken x) (profile.body_items_faults (body_item_scope u x) next xs) h) at
 
-  pub restricted_at : (k : ℕ) (i : BodyItemTree) → slice_get all k ≡ Some i → profile.body_item_faults (scope_at s all k) i ≡ []
-  restricted_at k i at = restricted_from s all k i whole.restricted at
+  pub restricted_at : (k : ℕ) (i : BodyItemTree) → slice_get all k ≡ Some i → profile.body_item_faults (scope_at s all k) (taken_before s none_taken all k) i ≡ []
+  restricted_at k i at = restricted_from s none_taken all k i whole.restricted at

@@ -32,7 +32,7 @@ use Rattle.expr_soundness.proofs.Positions.{item_of_added}
 use Rattle.expr_soundness.specs.meaning.specs.Programs.{Duty, OfBody, OfMain, Parameter, Procedure, Program, Task, body_among, items_among, task_with, tasks_among}
 use Rattle.expr_soundness.specs.meaning.specs.Works.{Activation, Declares, DoesMain, Goes, Item, Sequence, Store, TaskWork}
 use Rattle.expr_soundness.specs.meaning.specs.Calls.{procedure_among, procedure_here}
-use Rattle.expr_soundness.specs.meaning.specs.Source.{duty_items, initial_work, task_items}
+use Rattle.expr_soundness.specs.meaning.specs.Source.{duty_items, items_work, task_items, task_work}
 use Rattle.step_soundness.specs.Fitting.{FitsScope, formal_of}
 use Rattle.step_soundness.specs.Judged.{Begins, IsMainStatement, IsPlain, IsReady, Judged}
 use Rattle.step_soundness.specs.Holding.{IsSoundProcedure, IsSoundTask}
@@ -162,7 +162,7 @@ no_package : (b : Bool) (first : Identifier) → no_package_rule b first ≡ [] 
 no_package true first h = cc
 no_package false first h = cc
 
-no_formals : (qs : List Parameter) → map formal_of qs ≡ [] → qs ≡ []
+pub no_formals : (qs : List Parameter) → map formal_of qs ≡ [] → qs ≡ []
 no_formals [] h = refl
 no_formals (q ∷ qs) h = cc
 
@@ -342,22 +342,23 @@ module _ (program : Program) (s : Scope) (all : List BodyItemTree) (w : IsPackag
 
   -- ---- all works
 
-  abbrev work_of : List Item → TaskWork
-  work_of items = record { work = Goes items; own = record { within = None; locals = [] }; callers = [] }
+  -- where nothing is to do
+  pub none_sound : IsSoundTask program m None (items_work [])
+  none_sound = main_sound [] tt
 
   pub works_sound : (last : Task) (xs : List MainStatement) → program.tasks ≡ tasks_among program.scope all (items_among all) ++ last ∷ []
       → last.duty ≡ OfMain xs → AllMain xs
-      → (u : ℕ) → IsSoundTask program m None (initial_work program u)
+      → (u : ℕ) → IsSoundTask program m None (task_work program u)
   works_sound last xs are main_is called u = by_task (slice_get program.tasks u) refl
     where
       by_duty : (t : Task)
           → (slice_get (tasks_among program.scope all (items_among all)) u ≡ Some t) ⊎ ((u ≡ length (tasks_among program.scope all (items_among all))) × (last ≡ t))
-          → IsSoundTask program m None (work_of (duty_items t.duty))
+          → IsSoundTask program m None (items_work (duty_items t.duty))
       by_duty t (inl at) =
           let d = task_found program.scope all (items_among all) t (at_has (tasks_among program.scope all (items_among all)) u t at) in
-          subst (λ x. IsSoundTask program m None (work_of (duty_items x))) (sym d.is) (task_sound d.place d.name d.body d.at)
-      by_duty t (inr i) = subst (λ x. IsSoundTask program m None (work_of (duty_items x))) (sym main_is ∙ ap (λ y. y.duty) i.1) (main_sound xs called)
+          subst (λ x. IsSoundTask program m None (items_work (duty_items x))) (sym d.is) (task_sound d.place d.name d.body d.at)
+      by_duty t (inr i) = subst (λ x. IsSoundTask program m None (items_work (duty_items x))) (sym main_is ∙ ap (λ y. y.duty) i.1) (main_sound xs called)
 
-      by_task : (o : Option Task) → slice_get program.tasks u ≡ o → IsSoundTask program m None (work_of (task_items o))
+      by_task : (o : Option Task) → slice_get program.tasks u ≡ o → IsSoundTask program m None (items_work (task_items o))
       by_task (Some t) i = by_duty t (item_of_added (tasks_among program.scope all (items_among all)) last t u (ap (λ l. slice_get l u) (sym are) ∙ i))
-      by_task None i = main_sound [] tt
+      by_task None i = none_sound

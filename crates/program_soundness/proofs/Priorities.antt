@@ -1,8 +1,8 @@
 -- Priorities and ceilings of a program are in their range, whatever its aspects are.
-use Rattle.std.proofs.Common.{◌≡◌, ◌++◌, ◌<◌, ◌≤◌, ℕ, zero, suc, pos, negsuc, List, [], ◌∷◌, map, Bool, true, false, Option, Some, None, refl, sym, subst, arith}
+use Rattle.std.proofs.Common.{◌≡◌, ◌++◌, ◌<◌, ◌≤◌, ℕ, zero, suc, pos, negsuc, List, [], ◌∷◌, length, map, Bool, true, false, Option, Some, None, refl, sym, subst, arith}
 use Rattle.std.specs.Prelude.{⊤, cond, nat_eq, nat_le, slice_get}
 use Rattle.std.proofs.lemmas.Bool.{and_parts, leb-true}
-use Rattle.expr_soundness.specs.base.specs.declared.limits.TheConstants.{PRIORITIES, TASK_PRIORITY}
+use Rattle.expr_soundness.specs.base.specs.declared.limits.TheConstants.{CEILING, PRIORITIES, TASK_PRIORITY}
 use Rattle.expr_soundness.specs.ada_tree.specs.StatementTree.{AspectTree, TaskTree}
 use Rattle.expr_soundness.specs.ada_tree.specs.ProgramTree.{BodyItemTree, OfItem, SubprogramBody, TaskBody, ProtectedBody, ItemTree, OfType, OfObject, OfException, OfSubprogram, OfTask, OfProtected, PackageTree, ProgramTree}
 use Rattle.types.specs.declared.entity.RecordComponent.{RecordComponent}
@@ -12,13 +12,13 @@ use Rattle.types.specs.Scopes.{Named, Scope, integer_type, is_visible, standard,
 use Rattle.types.specs.Values.{Value, Number, Truth, Array, Record}
 use Rattle.expr_soundness.specs.expr_rules.specs.StaticRules.{static_scalar}
 use Rattle.expr_soundness.specs.expr_rules.specs.declared.own.Wanted.TheVariants as wanted
-use Rattle.declaring.specs.ProtectedRules.{default_ceiling, object_components, object_operations, object_with, protected_count}
+use Rattle.declaring.specs.ProtectedRules.{default_ceiling, has_handler, object_components, object_operations, object_with, protected_count}
 use Rattle.declaring.specs.TaskRules.{default_priority, priority_of, priority_within}
 use Rattle.kernel.specs.Invariant.{Fits}
 use Rattle.legality.specs.MainRules.{item_name}
 use Rattle.declaring.specs.PackageNames.{body_item_scope, body_items_scope, optional_scope, program_scope, units_scope}
 use Rattle.checking.proofs.Made.{NoUnits, clauses_seen, seen}
-use Rattle.expr_soundness.specs.meaning.specs.Programs.{Duty, Task, base_priority, body_among, main_task, package_bodies, package_items, priority_or_zero, program_of, program_partition, task_with, tasks_among}
+use Rattle.expr_soundness.specs.meaning.specs.Programs.{Duty, Task, base_priority, body_among, main_task, package_bodies, package_items, priority_or_highest, program_of, program_partition, task_with, tasks_among}
 use Rattle.expr_soundness.specs.type_rules.specs.ProfileRules.{profile_entity}
 use Rattle.program_soundness.proofs.Declaring.{all_simple, definition_plain, is_protected, is_simple, package_object_plain, profile_plain, seen_simple, simple_kinds}
 use Rattle.program_soundness.proofs.Origins.{body_scope_is, declared_item, front_scope, item_named}
@@ -69,10 +69,16 @@ tasks_low s bodies (OfException d ∷ items) = tasks_low s bodies items
 tasks_low s bodies (OfSubprogram d ∷ items) = tasks_low s bodies items
 tasks_low s bodies (OfProtected d ∷ items) = tasks_low s bodies items
 
-task_low : (ts : List Task) (n : ℕ) → AreLow ts → priority_or_zero (slice_get ts n) < PRIORITIES
+task_low : (ts : List Task) (n : ℕ) → AreLow ts → priority_or_highest (slice_get ts n) < PRIORITIES
 task_low [] n h = omega arith
 task_low (t ∷ ts) zero h = h.0
 task_low (t ∷ ts) (suc n) h = task_low ts n h.1
+
+-- beyond the tasks are actors
+past_highest : (ts : List Task) (n : ℕ) → length ts ≤ n → suc (priority_or_highest (slice_get ts n)) ≡ PRIORITIES
+past_highest [] n h = omega arith
+past_highest (t ∷ ts) zero h = absurd (omega (arith, h))
+past_highest (t ∷ ts) (suc n) h = past_highest ts n (omega (arith, h))
 
 -- ---- protected objects
 
@@ -104,6 +110,11 @@ object_low number ceiling (Some a) (Some b) h = h
 object_low number ceiling (Some a) None h = tt
 object_low number ceiling None b h = tt
 
+-- the ceiling of an object without an aspect
+default_low : (b : Bool) → elim b [ true ↦ CEILING | false ↦ TASK_PRIORITY ] ≤ CEILING
+default_low true = omega arith
+default_low false = omega arith
+
 item_low : (s : Scope) (d : ItemTree) → IsLow (declared_item s d)
 item_low s (OfType d) = low_other (declared_item s (OfType d)) (definition_plain is_protected refl (λ form t. refl) (λ t. refl) s d.definition)
 item_low s (OfObject d) = low_other (declared_item s (OfObject d)) (package_object_plain is_protected refl (λ r t. refl) (λ t v. refl) s d)
@@ -111,8 +122,8 @@ item_low s (OfException name) = tt
 item_low s (OfSubprogram d) = low_other (profile_entity (profile_of s d)) (profile_plain is_protected refl (λ p. refl) (profile_of s d))
 item_low s (OfTask d) = tt
 item_low s (OfProtected d) =
-    let low = aspect_low s TASK_PRIORITY default_ceiling d.aspect (omega arith) in
-    object_low (protected_count s) (priority_of s TASK_PRIORITY default_ceiling d.aspect) (object_operations s d.operations) (object_components s d.components) (omega (arith, low))
+    let low = aspect_low s CEILING (default_ceiling d.operations) d.aspect (default_low (has_handler d.operations)) in
+    object_low (protected_count s) (priority_of s CEILING (default_ceiling d.operations) d.aspect) (object_operations s d.operations) (object_components s d.components) (omega (arith, low))
 
 step_low : (s : Scope) (i : BodyItemTree) → AllLow s → AllLow (body_item_scope s i)
 step_low s (OfItem d) h = subst AllLow (sym (item_named s d)) (low_named s (item_name d).name (declared_item s d) h (item_low s d))
@@ -158,4 +169,4 @@ partition_fits t =
     let s = program_scope t in
     let tasks = low_all (tasks_among s (package_bodies t.package_) (package_items t.package_)) (main_task s t ∷ []) (tasks_low s (package_bodies t.package_) (package_items t.package_))
     (base_low s t.main.aspect, tt) in
-    record { base_low = λ n. task_low (program_of t).tasks n tasks; ceiling_low = λ o. ceiling_low s o (program_low t) }
+    record { base_low = λ n. task_low (program_of t).tasks n tasks; ceiling_low = λ o. ceiling_low s o (program_low t); urgent = λ u beyond. past_highest (program_of t).tasks u beyond }

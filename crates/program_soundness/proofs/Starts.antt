@@ -9,7 +9,7 @@ use Rattle.step_soundness.specs.Holding.{SameObjects}
 use Rattle.step_soundness.specs.Objects.{first_store}
 use Rattle.step_soundness.specs.Starting.{IsSoundStart}
 use Rattle.program_soundness.specs.ScopeLaws.{BarriersAreTheirOwn, ObjectsAreSound, PartitionsFit}
-use Rattle.program_soundness.specs.BodyLaws.{HasSoundBodies, IsSoundMemory, PremisesHold, ProceduresAreSound, WorksAreSound}
+use Rattle.program_soundness.specs.BodyLaws.{HandlersAreSound, HasSoundBodies, IsSoundMemory, PremisesHold, ProceduresAreSound, WorksAreSound}
 use Rattle.program_soundness.specs.FunctionLaws.{ProgramFunctionsAreSound}
 use Rattle.program_soundness.specs.RunLaws.{RunsHaveMeaning}
 use Rattle.program_soundness.specs.ProgramLaws.{ProgramsHaveMeaning, StartsAreSound}
@@ -21,6 +21,7 @@ pub record LawsBelow : Type 0 where
   pub premises : PremisesHold
   pub functions : ProgramFunctionsAreSound
   pub procedures : ProceduresAreSound
+  pub handlers : HandlersAreSound
   pub works : WorksAreSound
 
 module _ (laws : LawsBelow) (t : ProgramTree) (legal : IsLegal t) (restricted : IsRestricted t) where
@@ -53,6 +54,7 @@ module _ (laws : LawsBelow) (t : ProgramTree) (legal : IsLegal t) (restricted : 
           components = memory.components;
           same = same;
         };
+        handlers = laws.handlers t first legal restricted memory;
         works = laws.works t first legal restricted memory;
       }
 

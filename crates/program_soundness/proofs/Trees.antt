@@ -171,7 +171,7 @@ items_joined : (ds : List ItemTree) (body : List BodyItemTree) → ds ++ items_a
 items_joined [] body = refl
 items_joined (d ∷ ds) body = ap (λ l. d ∷ l) (items_joined ds body)
 
-items_are : (o : Option PackageTree) → package_items o ≡ items_among (declared_in o)
+pub items_are : (o : Option PackageTree) → package_items o ≡ items_among (declared_in o)
 items_are (Some p) = items_joined p.declaration.items p.body.items
 items_are None = refl
 

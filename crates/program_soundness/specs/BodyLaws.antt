@@ -12,7 +12,7 @@ use Rattle.legality.specs.ProtectedBodyRules.{operation_sees, protected_items_sc
 use Rattle.checking.specs.ProgramRules.{IsLegal}
 use Rattle.ravenscar.specs.ProgramRules.{IsRestricted}
 use Rattle.expr_soundness.specs.SoundScopes.{SoundScope}
-use Rattle.expr_soundness.specs.meaning.specs.Programs.{Procedure, Program, program_of}
+use Rattle.expr_soundness.specs.meaning.specs.Programs.{Attached, Procedure, Program, handler_at, program_of}
 use Rattle.expr_soundness.specs.meaning.specs.Works.{Store}
 use Rattle.expr_soundness.specs.meaning.specs.Calls.{procedure_among}
 use Rattle.expr_soundness.specs.meaning.specs.Source.{initial_work}
@@ -20,6 +20,7 @@ use Rattle.step_soundness.specs.Objects.{AreSoundObjects, first_store}
 use Rattle.step_soundness.specs.Fitting.{FitsScope, entry_of}
 use Rattle.step_soundness.specs.Holding.{IsSoundProcedure, IsSoundTask, SameObjects, inside}
 use Rattle.step_soundness.specs.Laws.{Premises}
+use Rattle.step_soundness.specs.Starting.{IsSoundHandler}
 use Rattle.program_soundness.specs.Fronts.{declared_in, front}
 
 -- ---- the names of an accepted program
@@ -71,7 +72,12 @@ pub record HasSoundBodies (program : Program) (m : Store) : Type 0 where
 abbrev pub ProceduresAreSound : Type 0
 ProceduresAreSound = (t : ProgramTree) (m : Store) → IsLegal t → IsRestricted t → IsSoundMemory (program_of t) m → HasSoundBodies (program_of t) m
 
--- Each task begins with work that breaks no rule, and so does main; behind the last one there is none (RM 9.2, 10.2).
+-- The handlers of channels are procedures without parameters, of objects with the highest ceiling (RM C.3.1).
+abbrev pub HandlersAreSound : Type 0
+HandlersAreSound = (t : ProgramTree) (m : Store) → IsLegal t → IsRestricted t → IsSoundMemory (program_of t) m
+    → (channel : ℕ) (a : Attached) → handler_at channel (program_of t).handlers ≡ Some a → IsSoundHandler (program_of t) a
+
+-- Each task begins with work that breaks no rule, and so do main and handlers; behind them there is none (RM 9.2, 10.2, C.3.1).
 abbrev pub WorksAreSound : Type 0
 WorksAreSound = (t : ProgramTree) (m : Store) → IsLegal t → IsRestricted t → IsSoundMemory (program_of t) m
     → (u : ℕ) → IsSoundTask (program_of t) m None (initial_work (program_of t) u)

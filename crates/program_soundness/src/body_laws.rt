@@ -1,5 +1,5 @@
 //! The laws of the bodies of an accepted program, each what a function without work ensures.
-ghost use Rattle.program_soundness.specs.BodyLaws.{FrontsFit, NamesAreKnown, PremisesHold, ProceduresAreSound, WorksAreSound};
+ghost use Rattle.program_soundness.specs.BodyLaws.{FrontsFit, HandlersAreSound, NamesAreKnown, PremisesHold, ProceduresAreSound, WorksAreSound};
 
 use crate::scope_laws::declarations_are_sound;
 use declaring::laws::names_are_added;
@@ -46,7 +46,16 @@ pub fn procedures_are_sound()
     premises_hold();
 }
 
-/// Tasks and main begin with work that breaks no rule (RM 9.2, 10.2).
+/// The handlers of channels are procedures without parameters, of objects with the highest ceiling (RM C.3.1).
+pub fn handlers_are_sound()
+    ensures { HandlersAreSound }
+{
+    scopes_are_sound();
+    names_are_known();
+    premises_hold();
+}
+
+/// Tasks, main and handlers begin with work that breaks no rule (RM 9.2, 10.2, C.3.1).
 pub fn works_are_sound()
     ensures { WorksAreSound }
 {

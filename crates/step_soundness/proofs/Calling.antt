@@ -12,9 +12,9 @@ use Rattle.expr_soundness.specs.types.specs.Places.{is_of, or_else}
 use Rattle.expr_soundness.specs.expr_rules.proofs.TypedLaw.{same_number}
 use Rattle.stmt_rules.specs.declared.around.Around.{Around}
 use Rattle.expr_soundness.specs.meaning.specs.Programs.{Parameter, Procedure, Program}
-use Rattle.expr_soundness.specs.meaning.specs.Works.{Item, Declares, DeclaresParameter, Sequence, EndsCall, Queued, Goes, TaskWork, frames_left}
+use Rattle.expr_soundness.specs.meaning.specs.Works.{Item, Declares, DeclaresParameter, Sequence, EndsCall, Queued, Goes, TaskWork}
 use Rattle.expr_soundness.specs.meaning.specs.Calls.{Actuals, activation_of, body_items, bound, declares_parameters, is_open, is_out, procedure_among, procedure_here, results, with_first}
-use Rattle.expr_soundness.specs.meaning.specs.SourceSteps.{Here, SourceStepped, entry_call, external_call, if_frame_left, plain_call, queue_call, raises_predefined, run_body, unless_refused}
+use Rattle.expr_soundness.specs.meaning.specs.SourceSteps.{Here, SourceStepped, entry_call, external_call, frames_here, if_frame_left, plain_call, queue_call, raises_predefined, run_body, unless_refused}
 use Rattle.step_soundness.specs.Objects.{AreOf, AreSoundObjects}
 use Rattle.step_soundness.specs.Fitting.{entry_of, result_types, taken_types}
 use Rattle.step_soundness.specs.Opened.{ForCall, IsHeld, Opened, opened_by, opened_in}
@@ -154,7 +154,7 @@ module _ (Worth : Subtype → Value → Type 0) (h : Here) (s : Scope) (outer : 
   pub plain_sound : (q : Procedure) (x : Actuals) → IsSoundProcedure h.program h.memory q → ActualsFit Worth h.program h.own q.parameters x
       → IsHeld q.object (opened_in items)
       → IsSoundStep h (opened_in items) (plain_call h q x items)
-  plain_sound q x sound fit held = frame_sound (frames_left items) (run_body h Quiet None q x items)
+  plain_sound q x sound fit held = frame_sound (frames_here h items) (run_body h Quiet None q x items)
       (enters_sound q x Quiet None sound fit refl held (refl, refl) (λ t. tt))
 
   opens_sound : (o : ℕ) (q : Procedure) (x : Actuals) → IsSoundProcedure h.program h.memory q → ActualsFit Worth h.program h.own q.parameters x
@@ -170,10 +170,10 @@ module _ (Worth : Subtype → Value → Type 0) (h : Here) (s : Scope) (outer : 
   external_sound o q x sound fit owner = by_refusal (call_refusal h.kernel h.task o) refl
     where
       go : SourceStepped
-      go = if_frame_left h (frames_left items) items (run_body h (Opens o) (Some o) q x items)
+      go = if_frame_left h (frames_here h items) items (run_body h (Opens o) (Some o) q x items)
 
       by_refusal : (r : Option Refusal) → call_refusal h.kernel h.task o ≡ r → IsSoundStep h (opened_in items) (unless_refused h r items go)
-      by_refusal None is = frame_sound (frames_left items) (run_body h (Opens o) (Some o) q x items) (opens_sound o q x sound fit owner is)
+      by_refusal None is = frame_sound (frames_here h items) (run_body h (Opens o) (Some o) q x items) (opens_sound o q x sound fit owner is)
       by_refusal (Some r) is = at_refused h s outer a items at ProgramError
 
   queue_sound : (o : ℕ) (q : Procedure) (x : Actuals) → ActualsFit Worth h.program h.own q.parameters x → q.object ≡ Some o
@@ -193,9 +193,9 @@ module _ (Worth : Subtype → Value → Type 0) (h : Here) (s : Scope) (outer : 
       let runs = run_body h (Opens o) (Some o) q x items in
       let waits = queue_call h o q x items in
       at_chosen h s outer a items (is_above_ceiling h.kernel h.task o) (raises_predefined h ProgramError items)
-      (if_frame_left h (frames_left items) items (cond (is_open h.program h.memory o) runs waits)) (λ i. at_refused h s outer a items at ProgramError)
+      (if_frame_left h (frames_here h items) items (cond (is_open h.program h.memory o) runs waits)) (λ i. at_refused h s outer a items at ProgramError)
       (λ below.
-      frame_sound (frames_left items) (cond (is_open h.program h.memory o) runs waits)
+      frame_sound (frames_here h items) (cond (is_open h.program h.memory o) runs waits)
       (at_chosen h s outer a items (is_open h.program h.memory o) runs waits
       (λ i. opens_sound o q x sound fit owner (allowed below)) (λ closed. queue_sound o q x fit owner only outside below closed)))
     where

@@ -7,7 +7,7 @@ pub mod Going
 mod Walking
 mod Valued
 mod Storing
-mod Turning
+pub mod Turning
 mod Stating
 mod Ending
 mod Passing

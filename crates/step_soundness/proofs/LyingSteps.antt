@@ -32,10 +32,10 @@ use Rattle.expr_soundness.proofs.Numbers.{within_itself}
 use Rattle.expr_soundness.proofs.SeenValues.{found_each}
 use Rattle.expr_soundness.specs.StoringLaw.{StoredValuesLie}
 use Rattle.expr_soundness.specs.meaning.specs.Programs.{Parameter, Procedure, Program, subtype_named}
-use Rattle.expr_soundness.specs.meaning.specs.Works.{Activation, Completion, Completed, Pending, GivenToCaller, Raised, Results, Home, InActivation, InPackage, InObject, Item, Declares, DeclaresParameter, Sequence, Does, DoesMain, Repeats, RepeatsWhile, RepeatsFor, Handles, EndsHandler, EndsCall, EndsAction, EndsServed, Queued, Part, Target, Work, Goes, Copies, Raising, frames_left}
+use Rattle.expr_soundness.specs.meaning.specs.Works.{Activation, Completion, Completed, Pending, GivenToCaller, Raised, Results, Home, InActivation, InPackage, InObject, Item, Declares, DeclaresParameter, Sequence, Does, DoesMain, Repeats, RepeatsWhile, RepeatsFor, Handles, EndsHandler, EndsCall, EndsAction, EndsServed, Queued, Part, Target, Work, Goes, Copies, Raising}
 use Rattle.expr_soundness.specs.meaning.specs.Targets.{objects_of, target, value_in}
 use Rattle.expr_soundness.specs.meaning.specs.Calls.{Actuals, body_items, declares_parameters, is_open, is_out, results, results_in, with_value_of}
-use Rattle.expr_soundness.specs.meaning.specs.SourceSteps.{Here, SourceStepped, alternative, alternative_for, assign, before, begin_loop, behind_loop, call_ended, call_raised, completed, condition, copy_step, copying, declare, declared_value, delay_until, end_of_body, entry_call, evaluate, external_call, for_range, for_turn, goes, handled, handled_exception, handler_for, here_of, if_frame_left, item_step, items_of, leaves, main_call, main_step, means_nothing, next_number, next_turn, otherwise, place_of, plain_call, queue_call, raise_named, raise_number, raise_step, raises, run_body, statement_step, stores, unless_refused, while_turn, with_object, with_value, work_step, works}
+use Rattle.expr_soundness.specs.meaning.specs.SourceSteps.{Here, SourceStepped, alternative, alternative_for, assign, before, begin_loop, behind_loop, call_ended, call_raised, completed, condition, copy_step, copying, declare, declared_value, delay_until, end_of_body, entry_call, evaluate, external_call, for_range, for_turn, frames_here, goes, handled, handled_exception, handler_for, here_of, if_frame_left, item_step, items_of, leaves, main_call, main_step, means_nothing, next_number, next_turn, otherwise, place_of, plain_call, queue_call, raise_named, raise_number, raise_step, raises, run_body, statement_step, stores, unless_refused, while_turn, with_object, with_value, work_step, works}
 use Rattle.step_soundness.specs.Objects.{AreTargets, GivesOrRaises, IsReached, IsTarget}
 use Rattle.step_soundness.specs.Fitting.{result_types}
 use Rattle.step_soundness.specs.Opened.{ForCall, ForCaller, IsHeld, Opened, opened_in}
@@ -361,13 +361,13 @@ module _ (composites : CompositesLie) (stored : StoredValuesLie) (h : Here) (s :
 
   plain_lies : (q : Procedure) (x : Actuals) (items : List Item) → Begun q → ActualsFit Lies h.program h.own q.parameters x → Items items
       → Lie (plain_call h q x items)
-  plain_lies q x items known fit l = frame_lies (frames_left items) items (run_body h Quiet None q x items) l (run_lies Quiet None q x items known fit l)
+  plain_lies q x items known fit l = frame_lies (frames_here h items) items (run_body h Quiet None q x items) l (run_lies Quiet None q x items known fit l)
 
   external_lies : (o : ℕ) (q : Procedure) (x : Actuals) (items : List Item) → Begun q → ActualsFit Lies h.program h.own q.parameters x → Items items
       → Lie (external_call h o q x items)
   external_lies o q x items known fit l =
       refused_lies (call_refusal h.kernel h.task o) items _ l
-      (frame_lies (frames_left items) items (run_body h (Opens o) (Some o) q x items) l (run_lies (Opens o) (Some o) q x items known fit l))
+      (frame_lies (frames_here h items) items (run_body h (Opens o) (Some o) q x items) l (run_lies (Opens o) (Some o) q x items known fit l))
 
   queue_lies : (o : ℕ) (q : Procedure) (x : Actuals) (items : List Item) → Begun q → ActualsFit Lies h.program h.own q.parameters x → Items items
       → Lie (queue_call h o q x items)
@@ -379,7 +379,7 @@ module _ (composites : CompositesLie) (stored : StoredValuesLie) (h : Here) (s :
       → Lie (entry_call h o q x items)
   entry_lies o q x items known fit l =
       either (is_above_ceiling h.kernel h.task o) _ _ (raises_lie _ items l)
-      (frame_lies (frames_left items) items _ l
+      (frame_lies (frames_here h items) items _ l
       (either (is_open h.program h.memory o) _ _ (run_lies (Opens o) (Some o) q x items known fit l) (queue_lies o q x items known fit l)))
 
   -- what is passed lies in the subtype of its formal

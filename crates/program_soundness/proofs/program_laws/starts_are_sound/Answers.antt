@@ -10,5 +10,6 @@ returns c =
       premises = c.premises_hold.ensures;
       functions = c.functions_are_sound.ensures;
       procedures = c.procedures_are_sound.ensures;
+      handlers = c.handlers_are_sound.ensures;
       works = c.works_are_sound.ensures;
     })

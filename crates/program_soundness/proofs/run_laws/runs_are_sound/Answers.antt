@@ -5,13 +5,15 @@ pub returns : goal.returns
 returns c =
     runs_are_sound (record {
       begins = c.begins_kept.ensures;
+      starts = c.start_settles.ensures;
       every = c.kept_by_every_effect.ensures;
       next = record {
-        unmoved = c.left_unmoved.ensures;
+        settle = c.steps_settle.ensures;
         four = c.four_statements_hold.ensures;
         others = c.others_stay_sound.ensures;
         servers = c.servers_are_sound.ensures;
         callers = c.callers_go_on.ensures;
+        alike = c.stores_are_alike.ensures;
       };
       steps = c.steps_are_sound.ensures;
       passes = c.effects_pass.ensures;
