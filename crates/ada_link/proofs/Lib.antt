@@ -9,6 +9,7 @@ mod Suited
 mod KeptCode
 mod RowRules
 mod ObjectLines
+mod HandlerLines
 mod WellFormed
 mod Refusals
 mod Stopped

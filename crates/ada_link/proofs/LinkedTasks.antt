@@ -10,9 +10,9 @@ use Rattle.image.specs.Code.{body_frame, body_of, priority_of}
 use Rattle.image.specs.declared.tasks.Task as rows
 use Rattle.ada_tree.specs.StatementTree.{DeclarationTree, HandlerTrees, StmtTrees}
 use Rattle.ada_tree.specs.declared.program.MainStatement.{MainStatement}
-use Rattle.meaning.specs.Programs.{Duty, OfBody, OfMain, Program, Task, priority_or_zero, task_name}
-use Rattle.meaning.specs.Source.{duty_items, task_items}
-use Rattle.meaning.specs.Works.{Declares, DoesMain, Goes, Sequence, TaskWork, ends_of_calls}
+use Rattle.meaning.specs.Programs.{Duty, OfBody, OfMain, Program, Task, priority_or_highest, task_name}
+use Rattle.meaning.specs.Source.{duty_items, items_work, task_items}
+use Rattle.meaning.specs.Works.{Declares, DoesMain, Sequence, TaskWork, ends_of_calls}
 use Rattle.expr_code.specs.Seeing.{Package}
 use Rattle.step_simulation.specs.part_code.specs.Statements.{Numbers}
 use Rattle.step_simulation.specs.Standing.{CodeStands, Going, Note}
@@ -43,7 +43,7 @@ module _ (program : Program) (i : Sections) (g : Package) (numbers : Numbers) wh
   as_many (task ∷ tasks) [] h = absurd h
 
   pub same_priority : (tasks : List Task) (table : List rows.Task) → Linked tasks table → (u : ℕ)
-      → priority_or_zero (slice_get tasks u) ≡ priority_of (slice_get table u)
+      → priority_or_highest (slice_get tasks u) ≡ priority_of (slice_get table u)
   same_priority [] [] h u = refl
   same_priority (task ∷ tasks) (row ∷ table) h zero = sym h.0.priority
   same_priority (task ∷ tasks) (row ∷ table) h (suc u) = same_priority tasks table h.1 u
@@ -61,7 +61,7 @@ module _ (program : Program) (i : Sections) (g : Package) (numbers : Numbers) wh
   -- ---- the start
 
   abbrev work_of : Option Task → TaskWork
-  work_of task = record { work = Goes (task_items task); own = record { within = None; locals = [] }; callers = [] }
+  work_of task = items_work (task_items task)
 
   abbrev state_of : Option rows.Task → TaskState
   state_of row = let n = body_of row in record { frame = body_frame i n (called i n); callers = []; raising = None }

@@ -1,7 +1,8 @@
 -- A linked image has the meaning of its program.
-use Rattle.std.proofs.Common.{◌≡◌, ℕ, ◌+◌, List, [], refl, sym, ap, ◌∙◌, subst, Bool, true, false, Option, length, pos}
+use Rattle.std.proofs.Common.{◌≡◌, ℕ, ◌+◌, ◌-◌, ◌≤◌, List, [], inl, inr, cond, refl, sym, ap, ◌∙◌, subst, ⊎_elim, Bool, true, false, Option, Some, length, pos, arith}
 use Rattle.base.specs.declared.schedule.ScheduleLine.{ScheduleLine}
-use Rattle.kernel.specs.State.{Kernel}
+use Rattle.kernel.specs.State.{Kernel, is_task}
+use Rattle.kernel.specs.Interrupts.{names_of_all}
 use Rattle.kernel.specs.Effects.{begin, after, Closes, Effect, Ending, HandsBack, TakesOver}
 use Rattle.kernel.specs.Worlds.{Tasks, among, solo_of, step, Solo, ending}
 use Rattle.kernel.specs.Laws.{LeftUnmoved, LinesGrow, QuietStays, ReachesCallers, RunnerIsCalm}
@@ -10,10 +11,12 @@ use Rattle.image.specs.Sections.{Sections}
 use Rattle.image.specs.Rules.{IsWellFormed}
 use Rattle.image.specs.Texts.{text_from_one}
 use Rattle.image.specs.Frames.{Words, TaskState}
+use Rattle.image.specs.Starting.{handler_state, initial_state, task_state}
 use Rattle.image.specs.Steps.{behaviour, is_open}
 use Rattle.image.specs.Steps as steps
 use Rattle.image.specs.Code as image
-use Rattle.image_laws.specs.Linked.{actions_of, kind_at, with_action}
+use Rattle.image_laws.specs.Linked.{IsGone, actions_of, kind_at, with_action}
+use Rattle.image_laws.specs.Shape.{IsHandlerActor, IsImageTask}
 use Rattle.image_laws.specs.Whole.{IsWhole, StartsWhole, StepsWhole}
 use Rattle.ada_tree.specs.ProgramTree.{ProgramTree}
 use Rattle.checking.specs.ProgramRules.{IsLegal}
@@ -23,8 +26,8 @@ use Rattle.meaning.specs.Calls as calls
 use Rattle.meaning.specs.Meeting.{Before, Met, Meets, Relation, Moved, Owed}
 use Rattle.meaning.specs.MeetingLaws.{met_for}
 use Rattle.meaning.specs.Works.{GivenToCaller, Store, TaskWork}
-use Rattle.meaning.specs.Source.{SourceWorld, source, partition_of, source_behaviour, source_start}
-use Rattle.meaning.specs.Programs.{Program, program_of}
+use Rattle.meaning.specs.Source.{SourceWorld, handler_work, initial_work, source, partition_of, source_behaviour, source_start, task_work}
+use Rattle.meaning.specs.Programs.{Attached, Program, handler_at, object_attached, program_interrupts, program_of, program_partition}
 use Rattle.meaning.specs.SameMeaning.{KeepsCount, frames_of}
 use Rattle.meaning.specs.Compiling.{MeetsUnder, met_keeps_count}
 use Rattle.program_soundness.specs.step_soundness.specs.Holding.{IsSoundTask}
@@ -34,20 +37,22 @@ use Rattle.program_soundness.specs.ProgramLaws.{StartsAreSound}
 use Rattle.program_soundness.specs.RunLaws.{RunsAreSound}
 use Rattle.program_soundness.specs.SoundWorlds.{IsSoundWorld}
 use Rattle.program_soundness.proofs.Awaiting.{runner_awaits}
+use Rattle.program_soundness.proofs.Handling.{own_some, runner_matches}
 use Rattle.expr_code.specs.Coming.{most_steps}
 use Rattle.expr_code.specs.Seeing.{Package}
 use Rattle.step_simulation.specs.Laws.{EffectsAreMet, IsKnownHere, KnowsCaller, StepsAreMet}
 use Rattle.step_simulation.specs.part_code.specs.Statements.{Numbers}
-use Rattle.step_simulation.specs.Standing.{Note, relation}
+use Rattle.step_simulation.specs.Standing.{CodeStands, Note, relation}
 use Rattle.package_code.specs.LinkLaws.{LinkedKeepsCount, LinkedMeansTheSame}
 use Rattle.package_code.specs.Linked.{IsLinkedProgram}
 use Rattle.ada_link.proofs.LinkedTasks.{as_many, same_name, same_priority, tasks_stand}
 use Rattle.ada_link.proofs.Reached.{Step, closed_queue, image_relation, owed}
-use Rattle.std.specs.Prelude.{nat_le, ◌&&◌}
+use Rattle.std.specs.Prelude.{nat_le, nat_lt, ◌&&◌}
+use Rattle.std.proofs.lemmas.Bool.{true≢false, cases_lt, le-ltb, lt-ltb}
 use Rattle.base.specs.Schedule.{are_lines, are_ordered_from, is_schedule}
 use Rattle.base.specs.declared.limits.TheConstants.{SCHEDULE_LINES}
 use Rattle.program_soundness.specs.LyingWorlds.{ProgramsKeepSubtypes, WorldLies}
-use Rattle.ada_link.proofs.KeptTimes.{TimesFit, begin_fits, timed, times_left}
+use Rattle.ada_link.proofs.KeptTimes.{TimesFit, begin_fits, interrupts_fit, timed, times_left}
 
 -- what a schedule has
 lines_of : (a b c : Bool) → (a && b && c) ≡ true → b ≡ true
@@ -86,6 +91,38 @@ module _ (laws : LawsBelow) (p : ProgramTree) (i : Sections) (g : Package) (numb
         base = λ u. same_priority program i g numbers program.tasks i.tasks linked.tasks u j;
         ceiling = λ o. linked.ceilings o j;
       })
+
+  many : length program.tasks ≡ length i.tasks
+  many = as_many program i g numbers program.tasks i.tasks linked.tasks
+
+  -- the actor of a channel that has a handler
+  not_task : (u : ℕ) → IsHandlerActor i u → is_task (program_partition program) u ≡ false
+  not_task u h =
+      let is = h.2 in
+      let few = many in
+      let le : length program.tasks ≤ u = omega (arith, is, few) in
+      le-ltb u (length program.tasks) le
+
+  handler_there : (u : ℕ) → IsHandlerActor i u → (a : Attached) × (handler_at (u - length program.tasks) program.handlers ≡ Some a)
+  handler_there u h =
+      let is = h.2 in
+      let few = many in
+      let channel : u - length program.tasks ≡ h.0 = omega (arith, is, few) in
+      let found = linked.attached h.0 h.1 h.3 in
+      (found.0, ap (λ c. handler_at c program.handlers) channel ∙ found.1)
+
+  -- at the start the state of each task, and of each handler, stands for what it has to do
+  starts_stand : (note : Note) (l : Kernel) (u : ℕ) → IsImageTask i u → CodeStands i program g numbers note l u (initial_work program u) (initial_state i u)
+  starts_stand note l u (inl less) =
+      let few = many in
+      let own : nat_lt u (length program.tasks) ≡ true = lt-ltb u (length program.tasks) (omega (arith, less, few)) in
+      let there : nat_lt u (length i.tasks) ≡ true = lt-ltb u (length i.tasks) less in
+      subst (λ w. CodeStands i program g numbers note l u w (initial_state i u))
+      (sym (ap (λ b. cond b (task_work program u) (handler_work program (handler_at (u - length program.tasks) program.handlers))) own))
+      (subst (CodeStands i program g numbers note l u (task_work program u))
+      (sym (ap (λ b. cond b (task_state i u) (handler_state i (u - length i.tasks))) there))
+      (tasks_stand program i g numbers note l u program.tasks i.tasks linked.tasks u less))
+  starts_stand note l u (inr h) = let a = handler_there u h in linked.code.restarts note l u a.0 (not_task u h) a.1
 
   abbrev all : Relation Note Store TaskWork GivenToCaller Words TaskState steps.Given
   all = timed (image_relation i program g numbers)
@@ -127,6 +164,19 @@ module _ (laws : LawsBelow) (p : ProgramTree) (i : Sections) (g : Package) (numb
         c d
     untimed r = record { ones = r.ones; others = r.others; runner = r.runner; shared = r.shared; stand = λ u. (r.stand u).1 }
 
+    -- who runs has begun
+    runner_there : {note : Note} {k : Kernel} {c : Tasks Store TaskWork} {d : Tasks Words TaskState} (t : ℕ) → Here note k t c d → IsGone i k.actions t → ⊥
+    runner_there {k = k} t r gone =
+        let same : k.partition.tasks ≡ length i.tasks = ap (λ p. p.tasks) r.others.partition in
+        let beyond : k.partition.tasks ≤ t = ⊎_elim (λ less. absurd (true≢false (sym (lt-ltb t (length i.tasks) less) ∙ gone.0))) (λ le. omega (arith, same, le)) (cases_lt t (length i.tasks)) in
+        own_some (k.actions t) (r.others.kept.within t beyond r.runner.calm.runs.running) gone.1
+
+    -- who runs and is no task is the actor of a handler
+    actor_here : (u : ℕ) → IsImageTask i u → is_task (program_partition program) u ≡ false → IsHandlerActor i u
+    actor_here u (inl less) e =
+        let few = many in absurd (true≢false (sym (lt-ltb u (length program.tasks) (omega (arith, less, few))) ∙ e))
+    actor_here u (inr h) e = h
+
     known : (note : Note) (k : Kernel) (t : ℕ) (c : Tasks Store TaskWork) (d : Tasks Words TaskState) → Here note k t c d
         → IsKnownHere program k t c.memory (c.tasks t)
     known note k t c d r =
@@ -134,12 +184,14 @@ module _ (laws : LawsBelow) (p : ProgramTree) (i : Sections) (g : Package) (numb
         subst (WorldLies program) (sym r.ones.1) (laws.subtypes p schedule r.ones.0 legal restricted) in
         let world : IsSoundWorld program (record { kernel = k; rest = c }) =
         subst (IsSoundWorld program) (sym r.ones.1) (laws.runs program schedule r.ones.0 sound) in
-        let awaits = runner_awaits (calls.is_open program c.memory) k world.kernel t r.runner.calm.runs.running in
+        let running = r.runner.calm.runs.running in
+        let awaits = runner_awaits (calls.is_open program c.memory) k world.kernel t running in
         record {
           store = world.store;
           task = subst (λ q. IsSoundTask program c.memory q (c.tasks t)) awaits (world.tasks t);
-          opened = world.actions t;
+          opened = runner_matches program (record { kernel = k; rest = c }) world t running;
           partition = r.others.partition ∙ sym same_partition;
+          attached = λ e. handler_there t (actor_here t (r.others.bounded.running t running) e);
           closed = closed_queue (reached note k t c d) (untimed r);
           values = lying.store;
           objects = lying.tasks t;
@@ -150,7 +202,7 @@ module _ (laws : LawsBelow) (p : ProgramTree) (i : Sections) (g : Package) (numb
     knows_caller : (note : Note) (k : Kernel) (t : ℕ) (c : Tasks Store TaskWork) (d : Tasks Words TaskState) → Here note k t c d → KnowsCaller k t (d.tasks t)
     knows_caller note k t c d r o u pending is = (
       actions_of i (d.tasks t).callers,
-      r.others.linked.by_frames t ∙ ap (λ q. with_action q (kind_at i (d.tasks t).frame) (actions_of i (d.tasks t).callers)) is,
+      r.others.linked.by_frames t (runner_there t r) ∙ ap (λ q. with_action q (kind_at i (d.tasks t).frame) (actions_of i (d.tasks t).callers)) is,
     )
 
     met : (note : Note) (k : Kernel) (t : ℕ) (c : Tasks Store TaskWork) (d : Tasks Words TaskState) → Here note k t c d
@@ -188,7 +240,7 @@ module _ (laws : LawsBelow) (p : ProgramTree) (i : Sections) (g : Package) (numb
     meets = record {
       kept_ones = λ v h. (
         h.0 + 1,
-        ap (step (among (source_behaviour p schedule))) h.1 ∙ sym (run_plus (among (source_behaviour p schedule)) h.0 1 (source_start p)),
+        ap (step (among (source_behaviour p schedule))) h.1 ∙ sym (run_plus (among (source_behaviour p schedule)) h.0 1 (source_start p schedule)),
       );
       kept_others = λ w h. laws.steps_whole i well_formed schedule w h;
       runner = λ w t h runs. record {
@@ -205,12 +257,16 @@ module _ (laws : LawsBelow) (p : ProgramTree) (i : Sections) (g : Package) (numb
     under = record {
       meets = meets;
       starts = record {
-        same = ap begin same_partition;
+        same = (λ j. begin (same_partition j) (sym (linked.interrupts schedule) j));
         ones = (0, refl);
-        others = laws.starts_whole i well_formed;
+        others = laws.starts_whole i well_formed schedule;
         note = λ u. [];
         shared = linked.words;
-        stands = λ u. (begin_fits (partition_of p), λ there. tasks_stand program i g numbers (λ v. []) (source_start p).kernel u program.tasks i.tasks linked.tasks u there);
+        stands = λ u. (
+          begin_fits (partition_of p) (program_interrupts program schedule)
+              (interrupts_fit (λ channel. object_attached (handler_at channel program.handlers)) schedule inputs),
+          λ there. starts_stand (λ v. []) (source_start p schedule).kernel u there,
+        );
       };
     }
 
@@ -225,7 +281,10 @@ pub linked_means_the_same : CountGivesMeaning → LinkedKeepsCount → LinkedMea
 linked_means_the_same count counts p i g numbers well_formed legal restricted linked =
     count p i (most_steps i)
     (record {
-      tasks = λ u. same_name (program_of p) i g numbers (program_of p).tasks i.tasks linked.tasks u;
+      tasks = λ u.
+          (λ j. names_of_all
+          (sym (as_many (program_of p) i g numbers (program_of p).tasks i.tasks linked.tasks) j)
+          (λ v. same_name (program_of p) i g numbers (program_of p).tasks i.tasks linked.tasks v j) u);
       exceptions = λ x. ap (λ names. text_from_one names x) linked.exceptions;
     })
     (counts p i g numbers well_formed legal restricted linked)

@@ -132,12 +132,15 @@ module _ (laws : LawsOfNames) (t : ProgramTree) (legal : IsLegal t) (restricted 
     is : row ≡ object_row t n x
     is = (row_is t i.objects h.objects n row at).1
 
-    low : row.ceiling ≤ CEILING
-    low =
-        let same =
+    pub ceiling_is : places.ceiling_of (program_of t).scope n ≡ row.ceiling
+    ceiling_is =
         ceiling_row (program_of t) (start_in t.package_) (declared_in t.package_) (whole laws t legal restricted) t n
         ∙ ap (λ l. sections.ceiling_of (slice_get (object_rows t 0 (bare_objects (program_of t).scope l)) n)) (sym (items_are t.package_))
-        ∙ ap (λ l. sections.ceiling_of (slice_get l n)) (sym h.objects) ∙ ap sections.ceiling_of at in
+        ∙ ap (λ l. sections.ceiling_of (slice_get l n)) (sym h.objects) ∙ ap sections.ceiling_of at
+
+    low : row.ceiling ≤ CEILING
+    low =
+        let same = ceiling_is in
         let fits = (partition_fits t).ceiling_low n in
         omega (arith, same, fits)
 

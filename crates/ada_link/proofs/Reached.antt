@@ -1,22 +1,32 @@
 -- What an effect makes of all tasks: those that it reaches and those that it leaves alone stand for their work behind it (RM 9.5.3).
-use Rattle.std.proofs.Common.{◌≡◌, ◌≢◌, ◌<◌, inl, inr, ℕ, List, [], ◌∷◌, length, Option, Some, None, Bool, true, false, refl, sym, ap, ◌∙◌, subst, ⊎_elim, arith, rules}
-use Rattle.std.specs.Prelude.{nat_lt}
+use Rattle.std.proofs.Common.{◌≡◌, ◌≢◌, ◌⊎◌, ◌-◌, ◌<◌, ◌≤◌, inl, inr, ℕ, List, [], ◌∷◌, length, Option, Some, None, Bool, true, false, cond, refl, sym, ap, ◌∙◌, subst, ⊎_elim, arith, rules}
+use Rattle.std.specs.Prelude.{nat_lt, slice_get}
+use Rattle.std.proofs.lemmas.Bool.{true≢false, cases_lt, lt-ltb}
+use Rattle.std.proofs.lemmas.Option.{slice_get_within}
 use Rattle.base.specs.declared.schedule.ScheduleLine.{ScheduleLine}
-use Rattle.kernel.specs.State.{Action, IsQueued, IsRunning, IsServed, Kernel, Reads, Serves, Writes, active, object_of, put}
+use Rattle.kernel.specs.State.{Action, IsFinished, IsQueued, IsRunning, IsServed, Kernel, Reads, Serves, Writes, active, object_of, put}
 use Rattle.kernel.specs.Effects.{Breaks, Closes, Delays, Dies, Effect, Ending, Ends, Finishes, HandsBack, Opens, Queues, Quiet, Says, TakesOver, Views, after, ending_of, is_above_ceiling, is_inside_any}
 use Rattle.kernel.specs.Invariant.{Busy, CanWrite, HasAction, IsInsideObject, Kept, ServesCall}
 use Rattle.kernel.specs.Laws.{LeftUnmoved}
 use Rattle.kernel.specs.PutLaws.{of_put, put_other, put_same}
+use Rattle.kernel.proofs.Left.{takes_goes_on}
 use Rattle.kernel.proofs.Lists.{base_raised, ceiling_raised}
-use Rattle.kernel.specs.Worlds.{Solo, Tasks, ending}
+use Rattle.kernel.specs.Worlds.{Solo, Tasks, ending, reached}
+use Rattle.image.specs.Attachments.{attached_to}
+use Rattle.image.specs.Code.{CodeWorld, partition_of}
+use Rattle.image.specs.Operations.{called}
 use Rattle.image.specs.Sections.{Sections}
-use Rattle.image.specs.Frames.{Frame, Inner, Opened, Role, Serving, TaskState, Words}
+use Rattle.image.specs.Sections as sections
+use Rattle.image.specs.Frames.{Frame, Inner, Opened, Role, Serving, TaskState, Words, kind_of}
+use Rattle.image.specs.Starting.{body_frame, body_of, handler_state, handler_state_of, initial_state, lowest_frame, role_within, task_state}
 use Rattle.image.specs.Steps.{behaviour, is_open}
 use Rattle.image.specs.Steps as steps
-use Rattle.image_laws.specs.Linked.{actions_of, kind_at, with_action}
+use Rattle.image.specs.declared.subprograms.Subprogram.{Subprogram}
+use Rattle.image_laws.specs.Linked.{IsGone, actions_of, kind_at, with_action}
+use Rattle.image_laws.specs.Shape.{IsGoingOrPlaced, IsImageTask, is_own}
 use Rattle.image_laws.specs.Whole.{IsWhole}
 use Rattle.meaning.specs.Calls as calls
-use Rattle.meaning.specs.Meeting.{Before, Moved, Owed, Relation}
+use Rattle.meaning.specs.Meeting.{Before, Moved, Owed, Relation, behind}
 use Rattle.meaning.specs.Programs.{Procedure, Program}
 use Rattle.meaning.specs.SameMeaning.{frames_of}
 use Rattle.meaning.specs.Source.{SourceWorld}
@@ -27,12 +37,13 @@ use Rattle.program_soundness.specs.step_soundness.specs.Fitting.{entry_of}
 use Rattle.program_soundness.specs.step_soundness.specs.Holding.{IsSoundTask}
 use Rattle.program_soundness.specs.step_soundness.specs.Judged.{IsQueuedWork, Waiting}
 use Rattle.program_soundness.specs.SoundWorlds.{IsSoundWorld, awaited}
+use Rattle.program_soundness.proofs.Handling.{some_action}
 use Rattle.types.specs.Scopes.{Scope}
 use Rattle.types.specs.Values.{Value}
 use Rattle.expr_code.specs.Coming.{most_steps}
 use Rattle.expr_code.specs.Seeing.{Package}
 use Rattle.step_simulation.specs.Laws.{EffectsAreMet, HasCode, OfAllServed, OfServed}
-use Rattle.step_simulation.specs.Standing.{CodeStands, HasQueued, LeavesBy, Note, work_size}
+use Rattle.step_simulation.specs.Standing.{CodeStands, GivesSame, HasEnded, HasQueued, IsOver, LeavesBy, Note, work_size}
 use Rattle.step_simulation.specs.part_code.specs.Resting.{StandsFor}
 use Rattle.step_simulation.specs.part_code.specs.Statements.{Numbers}
 use Rattle.ada_link.proofs.Unmoved.{hands_back, queued_after, queued_behind, queued_by, queues_keep}
@@ -70,6 +81,38 @@ served_by P i (f ∷ fs) h = by_role f.role h (λ each. served_by P i fs each)
     by_role (Opened p) each below = (tt, below (λ o u serves. each o u (inr serves)))
     by_role (Serving p v pending) each below = (each p v (inl (refl, refl)), below (λ o u serves. each o u (inr serves)))
 
+-- a handler that has not begun, and a task at its start, serves nobody
+initial_serves : (P : ℕ → Type 0) (i : Sections) (v : ℕ) → OfAllServed P ((initial_state i v).frame ∷ (initial_state i v).callers)
+initial_serves P i v = by_task (nat_lt v (length i.tasks))
+  where
+    body_serves : (n : ℕ) (s : Option Subprogram) → OfServed P (body_frame i n s).role
+    body_serves n None = tt
+    body_serves n (Some s) = tt
+
+    within_serves : (o : Option ℕ) → OfServed P (role_within o)
+    within_serves None = tt
+    within_serves (Some o) = tt
+
+    handler_serves : (number : Option ℕ) → OfAllServed P ((handler_state_of i number).frame ∷ (handler_state_of i number).callers)
+    handler_serves None = (tt, tt)
+    handler_serves (Some n) = (within_serves (sections.object_of (kind_of (called i n))), (tt, tt))
+
+    by_task : (b : Bool) → (let s = cond b (task_state i v) (handler_state i (v - length i.tasks)) in OfAllServed P (s.frame ∷ s.callers))
+    by_task true = (let n = body_of (slice_get i.tasks v) in body_serves n (called i n), tt)
+    by_task false = handler_serves (attached_to (v - length i.tasks) i.attachments)
+
+-- ---- a frame that runs or waits has a subprogram, which the one that never runs hasn't
+
+no_code : (i : Sections) (f : Frame) (s : Subprogram) → called i f.subprogram ≡ Some s → f.subprogram ≡ (lowest_frame i).subprogram → ⊥
+no_code i f s there lowest =
+    let same : f.subprogram ≡ length i.subprograms = lowest in
+    let less = slice_get_within i.subprograms f.subprogram s there in
+    omega (arith, less, same)
+
+going_above : (i : Sections) (raising : Option ℕ) (f : Frame) → IsGoingOrPlaced i raising f → f.subprogram ≡ (lowest_frame i).subprogram → ⊥
+going_above i None f h = no_code i f h.s h.stands.subprogram
+going_above i (Some x) f h = no_code i f h.s h.stands.subprogram
+
 -- ---- a task that waits in an entry call
 
 -- its work is the call of the object's entry
@@ -100,7 +143,7 @@ abbrev pub image_relation : (i : Sections) (program : Program) (g : Package) (nu
     → Relation Note Store TaskWork GivenToCaller Words TaskState steps.Given
 image_relation i program g numbers = record {
   shares = StandsFor program g;
-  stands = λ note k u w s. u < length i.tasks → CodeStands i program g numbers note k u w s;
+  stands = λ note k u w s. IsImageTask i u → CodeStands i program g numbers note k u w s;
   leaves = λ note k t e w s p q. LeavesBy i program g numbers note k t e w s p q;
   size = λ w. work_size w.work;
 }
@@ -202,9 +245,19 @@ module _ (this : Step) where
 
     -- nor is anybody for whom a task runs a body
     serves_others : (v : ℕ) → OfAllServed (λ u. u ≢ t) ((d.tasks v).frame ∷ (d.tasks v).callers)
-    serves_others v =
-        served_by (λ u. u ≢ t) i ((d.tasks v).frame ∷ (d.tasks v).callers)
-        (λ o u serves. apart o u (kept.sound.serving v o u (subst (HasAction (ServesCall o u)) (sym (known.others.linked.by_frames v)) serves)).0)
+    serves_others v = by_gone (is_own i v) refl (k.actions v) refl
+      where
+        there : (IsGone i k.actions v → ⊥) → OfAllServed (λ u. u ≢ t) ((d.tasks v).frame ∷ (d.tasks v).callers)
+        there goes =
+            served_by (λ u. u ≢ t) i ((d.tasks v).frame ∷ (d.tasks v).callers)
+            (λ o u serves. apart o u (kept.sound.serving v o u (subst (HasAction (ServesCall o u)) (sym (known.others.linked.by_frames v goes)) serves)).0)
+
+        by_gone : (own : Bool) → is_own i v ≡ own → (actions : List Action) → k.actions v ≡ actions
+            → OfAllServed (λ u. u ≢ t) ((d.tasks v).frame ∷ (d.tasks v).callers)
+        by_gone true own actions is = there (λ gone. true≢false (sym own ∙ gone.0))
+        by_gone false own (a ∷ outer) is = there (λ gone. some_action a outer (sym is ∙ gone.1))
+        by_gone false own [] is =
+            subst (λ s. OfAllServed (λ u. u ≢ t) (s.frame ∷ s.callers)) (sym (known.others.linked.gone v (own, is))) (initial_serves (λ u. u ≢ t) i v)
 
     -- a full queue that the running task comes to, outside all actions and below the ceiling, has a closed barrier: who may write the object would hold it
     pub closed_queue : (o u : ℕ) → k.queued o ≡ Some u → is_inside_any k t ≡ false → is_above_ceiling k t o ≡ false
@@ -280,10 +333,26 @@ module _ (this : Step) where
       queue : l.queued ≡ put o (Some t) k.queued
       queue = queued_after unmoved t (Queues o) k
 
+      -- it is a task, since it waits in a queue
+      own_number : t < (partition_of i).tasks
+      own_number = ⊎_elim (λ less. less) (λ beyond. absurd (never beyond)) (cases_lt t (partition_of i).tasks)
+        where
+          waits : l.place t ≡ IsQueued o
+          waits = moved.others.kept.sound.queue o t (ap (λ f. f o) queue ∙ put_same o o (Some t) k.queued refl)
+
+          never : (partition_of i).tasks ≤ t → ⊥
+          never beyond =
+              let same : l.partition ≡ partition_of i = moved.others.partition in
+              ⊎_elim
+              (λ finished. (let one : l.place t ≡ IsFinished = finished in let two : l.place t ≡ IsQueued o = waits in absurd (cc)))
+              (λ runs. (let one : l.place t ≡ IsRunning = moved.others.kept.sound.runs t runs in let two : l.place t ≡ IsQueued o = waits in absurd (cc)))
+              (moved.others.kept.sound.gone t (subst (λ p. p.tasks ≤ t) (sym same) beyond))
+
       -- its frames are those that the kernel knows
       own_frames : k.actions t ≡ actions_of i (b.task.frame ∷ b.task.callers)
       own_frames =
-          ap (λ f. f t) (sym (queues_keep unmoved t o k)) ∙ moved.others.linked.by_frames t
+          sym (queues_keep unmoved t o k (subst (λ p. t < p.tasks) (sym known.others.partition) own_number))
+          ∙ moved.others.linked.by_frames t (λ gone. true≢false (sym (lt-ltb t (partition_of i).tasks own_number) ∙ gone.0))
           ∙ ap (λ s. actions_of i (s.frame ∷ s.callers)) (put_same t t b.task d.tasks refl)
 
       serves : OfAllServed (λ u. u ≢ t) (b.task.frame ∷ b.task.callers)
@@ -348,8 +417,59 @@ module _ (this : Step) where
       queue_by : (x : Ending) → ending_of is_open (k.actions t) k.queued ≡ x → later.queued ≡ queued_by x k.queued
       queue_by x is = queued_after unmoved t (Ends is_open) k ∙ ap (λ y. queued_by y k.queued) is
 
-      goes_on : CodeStands i program g numbers note later t a.task b.task
-      goes_on = effects.enders i program g numbers note k later t a.task b.task p q moved.leaves
+      -- the world behind the step, in which the task is left so, unless it serves a caller
+      abbrev ended : CodeWorld
+      ended = behind (behaviour i schedule) t k e d b q
+
+      left_closed : ending_of is_open (k.actions t) k.queued ≡ Closes → ended.rest.tasks t ≡ b.task
+      left_closed is = ap (λ x. reached (behaviour i schedule) t x q (put t b.task d.tasks) t) is ∙ put_same t t b.task d.tasks refl
+
+      left_handing : (u : ℕ) → u ≢ t → ending_of is_open (k.actions t) k.queued ≡ HandsBack u → ended.rest.tasks t ≡ b.task
+      left_handing u other is = ap (λ x. reached (behaviour i schedule) t x q (put t b.task d.tasks) t) is ∙ by_given q
+        where
+          by_given : (given : Option steps.Given) → reached (behaviour i schedule) t (HandsBack u) given (put t b.task d.tasks) t ≡ b.task
+          by_given None = put_same t t b.task d.tasks refl
+          by_given (Some given) =
+              put_other u t ((behaviour i schedule).receives given (put t b.task d.tasks u)) (put t b.task d.tasks) (λ same. other (sym same))
+              ∙ put_same t t b.task d.tasks refl
+
+      -- its frame isn't the one that never runs
+      above : ended.rest.tasks t ≡ b.task → IsImageTask i t → b.task.frame.subprogram ≡ (lowest_frame i).subprogram → ⊥
+      above left in_image lowest =
+          let linked = moved.others.linked in
+          let state = ended.rest.tasks t in
+          let here : state.frame.subprogram ≡ (lowest_frame i).subprogram = ap (λ s. s.frame.subprogram) left ∙ lowest in
+          going_above i state.raising state.frame
+          (linked.sound t in_image
+          (λ served.
+          let waits = (linked.awaiting served.0 served.1 t served.2).waiting in
+          no_code i state.frame waits.s waits.stands.subprogram here)).running here
+
+      goes_on : ended.rest.tasks t ≡ b.task → IsImageTask i t → CodeStands i program g numbers note later t a.task b.task
+      goes_on left in_image = by_leaving moved.leaves
+        where
+          by_leaving : HasEnded i program g numbers note k t a.task b.task p q ⊎ IsOver i program g numbers note k t is_open a.task b.task p q
+              → CodeStands i program g numbers note later t a.task b.task
+          by_leaving (inl has) = effects.enders i program g numbers note k later t a.task b.task p q (above left in_image) has
+          by_leaving (inr over) = over.stands later
+
+      -- what it gives to the caller that it has served
+      gives : (o u : ℕ) (outer : List Action) → k.actions t ≡ Serves o u ∷ outer → GivesSame i program g numbers (note u) p q
+      gives = by_leaving moved.leaves
+        where
+          by_leaving : HasEnded i program g numbers note k t a.task b.task p q ⊎ IsOver i program g numbers note k t is_open a.task b.task p q
+              → (o u : ℕ) (outer : List Action) → k.actions t ≡ Serves o u ∷ outer → GivesSame i program g numbers (note u) p q
+          by_leaving (inl has) = has.gives
+          by_leaving (inr over) = over.gives
+
+      -- where a queued call is taken over no handler is over
+      ended_only : (o u : ℕ) → ending_of is_open (k.actions t) k.queued ≡ TakesOver o u → HasEnded i program g numbers note k t a.task b.task p q
+      ended_only o u is = by_leaving moved.leaves
+        where
+          by_leaving : HasEnded i program g numbers note k t a.task b.task p q ⊎ IsOver i program g numbers note k t is_open a.task b.task p q
+              → HasEnded i program g numbers note k t a.task b.task p q
+          by_leaving (inl has) = has
+          by_leaving (inr over) = absurd (true≢false (sym over.over ∙ takes_goes_on t e k o u is))
 
       -- the task for whose call the place tells it waits for that
       call_of : (o u : ℕ) → awaited (k.place u) ≡ Some o → IsWaiting program o (c.tasks u).work
@@ -358,22 +478,22 @@ module _ (this : Step) where
       takes_over : (o u : ℕ) → ending_of is_open (k.actions t) k.queued ≡ TakesOver o u → IsOwed note e a.task b.task p q (TakesOver o u)
       takes_over o u is =
           let there = known.runner.reaches e in
-          let reached = there.queued o u is in
-          let queued_there : k.queued o ≡ Some u = reached.0 in
-          let waits = call_of o u (ap awaited reached.1) in
-          let behind = queue_by (TakesOver o u) is in
+          let caller = there.queued o u is in
+          let queued_there : k.queued o ≡ Some u = caller.0 in
+          let waits = call_of o u (ap awaited caller.1) in
+          let queues = queue_by (TakesOver o u) is in
           let both =
           effects.servers i program g numbers this.has note k later t o u a.task (c.tasks u) b.task (d.tasks u) p q waits.q waits.vs waits.xs waits.items
-          moved.leaves
-          (record { on = on; running = not_running u reached.2; queued = queued_there; work = waits.work; entry = waits.entry })
-          (gone o u queued_there behind)
+          (ended_only o u is)
+          (record { on = on; running = not_running u caller.2; queued = queued_there; work = waits.work; entry = waits.entry })
+          (gone o u queued_there queues)
           (known.stand u (known.others.bounded.queued o u queued_there)) in
-          ((λ in_image. both.0), (λ in_image. both.1), λ v other unlike. under_same later v other (stay o u v unlike queued_there behind) (back o u v behind))
+          ((λ in_image. both.0), (λ in_image. both.1), λ v other unlike. under_same later v other (stay o u v unlike queued_there queues) (back o u v queues))
         where
           -- the caller is queued nowhere any more
           gone : (o u : ℕ) → k.queued o ≡ Some u → later.queued ≡ put o None k.queued → (p' : ℕ) → later.queued p' ≢ Some u
-          gone o u queued_there behind p' is =
-              of_put (λ x. x ≡ Some u) ⊥ o p' None k.queued (sym (ap (λ f. f p') behind) ∙ is)
+          gone o u queued_there queues p' is =
+              of_put (λ x. x ≡ Some u) ⊥ o p' None k.queued (sym (ap (λ f. f p') queues) ∙ is)
               (λ same mine. absurd cc)
               (λ unlike here.
               let one : k.place u ≡ IsQueued p' = kept.sound.queue p' u here in
@@ -382,8 +502,8 @@ module _ (this : Step) where
               unlike same)
 
           stay : (o u v : ℕ) → v ≢ u → k.queued o ≡ Some u → later.queued ≡ put o None k.queued → (p' : ℕ) → k.queued p' ≡ Some v → later.queued p' ≡ Some v
-          stay o u v unlike queued_there behind p' is =
-              ap (λ f. f p') behind
+          stay o u v unlike queued_there queues p' is =
+              ap (λ f. f p') queues
               ∙ put_other o p' None k.queued
               (λ same.
               let one : k.queued p' ≡ Some u = ap k.queued same ∙ queued_there in
@@ -393,23 +513,23 @@ module _ (this : Step) where
               ∙ is
 
           back : (o u v : ℕ) → later.queued ≡ put o None k.queued → (p' : ℕ) → later.queued p' ≡ Some v → k.queued p' ≡ Some v
-          back o u v behind p' is =
-              of_put (λ x. x ≡ Some v) (k.queued p' ≡ Some v) o p' None k.queued (sym (ap (λ f. f p') behind) ∙ is)
+          back o u v queues p' is =
+              of_put (λ x. x ≡ Some v) (k.queued p' ≡ Some v) o p' None k.queued (sym (ap (λ f. f p') queues) ∙ is)
               (λ same mine. absurd cc)
               (λ unlike here. here)
 
       hands : (u : ℕ) → ending_of is_open (k.actions t) k.queued ≡ HandsBack u → IsOwed note e a.task b.task p q (HandsBack u)
       hands u is =
           let there = known.runner.reaches e in
-          let reached = there.served u is in
-          let o = reached.0 in
+          let caller = there.served u is in
+          let o = caller.0 in
           let serves = hands_back is_open (k.actions t) k.queued u is in
-          let waits = call_of o u (ap awaited reached.1) in (
-            (λ in_image. goes_on),
+          let waits = call_of o u (ap awaited caller.1) in (
+            goes_on (left_handing u caller.2 is),
             (λ in_image.
                 effects.served i program g numbers note k later u (c.tasks u) (d.tasks u) p q waits.q waits.vs waits.xs waits.items schedule
-                (moved.leaves.gives serves.0 u serves.1 serves.2)
-                (record { on = on; running = not_running u reached.2; queued = nowhere o u reached.1; work = waits.work })
+                (gives serves.0 u serves.1 serves.2)
+                (record { on = on; running = not_running u caller.2; queued = nowhere o u caller.1; work = waits.work })
                 (known.stand u in_image)),
             λ v other unlike. same_queues later (queue_by (HandsBack u) is) v other,
           )
@@ -421,7 +541,7 @@ module _ (this : Step) where
               absurd cc
 
       ends_owed : (x : Ending) → ending_of is_open (k.actions t) k.queued ≡ x → IsOwed note e a.task b.task p q x
-      ends_owed Closes is = (λ in_image. goes_on, λ v other. same_queues later (queue_by Closes is) v other)
+      ends_owed Closes is = (goes_on (left_closed is), λ v other. same_queues later (queue_by Closes is) v other)
       ends_owed (TakesOver o u) is = takes_over o u is
       ends_owed (HandsBack u) is = hands u is
 

@@ -6,7 +6,7 @@ use Rattle.std.proofs.lemmas.Bool.{and_from, and_parts, le-leb}
 use Rattle.base.specs.Names.{is_label, is_name, predefined}
 use Rattle.base.specs.declared.limits.TheConstants.{EXCEPTIONS, INSTRUCTIONS, LABELS, OBJECTS, ROWS, SUBPROGRAMS, TASKS, WORDS}
 use Rattle.ada_tree.specs.ProgramTree.{ProgramTree}
-use Rattle.image.specs.Rules.{IsWellFormed, all_begun, all_nested, all_placed, begins_with, covers_places, depths_agree, has_body, has_counts, has_depth, has_ends, has_entry, has_object, in_holder, is_closed, is_object, is_row_within, is_subprogram, is_task, is_within, jumps_stay_inside, jumps_within, keeps_depth, named_things_exist, names_things, tables_agree, where_ends}
+use Rattle.image.specs.Rules.{IsWellFormed, are_attached, all_begun, all_nested, all_placed, begins_with, covers_places, depths_agree, has_body, has_counts, has_depth, has_ends, has_entry, has_object, in_holder, is_closed, is_object, is_row_within, is_subprogram, is_task, is_within, jumps_stay_inside, jumps_within, keeps_depth, named_things_exist, names_things, tables_agree, where_ends}
 use Rattle.image.specs.Sections.{Sections}
 use Rattle.meaning.specs.Programs.{exceptions_among, items_among, main_task, package_items, program_of, tasks_among}
 use Rattle.checking.specs.ProgramRules.{IsLegal}
@@ -19,6 +19,7 @@ use Rattle.stmt_code.specs.Whole.{KeptCodePasses, PassesOnCode}
 use Rattle.package_code.specs.Laws.{SectionsAreWellFormed}
 use Rattle.package_code.specs.Program.{HasProgram, KeepsTables}
 use Rattle.package_code.proofs.InFront.{LawsOfNames}
+use Rattle.ada_link.proofs.HandlerLines.{attachments_right}
 use Rattle.ada_link.proofs.KeptCode.{code_passes, long}
 use Rattle.ada_link.proofs.ObjectLines.{entries_there, objects_right}
 use Rattle.ada_link.proofs.RowRules.{rows_cover, rows_find, rows_known, rows_nested, rows_within}
@@ -140,17 +141,19 @@ module _ (laws : LawsOfNames) (t : ProgramTree) (legal : IsLegal t) (restricted 
       let j = list_all is_name i.exceptions in
       let k = list_all is_label i.labels in
       let m = list_all (λ r. nat_le r.exception (length i.exceptions)) i.rows in
+      let a = are_attached i 0 i.attachments in
       let o = all_nested i.rows in
-      and_from (has_counts i) (has_ends i && (d && (e && (f && (g && (j && (k && (m && o)))))))) counts
-      (and_from (has_ends i) (d && (e && (f && (g && (j && (k && (m && o))))))) p.ends
-      (and_from d (e && (f && (g && (j && (k && (m && o)))))) p.subprograms
-      (and_from e (f && (g && (j && (k && (m && o))))) (objects_right laws t legal restricted i h)
-      (and_from f (g && (j && (k && (m && o)))) (tasks_right laws t legal restricted i h tasks_named)
-      (and_from g (j && (k && (m && o)))
+      and_from (has_counts i) (has_ends i && (d && (e && (f && (g && (j && (k && (m && (a && o))))))))) counts
+      (and_from (has_ends i) (d && (e && (f && (g && (j && (k && (m && (a && o)))))))) p.ends
+      (and_from d (e && (f && (g && (j && (k && (m && (a && o))))))) p.subprograms
+      (and_from e (f && (g && (j && (k && (m && (a && o)))))) (objects_right laws t legal restricted i h)
+      (and_from f (g && (j && (k && (m && (a && o))))) (tasks_right laws t legal restricted i h tasks_named)
+      (and_from g (j && (k && (m && (a && o))))
       (ap (begins_with predefined) exceptions_are ∙ begun_with predefined (exceptions_among (package_items t.package_)))
-      (and_from j (k && (m && o)) exceptions_named
-      (and_from k (m && o) labels_spelled
-      (and_from m o (rows_known t i h) (rows_nested t i h)))))))))
+      (and_from j (k && (m && (a && o))) exceptions_named
+      (and_from k (m && (a && o)) labels_spelled
+      (and_from m (a && o) (rows_known t i h)
+      (and_from a o (attachments_right laws t legal restricted i h) (rows_nested t i h))))))))))
 
   pub well_formed : IsWellFormed i
   well_formed = record { operands = p.operands; jumps = jumps; named = named; depths = depths; tables = tables_whole }

@@ -16,8 +16,8 @@ use expr_soundness::laws::scopes_are_sound;
 use image::{Kind, Object, Parts, Task};
 use lexer::Text;
 use package_code::{
-    Directory, Globals, ProtectedObjects, Walk, globals_of, object_rows, protected_objects, row,
-    task_row, task_rows, walk_over,
+    Directory, Globals, ProtectedObjects, Walk, attachments, globals_of, object_rows,
+    protected_objects, row, task_row, task_rows, walk_over,
 };
 use program_soundness::body_laws::{fronts_fit, names_are_known, premises_hold};
 use program_soundness::program_laws::starts_are_sound;
@@ -134,6 +134,7 @@ fn put_together(alloc: Global, accepted: &Accepted) -> Result<Linked, Refusal>
         tasks,
         rows,
         instructions: draft.code.instructions,
+        attachments: attachments(alloc, accepted, &directory)?,
     };
     Ok(Linked { parts, places })
 }

@@ -3,7 +3,7 @@ use Rattle.std.proofs.Common.{◌≡◌, ◌<◌, ◌⊎◌, arith, ℕ, List, [
 use Rattle.std.proofs.lemmas.List.Elements.{All-contains}
 use Rattle.std.specs.List.{Contains}
 use Rattle.std.specs.Prelude.{IfOk, IfErr}
-use Rattle.base.specs.declared.faults.TheConstants.{LIMIT_PASSED, LOCAL_TASKING, NAME_NOT_VISIBLE, WRONG_PRAGMAS}
+use Rattle.base.specs.declared.faults.TheConstants.{LIMIT_PASSED, NAME_NOT_VISIBLE}
 use Rattle.lexer.specs.Fault.{memory_fault}
 use Rattle.lexer.specs.Spelling.{IsBroken, IsRefusedForMemory, Spells}
 use Rattle.lexer.specs.declared.fault.Fault.{Fault}
@@ -17,7 +17,7 @@ use Rattle.ada_link.specs.ada_tree.specs.ProgramTree.{ProgramTree, program_tree}
 use Rattle.ada_link.specs.expr_rules.specs.Faults.{Faults, IsLeast}
 use Rattle.checking.specs.ProgramRules.{IsLegal, RefusesProgram, program_faults}
 use Rattle.ravenscar.specs.ProgramRules.{IsRestricted, RefusesUnrestricted, restriction_faults}
-use Rattle.fault_numbers.specs.Numbers.{AreNumberedWithin, GrammarNumbers, IsNumbered, LegalityNumbers, RestrictionNumbers, SpellingNumbers}
+use Rattle.fault_numbers.specs.Numbers.{AreNumberedWithin, GrammarNumbers, IsNumbered, IsRestrictionNumbered, LegalityNumbers, RestrictionNumbers, SpellingNumbers}
 use Rattle.ada_link.specs.meaning.specs.SameMeaning.{KeepsCount, SameMeaning}
 use Rattle.ada_link.specs.package_code.specs.Places.{PlacesTell}
 use Rattle.ada_link.specs.expr_code.specs.Coming.{most_steps}
@@ -189,17 +189,21 @@ module _ (spelling : SpellingNumbers) (grammar : GrammarNumbers) (legality : Leg
   among first last faults fault all least = All-contains (IsNumbered first last) faults fault all least.listed
 
   pub of_text : (text : List ℕ) (fault : Fault) → RefusesText text fault → IsTextFault fault.number
-  of_text text fault (inl memory) = inr (inr (inr (ap (λ f. f.number) memory)))
+  of_text text fault (inl memory) = inr (inr (inr (inr (ap (λ f. f.number) memory))))
   of_text text fault (inr (inl broken)) = let n = spelling text fault broken.broken in inl (n.0, omega (arith, n.1))
   of_text text fault (inr (inr (inl none))) = let n = grammar none.tokens fault none.faulty in inl (omega (arith, n.0), n.1)
   of_text text fault (inr (inr (inr (inl illegal)))) =
       inr (inl (among NAME_NOT_VISIBLE LIMIT_PASSED (program_faults illegal.tree) fault (legality illegal.tree) illegal.least))
   of_text text fault (inr (inr (inr (inr (inl broken))))) =
-      inr (inr (inl (among LOCAL_TASKING WRONG_PRAGMAS (restriction_faults broken.tree) fault (restrictions broken.tree) broken.least)))
+      of_restriction (All-contains IsRestrictionNumbered (restriction_faults broken.tree) fault (restrictions broken.tree) broken.least.listed)
+    where
+      of_restriction : IsRestrictionNumbered fault → IsTextFault fault.number
+      of_restriction (inl profile) = inr (inr (inl profile))
+      of_restriction (inr handler) = inr (inr (inr (inl handler)))
   of_text text fault (inr (inr (inr (inr (inr refused))))) = of_tree refused.refused
     where
       of_tree : RefusesAccepted text refused.tree fault → IsTextFault fault.number
-      of_tree (inl memory) = inr (inr (inr (ap (λ f. f.number) memory)))
+      of_tree (inl memory) = inr (inr (inr (inr (ap (λ f. f.number) memory))))
       of_tree (inr large) = let n = ap (λ f. f.number) large.0 in inr (inl (omega (arith, n), omega (arith, n)))
 
   pub numbered : {A : Type 0} (r : Result A Fault) (text : List ℕ) → IfErr r (λ f. RefusesText text f) → IfErr r (λ f. IsTextFault f.number)

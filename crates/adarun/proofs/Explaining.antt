@@ -14,18 +14,25 @@ use Rattle.adarun.specs.Accepted.{IsTextFault}
 between : (first last n : ℕ) → first ≤ n → n ≤ last → is_from first last n ≡ true
 between first last n low high = ap₂ (λ a b. a && b) (le-leb first n low) (le-leb n last high)
 
--- what follows the first test, and the second one
-behind_one : (n : ℕ) → (is_from 10 23 n || (is_from 30 39 n || (is_from 40 47 n || (is_from 50 53 n || nat_eq n 60)))) ≡ true → is_fault_number n ≡ true
+-- what follows the first test, the second one, and those up to that of memory
+behind_one : (n : ℕ) → (is_from 10 23 n || (is_from 30 39 n || (is_from 40 47 n || (is_from 50 53 n || (nat_eq n 60 || is_from 70 73 n))))) ≡ true
+    → is_fault_number n ≡ true
 behind_one n e = or_right (is_from 1 7 n) _ e
 
-behind_two : (n : ℕ) → (is_from 30 39 n || (is_from 40 47 n || (is_from 50 53 n || nat_eq n 60))) ≡ true → is_fault_number n ≡ true
+behind_two : (n : ℕ) → (is_from 30 39 n || (is_from 40 47 n || (is_from 50 53 n || (nat_eq n 60 || is_from 70 73 n)))) ≡ true
+    → is_fault_number n ≡ true
 behind_two n e = behind_one n (or_right (is_from 10 23 n) _ e)
+
+behind_memory : (n : ℕ) → is_from 70 73 n ≡ true → is_fault_number n ≡ true
+behind_memory n e =
+    behind_two n (or_right (is_from 30 39 n) _ (or_right (is_from 40 47 n) _ (or_right (is_from 50 53 n) _ (or_right (nat_eq n 60) _ e))))
 
 pub text_number : (n : ℕ) → IsTextFault n → is_fault_number n ≡ true
 text_number n (inl spelling) = or_left (is_from 1 7 n) _ (between 1 7 n spelling.0 spelling.1)
 text_number n (inr (inl rule)) = behind_one n (or_left (is_from 10 23 n) _ (between 10 23 n rule.0 rule.1))
 text_number n (inr (inr (inl restriction))) = behind_two n (or_left (is_from 30 39 n) _ (between 30 39 n restriction.0 restriction.1))
-text_number n (inr (inr (inr memory))) = subst (λ k. is_fault_number k ≡ true) (sym memory) refl
+text_number n (inr (inr (inr (inl handler)))) = behind_memory n (between 70 73 n handler.0 handler.1)
+text_number n (inr (inr (inr (inr memory)))) = subst (λ k. is_fault_number k ≡ true) (sym memory) refl
 
 same_number : (known n : ℕ) → is_fault_number known ≡ true → Some known ≡ Some n → is_fault_number n ≡ true
 same_number known n e is = subst (λ k. is_fault_number k ≡ true) (let same : known ≡ n = cc in same) e

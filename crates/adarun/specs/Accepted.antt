@@ -26,7 +26,7 @@ pub record IsTreeOf (tree : ProgramTree) (text : List ℕ) : Type 0 where
   pub derives : Derives tree tokens
 
 -- An accepted text: it has at most as many bytes as a text may have and tokens spell it, a tree with at most as many levels as may be open at once derives
--- these, and the tree breaks no rule from 10 to 39.
+-- these, and the tree breaks no rule from 10 to 39 or 70 to 73.
 pub record IsAccepted (tree : ProgramTree) (text : List ℕ) : Type 0 where
   pub is_tree : IsTreeOf tree text
   pub legal : IsLegal tree
@@ -75,7 +75,7 @@ pub record HasIllegalTree (text : List ℕ) (fault : Fault) : Type 0 where
   pub is_tree : IsTreeOf tree text
   pub least : IsLeast (program_faults tree) fault
 
--- its tree is legal, and breaks this rule from 30 to 39, and none before it
+-- its tree is legal, and breaks this rule from 30 to 39 or 70 to 73, and none before it
 pub record HasUnrestrictedTree (text : List ℕ) (fault : Fault) : Type 0 where
   pub tree : ProgramTree
   pub is_tree : IsTreeOf tree text
@@ -97,10 +97,10 @@ RefusesText text fault =
 
 -- the number of a rule that a text may break, or that of refused memory (docs/FAULTS.md)
 abbrev pub IsTextFault : ℕ → Type 0
-IsTextFault n = ((1 ≤ n) × (n ≤ 7)) ⊎ (((10 ≤ n) × (n ≤ 23)) ⊎ (((30 ≤ n) × (n ≤ 39)) ⊎ (n ≡ MEMORY_REFUSED)))
+IsTextFault n = ((1 ≤ n) × (n ≤ 7)) ⊎ (((10 ≤ n) × (n ≤ 23)) ⊎ (((30 ≤ n) × (n ≤ 39)) ⊎ (((70 ≤ n) × (n ≤ 73)) ⊎ (n ≡ MEMORY_REFUSED))))
 
 -- The tree of this text breaks no rule; or the text is refused for want of memory, by the least rule from 10 to 23 that it breaks, where it is legal by the
--- least one from 30 to 39, and where it breaks none of these as an accepted one is.
+-- least one from 30 to 39 or 70 to 73, and where it breaks none of these as an accepted one is.
 abbrev pub IsJudged : List ℕ → ProgramTree → Result Image Fault → Type 0
 IsJudged text tree (Ok image) = IsLegal tree × IsRestricted tree
 IsJudged text tree (Err fault) =

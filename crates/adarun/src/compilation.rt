@@ -104,8 +104,8 @@ pub(crate) fn compile_named(alloc: Global, source: &[u8]) -> Result<Named, Fault
 ///
 /// # Errors
 /// 1 to 5 where no tokens spell the text, 6 or 7 where they have no tree, 10 to 23 where the program is illegal, at the place that breaks the rule, which is
-/// the first such place, and 30 to 39 where a legal program breaks a restriction of the profile, at the first such place; 23, at main, where the code of an
-/// accepted text may pass a limit of images, which that of no small text does; 60, at byte 0, where memory was refused.
+/// the first such place, and 30 to 39 or 70 to 73 where a legal program breaks a restriction of the profile, at the first such place; 23, at main, where the
+/// code of an accepted text may pass a limit of images, which that of no small text does; 60, at byte 0, where memory was refused.
 pub fn compile(alloc: Global, source: &[u8]) -> Result<Image, Fault>
     ensures means { IfOk result (λ image. Compiles source.now image) }
     ensures accepted { (tree : ProgramTree) → IsAccepted tree source.now → CompilesAccepted source.now tree result }

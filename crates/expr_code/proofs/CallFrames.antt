@@ -1,5 +1,5 @@
 -- The frames of calls: the actual parameters leave the operand stack and are the first words of the callee's frame, unless the call is refused.
-use Rattle.std.proofs.Common.{◌≡◌, ℕ, zero, suc, ◌+◌, ◌-◌, ◌<◌, ◌≤◌, ℤ, List, [], ◌∷◌, ◌++◌, length, Some, None, true, false, cond, refl, sym, ap, ◌∙◌, arith, rules}
+use Rattle.std.proofs.Common.{◌≡◌, ℕ, zero, suc, ◌+◌, ◌-◌, ◌<◌, ◌≤◌, ℤ, List, [], ◌∷◌, ◌++◌, length, Bool, Some, None, true, false, cond, refl, sym, ap, ◌∙◌, arith, rules}
 use Rattle.std.specs.Prelude.{reverse, take, drop, replicate, pos, nat_le, nat_lt}
 use Rattle.std.proofs.lemmas.List.{reverse-reverse}
 use Rattle.std.proofs.lemmas.Grind.{reverse_onto}
@@ -7,12 +7,12 @@ use Rattle.base.specs.Exceptions.{number_of}
 use Rattle.base.specs.declared.exceptions.PredefinedException.TheVariants.{ProgramError, StorageError}
 use Rattle.base.specs.declared.limits.TheConstants.{FRAMES}
 use Rattle.base.specs.declared.schedule.ScheduleLine.{ScheduleLine}
-use Rattle.kernel.specs.State.{Kernel}
+use Rattle.kernel.specs.State.{Kernel, Partition, is_task}
 use Rattle.kernel.specs.Effects.{Quiet, Refusal, Views, call_refusal}
 use Rattle.kernel.specs.Laws.{QuietStays}
 use Rattle.image.specs.Sections.{Sections, first_place}
 use Rattle.image.specs.Operations.{called}
-use Rattle.image.specs.Frames.{Words, Inner, Opened, Frame, new_frame, arguments}
+use Rattle.image.specs.Frames.{Words, Inner, Opened, Frame, arguments, frames_counted, frames_in_use, new_frame}
 use Rattle.image.specs.Steps.{act, unwind, does}
 use Rattle.image.specs.Steps as step
 use Rattle.image.specs.declared.instruction.Operation.TheVariants as op
@@ -65,6 +65,14 @@ pub replicated : (n : ℕ) → length (replicate n (pos 0)) ≡ n
 replicated zero = refl
 replicated (suc n) = ap suc (replicated n)
 
+-- one frame more
+pub frames_more : (p : Partition) (t : ℕ) (f : Frame) (fs : List Frame) → frames_in_use p t (f ∷ fs) ≡ suc (frames_in_use p t fs)
+frames_more p t f fs = by_task (is_task p t)
+  where
+    by_task : (b : Bool) → frames_counted b (f ∷ fs) ≡ suc (frames_counted b fs)
+    by_task true = omega arith
+    by_task false = omega arith
+
 -- ---- a call within an object, or of a subprogram that has none
 
 module _ (quiet : QuietStays) (i : Sections) (g : ℕ) (s : Subprogram) (there : called i g ≡ Some s) (schedule : List ScheduleLine) (k : Kernel) (t : ℕ) (m : Words) (f : Frame) (fs : List Frame)
@@ -82,16 +90,16 @@ module _ (quiet : QuietStays) (i : Sections) (g : ℕ) (s : Subprogram) (there :
   abbrev pub inner : Frame
   inner = record { subprogram = g; place = first_place i g; locals = args ++ replicate (s.locals - s.parameters) (pos 0); stack = []; role = Inner }
 
-  pub enters : suc (length fs) < FRAMES → act i schedule k t (in_frame m at_call fs) ≡ does Quiet m inner (placed f place base ∷ fs) None None
+  pub enters : frames_in_use k.partition t fs < FRAMES → act i schedule k t (in_frame m at_call fs) ≡ does Quiet m inner (placed f place base ∷ fs) None None
   enters few =
       called_is
-      ∙ ap (λ b. cond b (step.enters i schedule k t m at_call fs Quiet Inner g s) (step.raises i schedule k t m at_call fs StorageError)) (is_less (length fs + 1) FRAMES (omega (arith, few)))
+      ∙ ap (λ b. cond b (step.enters i schedule k t m at_call fs Quiet Inner g s) (step.raises i schedule k t m at_call fs StorageError)) (is_less (frames_in_use k.partition t fs) FRAMES few)
       ∙ (λ j. does Quiet m (new_frame i g s (arguments_are s.parameters args base many j) Inner) (placed f place (base_is s.parameters args base many j) ∷ fs) None None)
 
-  pub refused : FRAMES ≤ suc (length fs) → act i schedule k t (in_frame m at_call fs) ≡ unwind i m (number_of StorageError) at_call fs
+  pub refused : FRAMES ≤ frames_in_use k.partition t fs → act i schedule k t (in_frame m at_call fs) ≡ unwind i m (number_of StorageError) at_call fs
   refused full =
       called_is
-      ∙ ap (λ b. cond b (step.enters i schedule k t m at_call fs Quiet Inner g s) (step.raises i schedule k t m at_call fs StorageError)) (is_not_less (length fs + 1) FRAMES (omega (arith, full)))
+      ∙ ap (λ b. cond b (step.enters i schedule k t m at_call fs Quiet Inner g s) (step.raises i schedule k t m at_call fs StorageError)) (is_not_less (frames_in_use k.partition t fs) FRAMES full)
 
 -- ---- a call through the name of a protected object
 
@@ -122,19 +130,19 @@ module _ (quiet : QuietStays) (i : Sections) (g : ℕ) (s : Subprogram) (there :
   unrefused none =
       external_is ∙ ap (λ r. step.unless_refused i schedule k t m at_external fs r (step.with_frame_left i schedule k t m at_external fs enters_it)) none
 
-  pub enters_object : call_refusal k t o ≡ None → suc (length fs) < FRAMES
+  pub enters_object : call_refusal k t o ≡ None → frames_in_use k.partition t fs < FRAMES
       → act i schedule k t (in_frame m at_external fs) ≡ does (Views o) m opened_frame (placed f at base ∷ fs) None None
   enters_object none few =
       unrefused none
-      ∙ ap (λ b. cond b enters_it (step.raises i schedule k t m at_external fs StorageError)) (is_less (length fs + 1) FRAMES (omega (arith, few)))
+      ∙ ap (λ b. cond b enters_it (step.raises i schedule k t m at_external fs StorageError)) (is_less (frames_in_use k.partition t fs) FRAMES few)
       ∙ (λ j. does (Views o) m (new_frame i g s (arguments_are s.parameters args base many j) (Opened o))
       (placed f at (base_is s.parameters args base many j) ∷ fs) None None)
 
-  pub full_object : call_refusal k t o ≡ None → FRAMES ≤ suc (length fs)
+  pub full_object : call_refusal k t o ≡ None → FRAMES ≤ frames_in_use k.partition t fs
       → act i schedule k t (in_frame m at_external fs) ≡ unwind i m (number_of StorageError) at_external fs
   full_object none full =
       unrefused none
-      ∙ ap (λ b. cond b enters_it (step.raises i schedule k t m at_external fs StorageError)) (is_not_less (length fs + 1) FRAMES (omega (arith, full)))
+      ∙ ap (λ b. cond b enters_it (step.raises i schedule k t m at_external fs StorageError)) (is_not_less (frames_in_use k.partition t fs) FRAMES full)
 
   pub refused_object : (r : Refusal) → call_refusal k t o ≡ Some r
       → act i schedule k t (in_frame m at_external fs) ≡ unwind i m (number_of ProgramError) at_external fs

@@ -1,13 +1,14 @@
 -- Calls of functions: that their code gives their values, by induction on the frames that are left.
-use Rattle.std.proofs.Common.{◌≡◌, ℕ, zero, suc, ◌+◌, ◌-◌, ◌≤◌, ℤ, List, [], ◌∷◌, ◌++◌, length, Option, Some, None, Bool, true, false, cond, refl, sym, ap, ◌∙◌, subst, arith}
+use Rattle.std.proofs.Common.{◌≡◌, ℕ, zero, suc, ◌+◌, ◌-◌, ◌<◌, ◌≤◌, ℤ, List, [], ◌∷◌, ◌++◌, length, Option, Some, None, Bool, true, false, cond, refl, sym, ap, ◌∙◌, subst, arith}
 use Rattle.std.specs.Prelude.{map, reverse, take, replicate, pos, ⊤}
 use Rattle.base.specs.Exceptions.{number_of}
 use Rattle.base.specs.declared.exceptions.PredefinedException.{PredefinedException}
 use Rattle.base.specs.declared.exceptions.PredefinedException.TheVariants.{ProgramError, StorageError}
+use Rattle.base.specs.declared.limits.TheConstants.{FRAMES}
 use Rattle.base.specs.declared.schedule.ScheduleLine.{ScheduleLine}
 use Rattle.kernel.specs.State.{Kernel, Reads, is_object_open, object_of}
-use Rattle.kernel.specs.Effects.{AboveCeiling, Closes, Ends, Quiet, Refusal, SameObject, Views, after, call_refusal, effect, ending_of, is_above_ceiling}
-use Rattle.kernel.specs.Worlds.{ending}
+use Rattle.kernel.specs.Effects.{AboveCeiling, Closes, Ends, Quiet, Refusal, SameObject, Views, after, call_refusal, effect, ending_of, is_above_ceiling, is_over}
+use Rattle.kernel.specs.Worlds.{ending, Solo, is_handler_over, restarted}
 use Rattle.kernel.specs.Calm.{Calm}
 use Rattle.kernel.specs.Counting.{Spends, Done}
 use Rattle.kernel.specs.Laws.{QuietStays, ViewsBack, ViewsOn}
@@ -15,7 +16,7 @@ use Rattle.kernel.specs.PutLaws.{put_same}
 use Rattle.kernel.specs.RunLaws.{spends_trans}
 use Rattle.image.specs.Sections.{Sections, first_place, end_of, object_of as kind_object}
 use Rattle.image.specs.Operations.{called as subprogram_called, results_of}
-use Rattle.image.specs.Frames.{Words, Role, Inner, Opened, Frame, TaskState, kind_of, object_words}
+use Rattle.image.specs.Frames.{Words, Role, Inner, Opened, Frame, TaskState, frames_in_use, kind_of, object_words}
 use Rattle.image.specs.Steps.{act, behaviour, is_open, unwind, does, caught, removed}
 use Rattle.image.specs.Steps as step
 use Rattle.image.specs.declared.instruction.Operation.TheVariants as op
@@ -33,9 +34,10 @@ use Rattle.expr_code.specs.Views.{At, IsSameTask, View, frames_above, in_frame, 
 use Rattle.expr_code.specs.Coming.{all_on, all_words, Comes, most_steps, on, size_of}
 use Rattle.expr_code.specs.Computing.{Answers, ArePassedTo, IsCalledThrough, IsFunctionCode, Library, call_operation, function_kind}
 use Rattle.expr_code.proofs.Coming.{acts}
-use Rattle.expr_code.proofs.CallFrames.{at_call, at_external, below, enters, enters_object, full_object, inner, length_reverse, opened_frame, refused, refused_object, replicated, take_front}
+use Rattle.expr_code.proofs.CallFrames.{at_call, at_external, below, enters, enters_object, frames_more, full_object, inner, length_reverse, opened_frame, refused, refused_object, replicated, take_front}
 use Rattle.expr_code.proofs.CallRefusals.{called_above, called_same, called_within, refusal_above, refusal_none, refusal_same, refusal_stays}
 use Rattle.expr_code.proofs.CountedSteps.{calls_spend, calls_take, own_spends, taken_spends}
+use Rattle.image.specs.Code.{initial_state}
 
 -- ---- one call
 
@@ -95,8 +97,10 @@ module _ (quiet : QuietStays) (i : Sections) (library : Library) (function : Fun
         let ret : act i schedule k t (in_frame m last (caller ∷ fs)) ≡ does Quiet m back fs None None =
         at_return schedule k t m caller fs callee.locals Inner v (sized v refl) ∙ (λ j. does Quiet m (placed f (next j) (on base v)) fs None None) in
         let one : Spends (behaviour i schedule) t frames_of (most_steps i) (suc (suc (length fs))) 1 k (in_frame m last (caller ∷ fs)) k (in_frame m back fs) =
-        quiet_spends (behaviour i schedule) t frames_of (most_steps i) quiet k calm (in_frame m last (caller ∷ fs)) (in_frame m back fs) (ap (λ y. y.effect) ret) (ap (λ y. y.solo) ret) refl Done in
-        call_spends (behaviour i schedule) t frames_of (most_steps i) quiet k calm (in_frame m caller_at fs) (in_frame m callee (caller ∷ fs)) (ap (λ y. y.effect) first) (ap (λ y. y.solo) first) refl
+        quiet_spends (behaviour i schedule) t frames_of (most_steps i) quiet k calm (in_frame m last (caller ∷ fs)) (in_frame m back fs) (ap (λ y. y.effect) ret)
+        (ap (λ y. (restarted (initial_state i t) k t y).solo) ret) refl Done in
+        call_spends (behaviour i schedule) t frames_of (most_steps i) quiet k calm (in_frame m caller_at fs) (in_frame m callee (caller ∷ fs)) (ap (λ y. y.effect) first)
+        (ap (λ y. (restarted (initial_state i t) k t y).solo) first) refl
         (spends_trans (behaviour i schedule) t frames_of (most_steps i) 1 k (in_frame m back fs) h one) (small_enough tt) Done
     returned calm (Raises x) sized first h =
         let caller = placed f place base in
@@ -105,7 +109,8 @@ module _ (quiet : QuietStays) (i : Sections) (library : Library) (function : Fun
           h.0,
           place,
           base,
-          call_takes (behaviour i schedule) t frames_of (most_steps i) quiet k calm (in_frame m caller_at fs) (in_frame m callee (caller ∷ fs)) (ap (λ y. y.effect) first) (ap (λ y. y.solo) first) refl
+          call_takes (behaviour i schedule) t frames_of (most_steps i) quiet k calm (in_frame m caller_at fs) (in_frame m callee (caller ∷ fs)) (ap (λ y. y.effect) first)
+              (ap (λ y. (restarted (initial_state i t) k t y).solo) first) refl
               (takes_more (behaviour i schedule) t frames_of (most_steps i) ((is.mid - first_place i g) + 1) (omega arith) h.3) (small_enough tt),
           omega arith,
           omega arith,
@@ -144,6 +149,16 @@ module _ (quiet : QuietStays) (i : Sections) (library : Library) (function : Fun
     closed_kernel : (b : Bool) → after t (Ends b) open_kernel ≡ k
     closed_kernel b = ap (λ y. after t (Ends b) y) (sym opened_kernel) ∙ back k t o b calm
 
+    -- the end of a function's action is not that of a handler
+    goes_on : (b : Bool) (s : Solo Words TaskState)
+        → (let r : Solo Words TaskState = record {
+          memory = s.memory;
+          task = cond (is_handler_over open_kernel t (Ends b)) (initial_state i t) s.task;
+        } in r) ≡ s
+    goes_on b s =
+        ap (λ c. (let r : Solo Words TaskState = record { memory = s.memory; task = cond c (initial_state i t) s.task } in r))
+        (ap (λ l. is_over k.partition t l (ending_of b l k.queued)) (put_same t t (Reads o ∷ k.actions t) k.actions refl))
+
     closes : (b : Bool) → ending open_kernel t (Ends b) ≡ Closes
     closes b = ap (λ l. ending_of b l open_kernel.queued) (put_same t t (Reads o ∷ k.actions t) k.actions refl)
 
@@ -164,9 +179,10 @@ module _ (quiet : QuietStays) (i : Sections) (library : Library) (function : Fun
         let one : Spends (behaviour i schedule) t frames_of (most_steps i) (suc (suc (length fs))) 1 open_kernel (in_frame m last (waiting ∷ fs)) k
         (in_frame m there fs) =
         own_spends (behaviour i schedule) t frames_of (most_steps i) open_kernel k (in_frame m last (waiting ∷ fs)) (in_frame m there fs) (Ends b)
-        opened_calm.runs (ap (λ y. y.effect) ret) (ap (λ y. y.solo) ret) (closes b) (closed_kernel b) refl Done in
+        opened_calm.runs (ap (λ y. y.effect) ret) (ap (λ y. (restarted (initial_state i t) open_kernel t y).solo) ret ∙ goes_on b (in_frame m there fs))
+        (closes b) (closed_kernel b) refl Done in
         calls_spend (behaviour i schedule) t frames_of (most_steps i) k open_kernel (in_frame m calling fs) (in_frame m within (waiting ∷ fs)) (Views o)
-        calm.runs (ap (λ y. y.effect) first) (ap (λ y. y.solo) first) refl opened_kernel refl
+        calm.runs (ap (λ y. y.effect) first) (ap (λ y. (restarted (initial_state i t) k t y).solo) first) refl opened_kernel refl
         (spends_trans (behaviour i schedule) t frames_of (most_steps i) 1 k (in_frame m there fs) h one) (small_enough tt) Done
     returned_opened (Raises x) sized first h =
         let low = h.4 in
@@ -180,13 +196,14 @@ module _ (quiet : QuietStays) (i : Sections) (library : Library) (function : Fun
         let above : Spends (behaviour i schedule) t frames_of (most_steps i) (suc (suc (length fs))) ((is.mid - first_place i g) + 1) open_kernel
         (in_frame m within (waiting ∷ fs)) k (record { memory = m; task = left }) =
         taken_spends (behaviour i schedule) t frames_of (most_steps i) open_kernel k (record { memory = m; task = h.0 }) (record { memory = m; task = left })
-        (Ends b) opened_calm.runs (ap (λ y. y.effect) ends) (ap (λ y. y.solo) ends) (closes b) (closed_kernel b)
+        (Ends b) opened_calm.runs (ap (λ y. y.effect) ends)
+        (ap (λ y. (restarted (initial_state i t) open_kernel t y).solo) ends ∙ goes_on b (record { memory = m; task = left })) (closes b) (closed_kernel b)
         (takes_more (behaviour i schedule) t frames_of (most_steps i) ((is.mid - first_place i g) + 1) (omega arith) h.3) in (
           left,
           place,
           base,
           calls_take (behaviour i schedule) t frames_of (most_steps i) k open_kernel (in_frame m calling fs) (in_frame m within (waiting ∷ fs)) (Views o)
-              calm.runs (ap (λ y. y.effect) first) (ap (λ y. y.solo) first) refl opened_kernel refl above (small_enough tt) (Last refl),
+              calm.runs (ap (λ y. y.effect) first) (ap (λ y. (restarted (initial_state i t) k t y).solo) first) refl opened_kernel refl above (small_enough tt) (Last refl),
           omega arith,
           omega arith,
           record { throws = λ schedule l m opened ranked. refl },
@@ -234,24 +251,36 @@ module _ (quiet : QuietStays) (views : ViewsOn) (back : ViewsBack) (i : Sections
 
     -- without an action of its own
 
-    plain_full : 0 ≡ frames_above fs → At i place (op.Call g) → Arrives (call zero p function args)
+    -- all frames are in use, in each kernel like this one
+    all_used : 0 ≡ frames_above k t fs → (l : Kernel) → l.partition ≡ k.partition → FRAMES ≤ frames_in_use l.partition t fs
+    all_used e l ranked = subst (λ p. FRAMES ≤ frames_in_use p t fs) (sym ranked) (omega (arith, e))
+
+    plain_full : 0 ≡ frames_above k t fs → At i place (op.Call g) → Arrives (call zero p function args)
     plain_full e here =
         raises_at_once StorageError
-        (λ schedule l m opened ranked. refused quiet i g is.s is.there schedule l t m f fs place base words here many (omega (arith, e)))
+        (λ schedule l m opened ranked. refused quiet i g is.s is.there schedule l t m f fs place base words here many (all_used e l ranked))
 
-    plain_call : (left : ℕ) → Answers i library (call left) left → suc left ≡ frames_above fs → At i place (op.Call g)
+    -- there is one that is not, and the others are left to the callee
+    one_left : (left : ℕ) → suc left ≡ frames_above k t fs → frames_in_use k.partition t fs < FRAMES
+    one_left left e = omega (arith, e)
+
+    left_above : (left : ℕ) (l : Kernel) (f : Frame) → l.partition ≡ k.partition → suc left ≡ frames_above k t fs → left ≡ frames_above l t (f ∷ fs)
+    left_above left l f ranked e =
+        let more = ap (λ p. frames_in_use p t (f ∷ fs)) ranked ∙ frames_more k.partition t f fs in omega (arith, e, more)
+
+    plain_call : (left : ℕ) → Answers i library (call left) left → suc left ≡ frames_above k t fs → At i place (op.Call g)
         → Arrives (call (suc left) p function args)
     plain_call left answers e here =
         let frame = inner quiet i g is.s is.there schedule k t m f fs place base words here many in
-        let first = enters quiet i g is.s is.there schedule k t m f fs place base words here many (omega (arith, e)) in
+        let first = enters quiet i g is.s is.there schedule k t m f fs place base words here many (one_left left e) in
         let there = entered p function args left in
         let seen = view_of i schedule k t m frame (caller ∷ fs) in
         let sees = is.enters p view seen args left (replicate (is.s.locals - is.s.parameters) (pos 0)) shared passes refl refl
-        (same_task p view shared) refl refl (replicated (is.s.locals - is.s.parameters)) refl (ap (λ o. object_words (kind_object (kind_of o)) m) is.there) (omega (arith, e)) in
+        (same_task p view shared) refl refl (replicated (is.s.locals - is.s.parameters)) refl (ap (λ o. object_words (kind_object (kind_of o)) m) is.there) (sym (left_above left k caller refl e)) in
         returned quiet i library function g is schedule k t m f fs place base words here many calm
         (and_then (value_with (call left) there function.value) (passed function.result))
         (λ a ea. is.sized (call left) there seen a (sound left) sees ea) first
-        (is.body (call left) left answers schedule k t m frame (caller ∷ fs) there [] calm sees (omega (arith, e)))
+        (is.body (call left) left answers schedule k t m frame (caller ∷ fs) there [] calm sees (left_above left k caller refl e))
 
     -- through the name of an object
 
@@ -263,18 +292,18 @@ module _ (quiet : QuietStays) (views : ViewsOn) (back : ViewsBack) (i : Sections
       abbrev inside : Place
       inside = record p { actions = o.number ∷ p.actions }
 
-      object_full : 0 ≡ frames_above fs → call_refusal k t o.number ≡ None → Arrives (call zero inside function args)
+      object_full : 0 ≡ frames_above k t fs → call_refusal k t o.number ≡ None → Arrives (call zero inside function args)
       object_full e none =
           raises_at_once StorageError
           (λ schedule l m opened ranked.
           full_object quiet i g is.s is.there o.number kind schedule l t m f fs place base words here many (refusal_stays k l t o.number opened ranked ∙ none)
-          (omega (arith, e)))
+          (all_used e l ranked))
 
-      object_call : (left : ℕ) → Answers i library (call left) left → suc left ≡ frames_above fs → call_refusal k t o.number ≡ None
+      object_call : (left : ℕ) → Answers i library (call left) left → suc left ≡ frames_above k t fs → call_refusal k t o.number ≡ None
           → Arrives (call (suc left) inside function args)
       object_call left answers e none =
           let frame = opened_frame quiet i g is.s is.there o.number kind schedule k t m f fs place base words here many in
-          let first = enters_object quiet i g is.s is.there o.number kind schedule k t m f fs place base words here many none (omega (arith, e)) in
+          let first = enters_object quiet i g is.s is.there o.number kind schedule k t m f fs place base words here many none (one_left left e) in
           let open_kernel = effect t (Views o.number) k in
           let there = entered inside function args left in
           let seen = view_of i schedule open_kernel t m frame (caller ∷ fs) in
@@ -283,12 +312,12 @@ module _ (quiet : QuietStays) (views : ViewsOn) (back : ViewsBack) (i : Sections
           ap (λ l. o.number ∷ l) task.0 ∙ sym (ap (map object_of) (put_same t t (Reads o.number ∷ k.actions t) k.actions refl)) in
           let sees = is.enters inside (record view { actions = o.number ∷ view.actions }) seen args left (replicate (is.s.locals - is.s.parameters) (pos 0))
           (opens p view o.number shared) passes refl refl (actions, task.1, task.2) refl refl
-          (replicated (is.s.locals - is.s.parameters)) refl (ap (λ o. object_words (kind_object (kind_of o)) m) is.there) (omega (arith, e)) in
+          (replicated (is.s.locals - is.s.parameters)) refl (ap (λ o. object_words (kind_object (kind_of o)) m) is.there) (sym (left_above left open_kernel caller refl e)) in
           returned_opened quiet i library function g is views back o.number kind schedule k t m f fs place base words here many calm
           (and_then (value_with (call left) there function.value) (passed function.result))
           (λ a ea. is.sized (call left) there seen a (sound left) sees ea) first
           (is.body (call left) left answers schedule open_kernel t m frame (caller ∷ fs) there []
-          (opened_calm quiet i library function g is views back o.number kind schedule k t m f fs place base words here many calm) sees (omega (arith, e)))
+          (opened_calm quiet i library function g is views back o.number kind schedule k t m f fs place base words here many calm) sees (left_above left open_kernel caller refl e))
 
       -- the refusals, and the call where none applies
       external : (calls : Calls) → ceiling_of p.scope o.number ≡ o.ceiling → (call_refusal k t o.number ≡ None → Arrives (calls inside function args))
@@ -319,12 +348,12 @@ module _ (quiet : QuietStays) (views : ViewsOn) (back : ViewsBack) (i : Sections
 
     -- both ways
 
-    answers_full : 0 ≡ frames_above fs → (through : Option ProtectedObject) → IsCalledThrough p function through → At i place (call_operation through g)
+    answers_full : 0 ≡ frames_above k t fs → (through : Option ProtectedObject) → IsCalledThrough p function through → At i place (call_operation through g)
         → Arrives (called (call zero) p function through args)
     answers_full e None way here = plain_full e here
     answers_full e (Some o) way here = external o way.0 here (call zero) way.1 (λ none. object_full o way.0 here e none)
 
-    answers_more : (left : ℕ) → Answers i library (call left) left → suc left ≡ frames_above fs → (through : Option ProtectedObject)
+    answers_more : (left : ℕ) → Answers i library (call left) left → suc left ≡ frames_above k t fs → (through : Option ProtectedObject)
         → IsCalledThrough p function through → At i place (call_operation through g)
         → Arrives (called (call (suc left)) p function through args)
     answers_more left answers e None way here = plain_call left answers e here

@@ -21,6 +21,8 @@ use Rattle.expr_soundness.specs.meaning.specs.SameMeaning.{frames_of}
 use Rattle.expr_code.specs.Views.{At, in_frame, placed}
 use Rattle.expr_code.specs.Coming.{Comes, most_steps, on}
 use Rattle.expr_code.specs.OperatorCode.{IsWordOf}
+use Rattle.kernel.specs.Worlds.{restarted}
+use Rattle.image.specs.Code.{initial_state}
 
 module _ (quiet : QuietStays) (i : Sections) where
   -- what the instruction at a place does
@@ -34,7 +36,8 @@ module _ (quiet : QuietStays) (i : Sections) where
         → act i schedule k t (in_frame m f fs) ≡ does Quiet m g fs None None
         → Spends (behaviour i schedule) t frames_of (most_steps i) (suc (length fs)) 1 k (in_frame m f fs) k (in_frame m g fs)
     steps f g fs e =
-        quiet_spends (behaviour i schedule) t frames_of (most_steps i) quiet k calm (in_frame m f fs) (in_frame m g fs) (ap (λ y. y.effect) e) (ap (λ y. y.solo) e) refl Done
+        quiet_spends (behaviour i schedule) t frames_of (most_steps i) quiet k calm (in_frame m f fs) (in_frame m g fs) (ap (λ y. y.effect) e)
+        (ap (λ y. (restarted (initial_state i t) k t y).solo) e) refl Done
 
     pub more : {A : Type 0} (f : Frame) (fs : List Frame) (n n' to : ℕ) (s : A → List ℤ) (v : Val A)
         → n ≤ n'

@@ -474,7 +474,7 @@ module _ (quiet : QuietStays) (sized : ValuesHaveWords) (places : PartsHavePlace
       → (schedule : List ScheduleLine) (k : Kernel) (t : ℕ) (m : Words) (f : Frame) (fs : List Frame) (p : Place) (base : List ℤ)
       → Calm k t
       → sight p (view_of i schedule k t m f fs)
-      → left ≡ frames_above fs
+      → left ≡ frames_above k t fs
       → form_at p.scope s.type_number ≡ Some (Arrays index many element)
       → (vs : Values) (address : ℕ)
       → StandsAsArray (region_words i region m f) address x vs

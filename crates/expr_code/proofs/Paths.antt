@@ -84,7 +84,7 @@ module _ (quiet : QuietStays) (sized : ValuesHaveWords) (places : PartsHavePlace
     )
 
   module _ (calls : Calls) (left : ℕ) (answers : Answers i library calls left) (schedule : List ScheduleLine) (k : Kernel) (t : ℕ) (m : Words) (f : Frame) (fs : List Frame) (p : Place) (base : List ℤ)
-      (calm : Calm k t) (sees : sight p (view_of i schedule k t m f fs)) (is : left ≡ frames_above fs) (small : length (region_words i region m f) ≤ 65536) where
+      (calm : Calm k t) (sees : sight p (view_of i schedule k t m f fs)) (is : left ≡ frames_above k t fs) (small : length (region_words i region m f) ≤ 65536) where
     abbrev At_part : (from to : ℕ) (shift : ℤ) (last : Subtype) (end : Shape) (address : ℕ) → Val Meaning → Type 0
     At_part from to shift last end address v =
         Finds i schedule k t m (placed f from ((pos address +ℤ shift) ∷ base)) fs region last end (to - from) to base v

@@ -76,7 +76,7 @@ module _ (i : Sections) (library : Library) where
         → IsCalledThrough p function through
         → At i place (call_operation through number)
         → ArePassedTo library function args
-        → left ≡ frames_above fs
+        → left ≡ frames_above k t fs
         → Comes i schedule k t m (placed f place (all_on base args)) fs 1 (suc place) (on base) (called calls p function through args)
 
   -- from each state of a frame that sees what is visible
@@ -87,7 +87,7 @@ module _ (i : Sections) (library : Library) where
       → (schedule : List ScheduleLine) (k : Kernel) (t : ℕ) (m : Words) (f : Frame) (fs : List Frame) (p : Place) (base : List ℤ)
       → Calm k t
       → sight p (view_of i schedule k t m f fs)
-      → left ≡ frames_above fs
+      → left ≡ frames_above k t fs
       → Comes i schedule k t m (placed f from base) fs (to - from) to (stack base) (value calls p)
 
   -- the code between two places computes the expression: it leaves its value on the operand stack

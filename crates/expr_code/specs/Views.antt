@@ -1,11 +1,11 @@
 -- What a frame of code sees, and what an image has at a place.
-use Rattle.std.specs.Prelude.{◌≡◌, ℕ, suc, ◌-◌, ℤ, List, length, map, None, Some, slice_get}
+use Rattle.std.specs.Prelude.{◌≡◌, ℕ, ◌-◌, ℤ, List, map, None, Some, slice_get}
 use Rattle.base.specs.declared.schedule.ScheduleLine.{ScheduleLine}
 use Rattle.base.specs.declared.limits.TheConstants.{FRAMES}
 use Rattle.kernel.specs.State.{Kernel, object_of}
 use Rattle.kernel.specs.Worlds.{Solo}
 use Rattle.image.specs.Sections.{Sections}
-use Rattle.image.specs.Frames.{Words, Frame, TaskState, region_words}
+use Rattle.image.specs.Frames.{Words, Frame, TaskState, frames_in_use, region_words}
 use Rattle.image.specs.declared.instruction.Operation.{Operation}
 use Rattle.image.specs.declared.instruction.Region.{Region}
 use Rattle.types.specs.Places.{Place, ceiling_of}
@@ -22,9 +22,9 @@ in_frame m f fs = record { memory = m; task = record { frame = f; callers = fs; 
 abbrev pub placed : Frame → ℕ → List ℤ → Frame
 placed f place stack = record f { place = place; stack = stack }
 
--- the frames that a task may still open above these and one more
-abbrev pub frames_above : List Frame → ℕ
-frames_above fs = FRAMES - suc (length fs)
+-- the frames that the task or handler may still open above these and one more
+abbrev pub frames_above : Kernel → ℕ → List Frame → ℕ
+frames_above k t fs = FRAMES - frames_in_use k.partition t fs
 
 -- all that the value of an expression may depend on, on the side of code: the inputs and the time, the words of each region, the frames that are left, and what
 -- may refuse a call
@@ -47,7 +47,7 @@ view_of i schedule k t m f fs =
       now = k.now;
       memory = m;
       words = λ r. region_words i r m f;
-      left = frames_above fs;
+      left = frames_above k t fs;
       actions = map object_of (k.actions t);
       base = k.partition.base t;
       ceilings = k.partition.ceiling;

@@ -1,5 +1,5 @@
 -- All subprograms of a package have their code where each body among its declarations has it.
-use Rattle.std.proofs.Common.{◌≡◌, ◌≤◌, ℕ, List, ◌∷◌, ◌++◌, length, ◌⊎◌, inl, inr, Option, Some, None, refl, sym, ap, ◌∙◌, subst, arith}
+use Rattle.std.proofs.Common.{◌≡◌, ◌≤◌, ℕ, List, ◌∷◌, ◌++◌, length, ◌⊎◌, inl, inr, Option, Some, None, refl, sym, ap, ◌∙◌, subst, arith, ◌-◌, false}
 use Rattle.std.specs.Prelude.{slice_get}
 use Rattle.std.proofs.lemmas.List.{length-append}
 use Rattle.base.specs.Names.{predefined}
@@ -19,7 +19,7 @@ use Rattle.ravenscar.specs.ProgramRules.{IsRestricted}
 use Rattle.expr_soundness.specs.Laws.{AgreementIsKept}
 use Rattle.expr_soundness.specs.meaning.specs.Calls.{is_open, procedure_among}
 use Rattle.expr_soundness.specs.meaning.specs.Works.{Store}
-use Rattle.expr_soundness.specs.meaning.specs.Programs.{Procedure, Program, exceptions_among, package_items, program_of, returned}
+use Rattle.expr_soundness.specs.meaning.specs.Programs.{Procedure, Program, exceptions_among, package_items, program_of, returned, Attached, handler_at, program_partition}
 use Rattle.program_soundness.specs.Fronts.{declared_in, start_in}
 use Rattle.program_soundness.specs.step_soundness.specs.Fitting.{entry_of}
 use Rattle.program_soundness.specs.step_soundness.specs.Holding.{IsSoundStore}
@@ -39,6 +39,10 @@ use Rattle.package_code.proofs.InFront.{LawsOfNames, known, whole}
 use Rattle.package_code.proofs.OperationBodies.{object}
 use Rattle.program_soundness.specs.step_soundness.specs.InSubtypes.{StoreLies}
 use Rattle.expr_soundness.proofs.Lies.{results_lie}
+use Rattle.image_laws.specs.kernel.specs.State.{Kernel, is_task}
+use Rattle.expr_soundness.specs.meaning.specs.Source.{initial_work}
+use Rattle.image.specs.Code.{initial_state}
+use Rattle.step_simulation.specs.Standing.{CodeStands, Note}
 
 -- the predefined exceptions are the first ones
 four_first : (xs : List (List ℕ)) → 4 ≤ length (predefined ++ xs)
@@ -245,7 +249,7 @@ module _ (laws : LawsOfNames) (t : ProgramTree) (legal : IsLegal t) (restricted 
               subst (λ z. IsProcedureCode i program g numbers z number) (sym same)
               (has.entries e.owner e.d e.barrier e.b e.stands number (ap numbers (sym same) ∙ n))
 
-      procedures_coded : HasProcedures i program g numbers
+      pub procedures_coded : HasProcedures i program g numbers
       procedures_coded owner name q number found n =
           let x =
           found_procedure program.scope (bodies_among program.scope all) owner name q
@@ -283,8 +287,11 @@ module _ (laws : LawsOfNames) (t : ProgramTree) (legal : IsLegal t) (restricted 
       pub ada_linkd : QuietStays → ViewsOn → ViewsBack → i.exceptions ≡ program.exceptions
           → ((o : ℕ) (q : Procedure) → entry_of program.procedures o ≡ Some q → IsInRow o q)
           → ((m : Store) (words : Words) (o : ℕ) → IsSoundStore program m → StoreLies program.scope m → StandsFor program g m words → is_open program m o ≡ steps.is_open i words o)
+          → ((note : Note) (l : Kernel) (u : ℕ) (a : Attached) → is_task (program_partition program) u ≡ false
+          → handler_at (u - length program.tasks) program.handlers ≡ Some a
+          → CodeStands i program g numbers note l u (initial_work program u) (initial_state i u))
           → HasCode i program g numbers
-      ada_linkd quiet views back exceptions rows barriers = record {
+      ada_linkd quiet views back exceptions rows barriers restarts = record {
         exceptions = exceptions;
         predefined = four_first (exceptions_among (package_items t.package_));
         functions = functions_answer quiet views back i (library_of g) functions_coded
@@ -293,4 +300,5 @@ module _ (laws : LawsOfNames) (t : ProgramTree) (legal : IsLegal t) (restricted 
         procedures = procedures_coded;
         entries = entries_coded rows;
         barriers = barriers;
+        restarts = restarts;
       }

@@ -27,7 +27,7 @@ use Rattle.package_code.proofs.Offered.{procedure_named}
 use Rattle.package_code.proofs.OperationBodies.{has_number, object}
 use Rattle.package_code.proofs.OperationsAdded as added
 
-owner_numbered : (owner : Option ℕ) (n o : ℕ) → owner ≡ Some n → is_of owner (Some o) ≡ true → n ≡ o
+pub owner_numbered : (owner : Option ℕ) (n o : ℕ) → owner ≡ Some n → is_of owner (Some o) ≡ true → n ≡ o
 owner_numbered owner n o is h = eqb-true n o (ap (λ z. is_of z (Some o)) (sym is) ∙ h)
 
 -- ---- rows

@@ -43,7 +43,11 @@ pub mod Walked
 mod BodyRows
 pub mod Adding
 pub mod OperationsAdded
+pub mod ChannelHandlers
+pub mod HandlerSearch
+pub mod HandlerBodies
 pub mod Linking
+pub mod HandlerRows
 pub mod ProgramPlaces
 pub mod Counted
 pub mod Seen

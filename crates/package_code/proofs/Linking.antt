@@ -1,8 +1,9 @@
 -- A well-formed image that was put together from an accepted program has the program's code, and so its meaning.
-use Rattle.std.proofs.Common.{◌≡◌, ℕ, zero, suc, ◌+◌, ◌<◌, ◌≤◌, List, [], ◌∷◌, ◌++◌, length, map, inl, inr, Option, None, Some, refl, sym, ap, ◌∙◌, subst, arith, append-nil, append_assoc, take_all, ◌⊎◌}
-use Rattle.std.specs.Prelude.{pos, replicate, slice_get}
+use Rattle.std.proofs.Common.{◌≡◌, ℕ, zero, suc, ◌+◌, ◌<◌, ◌≤◌, List, [], ◌∷◌, ◌++◌, length, map, inl, inr, Option, None, Some, refl, sym, ap, ◌∙◌, subst, arith, append-nil, append_assoc, take_all, ◌⊎◌, ◌-◌, cond, false}
+use Rattle.std.specs.Prelude.{pos, replicate, slice_get, nat_lt}
 use Rattle.std.proofs.lemmas.List.Elements.{All-nil, All-weaker}
-use Rattle.std.proofs.lemmas.Option.{slice_get_within}
+use Rattle.std.proofs.lemmas.Bool.{lt-ltb}
+use Rattle.std.proofs.lemmas.Option.{slice_get_within, none-some}
 use Rattle.image_laws.specs.kernel.specs.Laws.{QuietStays, ViewsBack, ViewsOn}
 use Rattle.ada_tree.specs.declared.expression.Identifier.{Identifier}
 use Rattle.ada_tree.specs.declared.program.MainStatement.{MainStatement}
@@ -11,11 +12,11 @@ use Rattle.ada_tree.specs.ExpressionTree.{ExprTree}
 use Rattle.ada_tree.specs.StatementTree.{EntryTree, SubprogramTree}
 use Rattle.ada_tree.specs.ProgramTree.{BodyItemTree, BodyTree, EntryBody, OperationBody, ProgramTree, ProtectedBody, ProtectedItemTree, SubprogramBody, TaskBody}
 use Rattle.image_laws.specs.handlers.specs.declared.rows.Row.{Row}
-use Rattle.image.specs.Code.{ceiling_of as ceiling_row_of, initial_words_of}
-use Rattle.image.specs.Operations.{called, entry_of as code_entry_of, results_of}
+use Rattle.image.specs.Code.{ceiling_of as ceiling_row_of, initial_words_of, body_frame, initial_state}
+use Rattle.image.specs.Operations.{called, entry_of as code_entry_of, results_of, called_if}
 use Rattle.image.specs.Rules.{IsWellFormed}
-use Rattle.image.specs.Frames.{Inner}
-use Rattle.image.specs.Sections.{Sections, first_place}
+use Rattle.image.specs.Frames.{Inner, Opened, TaskState, kind_of}
+use Rattle.image.specs.Sections.{Sections, first_place, object_of}
 use Rattle.image.specs.declared.subprograms.Kind.TheVariants as kinds
 use Rattle.image.specs.declared.subprograms.Subprogram.{Subprogram}
 use Rattle.image.specs.declared.tasks.Task as rows
@@ -24,21 +25,21 @@ use Rattle.types.specs.Laws.{InitialValuesHaveShape}
 use Rattle.types.specs.Scopes.{Scope}
 use Rattle.program_soundness.specs.checking.specs.ProgramRules.{IsLegal}
 use Rattle.ravenscar.specs.ProgramRules.{IsRestricted}
-use Rattle.expr_soundness.specs.meaning.specs.Calls.{procedure_among, procedure_here}
-use Rattle.expr_soundness.specs.meaning.specs.Programs.{OfBody, OfMain, Procedure, Program, Task, items_among, main_task, package_bodies, package_items, program_of, returned, tasks_among}
-use Rattle.expr_soundness.specs.meaning.specs.Source.{duty_items, initial_work, task_items}
-use Rattle.expr_soundness.specs.meaning.specs.Works.{DoesMain as DoesStatement, Store, TaskWork}
-use Rattle.program_soundness.specs.step_soundness.specs.Fitting.{entry_of}
+use Rattle.expr_soundness.specs.meaning.specs.Calls.{procedure_among, procedure_here, body_items, results}
+use Rattle.expr_soundness.specs.meaning.specs.Programs.{OfBody, OfMain, Procedure, Program, Task, items_among, main_task, package_bodies, package_items, program_of, returned, tasks_among, Attached, handler_at, object_attached, program_partition}
+use Rattle.expr_soundness.specs.meaning.specs.Source.{duty_items, initial_work, task_items, handler_work, outermost, procedure_work, task_work}
+use Rattle.expr_soundness.specs.meaning.specs.Works.{DoesMain as DoesStatement, Store, TaskWork, EndsCall}
+use Rattle.program_soundness.specs.step_soundness.specs.Fitting.{entry_of, taken_types}
 use Rattle.program_soundness.specs.step_soundness.specs.Holding.{IsSoundTask}
 use Rattle.program_soundness.specs.step_soundness.specs.Judged.{IsReady, Judged}
-use Rattle.program_soundness.specs.step_soundness.specs.Objects.{first_store}
+use Rattle.program_soundness.specs.step_soundness.specs.Objects.{first_store, AreOf}
 use Rattle.program_soundness.specs.Fronts.{declared_in, front, start_in}
 use Rattle.program_soundness.proofs.Callables.{function_by, operation_body, procedure_by, subprogram_body}
 use Rattle.program_soundness.proofs.Listing.{Has, front_at, has_either, or_else_some, same_some}
 use Rattle.program_soundness.proofs.Trees.{tasks_are}
 use Rattle.program_soundness.proofs.Whole.{IsPackage}
 use Rattle.expr_code.specs.Code.{Extends, Holds, here}
-use Rattle.expr_code.specs.Computing.{IsFunctionCode, function_kind}
+use Rattle.expr_code.specs.Computing.{IsFunctionCode, function_kind, ArePassed}
 use Rattle.expr_code.specs.Seeing.{Package, library_of, told_of}
 use Rattle.expr_code.specs.declared.visible.Visible.{Visible}
 use Rattle.expr_code.proofs.Growing.{added_extends, extends_trans, get_last}
@@ -48,8 +49,8 @@ use Rattle.step_simulation.specs.part_code.specs.Handling.{GoesBy, unhandled}
 use Rattle.step_simulation.specs.part_code.specs.Raising.{AreNamed}
 use Rattle.step_simulation.specs.Laws.{HasCode}
 use Rattle.step_simulation.specs.part_code.specs.Resting.{Framed, RestsWith}
-use Rattle.step_simulation.specs.Standing.{Follows}
-use Rattle.step_simulation.specs.part_code.specs.Statements.{IsProcedureCode, Numbers, procedure_kind}
+use Rattle.step_simulation.specs.Standing.{Follows, CodeStands, Going, LeadsEnd, Note}
+use Rattle.step_simulation.specs.part_code.specs.Statements.{IsProcedureCode, Numbers, procedure_kind, parameter_subtype, shapes_of}
 use Rattle.stmt_code.specs.Subprograms.{AddsProcedure, fresh}
 use Rattle.stmt_code.specs.declared.draft.Draft.{Draft}
 use Rattle.stmt_code.specs.declared.subprogram.SubprogramWords.{SubprogramWords}
@@ -59,7 +60,7 @@ use Rattle.package_code.specs.Objects.{bare_objects, object_rows, service_of}
 use Rattle.package_code.specs.Package.{IsInFront, IsInOrder, IsPackageOf, first_objects}
 use Rattle.package_code.proofs.BodyFronts.{IsEntrance}
 use Rattle.package_code.proofs.NamedExceptions.{exceptions_are_named}
-use Rattle.package_code.proofs.CodedPackage.{HasBodies, IsInRow, IsOperation, StandsAt, ada_linkd}
+use Rattle.package_code.proofs.CodedPackage.{HasBodies, IsInRow, IsOperation, StandsAt, ada_linkd, procedures_coded}
 use Rattle.package_code.proofs.EntryRows.{element, entry_body, entry_number, row_is}
 use Rattle.package_code.proofs.Barred.{barriers_agree}
 use Rattle.package_code.proofs.EmittedBodies.{procedure_emitted}
@@ -89,6 +90,17 @@ use Rattle.package_code.specs.Walking.{AddsSubprogram, AddsValueFunction, HasBod
 use Rattle.package_code.specs.declared.directory.Directory.{Directory}
 use Rattle.package_code.proofs.BodyRows.{goes_by_own, goes_past}
 use Rattle.package_code.proofs.Walked.{begins_kept, rows_in_front}
+use Rattle.image_laws.specs.kernel.specs.State.{Kernel, is_task}
+use Rattle.image_laws.specs.kernel.specs.Interrupts.{interrupts_of}
+use Rattle.image.specs.Attachments.{attached_to, handling_object}
+use Rattle.image.specs.Starting.{handler_state, handler_state_of, lowest_frame, role_within, task_state}
+use Rattle.program_soundness.specs.step_soundness.specs.Starting.{IsSoundHandler}
+use Rattle.step_simulation.proofs.Entering.{entered, entered_frame}
+use Rattle.step_simulation.proofs.Opening.{object_is}
+use Rattle.package_code.proofs.HandlerBodies.{handler_number, number_of_body}
+use Rattle.package_code.proofs.ChannelHandlers.{attached_none, attached_some}
+use Rattle.types.specs.Shapes.{shape_of}
+use Rattle.step_simulation.specs.part_code.specs.Copying.{passed_words, taken}
 
 -- ---- the package of code
 
@@ -491,20 +503,167 @@ module _ (t : ProgramTree) (i : Sections) (h : HasProgram t i) where
               ∙ ap (λ z. number_in t (Some o) z.name) (sym y.is) ∙ told;
         }
 
+    -- ---- handlers
+
+    module _ (a : Attached) (s : IsSoundHandler program a) where
+      -- the procedure of a handler has a number, and the code of that number
+      abbrev n : ℕ
+      n = handler_number laws t legal restricted a s
+
+      abbrev q : Procedure
+      q = s.procedure
+
+      told_number : number_told program.scope h.directory (Some a.object) a.name ≡ Some n
+      told_number = h.told.operations a.object a.name ∙ number_of_body laws t legal restricted a s
+
+      owner : (q.object ≡ Some a.object) × (q.name ≡ a.name)
+      owner = procedure_named program.procedures (Some a.object) a.name q s.is
+
+      numbered_handler : numbers q ≡ Some n
+      numbered_handler = (λ j. number_told program.scope h.directory (owner.0 j) (owner.1 j)) ∙ told_number
+
+      proc : IsProcedureCode i program g numbers q n
+      proc = procedures_coded laws t legal restricted i g of_program numbers bodies (Some a.object) a.name q n s.is numbered_handler
+
+      object_there : object_of proc.s.kind ≡ Some a.object
+      object_there = ap object_of proc.kind ∙ object_is q.object q.barrier ∙ owner.0
+
+      passes : ArePassed (shapes_of i program g numbers q) [] × AreOf program.scope (taken_types q.parameters) []
+      passes =
+          subst (λ ps. ArePassed (map (shape_of g.scope) (map parameter_subtype (taken ps))) [] × AreOf program.scope (taken_types ps) []) (sym s.plain) (tt, tt)
+
+      no_results : results q.parameters ≡ []
+      no_results = ap results s.plain
+
+      no_addresses : length {A = ℕ} [] ≡ length (results q.parameters)
+      no_addresses = ap length (sym no_results)
+
+      no_words : passed_words q.parameters [] [] ≡ []
+      no_words = ap (λ ps. passed_words ps [] []) s.plain
+
+      no_parameters : proc.s.parameters ≡ 0
+      no_parameters = sym (proc.parameters [] [] passes.0 no_addresses) ∙ ap length no_words
+
+      -- the frame of the procedure, above the one that never runs, at its start
+      abbrev begun : Note → TaskState
+      begun note = record {
+        frame = entered_frame i program g numbers note q n proc [] [] (Opened a.object);
+        callers = lowest_frame i ∷ [];
+        raising = None;
+      }
+
+      begun_is : (note : Note) → handler_state_of i (Some n) ≡ begun note
+      begun_is note =
+          let state_by : Option Subprogram → TaskState = λ c. record {
+            frame = (let f = body_frame i n c in record f { role = role_within (object_of (kind_of c)) });
+            callers = lowest_frame i ∷ [];
+            raising = None;
+          } in
+          let none = no_parameters in
+          let many : proc.s.locals ≡ proc.s.locals - proc.s.parameters = omega (arith, none) in
+          let locals : replicate proc.s.locals (pos 0) ≡ passed_words q.parameters [] [] ++ replicate (proc.s.locals - proc.s.parameters) (pos 0) =
+          ap (λ k. replicate k (pos 0)) many ∙ ap (λ l. l ++ replicate (proc.s.locals - proc.s.parameters) (pos 0)) (sym no_words) in
+          ap state_by proc.there
+          ∙ (λ j. record {
+            frame = record { subprogram = n; place = first_place i n; locals = locals j; stack = []; role = role_within (object_there j) };
+            callers = lowest_frame i ∷ [];
+            raising = None;
+          })
+
+      -- it stands for the body, behind whose end nothing is left to do
+      handler_stands : (note : Note) (l : Kernel) (u : ℕ) → CodeStands i program g numbers note l u (procedure_work a.object (Some q)) (handler_state_of i (Some n))
+      handler_stands note l u =
+          subst (CodeStands i program g numbers note l u (procedure_work a.object (Some q))) (sym (begun_is note))
+          (Going (body_items q (EndsCall [] (Some a.object) []) []) refl
+          (entered i program g numbers note q n proc [] [] passes.0 passes.1 no_addresses (EndsCall [] (Some a.object) []) [] (Opened a.object)
+          (lowest_frame i ∷ []) (outermost ∷ []) refl
+          (λ around m from ret way same here_ there_. (
+            ret,
+            lowest_frame i,
+            [],
+            outermost,
+            [],
+            around,
+            [],
+            0,
+            refl,
+            subst (λ names. LeadsEnd i program g numbers around m from around.visible names []) no_results here_,
+            way,
+            same,
+            subst (λ names. LeadsEnd i program g numbers around m ret around.ending names []) no_results there_,
+            refl,
+            refl,
+            inr (record { lowest = refl; callers = refl; no_names = refl; opens = (a.object, refl); no_targets = refl; last = refl }),
+          ))))
+
+    as_many_tasks : (xs : List Task) (table : List rows.Task) → HaveTasks t xs table → length table ≡ length xs
+    as_many_tasks [] [] has = refl
+    as_many_tasks (x ∷ xs) (line ∷ table) has = ap suc (as_many_tasks xs table has.1)
+    as_many_tasks [] (line ∷ table) has = absurd has
+    as_many_tasks (x ∷ xs) [] has = absurd has
+
+    sound_handler : (channel : ℕ) (a : Attached) → handler_at channel program.handlers ≡ Some a → IsSoundHandler program a
+    sound_handler channel a found = (laws.starts t legal restricted).handlers channel a found
+
+    -- the procedure that is attached to a channel is its handler's
+    attached_is : (channel : ℕ) (a : Attached) (found : handler_at channel program.handlers ≡ Some a)
+        → attached_to channel i.attachments ≡ Some (n a (sound_handler channel a found))
+    attached_is channel a found =
+        ap (attached_to channel) h.attachments ∙ (attached_some t h.directory channel a found ∙ told_number a (sound_handler channel a found))
+
+    restarts : (note : Note) (l : Kernel) (u : ℕ) (a : Attached) → is_task (program_partition program) u ≡ false
+        → handler_at (u - length program.tasks) program.handlers ≡ Some a
+        → CodeStands i program g numbers note l u (initial_work program u) (initial_state i u)
+    restarts note l u a no_task found =
+        let channel = u - length program.tasks in
+        let s = sound_handler channel a found in
+        let many = as_many_tasks program.tasks i.tasks h.tasks in
+        let work : initial_work program u ≡ procedure_work a.object (Some s.procedure) =
+        ap (λ b. cond b (task_work program u) (handler_work program (handler_at (u - length program.tasks) program.handlers))) no_task
+        ∙ (ap (handler_work program) found ∙ ap (procedure_work a.object) s.is) in
+        let state : initial_state i u ≡ handler_state_of i (Some (n a s)) =
+        (λ j. cond (nat_lt u (many j)) (task_state i u) (handler_state i (u - many j)))
+        ∙ (ap (λ b. cond b (task_state i u) (handler_state i (u - length program.tasks))) no_task ∙ ap (handler_state_of i) (attached_is channel a found)) in
+        subst (λ x. CodeStands i program g numbers note l u x (initial_state i u)) (sym work)
+        (subst (CodeStands i program g numbers note l u (procedure_work a.object (Some s.procedure))) (sym state) (handler_stands a s note l u))
+
+    handled_object : (channel : ℕ) → handling_object i channel ≡ object_attached (handler_at channel program.handlers)
+    handled_object channel = by_handler (handler_at channel program.handlers) refl
+      where
+        by_handler : (o : Option Attached) → handler_at channel program.handlers ≡ o → handling_object i channel ≡ object_attached o
+        by_handler None e =
+            ap (λ m. object_of (kind_of (called_if i m))) (ap (attached_to channel) h.attachments ∙ attached_none t h.directory channel e)
+        by_handler (Some a) e =
+            let s = sound_handler channel a e in
+            ap (λ m. object_of (kind_of (called_if i m))) (attached_is channel a e) ∙ (ap (λ c. object_of (kind_of c)) (proc a s).there ∙ object_there a s)
+
+    attached_handler : (channel number : ℕ) → attached_to channel i.attachments ≡ Some number → (a : Attached) × (handler_at channel program.handlers ≡ Some a)
+    attached_handler channel number there = by_handler (handler_at channel program.handlers) refl
+      where
+        by_handler : (o : Option Attached) → handler_at channel program.handlers ≡ o → (a : Attached) × (handler_at channel program.handlers ≡ Some a)
+        by_handler None e =
+            absurd (none-some number (sym (ap (attached_to channel) h.attachments ∙ attached_none t h.directory channel e) ∙ there))
+        by_handler (Some a) e = (a, e)
+
     code : HasCode i program g numbers
     code = ada_linkd laws t legal restricted i g of_program numbers bodies quiet views back (h.exceptions ∙ h.are.exceptions) rows_there
         (λ m words o store lying stands. barriers_agree laws t legal restricted i h.objects many_objects g ordered of_program m words store lying stands o)
+        restarts
 
     -- ---- main
 
     calls : AreMainCalls program numbers h.walk.visible t.main.statements
     calls =
         let tasks : List Task = tasks_among program.scope (package_bodies t.package_) (package_items t.package_) in
-        let task : IsSoundTask program (first_store program) None (initial_work program (length tasks)) =
-        (laws.starts t legal restricted).works (length tasks) in
-        calls_ready program h.directory h.walk.visible h.walked.told (first_store program) (initial_work program (length tasks)) task t.main.statements
-        (subst (λ x. IsReady program (initial_work program (length tasks)).own task.scope task.outer task.around (task_items x))
-        (get_last tasks (main_task program.scope t)) task.work)
+        let last : slice_get program.tasks (length tasks) ≡ Some (main_task program.scope t) = get_last tasks (main_task program.scope t) in
+        let less : length tasks < length program.tasks = slice_get_within program.tasks (length tasks) (main_task program.scope t) last in
+        let start : initial_work program (length tasks) ≡ task_work program (length tasks) =
+        ap (λ b. cond b (task_work program (length tasks)) (handler_work program (handler_at (length tasks - length program.tasks) program.handlers)))
+        (lt-ltb (length tasks) (length program.tasks) less) in
+        let task : IsSoundTask program (first_store program) None (task_work program (length tasks)) =
+        subst (IsSoundTask program (first_store program) None) start ((laws.starts t legal restricted).works (length tasks)) in
+        calls_ready program h.directory h.walk.visible h.walked.told (first_store program) (task_work program (length tasks)) task t.main.statements
+        (subst (λ x. IsReady program (task_work program (length tasks)).own task.scope task.outer task.around (task_items x)) last task.work)
 
     does : DoesMain t i g numbers
     does = record {
@@ -603,6 +762,8 @@ module _ (t : ProgramTree) (i : Sections) (h : HasProgram t i) where
           ∙ sym (ap (λ l. ceiling_row_of (slice_get l o)) h.objects
           ∙ ap (λ l. ceiling_row_of (slice_get (object_rows t 0 (bare_objects program.scope l)) o)) items);
       tasks = linked_tasks program.tasks i.tasks (λ x among. among) h.tasks;
+      interrupts = λ schedule. (λ j. interrupts_of (λ channel. handled_object channel j) schedule);
+      attached = attached_handler;
       code = code;
       words = first_words laws t legal restricted i g of_program sizes well_formed;
     }

@@ -7,7 +7,7 @@ use Rattle.std.proofs.lemmas.List.{length-append}
 use Rattle.std.proofs.lemmas.List.Sums.{sum_by-cons}
 use Rattle.ada_tree.specs.StatementTree.{ProtectedTree}
 use Rattle.ada_tree.specs.ProgramTree.{BodyItemTree, ItemTree, OfException, OfItem, OfObject, OfProtected, OfSubprogram, OfTask, OfType, ProgramTree, ProtectedBody, SubprogramBody, TaskBody}
-use Rattle.base.specs.declared.limits.TheConstants.{TASK_PRIORITY}
+use Rattle.base.specs.declared.limits.TheConstants.{CEILING, TASK_PRIORITY}
 use Rattle.image.specs.Code as sections
 use Rattle.image.specs.ObjectTable.{ObjectRow}
 use Rattle.types.specs.declared.entity.RecordComponent.{RecordComponent}
@@ -338,7 +338,7 @@ module _ (program : Program) (s : Scope) (all : List BodyItemTree) (w : IsPackag
 
     pub object_there : (o : ProtectedObject) × (protected_entity here d ≡ Protected o) × (o.number ≡ protected_count here)
     object_there =
-        one_declared (protected_count here) (priority_of here TASK_PRIORITY default_ceiling d.aspect) (object_operations here d.operations)
+        one_declared (protected_count here) (priority_of here CEILING (default_ceiling d.operations) d.aspect) (object_operations here d.operations)
         (object_components here d.components) (λ is. no_doubt program s all w d.name.name (stands_there Doubtful is))
 
   counts : (k : ℕ) (i : BodyItemTree) → slice_get all k ≡ Some i → CountsNext (at_ k) i

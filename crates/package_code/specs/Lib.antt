@@ -6,6 +6,7 @@ pub mod Counts
 pub mod Refusing
 pub mod Providing
 pub mod Globals
+pub mod Handlers
 pub mod Directory
 pub mod Walking
 pub mod Stopping

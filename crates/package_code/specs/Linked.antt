@@ -1,6 +1,8 @@
 -- What it is that an image has the code of a program (docs/CODEGEN.md).
 use Rattle.std.specs.Prelude.{◌≡◌, ℕ, pos, List, [], ◌∷◌, length, None, Some, replicate, slice_get, ⊤}
 use Rattle.ada_tree.specs.ProgramTree.{ProgramTree}
+use Rattle.base.specs.declared.schedule.ScheduleLine.{ScheduleLine}
+use Rattle.image.specs.Attachments.{attached_to, interrupts}
 use Rattle.image.specs.Code.{initial_words}
 use Rattle.image.specs.Code as sections
 use Rattle.image.specs.Operations.{called}
@@ -9,7 +11,7 @@ use Rattle.image.specs.Sections.{Sections, first_place, object_of}
 use Rattle.image.specs.declared.subprograms.Subprogram.{Subprogram}
 use Rattle.image.specs.declared.tasks.Task as rows
 use Rattle.types.specs.Places.{ceiling_of}
-use Rattle.expr_soundness.specs.meaning.specs.Programs.{Program, Task, program_of}
+use Rattle.expr_soundness.specs.meaning.specs.Programs.{Attached, Program, Task, handler_at, program_interrupts, program_of}
 use Rattle.expr_soundness.specs.meaning.specs.Source.{duty_items}
 use Rattle.program_soundness.specs.step_soundness.specs.Objects.{first_store}
 use Rattle.expr_code.specs.Seeing.{Package}
@@ -44,6 +46,10 @@ pub record IsLinkedProgram (p : ProgramTree) (i : Sections) (g : Package) (numbe
   pub ceilings : (o : ℕ) → ceiling_of (program_of p).scope o ≡ sections.ceiling_of (slice_get i.objects o)
   -- the tasks, main last
   pub tasks : AreLinkedTasks (program_of p) i g numbers (program_of p).tasks i.tasks
+  -- the handlers of interrupts (RM C.3.1)
+  pub interrupts : (schedule : List ScheduleLine) → interrupts i schedule ≡ program_interrupts (program_of p) schedule
+  pub attached : (channel number : ℕ) → attached_to channel i.attachments ≡ Some number
+      → (a : Attached) × (handler_at channel (program_of p).handlers ≡ Some a)
   -- procedures and functions, and the first words of variables
   pub code : HasCode i (program_of p) g numbers
   pub words : StandsFor (program_of p) g (first_store (program_of p)) (initial_words i)

@@ -16,6 +16,7 @@ use Rattle.stmt_code.specs.declared.draft.Draft.{Draft}
 use Rattle.stmt_code.specs.declared.subprogram.SubprogramWords.{SubprogramWords}
 use Rattle.package_code.specs.Directory.{IsDirectory}
 use Rattle.package_code.specs.Globals.{AreGlobals}
+use Rattle.package_code.specs.Handlers.{attachments_of}
 use Rattle.package_code.specs.Objects.{HaveObjects, objects_have_words}
 use Rattle.package_code.specs.Tasks.{HaveTasks}
 use Rattle.package_code.specs.Walking.{IsWalked, row_of}
@@ -45,6 +46,7 @@ pub record HasProgram (t : ProgramTree) (i : Sections) : Type 0 where
   pub subprograms : i.subprograms ≡ walk.subprograms.items ++ row_of kinds.TaskBody words (here draft.code) ∷ []
   pub tasks : HaveTasks t (program_of t).tasks i.tasks
   pub rows : i.rows ≡ draft.rows.items
+  pub attachments : i.attachments ≡ attachments_of t directory
   pub instructions : i.instructions ≡ draft.code.instructions.items
 
 -- texts are names and labels, as those of a source text are

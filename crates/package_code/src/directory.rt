@@ -217,6 +217,13 @@ impl Directory {
         })
     }
 
+    /// The number of the body of this object's operation or entry with this name.
+    pub(crate) fn operation(&self, object: usize, name: &Text) -> Option<u16>
+        ensures { result ≡ operation_told self.now.operations.items object name.now }
+    {
+        operation_number(&self.operations, object, name)
+    }
+
     // The number of the body of this object's operation; of an entry none is told.
     fn number_offered(&self, object: usize, operation: &Operation) -> Option<u16>
         ensures { result ≡ told_operation (operation_told self.now.operations.items object) (operation_value operation.now) }

@@ -1,6 +1,7 @@
 //! The code of a package: where its variables stand, what its bodies see of it, the code of each body, and the rows of its protected objects and tasks.
 #![tactic(auto)]
 
+mod attaching;
 mod components;
 mod directory;
 mod globals;
@@ -14,6 +15,7 @@ mod stopping;
 mod tasks;
 mod walk;
 
+pub use attaching::attachments;
 pub use components::ComponentSlot;
 pub use directory::Directory;
 pub use globals::{Globals, globals_of};

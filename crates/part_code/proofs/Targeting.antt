@@ -177,7 +177,7 @@ module _ (W : Shape) (offset : ℕ) where
   module _ (quiet : QuietStays) (i : Sections) (library : Library) (sight : Sight) (sound : (p : Place) (view : View) → sight p view → SoundScope p.scope)
       (small_whole : offset + words W ≤ 65536) (calls : Calls) (left : ℕ) (answers : Answers i library calls left) (schedule : List ScheduleLine) (k : Kernel)
       (t : ℕ) (m : Words) (f : Frame) (fs : List Frame) (p : Place) (calm : Calm k t) (sees : sight p (view_of i schedule k t m f fs))
-      (is : left ≡ frames_above fs) where
+      (is : left ≡ frames_above k t fs) where
     abbrev here : View
     here = view_of i schedule k t m f fs
 

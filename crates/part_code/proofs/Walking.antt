@@ -19,6 +19,8 @@ use Rattle.expr_code.specs.Coming.{most_steps}
 use Rattle.expr_code.specs.Views.{At, in_frame, placed}
 use Rattle.expr_code.proofs.Coming.{acts}
 use Rattle.part_code.proofs.Words.{one_put, with_words}
+use Rattle.kernel.specs.Worlds.{restarted}
+use Rattle.image.specs.Code.{initial_state}
 
 -- the place so many instructions behind another one
 abbrev pub behind : ℕ → ℕ → ℕ
@@ -34,8 +36,8 @@ pub then_step : (quiet : QuietStays) (i : Sections) (schedule : List ScheduleLin
     → (n : ℕ) (f g h : Frame)
     → act i schedule k t (in_frame m f fs) ≡ does Quiet m g fs None None → Walks i schedule k t m fs n g h → Walks i schedule k t m fs (suc n) f h
 then_step quiet i schedule k t m fs calm n f g h e rest =
-    quiet_spends (behaviour i schedule) t frames_of (most_steps i) quiet k calm (in_frame m f fs) (in_frame m g fs) (ap (λ y. y.effect) e) (ap (λ y. y.solo) e)
-    refl rest
+    quiet_spends (behaviour i schedule) t frames_of (most_steps i) quiet k calm (in_frame m f fs) (in_frame m g fs) (ap (λ y. y.effect) e)
+    (ap (λ y. (restarted (initial_state i t) k t y).solo) e) refl rest
 
 module _ (quiet : QuietStays) (i : Sections) (schedule : List ScheduleLine) (k : Kernel) (t : ℕ) (m : Words) (f : Frame) (fs : List Frame) (place : ℕ) where
   next : place + 1 ≡ suc place

@@ -125,5 +125,5 @@ module _ (i : Sections) (program : Program) (g : Package) where
         → Rests g v a f.locals
         → own_object i f ≡ a.within
         → Knows g v p (view_of i schedule k t m f fs)
-        → p.frames_left ≡ frames_above fs
+        → p.frames_left ≡ frames_above k t fs
         → Arrives schedule k t m f fs from to later (λ x. store_after x store) (λ x. own_after x a) (value (call p.frames_left) p)

@@ -26,7 +26,7 @@ use Rattle.expr_soundness.specs.type_rules.specs.ProfileRules.{formal_faults, fo
 use Rattle.expr_soundness.specs.type_rules.specs.SubtypeNames.{declared_twice, end_rule, is_composite, is_composite_form, subtype_faults, subtype_of}
 use Rattle.expr_soundness.specs.type_rules.specs.TypeRules.{definition_entity}
 use Rattle.program_soundness.specs.declaring.specs.ProtectedRules.{object_components, object_operations, object_with, operation_and, operation_faults, operation_profile, operation_profile_faults, operations_faults, parts_faults, protected_entity}
-use Rattle.program_soundness.specs.declaring.specs.TaskRules.{aspect_faults, default_priority, priority_of}
+use Rattle.program_soundness.specs.declaring.specs.TaskRules.{aspect_faults, default_priority, operation_aspect_faults, priority_of}
 use Rattle.program_soundness.specs.legality.specs.BodyRules.{body_name_faults, function_body_faults, head_faults, own_name_faults}
 use Rattle.program_soundness.specs.declaring.specs.PackageNames.{body_item_scope, clauses_scope}
 use Rattle.program_soundness.specs.legality.specs.PackageBodyRules.{body_item_faults, body_items_faults}
@@ -242,7 +242,7 @@ module _ (scopes : ScopesAreSound) (s : Scope) (sound : SoundScope s) where
   -- ---- protected objects
 
   operation_few : (o : OperationTree) (p : Profile) → operation_profile_faults s o ≡ [] → operation_profile s o ≡ Some p → HasFewFormals s p
-  operation_few (operation.OfSubprogram d) p h is = subprogram_few d h (Some p) is
+  operation_few (operation.OfSubprogram d a) p h is = subprogram_few d (front_empty (profile_faults s d) (operation_aspect_faults s a) h) (Some p) is
   operation_few (operation.OfEntry d) p h is = profile_few d.name d.formals None p h refl is
 
   operations_few : (own : Identifier) (before os : List OperationTree) (xs : List Operation) → operations_faults s own before os ≡ []

@@ -4,7 +4,7 @@ use Rattle.std.specs.Prelude.{bytes_eq, is_some, nat_le, slice_get}
 use Rattle.std.specs.List.{list_all, list_any}
 use Rattle.std.proofs.lemmas.Bool.{and_parts}
 use Rattle.base.specs.declared.faults.TheConstants.{DECLARED_TWICE, NOT_STATIC, WRONG_ASPECT}
-use Rattle.base.specs.declared.limits.TheConstants.{TASK_PRIORITY}
+use Rattle.base.specs.declared.limits.TheConstants.{CEILING, TASK_PRIORITY}
 use Rattle.ada_tree.specs.declared.declaration.Formal.{Formal}
 use Rattle.ada_tree.specs.declared.expression.Identifier.{Identifier}
 use Rattle.ada_tree.specs.ExpressionTree.{ExprTree}
@@ -37,6 +37,7 @@ use Rattle.program_soundness.specs.stmt_rules.specs.StatementRules.{in_body, mor
 use Rattle.program_soundness.specs.step_soundness.specs.body_restrictions.specs.BodyRules as restrictions
 use Rattle.checking.specs.ProgramRules.{IsLegal}
 use Rattle.program_soundness.specs.ravenscar.specs.ProgramRules.{IsRestricted}
+use Rattle.program_soundness.specs.ravenscar.specs.HandlerRules.{none_taken}
 use Rattle.program_soundness.specs.ravenscar.specs.TaskingRules as profile
 use Rattle.program_soundness.specs.ravenscar.specs.TaskingRules.{gives_priority, is_priority_value}
 use Rattle.expr_soundness.specs.SoundScopes.{SoundScope}
@@ -52,7 +53,7 @@ use Rattle.program_soundness.proofs.Listing.{dropped_at, none_passes, not_both, 
 use Rattle.program_soundness.proofs.ObjectBodies as bodies
 use Rattle.program_soundness.proofs.ObjectItems.{both_true, not_true, order}
 use Rattle.program_soundness.proofs.ObjectTrees.{parts_legal}
-use Rattle.program_soundness.proofs.OneList.{is_task_body, matched_at, restricted_at}
+use Rattle.program_soundness.proofs.OneList.{is_task_body, matched_at, restricted_at, taken_before}
 use Rattle.program_soundness.proofs.Statics.{must_be_static}
 use Rattle.program_soundness.proofs.Trees.{tree_package}
 use Rattle.program_soundness.proofs.Walked.{item_new, legal_at}
@@ -86,21 +87,21 @@ keeps_here s first parts v h = h
 
 -- ---- priorities
 
-priority_is : (o : Option Value) → is_priority_value o ≡ true → (n : ℕ) × (o ≡ Some (Number (pos n))) × (nat_le n TASK_PRIORITY ≡ true)
-priority_is (Some (Number (pos n))) h = (n, refl, h)
-priority_is (Some (Number (negsuc n))) h = cc
-priority_is (Some (Truth b)) h = cc
-priority_is (Some (Array vs)) h = cc
-priority_is (Some (Record fs)) h = cc
-priority_is None h = cc
+priority_is : (highest : ℕ) (o : Option Value) → is_priority_value highest o ≡ true → (n : ℕ) × (o ≡ Some (Number (pos n))) × (nat_le n highest ≡ true)
+priority_is highest (Some (Number (pos n))) h = (n, refl, h)
+priority_is highest (Some (Number (negsuc n))) h = cc
+priority_is highest (Some (Truth b)) h = cc
+priority_is highest (Some (Array vs)) h = cc
+priority_is highest (Some (Record fs)) h = cc
+priority_is highest None h = cc
 
 none_broken : (fs : Faults) (form : StaticForm) (v : Val Value) (x : Value) → static_result fs form v ≡ Some x → fs ≡ []
 none_broken [] form v x h = refl
 none_broken (f ∷ fs) form v x h = cc
 
 -- a priority up to the highest is taken
-taken : (other n : ℕ) (o : Option Value) → o ≡ Some (Number (pos n)) → nat_le n TASK_PRIORITY ≡ true → priority_within TASK_PRIORITY other o ≡ n
-taken other n o is low = ap (priority_within TASK_PRIORITY other) is ∙ ap (λ b. elim b [ true ↦ n | false ↦ other ]) low
+taken : (highest other n : ℕ) (o : Option Value) → o ≡ Some (Number (pos n)) → nat_le n highest ≡ true → priority_within highest other o ≡ n
+taken highest other n o is low = ap (priority_within highest other) is ∙ ap (λ b. elim b [ true ↦ n | false ↦ other ]) low
 
 -- ---- protected objects
 
@@ -259,16 +260,16 @@ module _ (statics : StaticIsValue) (laws : LawsOfNames) (declarations : Declarat
 
   -- ---- priorities
 
-  record HasPriority (s : Scope) (a : AspectTree) (other : ℕ) : Type 0 where
+  record HasPriority (s : Scope) (highest : ℕ) (a : AspectTree) (other : ℕ) : Type 0 where
     value : ℕ
-    here : priority_of s TASK_PRIORITY other (Some a) ≡ value
-    behind : priority_of whole TASK_PRIORITY other (Some a) ≡ value
+    here : priority_of s highest other (Some a) ≡ value
+    behind : priority_of whole highest other (Some a) ≡ value
     is : val (static_place whole) a.value ≡ Gives (Number (pos value))
 
   -- by what its value is where it is judged
-  priority_by : (s : Scope) → Extends s whole → SoundScope s → (a : AspectTree) (other n : ℕ)
-      → static_scalar s (OfType integer_type) None a.value ≡ Some (Number (pos n)) → nat_le n TASK_PRIORITY ≡ true → HasPriority s a other
-  priority_by s x sound a other n scalar_ low =
+  priority_by : (s : Scope) → Extends s whole → SoundScope s → (highest : ℕ) (a : AspectTree) (other n : ℕ)
+      → static_scalar s (OfType integer_type) None a.value ≡ Some (Number (pos n)) → nat_le n highest ≡ true → HasPriority s highest a other
+  priority_by s x sound highest a other n scalar_ low =
       let wanted = OfType integer_type in
       let faults = none_broken (static_faults s wanted None a.value) (static_form s a.value) (static_value s a.value) (Number (pos n)) scalar_ in
       let later = static_kept s whole x sound wanted None a.value faults in
@@ -276,52 +277,54 @@ module _ (statics : StaticIsValue) (laws : LawsOfNames) (declarations : Declarat
       let value = same_some y.value (Number (pos n)) (sym y.scalar ∙ later.scalar ∙ scalar_) in
       record {
         value = n;
-        here = taken other n (static_scalar s wanted None a.value) scalar_ low;
-        behind = taken other n (static_scalar whole wanted None a.value) (later.scalar ∙ scalar_) low;
+        here = taken highest other n (static_scalar s wanted None a.value) scalar_ low;
+        behind = taken highest other n (static_scalar whole wanted None a.value) (later.scalar ∙ scalar_) low;
         is = statics whole (static_place whole) (call 0) (keeps_here whole) a.value y.static ∙ y.gives ∙ ap Gives value;
       }
 
   -- where it keeps the profile
-  priority_given : (s : Scope) (a : AspectTree) → profile.aspect_faults s (Some a) ≡ []
-      → (n : ℕ) × (static_scalar s (OfType integer_type) None a.value ≡ Some (Number (pos n))) × (nat_le n TASK_PRIORITY ≡ true)
-  priority_given s a h =
+  priority_given : (s : Scope) (highest : ℕ) (a : AspectTree) → profile.aspect_faults s highest (Some a) ≡ []
+      → (n : ℕ) × (static_scalar s (OfType integer_type) None a.value ≡ Some (Number (pos n))) × (nat_le n highest ≡ true)
+  priority_given s highest a h =
       let scalar_ = static_scalar s (OfType integer_type) None a.value in
-      let gives = not_true (gives_priority s a) (unbroken WRONG_ASPECT a.place (not (gives_priority s a)) h) in
-      priority_is scalar_ (both_true (is_priority a) (is_priority_value scalar_) gives).1
+      let gives = not_true (gives_priority s highest a) (unbroken WRONG_ASPECT a.place (not (gives_priority s highest a)) h) in
+      priority_is highest scalar_ (both_true (is_priority a) (is_priority_value highest scalar_) gives).1
 
-  has_priority : (place : ℕ) (a : AspectTree) (other : ℕ) → profile.aspect_faults (front t place) (Some a) ≡ [] → HasPriority (front t place) a other
-  has_priority place a other h =
-      let n = priority_given (front t place) a h in priority_by (front t place) (whole_extends place) (here_sound place) a other n.0 n.1 n.2
+  has_priority : (place highest : ℕ) (a : AspectTree) (other : ℕ) → profile.aspect_faults (front t place) highest (Some a) ≡ []
+      → HasPriority (front t place) highest a other
+  has_priority place highest a other h =
+      let n = priority_given (front t place) highest a h in
+      priority_by (front t place) (whole_extends place) (here_sound place) highest a other n.0 n.1 n.2
 
   -- that of a task is taken where all names of the package are visible
-  priority_told : (place : ℕ) (a : Option AspectTree) → profile.aspect_faults (front t place) a ≡ []
+  priority_told : (place : ℕ) (a : Option AspectTree) → profile.aspect_faults (front t place) TASK_PRIORITY a ≡ []
       → IsToldPriority whole a default_priority (base_priority whole a)
   priority_told place None h = refl
   priority_told place (Some a) h =
-      let x = has_priority place a default_priority h in x.is ∙ ap (λ n. Gives (Number (pos n))) (sym x.behind)
+      let x = has_priority place TASK_PRIORITY a default_priority h in x.is ∙ ap (λ n. Gives (Number (pos n))) (sym x.behind)
 
   -- main's aspect names what Standard has: the package has no value
-  main_restricted : profile.aspect_faults (main_scope t.package_) t.main.aspect ≡ []
-  main_restricted = back_empty _ (profile.aspect_faults (main_scope t.package_) t.main.aspect) restricted
+  main_restricted : profile.aspect_faults (main_scope t.package_) TASK_PRIORITY t.main.aspect ≡ []
+  main_restricted = back_empty _ (profile.aspect_faults (main_scope t.package_) TASK_PRIORITY t.main.aspect) restricted
 
-  main_told : (a : Option AspectTree) → profile.aspect_faults (main_scope t.package_) a ≡ [] → IsToldPriority whole a default_priority (base_priority whole a)
+  main_told : (a : Option AspectTree) → profile.aspect_faults (main_scope t.package_) TASK_PRIORITY a ≡ [] → IsToldPriority whole a default_priority (base_priority whole a)
   main_told None h = refl
   main_told (Some a) h =
-      let n = priority_given (main_scope t.package_) a h in
-      let x = priority_by standard (standard_extends t.package_ whole (whole_extends 0)) laws.scopes.begun a default_priority n.0
+      let n = priority_given (main_scope t.package_) TASK_PRIORITY a h in
+      let x = priority_by standard (standard_extends t.package_ whole (whole_extends 0)) laws.scopes.begun TASK_PRIORITY a default_priority n.0
       (standard_scalar t.package_ a.value (Number (pos n.0)) n.1) n.2 in
       x.is ∙ ap (λ k. Gives (Number (pos k))) (sym x.behind)
 
   -- that of an object where it is declared
-  ceiling_told : (place : ℕ) (a : Option AspectTree) (ceiling : ℕ) → profile.aspect_faults (front t place) a ≡ []
-      → ceiling ≡ priority_of (front t place) TASK_PRIORITY default_ceiling a → IsToldPriority whole a default_ceiling ceiling
-  ceiling_told place None ceiling h is = is
-  ceiling_told place (Some a) ceiling h is =
-      let x = has_priority place a default_ceiling h in x.is ∙ ap (λ n. Gives (Number (pos n))) (sym x.here ∙ sym is)
+  ceiling_told : (place : ℕ) (a : Option AspectTree) (other ceiling : ℕ) → profile.aspect_faults (front t place) CEILING a ≡ []
+      → ceiling ≡ priority_of (front t place) CEILING other a → IsToldPriority whole a other ceiling
+  ceiling_told place None other ceiling h is = is
+  ceiling_told place (Some a) other ceiling h is =
+      let x = has_priority place CEILING a other h in x.is ∙ ap (λ n. Gives (Number (pos n))) (sym x.here ∙ sym is)
 
-  object_ceiling : (place : ℕ) (d : ProtectedTree) → slice_get all place ≡ Some (OfItem (OfProtected d)) → IsToldCeiling whole d.name d.aspect
+  object_ceiling : (place : ℕ) (d : ProtectedTree) → slice_get all place ≡ Some (OfItem (OfProtected d)) → IsToldCeiling whole d.name d.operations d.aspect
   object_ceiling place d at =
-      by_cases (object_cases (protected_count here) (priority_of here TASK_PRIORITY default_ceiling d.aspect) (object_operations here d.operations)
+      by_cases (object_cases (protected_count here) (priority_of here CEILING (default_ceiling d.operations) d.aspect) (object_operations here d.operations)
       (object_components here d.components))
     where
       here : Scope
@@ -336,18 +339,18 @@ module _ (statics : StaticIsValue) (laws : LawsOfNames) (declarations : Declarat
           (unseen_none here d.name.name (item_new here (OfProtected d) (legal_at start all place (OfItem (OfProtected d)) at w.list.legal)))
           (ap (λ b. cond b (Some e) None) (bytes_same d.name.name))
 
-      restricted_here : profile.protected_faults here d ≡ []
+      restricted_here : profile.protected_faults here (taken_before start none_taken all place) d ≡ []
       restricted_here = restricted_at start all w.list place (OfItem (OfProtected d)) at
 
-      by_cases : ((o : ProtectedObject) × (e ≡ Protected o) × (o.ceiling ≡ priority_of here TASK_PRIORITY default_ceiling d.aspect)) ⊎ (e ≡ Doubtful)
-          → IsToldCeiling whole d.name d.aspect
+      by_cases : ((o : ProtectedObject) × (e ≡ Protected o) × (o.ceiling ≡ priority_of here CEILING (default_ceiling d.operations) d.aspect)) ⊎ (e ≡ Doubtful)
+          → IsToldCeiling whole d.name d.operations d.aspect
       by_cases (inl x) =
           record {
             object = x.0;
             stands = there ∙ ap Some x.1;
             ceiling =
-                ceiling_told place d.aspect (ceiling_of whole x.0.number)
-                (front_empty (profile.aspect_faults here d.aspect) (profile.entries_faults false d.operations) restricted_here)
+                ceiling_told place d.aspect (default_ceiling d.operations) (ceiling_of whole x.0.number)
+                (front_empty (profile.aspect_faults here CEILING d.aspect) _ (front_empty _ (profile.entries_faults false d.operations) (front_empty _ _ restricted_here)))
                 (ceiling_is (program_of t) start all w d.name.name x.0 (there ∙ ap Some x.1) ∙ x.2);
           }
       by_cases (inr x) = absurd (no_doubt (program_of t) start all w d.name.name (there ∙ ap Some x))
@@ -481,7 +484,7 @@ module _ (statics : StaticIsValue) (laws : LawsOfNames) (declarations : Declarat
             let x = bodies.there (program_of t) start all w place name items end_name at in (x.object.number, x.numbered);
         tasks = λ place d at. (
           has_body place d at,
-          priority_told place d.aspect (front_empty (profile.aspect_faults (front t place) d.aspect) (profile.definition_faults d.definition)
+          priority_told place d.aspect (front_empty (profile.aspect_faults (front t place) TASK_PRIORITY d.aspect) (profile.definition_faults d.definition)
               (restricted_at start all w.list place (OfItem (OfTask d)) at)),
         );
         main = main_told t.main.aspect main_restricted;

@@ -49,6 +49,7 @@ use Rattle.source_laws.proofs.FewCallees.{scalar_form}
 use Rattle.source_laws.proofs.LaterNames.{same_form}
 use Rattle.source_laws.proofs.ObjectCallees.{HasUnitBody, unit_behind}
 use Rattle.source_laws.proofs.VisibleWords.{behind_front}
+use Rattle.program_soundness.specs.declaring.specs.TaskRules.{operation_aspect_faults}
 
 -- ---- results of functions
 
@@ -99,14 +100,14 @@ operation_scalar : ScopesAreSound → (s : Scope) → SoundScope s → (o : Oper
     → operation_profile s o ≡ Some p → (u : Subtype) → p.result ≡ Some u → IsScalarFunction s o u
 operation_scalar scopes s sound (operation.OfEntry d) h p is u gives =
     absurd (let none = profile_none s (formal_parameters s d.formals) p is in let bad = sym none ∙ gives in cc)
-operation_scalar scopes s sound (operation.OfSubprogram d) h p is u gives = by_result d.result refl is
+operation_scalar scopes s sound (operation.OfSubprogram d a) h p is u gives = by_result d.result refl is
   where
-    by_result : (r : Option Identifier) → d.result ≡ r → operation_profile s (operation.OfSubprogram (record d { result = r })) ≡ Some p
-        → IsScalarFunction s (operation.OfSubprogram d) u
+    by_result : (r : Option Identifier) → d.result ≡ r → operation_profile s (operation.OfSubprogram (record d { result = r }) a) ≡ Some p
+        → IsScalarFunction s (operation.OfSubprogram d a) u
     by_result None none own =
         absurd (let nothing = profile_none s (formal_parameters s d.formals) p own in let bad = sym nothing ∙ gives in cc)
     by_result (Some r) some own =
-        let y = result_scalar scopes s sound d h r some in
+        let y = result_scalar scopes s sound d (front_empty (profile_faults s d) (operation_aspect_faults s a) h) r some in
         let z = profile_some s (formal_parameters s d.formals) r p own in
         let same : y.subtype ≡ u = same_some y.subtype u (sym y.here ∙ z.1 ∙ sym z.2 ∙ gives) in
         record {

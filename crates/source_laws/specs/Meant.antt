@@ -5,7 +5,7 @@ use Rattle.std.specs.Prelude.{◌≡◌, ℕ, pos, false, List, [], ◌∷◌, O
 use Rattle.lexer.specs.declared.token.Token.{Token}
 use Rattle.ada_tree.specs.declared.expression.Identifier.{Identifier}
 use Rattle.ada_tree.specs.ExpressionTree.{ExprTree}
-use Rattle.ada_tree.specs.StatementTree.{AlternativeTrees, AspectTree, Block, Case, ChoicesTree, DeclarationTree, ElsifTrees, HandlerTrees, If, LocalObject, Loop, MoreAlternatives, MoreElsifs, MoreHandlers, MoreStmts, NoAlternatives, NoElsifs, NoHandlers, NoStmts, ObjectTree, OtherValues, ProtectedComponentTree, ProtectedTree, StmtTree, StmtTrees, TaskTree, Values}
+use Rattle.ada_tree.specs.StatementTree.{AlternativeTrees, AspectTree, Block, Case, ChoicesTree, DeclarationTree, ElsifTrees, HandlerTrees, If, LocalObject, Loop, MoreAlternatives, MoreElsifs, MoreHandlers, MoreStmts, NoAlternatives, NoElsifs, NoHandlers, NoStmts, ObjectTree, OperationTree, OtherValues, ProtectedComponentTree, ProtectedTree, StmtTree, StmtTrees, TaskTree, Values}
 use Rattle.ada_tree.specs.ProgramTree.{BodyItemTree, BodyTree, OfItem, OfObject, OfProtected, OfTask, ProgramTree, ProtectedBody, ProtectedItemTree, TaskBody}
 use Rattle.types.specs.declared.entity.Subtype.{Subtype}
 use Rattle.types.specs.declared.entity.Value.{Value as Scalar}
@@ -58,10 +58,10 @@ IsToldPriority s (Some a) other priority = val (static_place s) a.value ≡ Give
 IsToldPriority s None other priority = priority ≡ other
 
 -- a protected object, and its ceiling: that of its number is its own
-pub record IsToldCeiling (s : Scope) (name : Identifier) (aspect : Option AspectTree) : Type 0 where
+pub record IsToldCeiling (s : Scope) (name : Identifier) (operations : List OperationTree) (aspect : Option AspectTree) : Type 0 where
   pub object : ProtectedObject
   pub stands : named_entity s name ≡ Some (Protected object)
-  pub ceiling : IsToldPriority s aspect default_ceiling (ceiling_of s object.number)
+  pub ceiling : IsToldPriority s aspect (default_ceiling operations) (ceiling_of s object.number)
 
 -- ---- which bodies there are
 
@@ -142,7 +142,7 @@ pub record IsTold (t : ProgramTree) : Type 0 where
       → slice_get d.components index ≡ Some c → IsToldObject (program_of t).scope c.subtype c.value
   -- each protected object has its number and its ceiling, and its body is that of an object
   pub objects : (place : ℕ) (d : ProtectedTree) → slice_get (declared_in t.package_) place ≡ Some (OfItem (OfProtected d))
-      → IsToldCeiling (program_of t).scope d.name d.aspect
+      → IsToldCeiling (program_of t).scope d.name d.operations d.aspect
   pub numbered : (place : ℕ) (name : Identifier) (items : List ProtectedItemTree) (end_name : Identifier)
       → slice_get (declared_in t.package_) place ≡ Some (ProtectedBody name items end_name)
       → (o : ℕ) × (object_numbered (program_of t).scope name ≡ Some o)

@@ -1,5 +1,5 @@
 -- Calls of procedures.
-use Rattle.std.proofs.Common.{◌≡◌, ℕ, zero, suc, ◌+◌, ◌-◌, ◌<◌, ◌≤◌, ℤ, List, [], ◌∷◌, length, map, Option, Some, None, ◌⊎◌, refl, sym, ap, ◌∙◌, subst, arith}
+use Rattle.std.proofs.Common.{◌≡◌, ℕ, zero, suc, ◌+◌, ◌-◌, ◌<◌, ◌≤◌, ℤ, List, [], ◌∷◌, length, map, Option, Some, None, ◌⊎◌, inl, refl, sym, ap, ◌∙◌, subst, arith}
 use Rattle.std.specs.Prelude.{⊤}
 use Rattle.part_code.specs.base.specs.declared.schedule.ScheduleLine.{ScheduleLine}
 use Rattle.part_code.specs.base.specs.Exceptions.{number_of}
@@ -11,7 +11,7 @@ use Rattle.kernel.specs.Calm.{Calm}
 use Rattle.kernel.specs.Counting.{Done}
 use Rattle.kernel.specs.Laws.{QuietStays}
 use Rattle.part_code.specs.image.specs.Sections.{Sections}
-use Rattle.part_code.specs.image.specs.Frames.{Role, Words, Frame, TaskState, own_object}
+use Rattle.part_code.specs.image.specs.Frames.{Role, Words, Frame, TaskState, frames_in_use, own_object}
 use Rattle.part_code.specs.image.specs.Steps as steps
 use Rattle.part_code.specs.image.specs.Steps.{act}
 use Rattle.part_code.specs.image.specs.declared.subprograms.Kind.{Kind}
@@ -27,8 +27,8 @@ use Rattle.step_soundness.specs.meaning.specs.Meeting.{Last}
 use Rattle.step_soundness.specs.meaning.specs.Calls.{Actuals, Callee, body_items, actual_expression, actuals, activation_of, callee_by, callee_through, callee_with, procedure_among, procedure_here, results, with_actuals}
 use Rattle.step_soundness.specs.meaning.specs.Programs.{Parameter, Procedure, Program, object_numbered}
 use Rattle.step_soundness.specs.meaning.specs.SourceSteps as source
-use Rattle.step_soundness.specs.meaning.specs.SourceSteps.{place_of, with_value, work_step}
-use Rattle.step_soundness.specs.meaning.specs.Works.{Item, Does, DoesMain, EndsCall, Goes, Activation, Store, TaskWork, frames_left}
+use Rattle.step_soundness.specs.meaning.specs.SourceSteps.{frames_here, place_of, with_value, work_step}
+use Rattle.step_soundness.specs.meaning.specs.Works.{Item, Does, DoesMain, EndsCall, Goes, Activation, Store, TaskWork}
 use Rattle.step_soundness.specs.Fitting.{taken_types}
 use Rattle.step_soundness.specs.Objects.{AreOf}
 use Rattle.step_soundness.proofs.Calling.{among_owner, found_here}
@@ -196,12 +196,12 @@ module _ (this : Scene) where
 
     -- actual parameters, as the values of calls tell them
     one_actual : (items : List Item) (q : Parameter) (e : ExprTree)
-        → actual_expression (place_of now items) store w.own q e ≡ passed_expression (call (frames_left items)) (place_of now items) q e
+        → actual_expression (place_of now items) store w.own q e ≡ passed_expression (call (frames_here now items)) (place_of now items) q e
     one_actual items q (Named first path) = refl
     one_actual items q e = refl
 
     pub actuals_are : (items : List Item) (ps : List Parameter) (xs : ArgumentTrees)
-        → actuals (place_of now items) store w.own ps xs ≡ passed_actuals (call (frames_left items)) (place_of now items) ps xs
+        → actuals (place_of now items) store w.own ps xs ≡ passed_actuals (call (frames_here now items)) (place_of now items) ps xs
     actuals_are items [] NoArguments = refl
     actuals_are items [] (MoreArguments x rest) = refl
     actuals_are items (p ∷ ps) NoArguments = refl
@@ -213,7 +213,7 @@ module _ (this : Scene) where
     abbrev passing : (through : Option ℕ) → Procedure → List Item → Actuals → source.SourceStepped
     passing through q items z =
         source.unless_refused now (refusal_of k t through) items
-        (source.if_frame_left now (frames_left items) items (source.run_body now (effect_of through) through q z items))
+        (source.if_frame_left now (frames_here now items) items (source.run_body now (effect_of through) through q z items))
 
     passes_by : (c : Callee) (through : Option ℕ) (items : List Item)
         → source.procedure_call now c through items ≡ source.with_actuals_of now c items (passing through c.procedure items)
@@ -261,14 +261,16 @@ module _ (this : Scene) where
           there,
           refl,
           refl,
-          waits,
-          as_many,
-          placed,
-          over,
-          inside,
-          copies,
-          rest,
-          goes,
+          inl (record {
+            waits = waits;
+            many = as_many;
+            placed = placed;
+            over = over;
+            inside = inside;
+            copies = copies;
+            follows = rest;
+            goes = goes;
+          }),
         ))
 
     -- a call gives nothing to a served caller, and whatever kernel comes of it, the task stands for its work
@@ -328,11 +330,12 @@ module _ (this : Scene) where
         less u = subst (λ q. items_size items < work_size q) (sym is) (let c = item_counts i' items in omega (arith, c))
 
         -- no frame is left
-        all_taken : frames_left items ≡ 0 → FRAMES ≤ suc (length fs)
-        all_taken e = omega (arith, e, depth)
+        all_taken : frames_here now items ≡ 0 → (l : Kernel) → l.partition ≡ k.partition → FRAMES ≤ frames_in_use l.partition t fs
+        all_taken e l ranked =
+            let same = scene.frames_same this items fs depth in subst (λ p. FRAMES ≤ frames_in_use p t fs) (sym ranked) (omega (arith, e, same))
 
-        few : (n : ℕ) → frames_left items ≡ suc n → suc (length fs) < FRAMES
-        few n e = omega (arith, e, depth)
+        few : (n : ℕ) → frames_here now items ≡ suc n → frames_in_use k.partition t fs < FRAMES
+        few n e = let same = scene.frames_same this items fs depth in omega (arith, e, same)
 
         step_of : Actuals → source.SourceStepped
         step_of z = source.run_body now (effect_of through) through q z items
@@ -346,11 +349,11 @@ module _ (this : Scene) where
         refused_step x each (Raises y) = refl
         refused_step x each Meaningless = refl
 
-        entered_step : (n : ℕ) → frames_left items ≡ suc n → refusal_of k t through ≡ None → (v : Val Actuals)
+        entered_step : (n : ℕ) → frames_here now items ≡ suc n → refusal_of k t through ≡ None → (v : Val Actuals)
             → with_value now v items (passing through q items) ≡ with_value now v items step_of
         entered_step n e none (Gives z) =
             ap (λ o. source.unless_refused now o items
-            (source.if_frame_left now (frames_left items) items (source.run_body now (effect_of through) through q z items))) none
+            (source.if_frame_left now (frames_here now items) items (source.run_body now (effect_of through) through q z items))) none
             ∙ ap (λ n. source.if_frame_left now n items (source.run_body now (effect_of through) through q z items)) e
         entered_step n e none (Raises y) = refl
         entered_step n e none Meaningless = refl
@@ -363,7 +366,7 @@ module _ (this : Scene) where
         passed_many z ez = proc.parameters z.values (addresses_of now'.names z.targets) (passes z ez).0 (as_many z ez)
 
         -- the frame of the body, and what it does
-        begins : (z : Actuals) → v ≡ Gives z → (n : ℕ) → frames_left items ≡ suc n → refusal_of k t through ≡ None
+        begins : (z : Actuals) → v ≡ Gives z → (n : ℕ) → frames_here now items ≡ suc n → refusal_of k t through ≡ None
             → (r : steps.Stepped) × (act i schedule k t (in_frame m (placed f mid (actuals_on now'.names q.parameters [] z)) fs) ≡ r) × Meets (step_of z) r
         begins z ez n e none =
             let given = passes z ez in
@@ -426,15 +429,15 @@ module _ (this : Scene) where
             never (Raises y) z e = cc
             never Meaningless z e = cc
 
-        by_left : refusal_of k t through ≡ None → (n : ℕ) → frames_left items ≡ n → Meet s
+        by_left : refusal_of k t through ≡ None → (n : ℕ) → frames_here now items ≡ n → Meet s
         by_left none zero e =
             raises (number_of StorageError)
             (λ z. ap (λ o. source.unless_refused now o items
-            (source.if_frame_left now (frames_left items) items (source.run_body now (effect_of through) through q z items))) none
+            (source.if_frame_left now (frames_here now items) items (source.run_body now (effect_of through) through q z items))) none
             ∙ ap (λ n. source.if_frame_left now n items (source.run_body now (effect_of through) through q z items)) e)
             (λ z ez. record {
               throws = λ schedule' l m' opened ranked. full quiet i number proc.s proc.there schedule' l t m' f fs mid [] (words_of_call z) (passed_many z ez)
-                  through kind here (refusal_kept k l t through opened ranked ∙ none) (all_taken e);
+                  through kind here (refusal_kept k l t through opened ranked ∙ none) (all_taken e l ranked);
             })
         by_left none (suc n) e =
             subst Meet (sym (scene.going_is this s stack going))
@@ -448,13 +451,13 @@ module _ (this : Scene) where
         by_refusal (Some r) e =
             raises (number_of ProgramError)
             (λ z. ap (λ o. source.unless_refused now o items
-            (source.if_frame_left now (frames_left items) items (source.run_body now (effect_of through) through q z items))) e)
+            (source.if_frame_left now (frames_here now items) items (source.run_body now (effect_of through) through q z items))) e)
             (λ z ez. record {
               throws = λ schedule' l m' opened ranked. refused quiet i number proc.s proc.there schedule' l t m' f fs mid [] (words_of_call z)
                   (passed_many z ez)
                   through kind here r (refusal_kept k l t through opened ranked ∙ e);
             })
-        by_refusal None e = by_left e (frames_left items) refl
+        by_refusal None e = by_left e (frames_here now items) refl
 
     pub met_call : (name : NameTree) (c : Callee) (items : List Item) → w.work ≡ Goes (Does (tree.Call name) ∷ items)
         → (h : IsAtItems (Does (tree.Call name) ∷ items))
@@ -471,7 +474,7 @@ module _ (this : Scene) where
         let by = callee_found program r.2.within name.first name.selectors c found in
         let knows = scene.sees_here this r.2 items f fs rests h.object in
         met_procedure (Does (tree.Call name)) items is h.stack h.going h.around r.2 r.0 by_code.mid r.1 c.procedure code.number c.through by_code.destinations
-        (passed_actuals (call (frames_left items)) place c.procedure.parameters c.arguments)
+        (passed_actuals (call (frames_here now items)) place c.procedure.parameters c.arguments)
         (same ∙ ap (λ q. source.call_of now c q items) code.plain ∙ passes_by c c.through items
         ∙ ap (λ q. with_value now q items (passing c.through c.procedure items)) (actuals_are items c.procedure.parameters c.arguments))
         leads by_code.up by_code.over code.numbered by.owner by.name by.found
@@ -480,7 +483,7 @@ module _ (this : Scene) where
         (λ calls p. passed_actuals calls p c.procedure.parameters c.arguments)
         items f fs by_code.computes rests h.object h.depth)
         by_code.many by_code.copies
-        (λ z ez. by_code.passes (call (frames_left items)) place (view_of i schedule k t m f fs) z (has.functions (frames_left items)).sound knows ez)
+        (λ z ez. by_code.passes (call (frames_here now items)) place (view_of i schedule k t m f fs) z (has.functions (frames_here now items)).sound knows ez)
         r.5 h.rests h.object h.depth r.4.1
 
     -- a call that main makes

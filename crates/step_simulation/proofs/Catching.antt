@@ -1,5 +1,5 @@
 -- Where exceptions go on that a frame raises, told by the items that its code follows.
-use Rattle.std.proofs.Common.{◌≡◌, ℕ, suc, ◌≤◌, ℤ, List, [], ◌∷◌, map, length, Option, Some, None, Bool, true, false, refl, sym, ap, ◌∙◌, subst, arith}
+use Rattle.std.proofs.Common.{◌≡◌, ℕ, suc, ◌≤◌, ℤ, List, [], ◌∷◌, map, length, Option, Some, None, Bool, true, false, inl, inr, refl, sym, ap, ◌∙◌, subst, arith, ⊎_elim}
 use Rattle.std.specs.Prelude.{if◌then◌else◌, pos, slice_get, ⊤}
 use Rattle.std.proofs.lemmas.Option.{none-some, same_Some}
 use Rattle.part_code.specs.image.specs.Sections.{Sections}
@@ -16,7 +16,7 @@ use Rattle.part_code.specs.Handling.{Handling, exception_in}
 use Rattle.part_code.specs.Counting.{in_turn}
 use Rattle.part_code.specs.Statements.{AreHandlers, Numbers, Ways}
 use Rattle.part_code.specs.Jumping.{Here, There}
-use Rattle.step_simulation.specs.Standing.{Around, Catches, CaughtIf, Follows, FollowsIn, Inside, IsCaught, LeadsOver, Note, RaisesBy, frames_in, in_handler, with_visible}
+use Rattle.step_simulation.specs.Standing.{Around, CallsOn, Catches, CaughtIf, Follows, FollowsIn, Inside, IsCaught, LeadsOver, Note, RaisesBy, frames_in, in_handler, with_visible}
 use Rattle.step_simulation.proofs.Going.{before_ends, before_follows, rest_of}
 
 -- whether a handler has a choice for the exception: it goes to the handler, or on
@@ -250,20 +250,23 @@ module _ (i : Sections) (program : Program) (g : Package) (numbers : Numbers) (n
 
   -- The exception leaves a call, and goes on in the frame below.
   left : (x : ℕ) (f : Frame) (fs : List Frame) (own : Activation) (os : List Activation) (names : List (List ℕ)) (opened : Option ℕ) (xs : List Target)
-      (items : List Item) (h : IsRaising x f fs own os (EndsCall names opened xs ∷ items)) → IsRaising x h.follows.1 h.follows.2 h.follows.3 h.follows.4 items
-  left x f fs own os names opened xs items h =
+      (items : List Item) (h : IsRaising x f fs own os (EndsCall names opened xs ∷ items))
+      → (let r = h.follows in
+      CallsOn i program g numbers (FollowsIn i program g numbers note items r.1.role r.2 r.4) r.5 r.1 r.3 r.6 r.7 names xs)
+      → IsRaising x h.follows.1 h.follows.2 h.follows.3 h.follows.4 items
+  left x f fs own os names opened xs items h b =
       let r = h.follows in
       let c = r.1 in
       let outer = r.5 in
-      let waits = r.15 in
-      let over = r.18 in
+      let waits = b.waits in
+      let over = b.over in
       let l = ap length r.13 in
       let d = h.depth in record {
         around = outer;
         from = r.7;
-        follows = r.21;
+        follows = b.follows;
         known = h.known;
-        goes = r.22 c.place x (omega arith) (omega (arith, over));
+        goes = b.goes c.place x (omega arith) (omega (arith, over));
         rests = shown outer.visible outer.handling r.3 c.locals waits.handles waits.rests.rests;
         held = waits.rests.held;
         apart = waits.rests.apart;
@@ -355,7 +358,8 @@ module _ (i : Sections) (program : Program) (g : Package) (numbers : Numbers) (n
         h.goes ∙ r.9.outermost.raised x,
         r.13,
         r.14,
-        catches items x r.1 r.2 r.3 r.4 (subst HaveRoom r.14 room.1) (left x f fs own os names None xs items h),
+        ⊎_elim (λ b. catches items x r.1 r.2 r.3 r.4 (subst HaveRoom r.14 room.1) (left x f fs own os names None xs items h b))
+            (λ l. absurd (none-some l.opens.0 l.opens.1)) r.15,
       )
   catches (EndsCall names (Some object) xs ∷ items) x f fs own os room h =
       let r = h.follows in (
@@ -367,7 +371,8 @@ module _ (i : Sections) (program : Program) (g : Package) (numbers : Numbers) (n
         h.goes ∙ r.9.outermost.raised x,
         r.13,
         r.14,
-        left x f fs own os names (Some object) xs items h,
+        ⊎_elim (λ b. inl (refl, left x f fs own os names (Some object) xs items h b))
+            (λ l. inr (record { lowest = l.lowest; callers = l.callers; last = l.last; bare = tt })) r.15,
       )
   catches (EndsServed object names done ∷ items) x f fs own os room h =
       let r = h.follows in (r.0, r.2, r.3, r.4, r.5, r.6, r.7, h.goes ∙ r.9.outermost.raised x, r.13, r.14, r.15)

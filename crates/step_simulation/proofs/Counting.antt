@@ -24,8 +24,8 @@ use Rattle.step_soundness.specs.meaning.specs.MeetingLaws.{spends_takes}
 use Rattle.step_soundness.specs.meaning.specs.Programs.{Program}
 use Rattle.step_soundness.specs.meaning.specs.SameMeaning.{frames_of}
 use Rattle.step_soundness.specs.meaning.specs.SourceSteps as source
-use Rattle.step_soundness.specs.meaning.specs.SourceSteps.{place_of, with_value, work_step}
-use Rattle.step_soundness.specs.meaning.specs.Works.{Item, Does, RepeatsFor, Goes, Activation, Store, TaskWork, frames_left}
+use Rattle.step_soundness.specs.meaning.specs.SourceSteps.{place_of, with_value, work_step, frames_here}
+use Rattle.step_soundness.specs.meaning.specs.Works.{Item, Does, RepeatsFor, Goes, Activation, Store, TaskWork}
 use Rattle.part_code.specs.expr_code.specs.Views.{in_frame, placed, view_of}
 use Rattle.part_code.specs.expr_code.specs.Coming.{most_steps}
 use Rattle.part_code.specs.expr_code.specs.Seeing.{Package}
@@ -188,7 +188,7 @@ module _ (this : Scene) where
         let p = place_of now items in
         subst Meet (sym (scene.going_is this s h.stack h.going))
         (scene.met_value this f fs (first - f.place) first (begin.mid - first) begin.mid (begin.stack [])
-        (bounds range (call (frames_left items)) p)
+        (bounds range (call (frames_here now items)) p)
         items
         (λ b. source.for_range now parameter reversed body items b.first b.last)
         (scene.jumps_spend this f fs f.place first come)
@@ -197,7 +197,7 @@ module _ (this : Scene) where
         (ap (λ q. work_step now q) is ∙ range_is range (source.for_range now parameter reversed body items) items p)
         (subst (λ q. items_size items < work_size q) (sym is)
         (let e = item_counts (Does (Loop place (For parameter reversed range) body)) items in omega (arith, e)))
-        (scene.handled_by this s outer r.2 r.1 items (bounds range (call (frames_left items)) p) first begin.mid r.5
+        (scene.handled_by this s outer r.2 r.1 items (bounds range (call (frames_here now items)) p) first begin.mid r.5
         (goes_within i outer.raised first first begin.mid c.start r.4.10 (omega arith) u6) here refl r.3.reaches.2 h.object h.depth)
         (λ b eb there spends. by_bounds b.first b.last eb there spends))
       where
@@ -297,7 +297,7 @@ module _ (this : Scene) where
             on.rests h.object (h.depth ∙ sym (before_ends i program g numbers body loop))
             (subst (λ q. suc (items_size (source.before body loop)) < work_size q) (sym is) (omega (arith, total)))
 
-        of_numbers : (x y : ℤ) → bounds range (call (frames_left items)) (place_of now items) ≡ Gives (number_bounds x y)
+        of_numbers : (x y : ℤ) → bounds range (call (frames_here now items)) (place_of now items) ≡ Gives (number_bounds x y)
             → work_step now w.work ≡ source.for_range now parameter reversed body items (Number x) (Number y)
             → ComesTo (number_bounds x y) → Meet (in_frame m (placed f f.place []) fs).task
         of_numbers x y eb there spends = by_null (int_lt y x) refl
@@ -328,7 +328,7 @@ module _ (this : Scene) where
                 directed true = refl
                 directed false = refl
 
-        by_bounds : (first last : Value) → bounds range (call (frames_left items)) (place_of now items) ≡ Gives (record { first = first; last = last })
+        by_bounds : (first last : Value) → bounds range (call (frames_here now items)) (place_of now items) ≡ Gives (record { first = first; last = last })
             → work_step now w.work ≡ source.for_range now parameter reversed body items first last
             → ComesTo (record { first = first; last = last }) → Meet (in_frame m (placed f f.place []) fs).task
         by_bounds (Number x) (Number y) eb there spends = of_numbers x y eb there spends

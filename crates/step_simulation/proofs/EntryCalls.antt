@@ -9,7 +9,7 @@ use Rattle.kernel.specs.State.{Action}
 use Rattle.kernel.specs.Counting.{Spends}
 use Rattle.kernel.specs.Effects.{Opens, Queues, is_above_ceiling, is_inside_any}
 use Rattle.kernel.specs.RunLaws.{spends_trans}
-use Rattle.part_code.specs.image.specs.Frames.{Words, Frame, TaskState}
+use Rattle.part_code.specs.image.specs.Frames.{Words, Frame, TaskState, frames_in_use}
 use Rattle.part_code.specs.image.specs.Steps as steps
 use Rattle.part_code.specs.image.specs.Steps.{act, behaviour, unwind}
 use Rattle.part_code.specs.ada_tree.specs.ExpressionTree.{NameTree}
@@ -21,8 +21,8 @@ use Rattle.step_soundness.specs.meaning.specs.MeetingLaws.{spends_takes}
 use Rattle.step_soundness.specs.meaning.specs.SameMeaning.{frames_of}
 use Rattle.step_soundness.specs.meaning.specs.Calls.{Actuals, Callee, body_items, callee_by, is_open, results}
 use Rattle.step_soundness.specs.meaning.specs.SourceSteps as source
-use Rattle.step_soundness.specs.meaning.specs.SourceSteps.{items_of, place_of, with_value, work_step}
-use Rattle.step_soundness.specs.meaning.specs.Works.{Item, Does, EndsCall, Goes, Queued, frames_left}
+use Rattle.step_soundness.specs.meaning.specs.SourceSteps.{items_of, place_of, with_value, work_step, frames_here}
+use Rattle.step_soundness.specs.meaning.specs.Works.{Item, Does, EndsCall, Goes, Queued}
 use Rattle.step_soundness.specs.Laws.{Matches}
 use Rattle.step_soundness.specs.Opened.{HasOpened, IsHeld, Opened, opened_in}
 use Rattle.step_soundness.specs.Fitting.{taken_types}
@@ -130,7 +130,7 @@ module _ (this : Scene) (s : TaskState) where
 
     -- the actual parameters
     abbrev actuals : Val Actuals
-    actuals = passed_actuals (call (frames_left items)) (place_of now items) c.procedure.parameters c.arguments
+    actuals = passed_actuals (call (frames_here now items)) (place_of now items) c.procedure.parameters c.arguments
 
     abbrev step_of : Actuals → source.SourceStepped
     step_of z = source.entry_call now o c.procedure z items
@@ -202,7 +202,7 @@ module _ (this : Scene) (s : TaskState) where
       abbrev given : ArePassed (shapes_of i program g numbers c.procedure) z.values × AreOf program.scope (taken_types c.procedure.parameters) z.values
           × ArePlaced now' code.invoked.destinations z.targets
       given =
-          code.invoked.passes (call (frames_left items)) (place_of now items) (view_of i schedule k t m f fs) z (has.functions (frames_left items)).sound
+          code.invoked.passes (call (frames_here now items)) (place_of now items) (view_of i schedule k t m f fs) z (has.functions (frames_here now items)).sound
           (scene.sees_here this now' items f fs rests h.object) gives
 
       addresses_many : length (addresses_of now'.names z.targets) ≡ length (results c.procedure.parameters)
@@ -237,7 +237,7 @@ module _ (this : Scene) (s : TaskState) where
           (omega (arith, l), λ some. omega (arith, l)) meets
 
       -- the barrier is open: the body is entered
-      opens : is_above_ceiling k t o ≡ false → suc (length fs) < FRAMES → is_open program store o ≡ true
+      opens : is_above_ceiling k t o ≡ false → frames_in_use k.partition t fs < FRAMES → is_open program store o ≡ true
           → work_step now w.work ≡ source.run_body now (Opens o) (Some o) c.procedure z items
           → Done
       opens below few there next =
@@ -259,7 +259,7 @@ module _ (this : Scene) (s : TaskState) where
           })
 
       -- the call waits in the queue, in which there was none before
-      queues : is_above_ceiling k t o ≡ false → suc (length fs) < FRAMES → is_open program store o ≡ false → k.queued o ≡ None
+      queues : is_above_ceiling k t o ≡ false → frames_in_use k.partition t fs < FRAMES → is_open program store o ≡ false → k.queued o ≡ None
           → work_step now w.work ≡ source.works now (Queues o) (Goes (Queued c.procedure z.values z.targets ∷ items))
           → Done
       queues below few there none next =
@@ -304,7 +304,7 @@ module _ (this : Scene) (s : TaskState) where
             words = shares;
           })
 
-      by_queue : is_above_ceiling k t o ≡ false → suc (length fs) < FRAMES → is_open program store o ≡ false
+      by_queue : is_above_ceiling k t o ≡ false → frames_in_use k.partition t fs < FRAMES → is_open program store o ≡ false
           → work_step now w.work ≡ source.queue_call now o c.procedure z items
           → (q : Option ℕ) → k.queued o ≡ q → Done
       by_queue below few there next None e =
@@ -319,34 +319,34 @@ module _ (this : Scene) (s : TaskState) where
           full_queue quiet i entry.number proc.s proc.there schedule' k t m' f fs mid [] words many o entry.row code.invoked.calls free below few
           (closed o u e free below) (ap is_some e))
 
-      by_barrier : is_above_ceiling k t o ≡ false → suc (length fs) < FRAMES → (b : Bool) → is_open program store o ≡ b
+      by_barrier : is_above_ceiling k t o ≡ false → frames_in_use k.partition t fs < FRAMES → (b : Bool) → is_open program store o ≡ b
           → work_step now w.work ≡ opened_or_queued b z
           → Done
       by_barrier below few true there next = opens below few there next
       by_barrier below few false there next = by_queue below few there next (k.queued o) refl
 
-      by_frames : is_above_ceiling k t o ≡ false → work_step now w.work ≡ with_frame (frames_left items) (is_open program store o) z
-          → (n : ℕ) → frames_left items ≡ n → Done
+      by_frames : is_above_ceiling k t o ≡ false → work_step now w.work ≡ with_frame (frames_here now items) (is_open program store o) z
+          → (n : ℕ) → frames_here now items ≡ n → Done
       by_frames below next zero e =
-          let d = h.depth in
+          let same = scene.frames_same this items fs h.depth in
           raise (number_of StorageError) (next ∙ ap (λ n. with_frame n (is_open program store o) z) e)
           (λ schedule' m' closed.
           no_frame quiet i entry.number proc.s proc.there schedule' k t m' f fs mid [] words many o entry.row code.invoked.calls free below
-          (omega (arith, e, d)))
+          (omega (arith, e, same)))
       by_frames below next (suc n) e =
-          let d = h.depth in
-          by_barrier below (omega (arith, e, d)) (is_open program store o) refl (next ∙ ap (λ n. with_frame n (is_open program store o) z) e)
+          let same = scene.frames_same this items fs h.depth in
+          by_barrier below (omega (arith, e, same)) (is_open program store o) refl (next ∙ ap (λ n. with_frame n (is_open program store o) z) e)
 
       by_ceiling : (b : Bool) → is_above_ceiling k t o ≡ b → Done
       by_ceiling true above =
           raise (number_of ProgramError)
-          (step ∙ ap (λ b. if b then source.raises_predefined now ProgramError items else with_frame (frames_left items) (is_open program store o) z) above)
+          (step ∙ ap (λ b. if b then source.raises_predefined now ProgramError items else with_frame (frames_here now items) (is_open program store o) z) above)
           (λ schedule' m' closed.
           above_ceiling quiet i entry.number proc.s proc.there schedule' k t m' f fs mid [] words many o entry.row code.invoked.calls free above)
       by_ceiling false below =
           by_frames below
-          (step ∙ ap (λ b. if b then source.raises_predefined now ProgramError items else with_frame (frames_left items) (is_open program store o) z) below)
-          (frames_left items) refl
+          (step ∙ ap (λ b. if b then source.raises_predefined now ProgramError items else with_frame (frames_here now items) (is_open program store o) z) below)
+          (frames_here now items) refl
 
     by_actions : (b : Bool) → is_inside_any k t ≡ b → scene.Meet this s
     by_actions true inside =

@@ -289,13 +289,6 @@ module _ (i : Sections) (program : Program) (g : Package) (numbers : Numbers) wh
           h.13,
           h.14,
           h.15,
-          h.16,
-          h.17,
-          h.18,
-          h.19,
-          h.20,
-          h.21,
-          h.22,
         )
     earlier (EndsServed o names done ∷ items) a more n x y role fs os j nar ins h =
         let addresses = note h.0 in (
@@ -614,13 +607,6 @@ module _ (i : Sections) (program : Program) (g : Package) (numbers : Numbers) wh
             h.13,
             h.14,
             h.15,
-            h.16,
-            h.17,
-            h.18,
-            h.19,
-            h.20,
-            h.21,
-            h.22,
           );
           ends = refl;
           drops = record { held = λ locals x. x; apart = λ x. x ∙ h.11 };

@@ -7,8 +7,8 @@ mod Scenes
 mod Turning
 mod Choosing
 mod Copying
-mod Opening
-mod Entering
+pub mod Opening
+pub mod Entering
 mod Calling
 mod EntryCalls
 mod Returning

@@ -11,7 +11,7 @@ use Rattle.kernel.specs.Effects.{Effect, Opens, Queues, Quiet, Refusal, call_ref
 use Rattle.kernel.specs.Laws.{QuietStays}
 use Rattle.part_code.specs.image.specs.Sections.{Sections, first_place, object_of}
 use Rattle.part_code.specs.image.specs.Operations.{called, entry_of}
-use Rattle.part_code.specs.image.specs.Frames.{Opened, Words, Frame, new_frame}
+use Rattle.part_code.specs.image.specs.Frames.{Opened, Words, Frame, frames_in_use, new_frame}
 use Rattle.part_code.specs.image.specs.Steps as step
 use Rattle.part_code.specs.image.specs.Steps.{act, does, unwind}
 use Rattle.part_code.specs.image.specs.declared.instruction.Operation.TheVariants as op
@@ -87,19 +87,19 @@ module _ (quiet : QuietStays) (i : Sections) (n : ℕ) (s : Subprogram) (there :
       unrefused none =
           external_is ∙ ap (λ r. step.unless_refused i schedule k t m at_call fs r (step.with_frame_left i schedule k t m at_call fs enters_it)) none
 
-      enters_object : call_refusal k t o ≡ None → suc (length fs) < FRAMES
+      enters_object : call_refusal k t o ≡ None → frames_in_use k.partition t fs < FRAMES
           → act i schedule k t (in_frame m at_call fs) ≡ does (Opens o) m (body_frame (Some o) args) (placed f at base ∷ fs) None None
       enters_object none few =
           unrefused none
-          ∙ ap (λ b. cond b enters_it (step.raises i schedule k t m at_call fs StorageError)) (is_less (length fs + 1) FRAMES (omega (arith, few)))
+          ∙ ap (λ b. cond b enters_it (step.raises i schedule k t m at_call fs StorageError)) (is_less (frames_in_use k.partition t fs) FRAMES few)
           ∙ (λ j. does (Opens o) m (new_frame i n s (arguments_are s.parameters args base many j) (Opened o))
           (placed f at (base_is s.parameters args base many j) ∷ fs) None None)
 
-      full_object : call_refusal k t o ≡ None → FRAMES ≤ suc (length fs)
+      full_object : call_refusal k t o ≡ None → FRAMES ≤ frames_in_use k.partition t fs
           → act i schedule k t (in_frame m at_call fs) ≡ unwind i m (number_of StorageError) at_call fs
       full_object none full =
           unrefused none
-          ∙ ap (λ b. cond b enters_it (step.raises i schedule k t m at_call fs StorageError)) (is_not_less (length fs + 1) FRAMES (omega (arith, full)))
+          ∙ ap (λ b. cond b enters_it (step.raises i schedule k t m at_call fs StorageError)) (is_not_less (frames_in_use k.partition t fs) FRAMES full)
 
       refused_object : (r : Refusal) → call_refusal k t o ≡ Some r
           → act i schedule k t (in_frame m at_call fs) ≡ unwind i m (number_of ProgramError) at_call fs
@@ -109,13 +109,13 @@ module _ (quiet : QuietStays) (i : Sections) (n : ℕ) (s : Subprogram) (there :
     -- ---- both ways
 
     pub enters : (through : Option ℕ) → IsThrough through s.kind → At i at (procedure_operation through n) → refusal_of k t through ≡ None
-        → suc (length fs) < FRAMES
+        → frames_in_use k.partition t fs < FRAMES
         → act i schedule k t (in_frame m at_call fs) ≡ does (effect_of through) m (body_frame through args) (placed f at base ∷ fs) None None
     enters None kind here none few = frames.enters quiet i n s there schedule k t m f fs at base args here many few
     enters (Some o) kind here none few = enters_object o kind here none few
 
     pub full : (through : Option ℕ) → IsThrough through s.kind → At i at (procedure_operation through n) → refusal_of k t through ≡ None
-        → FRAMES ≤ suc (length fs)
+        → FRAMES ≤ frames_in_use k.partition t fs
         → act i schedule k t (in_frame m at_call fs) ≡ unwind i m (number_of StorageError) at_call fs
     full None kind here none many_frames = frames.refused quiet i n s there schedule k t m f fs at base args here many many_frames
     full (Some o) kind here none many_frames = full_object o kind here none many_frames
@@ -157,36 +157,36 @@ module _ (quiet : QuietStays) (i : Sections) (n : ℕ) (s : Subprogram) (there :
           → act i schedule k t (in_frame m at_call fs) ≡ step.with_frame_left i schedule k t m at_call fs (open_or_queue (step.is_open i m o))
       passed free below = entry_is ∙ (λ j. refused_by (free j) (below j))
 
-      pub no_frame : is_inside_any k t ≡ false → is_above_ceiling k t o ≡ false → FRAMES ≤ suc (length fs)
+      pub no_frame : is_inside_any k t ≡ false → is_above_ceiling k t o ≡ false → FRAMES ≤ frames_in_use k.partition t fs
           → act i schedule k t (in_frame m at_call fs) ≡ unwind i m (number_of StorageError) at_call fs
       no_frame free below full =
           passed free below
           ∙ ap (λ b. cond b (open_or_queue (step.is_open i m o)) (step.raises i schedule k t m at_call fs StorageError))
-          (is_not_less (length fs + 1) FRAMES (omega (arith, full)))
+          (is_not_less (frames_in_use k.partition t fs) FRAMES full)
 
-      by_barrier : is_inside_any k t ≡ false → is_above_ceiling k t o ≡ false → suc (length fs) < FRAMES → (b : Bool) → step.is_open i m o ≡ b
+      by_barrier : is_inside_any k t ≡ false → is_above_ceiling k t o ≡ false → frames_in_use k.partition t fs < FRAMES → (b : Bool) → step.is_open i m o ≡ b
           → act i schedule k t (in_frame m at_call fs) ≡ open_or_queue b
       by_barrier free below few b is =
           passed free below
           ∙ ap (λ b. cond b (open_or_queue (step.is_open i m o)) (step.raises i schedule k t m at_call fs StorageError))
-          (is_less (length fs + 1) FRAMES (omega (arith, few)))
+          (is_less (frames_in_use k.partition t fs) FRAMES few)
           ∙ ap open_or_queue is
 
-      pub opens_entry : is_inside_any k t ≡ false → is_above_ceiling k t o ≡ false → suc (length fs) < FRAMES → step.is_open i m o ≡ true
+      pub opens_entry : is_inside_any k t ≡ false → is_above_ceiling k t o ≡ false → frames_in_use k.partition t fs < FRAMES → step.is_open i m o ≡ true
           → act i schedule k t (in_frame m at_call fs) ≡ does (Opens o) m (body_frame (Some o) args) (placed f at base ∷ fs) None None
       opens_entry free below few is =
           by_barrier free below few true is
           ∙ (λ j. does (Opens o) m (new_frame i n s (arguments_are s.parameters args base many j) (Opened o))
           (placed f at (base_is s.parameters args base many j) ∷ fs) None None)
 
-      pub waits_at_entry : is_inside_any k t ≡ false → is_above_ceiling k t o ≡ false → suc (length fs) < FRAMES → step.is_open i m o ≡ false
+      pub waits_at_entry : is_inside_any k t ≡ false → is_above_ceiling k t o ≡ false → frames_in_use k.partition t fs < FRAMES → step.is_open i m o ≡ false
           → is_full k o ≡ false
           → act i schedule k t (in_frame m at_call fs) ≡ does (Queues o) m at_call fs None None
       waits_at_entry free below few is free_queue =
           by_barrier free below few false is
           ∙ ap (λ b. if b then step.raises i schedule k t m at_call fs ProgramError else does (Queues o) m at_call fs None None) free_queue
 
-      pub full_queue : is_inside_any k t ≡ false → is_above_ceiling k t o ≡ false → suc (length fs) < FRAMES → step.is_open i m o ≡ false
+      pub full_queue : is_inside_any k t ≡ false → is_above_ceiling k t o ≡ false → frames_in_use k.partition t fs < FRAMES → step.is_open i m o ≡ false
           → is_full k o ≡ true
           → act i schedule k t (in_frame m at_call fs) ≡ unwind i m (number_of ProgramError) at_call fs
       full_queue free below few is full =

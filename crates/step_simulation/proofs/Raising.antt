@@ -1,5 +1,5 @@
 -- Exceptions are raised and handled: each item that is dropped is met by no step, and the last one by the one step of code that raises.
-use Rattle.std.proofs.Common.{◌≡◌, ⊎_elim, ℕ, suc, ◌+◌, ◌-◌, ◌<◌, ◌≤◌, ℤ, List, [], ◌∷◌, length, Option, Some, None, true, refl, sym, ap, ◌∙◌, subst, arith, rules}
+use Rattle.std.proofs.Common.{◌≡◌, ⊎_elim, ℕ, suc, ◌+◌, ◌-◌, ◌<◌, ◌≤◌, ℤ, List, [], ◌∷◌, length, Option, Some, None, true, inl, refl, sym, ap, ◌∙◌, subst, arith, rules}
 use Rattle.std.specs.Prelude.{◌&&◌, if◌then◌else◌, nat_le, pos}
 use Rattle.part_code.specs.base.specs.declared.schedule.ScheduleLine.{ScheduleLine}
 use Rattle.kernel.specs.State.{Kernel}
@@ -18,7 +18,7 @@ use Rattle.part_code.specs.ada_tree.specs.declared.expression.Identifier.{Identi
 use Rattle.part_code.specs.ada_tree.specs.StatementTree.{HandlerTrees, Raise, StmtTrees}
 use Rattle.part_code.specs.types.specs.Evaluations.{Val, Raises}
 use Rattle.step_soundness.specs.meaning.specs.Meeting.{Last}
-use Rattle.step_soundness.specs.meaning.specs.MeetingLaws.{spends_takes, still_by, moves_by}
+use Rattle.step_soundness.specs.meaning.specs.MeetingLaws.{spends_takes, still_by, moves_by, unrestarted}
 use Rattle.step_soundness.specs.meaning.specs.Programs.{Program}
 use Rattle.step_soundness.specs.meaning.specs.SameMeaning.{frames_of}
 use Rattle.step_soundness.specs.meaning.specs.SourceSteps as source
@@ -42,6 +42,9 @@ use Rattle.step_simulation.proofs.Going.{jumps_up}
 use Rattle.step_simulation.proofs.Scenes.{Scene}
 use Rattle.step_simulation.proofs.Scenes as scene
 use Rattle.step_simulation.proofs.Sizes.{item_counts}
+use Rattle.kernel.specs.Worlds.{is_handler_over, restarted}
+use Rattle.part_code.specs.image.specs.Code.{initial_state}
+use Rattle.step_soundness.specs.meaning.specs.Source.{initial_work}
 
 at_least : (m n : ℕ) → m ≤ n → nat_le m n ≡ true
 at_least m n h = search rules
@@ -150,7 +153,8 @@ module _ (this : Scene) where
         → MetFrom s
     met_still y is e same stands less =
         still_by (program_behaviour program schedule) (behaviour i schedule) (relation i program g numbers) frames_of (most_steps i) this.note k t
-        (record { memory = store; task = w }) (record { memory = m; task = s }) y is e
+        (record { memory = store; task = w }) (record { memory = m; task = s }) y
+        (ap (λ q. restarted (initial_work program t) k t q) is ∙ unrestarted (initial_work program t) k t y (ap (is_handler_over k t) e)) e
         (subst (λ q. StandsFor program g q m) (sym same) shares) stands less
 
     -- the step of code that raises
@@ -160,7 +164,9 @@ module _ (this : Scene) where
     met_step y z is there meets =
         moves_by (program_behaviour program schedule) (behaviour i schedule) (relation i program g numbers) frames_of (most_steps i) this.note k t
         (record { memory = store; task = w }) (record { memory = m; task = s })
-        1 (record { memory = m; task = s }) y z is there (Last refl) (omega arith) meets.effect meets.words meets.leaves
+        1 (record { memory = m; task = s }) (restarted (initial_work program t) k t y) (restarted (initial_state i t) k t z)
+        (ap (λ q. restarted (initial_work program t) k t q) is) (ap (λ q. restarted (initial_state i t) k t q) there) (Last refl) (omega arith)
+        meets.effect meets.words (scene.restart_leaves this y z meets)
 
     -- an item is dropped
     met_dropped : (i' : Item) (items : List Item) (f : Frame) (fs : List Frame) → w.work ≡ Raising x (i' ∷ items)
@@ -199,7 +205,7 @@ module _ (this : Scene) where
         (record {
           ends = λ schedule' m' closed. throws.raises schedule' m' closed ∙ ap (λ q. unwind i m' x f q) c.6 ∙ closes x o f above below m' c.5 c.4;
         })
-        (refl, c.8))
+        c.8)
         (subst (λ q. work_size work < work_size q) (sym is) (omega arith))
 
     -- the body of an entry is left, and its caller is given the exception
@@ -220,7 +226,7 @@ module _ (this : Scene) where
         (throws.raises schedule m (scene.queues_closed this) ∙ ap (λ q. unwind i m x f q) c.8 ∙ hands_back x o c.0 pending f above below m c.7 c.6)
         (record {
           effect = ap Ends (sym (has.barriers store m o this.known.store this.known.values shares));
-          leaves = record { done = done; items = items; work = refl; goes_on = c.10; gives = λ o' u' outer there. (refl, sound.0) };
+          leaves = inl (record { done = done; items = items; work = refl; goes_on = c.10; gives = λ o' u' outer there. (refl, sound.0) });
           words = shares;
         })
 

@@ -1,5 +1,5 @@
 -- Behind the effect of a step all tasks stand for their work again: those that it leaves alone, and those that it reaches.
-use Rattle.std.proofs.Common.{◌≡◌, ◌≢◌, ℕ, suc, ◌+◌, ℤ, List, [], ◌∷◌, length, Option, Some, None, Bool, true, false, refl, sym, ap, ◌∙◌, subst, arith}
+use Rattle.std.proofs.Common.{◌≡◌, ◌≢◌, ℕ, suc, ◌+◌, ℤ, List, [], ◌∷◌, length, Option, Some, None, Bool, true, false, inl, inr, refl, sym, ap, ◌∙◌, subst, arith}
 use Rattle.std.specs.Prelude.{◌++◌, drop, reverse}
 use Rattle.kernel.specs.State.{Kernel, put}
 use Rattle.kernel.specs.PutLaws.{put_other, put_same}
@@ -87,14 +87,15 @@ module _ (i : Sections) (program : Program) (g : Package) (numbers : Numbers) wh
   -- ---- a task that has ended an action
 
   pub enders_stand : EndersStand i program g numbers
-  enders_stand note k l t w s p q h = by_completion h.done h.work h.goes_on
+  enders_stand note k l t w s p q high h = by_completion h.done h.work h.goes_on
     where
       by_completion : (done : Completion) → w.work ≡ completed done h.items → IsCompleted i program g numbers note done h.items w.own w.callers s
           → CodeStands i program g numbers note l t w s
-      by_completion (Completed vs xs) is goes_on =
+      by_completion done is (inr lowest) = absurd (high lowest.lowest)
+      by_completion (Completed vs xs) is (inl goes_on) =
           subst (λ u. CodeStands i program g numbers note l t u s) (λ j. record { work = sym is j; own = w.own; callers = w.callers })
           (copying_stands i program g numbers note vs xs h.items w.own w.callers l t s goes_on)
-      by_completion (Pending x) is goes_on = Throwing x h.items is goes_on.0 goes_on.1
+      by_completion (Pending x) is (inl goes_on) = Throwing x h.items is goes_on.0 goes_on.1
 
   -- ---- callers that wait
 
@@ -145,12 +146,14 @@ module _ (i : Sections) (program : Program) (g : Package) (numbers : Numbers) wh
   -- as many frames as its items will end; as many results as targets
   completed_depth : (note : Note) (done : Completion) (items : List Item) (own : Activation) (os : List Activation) (s : TaskState)
       → IsCompleted i program g numbers note done items own os s → length s.callers ≡ frames_in items
-  completed_depth note (Completed vs xs) items own os s h = h.depth
-  completed_depth note (Pending x) items own os s h = h.1.depth
+  completed_depth note done items own os s (inr h) = ap length h.callers ∙ sym (ap frames_in h.last)
+  completed_depth note (Completed vs xs) items own os s (inl h) = h.depth
+  completed_depth note (Pending x) items own os s (inl h) = h.1.depth
 
   completed_even : (note : Note) (done : Completion) (items : List Item) (own : Activation) (os : List Activation) (s : TaskState)
       → IsCompleted i program g numbers note done items own os s → IsEven done
-  completed_even note (Completed vs xs) items own os s h = h.many
+  completed_even note (Completed vs xs) items own os s (inl h) = h.many
+  completed_even note (Completed vs xs) items own os s (inr h) = ap length h.bare.0 ∙ sym (ap length h.bare.1)
   completed_even note (Pending x) items own os s h = tt
 
   module _ (has : HasCode i program g numbers) (note : Note) (k l : Kernel) (t o u : ℕ) (w caller : TaskWork) (s state : TaskState) (x : Option GivenToCaller)

@@ -1,5 +1,6 @@
 -- The ends of bodies, of calls and of those that were run for a caller; and of the actions that calls have opened.
-use Rattle.std.proofs.Common.{◌≡◌, ℕ, suc, ◌+◌, ◌-◌, ◌<◌, ℤ, List, [], ◌∷◌, length, Option, Some, None, true, cond, refl, sym, ap, ◌∙◌, subst, arith, rules}
+use Rattle.std.proofs.Common.{◌≡◌, ℕ, suc, ◌+◌, ◌-◌, ◌<◌, ℤ, List, [], ◌∷◌, length, Option, Some, None, true, cond, inl, inr, refl, sym, ap, ◌∙◌, subst, arith, rules, ⊎_elim}
+use Rattle.std.proofs.lemmas.Option.{none-some}
 use Rattle.std.specs.Prelude.{◌++◌, nat_le, take}
 use Rattle.part_code.specs.base.specs.declared.schedule.ScheduleLine.{ScheduleLine}
 use Rattle.kernel.specs.State.{Action, Serves, Writes}
@@ -10,6 +11,7 @@ use Rattle.part_code.specs.image.specs.Frames.{Words, Frame, TaskState, own_obje
 use Rattle.part_code.specs.image.specs.Steps as steps
 use Rattle.part_code.specs.image.specs.Steps.{act, behaviour}
 use Rattle.part_code.specs.image.specs.declared.instruction.Operation.TheVariants as op
+use Rattle.part_code.specs.types.specs.Values.{Value}
 use Rattle.step_soundness.specs.meaning.specs.Meeting.{Last}
 use Rattle.step_soundness.specs.meaning.specs.MeetingLaws.{spends_takes}
 use Rattle.step_soundness.specs.meaning.specs.SameMeaning.{frames_of}
@@ -27,7 +29,7 @@ use Rattle.part_code.specs.expr_code.specs.declared.visible.Visible.{Visible}
 use Rattle.part_code.specs.Resting.{AreHeld, RestsWith}
 use Rattle.part_code.specs.Copying.{addresses_of, copies_on}
 use Rattle.part_code.proofs.Handling.{goes_within}
-use Rattle.step_simulation.specs.Standing.{Around, Closing, CodeStands, EndsItsAction, GivesSame, IsCompleted, IsCopying, LeadsEnd, role_of, work_size}
+use Rattle.step_simulation.specs.Standing.{Around, CallsOn, Closing, CodeStands, EndsItsAction, FollowsIn, GivesSame, IsCompleted, IsCopying, IsLastBelow, LeadsEnd, role_of, work_size}
 use Rattle.step_simulation.specs.Laws.{KnowsCaller}
 use Rattle.step_simulation.proofs.Copying as copy
 use Rattle.step_simulation.proofs.Going.{jumps_up}
@@ -136,8 +138,9 @@ module _ (this : Scene) (s : TaskState) where
   returns_below schedule' m' body c below stack None = refl
   returns_below schedule' m' body c below stack (Some o) = refl
 
-  -- The body of a call has come to its return, whose results are left to the frame below.
-  record LeavesCall (names : List (List ℕ)) (opened : Option ℕ) (xs : List Target) (items : List Item) : Type 0 where
+  -- The body of a call has come to its return, whose results are left to the frame below, which goes on in a way that the result is.
+  record LeavesCall (P : List Value → (own : Activation) → List Activation → TaskState → Type 0) (names : List (List ℕ)) (opened : Option ℕ)
+      (xs : List Target) : Type 0 where
     addresses : List ℕ
     returning : IsReturning names addresses
     own : Activation
@@ -146,23 +149,31 @@ module _ (this : Scene) (s : TaskState) where
     next : TaskState
     acts : (schedule' : List ScheduleLine) (m' : Words)
         → act i schedule' k t (in_frame m' (placed f returning.back (copies_on (results_in w.own.locals names) addresses [])) fs) ≡ left_by opened m' next
-    copying : IsCopying i program g numbers note (results_in w.own.locals names) xs items own older next
+    goes_on : P (results_in w.own.locals names) own older next
+
+  abbrev Copies : List Target → List Item → List Value → (own : Activation) → List Activation → TaskState → Type 0
+  Copies xs items vs own older next = IsCopying i program g numbers note vs xs items own older next
+
+  abbrev HasCompleted : List Target → List Item → List Value → (own : Activation) → List Activation → TaskState → Type 0
+  HasCompleted xs items vs own older next = IsCompleted i program g numbers note (Completed vs xs) items own older next
 
   leaves_call : (names : List (List ℕ)) (opened : Option ℕ) (xs : List Target) (items : List Item)
       → (h : scene.IsAtItems this s (EndsCall names opened xs ∷ items))
-      → LeavesCall names opened xs items
-  leaves_call names opened xs items h =
+      → (let r = h.follows in
+      CallsOn i program g numbers (FollowsIn i program g numbers note items r.1.role r.2 r.4) r.5 r.1 r.3 r.6 r.7 names xs)
+      → LeavesCall (Copies xs items) names opened xs
+  leaves_call names opened xs items h b =
       let r = h.follows in
       let c = r.1 in
       let below = r.2 in
       let outer = r.5 in
       let ds = r.6 in
-      let waits = r.15 in
+      let waits = b.waits in
       let addresses = addresses_of outer.visible.names xs in
       let l = ap length r.13 in
       let d = h.depth in
-      let many = copy.placed_many outer.visible ds xs r.17 in
-      let same = r.16 in
+      let many = copy.placed_many outer.visible ds xs b.placed in
+      let same = b.many in
       let back = returning items names addresses h.around r.9 h.rests h.object (many ∙ same) in
       let counted = back.counted in
       let stack = copies_on (results_in w.own.locals names) addresses [] in
@@ -185,23 +196,23 @@ module _ (this : Scene) (s : TaskState) where
               callers = below;
               raising = None;
             }));
-        copying = record {
+        goes_on = record {
           around = outer;
           destinations = ds;
           to = r.7;
-          placed = r.17;
+          placed = b.placed;
           many = omega (arith, counted, many, same, targets);
-          up = r.18;
-          copies = r.20;
+          up = b.over;
+          copies = b.copies;
           from_inside = waits.next;
-          to_inside = r.19;
-          follows = r.21;
+          to_inside = b.inside;
+          follows = b.follows;
           rests = waits.rests;
           object = waits.object;
           stack = refl;
           going = refl;
           depth = omega (arith, d, l);
-          goes = goes_within i outer.raised c.place (suc c.place) r.7 r.7 r.22 (omega arith) (omega arith);
+          goes = goes_within i outer.raised c.place (suc c.place) r.7 r.7 b.goes (omega arith) (omega arith);
           handles = waits.handles;
         };
       }
@@ -212,31 +223,44 @@ module _ (this : Scene) (s : TaskState) where
       resting : {left : List ℤ} → left ≡ [] → (stack : List ℤ) → stack ++ left ≡ stack
       resting e stack = ap (λ q. stack ++ q) e ∙ append_none stack
 
-  -- A body ends. If its call has opened an action, the return is still to be taken, which ends the action.
-  pub met_ends : (names : List (List ℕ)) (opened : Option ℕ) (xs : List Target) (items : List Item) → w.work ≡ Goes (EndsCall names opened xs ∷ items)
-      → (h : scene.IsAtItems this s (EndsCall names opened xs ∷ items)) → scene.Meet this s
-  met_ends names None xs items is h =
-      let r = leaves_call names None xs items h in
-      let vs = results_in w.own.locals names in
-      let low = r.returning.low in
-      let at_return = in_frame m (placed f r.returning.back (copies_on vs r.addresses [])) fs in
-      let after' : source.SourceStepped = record {
-        effect = Quiet;
-        solo = record { memory = store; task = record { work = source.copying vs xs items; own = r.own; callers = r.older } };
-        given = None;
-      } in
-      subst (scene.Meet this) (sym (scene.going_is this s h.stack h.going))
-      (scene.moves_from this (in_frame m (placed f f.place []) fs).task (r.returning.n + 1) at_return after' (left_by None m r.next)
-      (ap (λ q. work_step now q) is ∙ ap (λ q. source.leaves now Quiet q (source.copying vs xs items) None) r.waiting) (r.acts schedule m)
-      (spends_takes (behaviour i schedule) t frames_of (most_steps i) 1 k at_return r.returning.spends (Last refl))
-      (omega (arith, low), λ some. omega (arith, low))
-      (record {
-        effect = refl;
-        leaves = copy.copying_stands i program g numbers note vs xs items r.own r.older (after t Quiet k) t r.next r.copying;
-        words = shares;
-      }))
-  met_ends names (Some o) xs items is h =
-      let r = leaves_call names (Some o) xs items h in
+  -- The procedure of a handler has come to its return, above the frame that never runs.
+  leaves_last : (names : List (List ℕ)) (o : ℕ) (xs : List Target) (items : List Item)
+      → (h : scene.IsAtItems this s (EndsCall names (Some o) xs ∷ items))
+      → (let r = h.follows in IsLastBelow i program g numbers r.1 r.2 names (Some o) xs items)
+      → LeavesCall (HasCompleted xs items) names (Some o) xs
+  leaves_last names o xs items h b =
+      let r = h.follows in
+      let c = r.1 in
+      let below = r.2 in
+      let outer = r.5 in
+      let addresses = addresses_of outer.visible.names xs in
+      let none : length addresses ≡ 0 = ap (λ q. length (addresses_of outer.visible.names q)) b.no_targets in
+      let back = returning items names addresses h.around r.9 h.rests h.object (none ∙ sym (ap length b.no_names)) in
+      let stack = copies_on (results_in w.own.locals names) addresses [] in
+      let body = placed f back.back stack in record {
+        addresses = addresses;
+        returning = back;
+        own = r.3;
+        older = r.4;
+        waiting = r.14;
+        next = record { frame = steps.resumed c stack; callers = below; raising = None };
+        acts = λ schedule' m'.
+            back.acts schedule' m'
+            ∙ ap (λ q. steps.returns_to i schedule' k t m' body q q f.role stack) r.13
+            ∙ ap (λ q. steps.returns_to i schedule' k t m' body (c ∷ below) (c ∷ below) q stack) r.8
+            ∙ returns_below schedule' m' body c below stack (Some o);
+        goes_on = inr (record {
+          lowest = b.lowest;
+          callers = b.callers;
+          last = b.last;
+          bare = (ap (results_in w.own.locals) b.no_names, b.no_targets);
+        });
+      }
+
+  -- the return of a body whose call has opened an action is still to be taken, which ends the action
+  met_open : (names : List (List ℕ)) (o : ℕ) (xs : List Target) (items : List Item) → w.work ≡ Goes (EndsCall names (Some o) xs ∷ items)
+      → (h : scene.IsAtItems this s (EndsCall names (Some o) xs ∷ items)) → LeavesCall (HasCompleted xs items) names (Some o) xs → scene.Meet this s
+  met_open names o xs items is h r =
       let vs = results_in w.own.locals names in
       let low = r.returning.low in
       let work = Goes (EndsAction o (Completed vs xs) ∷ items) in
@@ -252,8 +276,53 @@ module _ (this : Scene) (s : TaskState) where
       (spends_takes (behaviour i schedule) t frames_of (most_steps i) 1 k at_return r.returning.spends (Last refl))
       (omega (arith, low), λ some. omega (arith, low))
       (λ s' there. subst (λ q. CodeStands i program g numbers note k t after'.solo.task q) (sym there)
-      (Closing o (Completed vs xs) items r.next refl calm.runs.running (record { ends = λ schedule' m' closed. r.acts schedule' m' }) r.copying))
+      (Closing o (Completed vs xs) items r.next refl calm.runs.running (record { ends = λ schedule' m' closed. r.acts schedule' m' }) r.goes_on))
       (subst (λ q. work_size work < work_size q) (sym is) (omega arith)))
+
+  -- one that copies back has completed
+  copying_completed : (names : List (List ℕ)) (opened : Option ℕ) (xs : List Target) (items : List Item) → LeavesCall (Copies xs items) names opened xs
+      → LeavesCall (HasCompleted xs items) names opened xs
+  copying_completed names opened xs items r = record {
+    addresses = r.addresses;
+    returning = r.returning;
+    own = r.own;
+    older = r.older;
+    waiting = r.waiting;
+    next = r.next;
+    acts = r.acts;
+    goes_on = inl r.goes_on;
+  }
+
+  met_plain : (names : List (List ℕ)) (xs : List Target) (items : List Item) → w.work ≡ Goes (EndsCall names None xs ∷ items)
+      → (h : scene.IsAtItems this s (EndsCall names None xs ∷ items)) → LeavesCall (Copies xs items) names None xs → scene.Meet this s
+  met_plain names xs items is h r =
+      let vs = results_in w.own.locals names in
+      let low = r.returning.low in
+      let at_return = in_frame m (placed f r.returning.back (copies_on vs r.addresses [])) fs in
+      let after' : source.SourceStepped = record {
+        effect = Quiet;
+        solo = record { memory = store; task = record { work = source.copying vs xs items; own = r.own; callers = r.older } };
+        given = None;
+      } in
+      subst (scene.Meet this) (sym (scene.going_is this s h.stack h.going))
+      (scene.moves_from this (in_frame m (placed f f.place []) fs).task (r.returning.n + 1) at_return after' (left_by None m r.next)
+      (ap (λ q. work_step now q) is ∙ ap (λ q. source.leaves now Quiet q (source.copying vs xs items) None) r.waiting) (r.acts schedule m)
+      (spends_takes (behaviour i schedule) t frames_of (most_steps i) 1 k at_return r.returning.spends (Last refl))
+      (omega (arith, low), λ some. omega (arith, low))
+      (record {
+        effect = refl;
+        leaves = copy.copying_stands i program g numbers note vs xs items r.own r.older (after t Quiet k) t r.next r.goes_on;
+        words = shares;
+      }))
+
+  -- A body ends. If its call has opened an action, the return is still to be taken, which ends the action.
+  pub met_ends : (names : List (List ℕ)) (opened : Option ℕ) (xs : List Target) (items : List Item) → w.work ≡ Goes (EndsCall names opened xs ∷ items)
+      → (h : scene.IsAtItems this s (EndsCall names opened xs ∷ items)) → scene.Meet this s
+  met_ends names None xs items is h =
+      ⊎_elim (λ b. met_plain names xs items is h (leaves_call names None xs items h b)) (λ l. absurd (none-some l.opens.0 l.opens.1)) h.follows.15
+  met_ends names (Some o) xs items is h =
+      met_open names o xs items is h
+      (⊎_elim (λ b. copying_completed names (Some o) xs items (leaves_call names (Some o) xs items h b)) (λ l. leaves_last names o xs items h l) h.follows.15)
 
   -- ---- the end of an action
 
@@ -269,13 +338,13 @@ module _ (this : Scene) (s : TaskState) where
       (Last refl) (omega arith, λ some. omega (arith, some))
       (record {
         effect = ap Ends (sym (has.barriers store m o known.store known.values shares));
-        leaves = record {
+        leaves = inl (record {
           done = done;
           items = items;
           work = refl;
           goes_on = h;
           gives = λ p u outer there. absurd (not_served (k.actions t) o p u outer (opened_in items) opened there);
-        };
+        });
         words = shares;
       }) s (scene.AtOnce refl)
 
@@ -315,7 +384,7 @@ module _ (this : Scene) (s : TaskState) where
       (omega (arith, low), λ some. omega (arith, low))
       (record {
         effect = ap Ends (sym (has.barriers store m o known.store known.values shares));
-        leaves = record {
+        leaves = inl (record {
           done = done;
           items = items;
           work = refl;
@@ -324,6 +393,6 @@ module _ (this : Scene) (s : TaskState) where
               subst (λ q. GivesSame i program g numbers (note q) (Some (works.Results vs)) (Some (steps.Results stack)))
               (one_caller (k.actions t) o u p v served.0 outer served.1 there)
               (omega (arith, counted, named), refl);
-        };
+        });
         words = shares;
       }))

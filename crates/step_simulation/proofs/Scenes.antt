@@ -1,16 +1,19 @@
 -- A step of a task and the frame that stands for its work: how steps meet, exceptions on their way, items without code, ways out.
-use Rattle.std.proofs.Common.{◌≡◌, ℕ, suc, ◌+◌, ◌-◌, ◌<◌, ◌≤◌, ◌⊎◌, inl, inr, ⊎_elim, ℤ, List, [], ◌∷◌, length, Option, Some, None, refl, sym, ap, ◌∙◌, subst, arith, true}
+use Rattle.std.proofs.Common.{◌≡◌, ℕ, suc, ◌+◌, ◌-◌, ◌<◌, ◌≤◌, ◌⊎◌, inl, inr, ⊎_elim, ℤ, List, [], ◌∷◌, length, Option, Some, None, refl, sym, ap, ◌∙◌, subst, arith, true, Bool, false, cond}
 use Rattle.part_code.specs.base.specs.declared.schedule.ScheduleLine.{ScheduleLine}
 use Rattle.part_code.specs.base.specs.declared.limits.TheConstants.{FRAMES}
-use Rattle.kernel.specs.State.{Kernel}
-use Rattle.kernel.specs.Effects.{Quiet, Finishes}
-use Rattle.kernel.specs.Worlds.{Solo}
+use Rattle.kernel.specs.State.{Kernel, is_task}
+use Rattle.kernel.specs.Effects.{Quiet, Finishes, Breaks, Delays, Dies, Effect, Ends, Opens, Queues, Says, Views}
+use Rattle.kernel.specs.Worlds.{Solo, is_handler_over, restarted}
+use Rattle.std.proofs.lemmas.Bool.{le-ltb, true≢false}
+use Rattle.kernel.proofs.Left.{over_gone}
 use Rattle.kernel.specs.Calm.{Calm}
 use Rattle.kernel.specs.Counting.{Spends, Done}
 use Rattle.kernel.specs.Laws.{QuietStays}
 use Rattle.kernel.specs.RunLaws.{spends_trans, spends_more}
 use Rattle.part_code.specs.image.specs.Sections.{Sections}
-use Rattle.part_code.specs.image.specs.Frames.{Inner, Words, Frame, TaskState, object_words, own_object, Role}
+use Rattle.part_code.specs.image.specs.Frames.{Inner, Words, Frame, TaskState, object_words, own_object, Role, frames_counted}
+use Rattle.part_code.specs.image.specs.Code.{initial_state}
 use Rattle.part_code.specs.image.specs.Steps as steps
 use Rattle.part_code.specs.image.specs.Steps.{act, behaviour, does_operation}
 use Rattle.part_code.specs.image.specs.declared.instruction.Operation.{Operation}
@@ -22,18 +25,20 @@ use Rattle.part_code.specs.types.specs.Evaluations.{Val, Gives, Raises, Meaningl
 use Rattle.part_code.specs.types.specs.Evaluating.{Calls, call}
 use Rattle.part_code.specs.types.specs.Places.{Place}
 use Rattle.step_soundness.specs.meaning.specs.Meeting.{Takes, Last, OwnStep, Over, Within, taken, spent, Met}
-use Rattle.step_soundness.specs.meaning.specs.MeetingLaws.{spends_takes, still_by, moves_by, walks_by, quiet_takes}
+use Rattle.step_soundness.specs.meaning.specs.MeetingLaws.{spends_takes, still_by, moves_by, walks_by, quiet_takes, unrestarted}
 use Rattle.step_soundness.specs.meaning.specs.Lifting.{taken_unseen}
-use Rattle.step_soundness.specs.meaning.specs.Programs.{Program}
+use Rattle.step_soundness.specs.meaning.specs.Programs.{Program, program_partition}
 use Rattle.step_soundness.specs.meaning.specs.SameMeaning.{frames_of}
+use Rattle.step_soundness.specs.meaning.specs.Source.{initial_work}
 use Rattle.step_soundness.specs.meaning.specs.SourceSteps as source
-use Rattle.step_soundness.specs.meaning.specs.SourceSteps.{here_of, place_of, program_behaviour, with_value, work_step}
-use Rattle.step_soundness.specs.meaning.specs.Works.{Item, Does, Goes, Activation, Store, TaskWork, frames_left}
+use Rattle.step_soundness.specs.meaning.specs.SourceSteps.{frames_here, here_of, place_of, program_behaviour, with_value, work_step}
+use Rattle.step_soundness.specs.meaning.specs.Works.{Item, Does, Goes, Activation, Store, TaskWork}
+use Rattle.step_soundness.specs.meaning.specs.Works as works
 use Rattle.step_soundness.specs.Holding.{IsSoundStep}
 use Rattle.step_soundness.specs.Laws.{Premises, StepsAreSound}
 use Rattle.step_soundness.specs.Objects.{IsException}
 use Rattle.step_soundness.specs.Opened.{opened_in}
-use Rattle.part_code.specs.expr_code.specs.Views.{At, IsSameTask, View, in_frame, placed, view_of}
+use Rattle.part_code.specs.expr_code.specs.Views.{At, IsSameTask, View, frames_above, in_frame, placed, view_of}
 use Rattle.part_code.specs.expr_code.specs.Coming.{Comes, Throws, most_steps, size_of}
 use Rattle.part_code.specs.expr_code.specs.Computing.{Everywhere}
 use Rattle.part_code.specs.expr_code.specs.Seeing.{Package, Sees, SeesPackage, library_of}
@@ -245,16 +250,24 @@ module _ (this : Scene) where
       rests.rests.sees (place_of now items) (view_of i schedule k t m f fs) (sees_package items f fs rests.rests.small) refl refl refl
       (ap (λ o. object_words o m) object)
 
+  -- as many frames are left to the frame of code as to the work
+  pub frames_same : (items : List Item) (fs : List Frame) → length fs ≡ frames_in items → frames_here now items ≡ frames_above k t fs
+  frames_same items fs depth = by_task (is_task k.partition t)
+    where
+      by_task : (b : Bool) → works.frames_left b items ≡ FRAMES - frames_counted b fs
+      by_task true = omega (arith, depth)
+      by_task false = omega (arith, depth)
+
   -- what code computes, the frame comes to
   pub evaluates : {A : Type 0} {held : List HeldWord} (v : Framed) (from to : ℕ) (stack : List ℤ → A → List ℤ) (value : Calls → Place
       → Val A) (items : List Item) (f : Frame) (fs : List Frame)
       → Everywhere i (library_of g) (Sees g v.names) from to stack value → RestsWith g v held w.own f.locals → own_object i f ≡ w.own.within
       → length fs ≡ frames_in items
-      → Comes i schedule k t m (placed f from []) fs (to - from) to (stack []) (value (call (frames_left items)) (place_of now items))
+      → Comes i schedule k t m (placed f from []) fs (to - from) to (stack []) (value (call (frames_here now items)) (place_of now items))
   evaluates v from to stack value items f fs h rests object depth =
-      h (call (frames_left items)) (frames_left items) (has.functions (frames_left items)) schedule k t m f fs (place_of now items) [] calm
+      h (call (frames_here now items)) (frames_here now items) (has.functions (frames_here now items)) schedule k t m f fs (place_of now items) [] calm
       (sees_here v items f fs rests object).sees
-      (ap (λ n. FRAMES - suc n) (sym depth))
+      (frames_same items fs depth)
 
   -- ---- steps of code
 
@@ -312,8 +325,8 @@ module _ (this : Scene) where
   led b s n c (Keeping there going callers subprogram some) all low =
       let frames : frames_of s ≡ frames_of b = ap (λ l. suc (length l)) (sym callers) in
       let most : most_steps i s ≡ most_steps i b = ap (λ p. suc (size_of i p + size_of i p)) (sym subprogram) in
-      let here : (act i schedule k t (record { memory = m; task = b })).solo ≡ record { memory = m; task = s } =
-      ap (λ y. y.solo) there ∙ (λ j. record { memory = m; task = record { frame = s.frame; callers = s.callers; raising = (sym going) j } }) in (
+      let here : ((behaviour i schedule).act k t (record { memory = m; task = b })).solo ≡ record { memory = m; task = s } =
+      ap (λ y. (restarted (initial_state i t) k t y).solo) there ∙ (λ j. record { memory = m; task = record { frame = s.frame; callers = s.callers; raising = (sym going) j } }) in (
         suc n,
         quiet_takes (behaviour i schedule) t frames_of (most_steps i) quiet k calm (record { memory = m; task = b }) (record { memory = m; task = s })
             (ap (λ y. y.effect) there) here refl
@@ -331,14 +344,63 @@ module _ (this : Scene) where
   quiet_from s n c x is e same all low stands less = λ b from.
       let sh : StandsFor program g x.solo.memory m = subst (λ q. StandsFor program g q m) (sym same) shares in
       let l = led b s n (record { memory = m; task = c }) from all low in
+      let whole = ap (λ q. restarted (initial_work program t) k t q) is ∙ unrestarted (initial_work program t) k t x (ap (is_handler_over k t) e) in
       ⊎_elim
       (λ stays. still_by (program_behaviour program schedule) (behaviour i schedule) (relation i program g numbers) frames_of (most_steps i) this.note k t
       (record { memory = store; task = w }) (record { memory = m; task = b })
-      x is e sh (stands b (ap (λ q. q.task) stays)) less)
+      x whole e sh (stands b (ap (λ q. q.task) stays)) less)
       (λ j. walks_by (program_behaviour program schedule) (behaviour i schedule) (relation i program g numbers) frames_of (most_steps i) this.note k t
       (record { memory = store; task = w }) (record { memory = m; task = b })
-      j.0 l.0 (record { memory = m; task = c }) x is l.1 j.1 l.2 e sh (stands c refl))
+      j.0 l.0 (record { memory = m; task = c }) x whole l.1 j.1 l.2 e sh (stands c refl))
       (begun l.1)
+
+  -- where a handler is over, both sides hold what its next start needs
+
+  no_task : (e : Effect) → is_handler_over k t e ≡ true → is_task (program_partition program) t ≡ false
+  no_task e over = ap (λ p. is_task p t) (sym known.partition) ∙ le-ltb t k.partition.tasks (over_gone t e k over).0
+
+  over_leaves : (e : Effect) (x : source.SourceStepped) (y : steps.Stepped) → is_handler_over k t e ≡ true
+      → LeavesBy i program g numbers this.note k t e x.solo.task y.solo.task x.given y.given
+      → LeavesBy i program g numbers this.note k t e (initial_work program t) (initial_state i t) x.given y.given
+  over_leaves (Ends b) x y over leaves =
+      let at = known.attached (no_task (Ends b) over) in
+      inr (record {
+        over = over;
+        stands = λ l. has.restarts this.note l t at.0 (no_task (Ends b) over) at.1;
+        gives = ⊎_elim (λ h. h.gives) (λ h. h.gives) leaves;
+      })
+  over_leaves Quiet x y over leaves = absurd (true≢false (sym over))
+  over_leaves (Says label value) x y over leaves = absurd (true≢false (sym over))
+  over_leaves (Delays until) x y over leaves = absurd (true≢false (sym over))
+  over_leaves (Opens o) x y over leaves = absurd (true≢false (sym over))
+  over_leaves (Views o) x y over leaves = absurd (true≢false (sym over))
+  over_leaves (Queues o) x y over leaves = absurd (true≢false (sym over))
+  over_leaves Finishes x y over leaves = absurd (true≢false (sym over))
+  over_leaves (Dies z) x y over leaves = absurd (true≢false (sym over))
+  over_leaves Breaks x y over leaves = absurd (true≢false (sym over))
+
+  pub restart_leaves : (x : source.SourceStepped) (y : steps.Stepped) → Meets x y
+      → LeavesBy i program g numbers this.note k t x.effect (restarted (initial_work program t) k t x).solo.task
+      (restarted (initial_state i t) k t y).solo.task x.given y.given
+  restart_leaves x y meets = by_over (is_handler_over k t x.effect) refl
+    where
+      -- the effect of the code's step is the same
+      tasks : (b : Bool) → is_handler_over k t x.effect ≡ b
+          → LeavesBy i program g numbers this.note k t x.effect (cond b (initial_work program t) x.solo.task) (cond b (initial_state i t) y.solo.task) x.given y.given
+          → LeavesBy i program g numbers this.note k t x.effect (restarted (initial_work program t) k t x).solo.task
+          (restarted (initial_state i t) k t y).solo.task x.given y.given
+      tasks b e leaves =
+          let other : is_handler_over k t y.effect ≡ b = ap (is_handler_over k t) meets.effect ∙ e in
+          subst (λ u. LeavesBy i program g numbers this.note k t x.effect u (restarted (initial_state i t) k t y).solo.task x.given y.given)
+          (sym (ap (λ c. cond c (initial_work program t) x.solo.task) e))
+          (subst (λ v. LeavesBy i program g numbers this.note k t x.effect (cond b (initial_work program t) x.solo.task) v x.given y.given)
+          (sym (ap (λ c. cond c (initial_state i t) y.solo.task) other)) leaves)
+
+      by_over : (b : Bool) → is_handler_over k t x.effect ≡ b
+          → LeavesBy i program g numbers this.note k t x.effect (restarted (initial_work program t) k t x).solo.task
+          (restarted (initial_state i t) k t y).solo.task x.given y.given
+      by_over true e = tasks true e (over_leaves x.effect x y e meets.leaves)
+      by_over false e = tasks false e meets.leaves
 
   -- a step that is met by the last of some steps
   pub moves_from : (s : TaskState) (n : ℕ) (c : Solo Words TaskState) (x : source.SourceStepped) (y : steps.Stepped) → work_step now w.work ≡ x
@@ -351,7 +413,8 @@ module _ (this : Scene) where
       let l = led b s n c from all low in
       moves_by (program_behaviour program schedule) (behaviour i schedule) (relation i program g numbers) frames_of (most_steps i) this.note k t
       (record { memory = store; task = w }) (record { memory = m; task = b })
-      l.0 c x y is there l.1 l.2 meets.effect meets.words meets.leaves
+      l.0 c (restarted (initial_work program t) k t x) (restarted (initial_state i t) k t y) (ap (λ q. restarted (initial_work program t) k t q) is)
+      (ap (λ q. restarted (initial_state i t) k t q) there) l.1 l.2 meets.effect meets.words (restart_leaves x y meets)
 
   pub met_quiet_on : (base : List ℤ) (f : Frame) (fs : List Frame) (n : ℕ) (c : TaskState) (x : source.SourceStepped) → work_step now w.work ≡ x
       → x.effect ≡ Quiet

@@ -27,8 +27,8 @@ use Rattle.step_soundness.specs.meaning.specs.Programs.{Parameter, Program}
 use Rattle.step_soundness.specs.meaning.specs.Targets.{activation_with, store_with, target}
 use Rattle.step_soundness.specs.meaning.specs.SameMeaning.{frames_of}
 use Rattle.step_soundness.specs.meaning.specs.SourceSteps as source
-use Rattle.step_soundness.specs.meaning.specs.SourceSteps.{place_of, with_value, work_step}
-use Rattle.step_soundness.specs.meaning.specs.Works.{Item, Declares, DeclaresParameter, Does, Repeats, RepeatsWhile, Goes, Activation, Store, Target, TaskWork, frames_left}
+use Rattle.step_soundness.specs.meaning.specs.SourceSteps.{place_of, with_value, work_step, frames_here}
+use Rattle.step_soundness.specs.meaning.specs.Works.{Item, Declares, DeclaresParameter, Does, Repeats, RepeatsWhile, Goes, Activation, Store, Target, TaskWork}
 use Rattle.part_code.specs.expr_code.specs.Views.{At, in_frame, placed}
 use Rattle.part_code.specs.expr_code.specs.Coming.{Comes, most_steps, on, size_of}
 use Rattle.part_code.specs.expr_code.specs.Seeing.{Package}
@@ -593,7 +593,7 @@ module _ (this : Scene) where
 
     pub met_assigns : {A : Type 0} (i' : Item) (items : List Item) → w.work ≡ Goes (i' ∷ items) → s.frame.stack ≡ [] → s.raising ≡ None
         → (v later : Framed) (at to : ℕ) (value : Calls → Place → Val A) (store_after' : A → Store → Store) (own_after : A → Activation → Activation)
-        → source.item_step now i' items ≡ with_value now (value (call (frames_left items)) (place_of now items)) items
+        → source.item_step now i' items ≡ with_value now (value (call (frames_here now items)) (place_of now items)) items
         (λ x. record {
           effect = Quiet;
           solo = record {
@@ -611,7 +611,7 @@ module _ (this : Scene) where
         → own_object i f ≡ w.own.within
         → ((x : A) → (own_after x w.own).within ≡ w.own.within)
         → length fs ≡ frames_in items
-        → Handled (value (call (frames_left items)) (place_of now items)) items at to
+        → Handled (value (call (frames_here now items)) (place_of now items)) items at to
         → Meet s
     met_assigns i' items is stack going v later at to value store_after' own_after same a now' leads code rest rests object stays depth handled =
         let le = leads.up in
@@ -627,7 +627,7 @@ module _ (this : Scene) where
           solo = record { memory = store_after' z store; task = record { work = Goes items; own = own_after z w.own; callers = w.callers } };
           given = None;
         }) (at - f.place) at to later (λ z. store_after' z store) (λ z. own_after z w.own)
-        (value (call (frames_left items)) (place_of now items)) (ap (λ q. work_step now q) is ∙ same)
+        (value (call (frames_here now items)) (place_of now items)) (ap (λ q. work_step now q) is ∙ same)
         (subst (λ q. items_size items < work_size q) (sym is) (let h = item_counts i' items in omega (arith, h))) handled
         (scene.jumps_spend this f fs f.place at leads.jumps) (omega (arith, x.0, y.1, up, le))
         (λ z mid left low high jumps put.
@@ -635,7 +635,7 @@ module _ (this : Scene) where
         (omega (arith, x.0, up, low), omega (arith, y.1, high)) code.same here rest (object ∙ sym (stays z)) depth put)
         (code.arrives schedule k t m f fs store w.own (place_of now items) this.has.functions calm
         (record { scope = refl; functions = refl; variables = refl; components = refl }) refl refl shares here.rests
-        object knows (ap (λ n. FRAMES - suc n) (sym depth))))
+        object knows (scene.frames_same this items fs depth)))
 
     -- an `out` parameter
     pub met_parameter : (p : Parameter) (items : List Item) → w.work ≡ Goes (DeclaresParameter p ∷ items) → (h : IsAtItems (DeclaresParameter p ∷ items))
@@ -655,12 +655,12 @@ module _ (this : Scene) where
         (by_value d d.value) h.around r.2 (into i program g numbers h.around f.subprogram f.place r.0 r.1 r.2 r.4) (stores_assign i program g r.6) r.7 h.rests
         h.object
         (λ x. refl) h.depth
-        (scene.handled_by this s (seeing r.3 h.around) r.2 r.1 items (declared program.scope d (call (frames_left items)) (place_of now items)) r.0 r.1 r.7 r.8
+        (scene.handled_by this s (seeing r.3 h.around) r.2 r.1 items (declared program.scope d (call (frames_here now items)) (place_of now items)) r.0 r.1 r.7 r.8
         (scene.narrowed this s h.around.visible r.2 w.own f.locals r.4.narrows h.rests) (sym r.5.reserved) r.4.reaches.2 h.object h.depth)
       where
         by_value : (d : ObjectTree) (e : Option ExprTree)
             → with_value now (source.declared_value now items d e) items (λ v. source.with_object now (object_declared program.scope d v) items)
-            ≡ with_value now (declared_from program.scope d e (call (frames_left items)) (place_of now items)) items
+            ≡ with_value now (declared_from program.scope d e (call (frames_here now items)) (place_of now items)) items
             (λ x. record {
               effect = Quiet;
               solo = record {
@@ -682,7 +682,7 @@ module _ (this : Scene) where
         (by_target (target (place_of now items) name.first.name name.selectors)) h.around r.2
         (into i program g numbers h.around f.subprogram f.place r.0 r.1 r.2 r.3) r.4.0 r.5 h.rests
         h.object (λ x. same_within x.target x.value w.own) h.depth
-        (handled_at items (assigned name e (call (frames_left items)) (place_of now items)) h r.2 r.0 r.1 r.1 refl r.3 r.5 r.4.1 (omega arith))
+        (handled_at items (assigned name e (call (frames_here now items)) (place_of now items)) h r.2 r.0 r.1 r.1 refl r.3 r.5 r.4.1 (omega arith))
       where
         go : Assigned → source.SourceStepped
         go x = record {
@@ -705,7 +705,7 @@ module _ (this : Scene) where
         by_target : (v : Val Target)
             → with_value now v items (λ x. with_value now (and_then (source.evaluate now items e) (passed x.subtype)) items
             (λ z. source.stores now x z (Goes items)))
-            ≡ with_value now (and_then v (assigned_to (call (frames_left items)) (place_of now items) e)) items go
+            ≡ with_value now (and_then v (assigned_to (call (frames_here now items)) (place_of now items) e)) items go
         by_target (Gives x) = by_value x (and_then (source.evaluate now items e) (passed x.subtype))
         by_target (Raises y) = refl
         by_target Meaningless = refl

@@ -1,5 +1,5 @@
 -- What follows under one note follows under another that says the same of those for whom the frames run bodies of entries.
-use Rattle.std.proofs.Common.{◌≡◌, ℕ, List, [], ◌∷◌, Bool, None, length, sym, ap, ◌∙◌, subst}
+use Rattle.std.proofs.Common.{◌≡◌, ℕ, List, [], ◌∷◌, Bool, None, length, inl, inr, sym, ap, ◌∙◌, subst, ⊎_elim}
 use Rattle.part_code.specs.image.specs.Sections.{Sections}
 use Rattle.part_code.specs.image.specs.Frames.{Frame, Inner, Opened, Role, Serving, TaskState}
 use Rattle.part_code.specs.ada_tree.specs.StatementTree.{NoHandlers, MoreHandlers}
@@ -7,8 +7,9 @@ use Rattle.part_code.specs.types.specs.Values.{Value}
 use Rattle.step_soundness.specs.meaning.specs.Programs.{Procedure, Program}
 use Rattle.step_soundness.specs.meaning.specs.Works.{Item, Declares, DeclaresParameter, Sequence, Does, DoesMain, Repeats, RepeatsWhile, RepeatsFor, Handles, EndsHandler, EndsCall, EndsServed, Completion, Completed, Pending, Activation, Target}
 use Rattle.part_code.specs.expr_code.specs.Seeing.{Package}
+use Rattle.part_code.specs.declared.call.Destination.{Destination}
 use Rattle.part_code.specs.Statements.{Numbers}
-use Rattle.step_simulation.specs.Standing.{Around, CompletesBy, CopiesBy, Follows, FollowsIn, IsAtCall, IsCatching, IsCopying, IsGoingOn, LeadsEnd, Note, Places, RaisesBy}
+use Rattle.step_simulation.specs.Standing.{Around, CallsOn, CompletesBy, CopiesBy, Follows, FollowsIn, IsAtCall, IsCatching, IsCopying, IsGoingOn, LeadsEnd, Note, Places, RaisesBy}
 use Rattle.step_simulation.specs.Laws.{OfAllServed, OfServed}
 
 pub all_served : (P Q : ℕ → Type 0) → ((u : ℕ) → P u → Q u) → (fs : List Frame) → OfAllServed P fs → OfAllServed Q fs
@@ -65,8 +66,23 @@ module _ (i : Sections) (program : Program) (g : Package) (numbers : Numbers) wh
 
   completes_under : (one other : Places i program g numbers) → Turns one other → (done : Completion) (items : List Item) (own : Activation) (s : TaskState)
       → CompletesBy i program g numbers one done items own s → CompletesBy i program g numbers other done items own s
-  completes_under one other turns (Completed vs xs) items own s h = copies_under one other turns vs xs items own s h
-  completes_under one other turns (Pending x) items own s h = (h.0, raises_under one other turns x items own s.frame s.callers h.1)
+  completes_under one other turns done items own s (inr h) = inr h
+  completes_under one other turns (Completed vs xs) items own s (inl h) = inl (copies_under one other turns vs xs items own s h)
+  completes_under one other turns (Pending x) items own s (inl h) = inl (h.0, raises_under one other turns x items own s.frame s.callers h.1)
+
+  calls_under : (one other : Places i program g numbers) → Turns one other → (outer : Around i program g numbers) (c : Frame) (o : Activation)
+      (ds : List Destination) (to : ℕ) (names : List (List ℕ)) (xs : List Target)
+      → CallsOn i program g numbers one outer c o ds to names xs → CallsOn i program g numbers other outer c o ds to names xs
+  calls_under one other turns outer c o ds to names xs h = record {
+    waits = h.waits;
+    many = h.many;
+    placed = h.placed;
+    over = h.over;
+    inside = h.inside;
+    copies = h.copies;
+    follows = turns outer c.subprogram to h.follows;
+    goes = h.goes;
+  }
 
   module _ (note next : Note) where
     abbrev pub Same : ℕ → Type 0
@@ -110,14 +126,10 @@ module _ (i : Sections) (program : Program) (g : Package) (numbers : Numbers) wh
           h.12,
           h.13,
           h.14,
-          h.15,
-          h.16,
-          h.17,
-          h.18,
-          h.19,
-          h.20,
-          follows_under items h.5 h.1.subprogram h.7 h.1.role h.2 h.4 below.0 below.1 h.21,
-          h.22,
+          ⊎_elim
+              (λ b. inl (calls_under (FollowsIn i program g numbers note items h.1.role h.2 h.4) (FollowsIn i program g numbers next items h.1.role h.2 h.4)
+              (λ b' m at z. follows_under items b' m at h.1.role h.2 h.4 below.0 below.1 z) h.5 h.1 h.3 h.6 h.7 names xs b))
+              (λ l. inr l) h.15,
         )
     follows_under (EndsServed o names done ∷ items) a n from role fs os own all h =
         let below = subst (λ q. OfAllServed Same q) h.13 all in

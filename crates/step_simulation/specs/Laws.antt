@@ -1,19 +1,22 @@
 -- What is proved of code that stands for work, as statements; each is the contract of a public function.
-use Rattle.std.specs.Prelude.{◌≡◌, ◌≢◌, ◌≤◌, ℕ, List, [], ◌∷◌, Option, Some, None, false, length, slice_get, ⊤, true}
+use Rattle.std.specs.Prelude.{◌≡◌, ◌≢◌, ◌≤◌, ◌-◌, ℕ, List, [], ◌∷◌, Option, Some, None, false, length, slice_get, ⊤, true}
 use Rattle.part_code.specs.base.specs.declared.schedule.ScheduleLine.{ScheduleLine}
-use Rattle.kernel.specs.State.{Action, Kernel, Serves, put}
+use Rattle.kernel.specs.State.{Action, Kernel, Serves, is_task, put}
 use Rattle.kernel.specs.Calm.{Calm}
 use Rattle.kernel.specs.Effects.{is_above_ceiling, is_inside_any}
 use Rattle.part_code.specs.image.specs.Sections.{Sections}
 use Rattle.part_code.specs.image.specs.Operations as code
 use Rattle.part_code.specs.image.specs.Frames.{Frame, Inner, Opened, Role, Serving, TaskState, Words}
+use Rattle.part_code.specs.image.specs.Code.{initial_state}
+use Rattle.part_code.specs.image.specs.Starting.{lowest_frame}
 use Rattle.part_code.specs.image.specs.Steps as steps
 use Rattle.part_code.specs.image.specs.Steps.{behaviour, is_open}
 use Rattle.part_code.specs.types.specs.Evaluating.{call}
 use Rattle.part_code.specs.types.specs.Values.{Value}
 use Rattle.step_soundness.specs.meaning.specs.Calls as calls
 use Rattle.step_soundness.specs.meaning.specs.Meeting.{Met, received}
-use Rattle.step_soundness.specs.meaning.specs.Programs.{Procedure, Program, program_partition}
+use Rattle.step_soundness.specs.meaning.specs.Programs.{Attached, Procedure, Program, handler_at, program_partition}
+use Rattle.step_soundness.specs.meaning.specs.Source.{initial_work}
 use Rattle.step_soundness.specs.meaning.specs.SameMeaning.{frames_of}
 use Rattle.step_soundness.specs.meaning.specs.SourceSteps.{items_of, program_behaviour, serving}
 use Rattle.step_soundness.specs.meaning.specs.Works.{GivenToCaller, Goes, Item, Queued, Store, Target, TaskWork}
@@ -47,6 +50,10 @@ pub record HasCode (i : Sections) (program : Program) (g : Package) (numbers : N
   pub entries : (o : ℕ) (q : Procedure) → entry_of program.procedures o ≡ Some q → HasEntry i program g numbers o q
   pub barriers : (m : Store) (words : Words) (o : ℕ) → IsSoundStore program m → StoreLies program.scope m → StandsFor program g m words
       → calls.is_open program m o ≡ is_open i words o
+  -- what handlers hold at each of their starts stands for what they have to do (RM C.3.1)
+  pub restarts : (note : Note) (l : Kernel) (t : ℕ) (a : Attached) → is_task (program_partition program) t ≡ false
+      → handler_at (t - length program.tasks) program.handlers ≡ Some a
+      → CodeStands i program g numbers note l t (initial_work program t) (initial_state i t)
 
 -- What is known of task t, which is to take a step, in each world of a program's run: the store and the task's work break no rule, the task waits in no entry
 -- call, and the kernel knows the protected actions that its items will end, and the program's priorities and ceilings. The barrier is closed of each call that
@@ -56,6 +63,8 @@ pub record IsKnownHere (program : Program) (k : Kernel) (t : ℕ) (m : Store) (w
   pub task : IsSoundTask program m None w
   pub opened : Matches (k.actions t) (opened_in (items_of w.work))
   pub partition : k.partition ≡ program_partition program
+  pub attached : is_task (program_partition program) t ≡ false
+      → (a : Attached) × (handler_at (t - length program.tasks) program.handlers ≡ Some a)
   pub closed : (o u : ℕ) → k.queued o ≡ Some u → is_inside_any k t ≡ false → is_above_ceiling k t o ≡ false → calls.is_open program m o ≡ false
   -- all values lie in their subtypes, and the time is a number of 64 bits
   pub values : StoreLies program.scope m
@@ -131,9 +140,10 @@ module _ (i : Sections) (program : Program) (g : Package) (numbers : Numbers) wh
       → l.queued o ≡ Some t
       → CodeStands i program g numbers (put t h.addresses note) l t w s
 
-  -- a task that has ended an action, and serves nobody, goes on
+  -- a task that has ended an action, and serves nobody, goes on, unless nothing is left to do in its frame
   abbrev pub EndersStand : Type 0
   EndersStand = (note : Note) (k l : Kernel) (t : ℕ) (w : TaskWork) (s : TaskState) (p : Option GivenToCaller) (q : Option steps.Given)
+      → (s.frame.subprogram ≡ (lowest_frame i).subprogram → ⊥)
       → HasEnded i program g numbers note k t w s p q
       → CodeStands i program g numbers note l t w s
 

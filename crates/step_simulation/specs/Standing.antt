@@ -1,14 +1,16 @@
 -- Which frames of code stand for which work of a task.
-use Rattle.std.specs.Prelude.{◌≡◌, ◌≢◌, ◌≤◌, ℕ, suc, ◌+◌, ◌*◌, ℤ, pos, Bool, true, false, List, [], ◌∷◌, length, map, reverse, Option, Some, None, ◌<◌}
+use Rattle.std.specs.Prelude.{◌≡◌, ◌≢◌, ◌⊎◌, ◌≤◌, ℕ, suc, ◌+◌, ◌*◌, ℤ, pos, Bool, true, false, List, [], ◌∷◌, length, map, reverse, Option, Some, None, ◌<◌}
 use Rattle.part_code.specs.ada_tree.specs.Size.{declaration_size, stmt_size, stmts_size}
 use Rattle.part_code.specs.ada_tree.specs.StatementTree.{NoHandlers, MoreHandlers, StmtTrees}
 use Rattle.part_code.specs.base.specs.declared.schedule.ScheduleLine.{ScheduleLine}
 use Rattle.part_code.specs.handlers.specs.Innermost.{handler_of}
 use Rattle.kernel.specs.State.{Action, Kernel, Outcome, Serves}
 use Rattle.kernel.specs.Effects.{Effect, Ends, Queues, Quiet, after, is_above_ceiling, is_inside_any, Delays}
+use Rattle.kernel.specs.Worlds.{is_handler_over}
 use Rattle.part_code.specs.image.specs.Sections.{Sections, first_place}
 use Rattle.part_code.specs.image.specs.Operations.{called, results_of}
 use Rattle.part_code.specs.image.specs.Frames.{Inner, Opened, Serving, Role, Frame, TaskState, Words, own_object}
+use Rattle.part_code.specs.image.specs.Starting.{lowest_frame}
 use Rattle.part_code.specs.image.specs.Steps as steps
 use Rattle.part_code.specs.image.specs.declared.instruction.Operation.TheVariants as op
 use Rattle.part_code.specs.types.specs.Values.{Value}
@@ -266,10 +268,46 @@ module _ (i : Sections) (program : Program) (g : Package) (numbers : Numbers) wh
     pub object : own_object i f ≡ own.within
     pub depth : length fs ≡ frames_in items
 
-  -- What a state stands for once an action has ended: the results are copied back, or the exception goes on in the frame.
+  -- at the end of a handler no results are copied back
+  abbrev pub EndsBare : Completion → Type 0
+  EndsBare (Completed vs xs) = (vs ≡ []) × (xs ≡ [])
+  EndsBare (Pending x) = Unit {0}
+
+  -- the frame that never runs, below those of a handler: there nothing is left to do
+  pub record IsLowest (done : Completion) (items : List Item) (s : TaskState) : Type 0 where
+    pub lowest : s.frame.subprogram ≡ (lowest_frame i).subprogram
+    pub callers : s.callers ≡ []
+    pub last : items ≡ []
+    pub bare : EndsBare done
+
+  abbrev pub Completes : Places → Completion → List Item → (own : Activation) → TaskState → Type 0
+  Completes goes_on (Completed vs xs) items own s = CopiesBy goes_on vs xs items own s
+  Completes goes_on (Pending x) items own s = (s.raising ≡ Some x) × RaisesBy goes_on x items own s.frame s.callers
+
+  -- What a state stands for once an action has ended: the results are copied back, or the exception goes on in the frame; or a handler is over.
   abbrev pub CompletesBy : Places → Completion → List Item → (own : Activation) → TaskState → Type 0
-  CompletesBy goes_on (Completed vs xs) items own s = CopiesBy goes_on vs xs items own s
-  CompletesBy goes_on (Pending x) items own s = (s.raising ≡ Some x) × RaisesBy goes_on x items own s.frame s.callers
+  CompletesBy goes_on done items own s = Completes goes_on done items own s ⊎ IsLowest done items s
+
+  -- Behind the end of a call the code of the frame below copies back to the targets, and goes on.
+  pub record CallsOn (goes_on : Places) (outer : Around) (c : Frame) (o : Activation) (ds : List Destination) (to : ℕ) (names : List (List ℕ))
+      (xs : List Target) : Type 0 where
+    pub waits : WaitsFor outer c o
+    pub many : length ds ≡ length names
+    pub placed : ArePlaced outer.visible ds xs
+    pub over : suc c.place ≤ to
+    pub inside : Inside c.subprogram to
+    pub copies : AreCopies i program g outer.visible (suc c.place) to ds
+    pub follows : goes_on outer c.subprogram to
+    pub goes : GoesBy i outer.raised c.place to
+
+  -- Behind the end of a handler's procedure, whose action is the handler's own, nothing is left to do.
+  pub record IsLastBelow (c : Frame) (below : List Frame) (names : List (List ℕ)) (opened : Option ℕ) (xs : List Target) (items : List Item) : Type 0 where
+    pub lowest : c.subprogram ≡ (lowest_frame i).subprogram
+    pub callers : below ≡ []
+    pub no_names : names ≡ []
+    pub opens : (o : ℕ) × (opened ≡ Some o)
+    pub no_targets : xs ≡ []
+    pub last : items ≡ []
 
   -- where task t has no action open, and may call the entry of an object in whose queue a call waits, the barrier is closed (RM 9.5.3)
   abbrev pub AreQueuesClosed : Kernel → (t : ℕ) → Words → Type 0
@@ -353,11 +391,8 @@ module _ (i : Sections) (program : Program) (g : Package) (numbers : Numbers) wh
         × LeadsEnd a n from a.visible names (addresses_of outer.visible.names xs)
         × (a.ways.return ≡ Some ret) × (a.visible.reserved ≡ a.ending.reserved)
         × LeadsEnd a n ret a.ending names (addresses_of outer.visible.names xs)
-        × (fs ≡ c ∷ below) × (os ≡ o ∷ older) × WaitsFor outer c o
-        × (length ds ≡ length names) × ArePlaced outer.visible ds xs
-        × (suc c.place ≤ to) × Inside c.subprogram to × AreCopies i program g outer.visible (suc c.place) to ds
-        × Follows outer c.subprogram to items c.role below older
-        × GoesBy i outer.raised c.place to
+        × (fs ≡ c ∷ below) × (os ≡ o ∷ older)
+        × (CallsOn (λ b m at. Follows b m at items c.role below older) outer c o ds to names xs ⊎ IsLastBelow c below names opened xs items)
     -- the body is run for task u; behind its end the frame below goes on with what was still to do, where an exception may be pending
     Follows a n from (EndsServed o names done ∷ items) role fs os =
         (u : ℕ) × (ret : ℕ) × (c : Frame) × (below : List Frame) × (pending : Option ℕ) × (own : Activation) × (older : List Activation)
@@ -413,7 +448,7 @@ module _ (i : Sections) (program : Program) (g : Package) (numbers : Numbers) wh
     Catches x f fs own os (EndsCall names (Some object) xs ∷ items) =
         (c : Frame) × (below : List Frame) × (o : Activation) × (older : List Activation)
         × (f.role ≡ Opened object) × (handler_of i.rows f.place x ≡ None) × (fs ≡ c ∷ below) × (os ≡ o ∷ older)
-        × RaisesBy (FollowsIn items c.role below older) x items o c below
+        × CompletesBy (FollowsIn items c.role below older) (Pending x) items o (record { frame = c; callers = below; raising = Some x })
     -- the exception is the served caller's
     Catches x f fs own os (EndsServed object names done ∷ items) =
         (u : ℕ) × (c : Frame) × (below : List Frame) × (pending : Option ℕ) × (o : Activation) × (older : List Activation)
@@ -494,6 +529,12 @@ module _ (i : Sections) (program : Program) (g : Package) (numbers : Numbers) wh
       pub goes_on : IsCompleted done items w.own w.callers s
       pub gives : (o u : ℕ) (outer : List Action) → k.actions t ≡ Serves o u ∷ outer → GivesSame (note u) p q
 
+    -- The task is a handler that is over, and holds what its next start needs.
+    pub record IsOver (k : Kernel) (t : ℕ) (is_open : Bool) (w : TaskWork) (s : TaskState) (p : Option GivenToCaller) (q : Option steps.Given) : Type 0 where
+      pub over : is_handler_over k t (Ends is_open) ≡ true
+      pub stands : (l : Kernel) → CodeStands l t w s
+      pub gives : (o u : ℕ) (outer : List Action) → k.actions t ≡ Serves o u ∷ outer → GivesSame (note u) p q
+
     -- The task waits in the queue, in which there was no call before; the targets have addresses that no note tells yet.
     pub record HasQueued (k : Kernel) (o : ℕ) (w : TaskWork) (s : TaskState) : Type 0 where
       pub free : k.queued o ≡ None
@@ -507,7 +548,7 @@ module _ (i : Sections) (program : Program) (g : Package) (numbers : Numbers) wh
 
     -- what the state of task t stands for right behind its step with this effect, in kernel k before it
     abbrev pub LeavesBy : Kernel → (t : ℕ) → Effect → TaskWork → TaskState → Option GivenToCaller → Option steps.Given → Type 0
-    LeavesBy k t (Ends is_open) w s p q = HasEnded k t w s p q
+    LeavesBy k t (Ends is_open) w s p q = HasEnded k t w s p q ⊎ IsOver k t is_open w s p q
     LeavesBy k t (Queues o) w s p q = HasQueued k o w s
     LeavesBy k t (Delays until) w s p q = (is_in_base_range until ≡ true) × CodeStands (after t (Delays until) k) t w s
     LeavesBy k t e w s p q = CodeStands (after t e k) t w s

@@ -149,7 +149,7 @@ module _ (kept : AgreementIsKept) (sized : ValuesHaveWords) (places : PartsHaveP
   module _ (schedule : List ScheduleLine) (k : Kernel) (task : ℕ) (m : Words) (f : Frame) (fs : List Frame) (store : Store) (a : Activation) (p : Place)
       (answers : (left : ℕ) → Answers i (library_of g) (call left) left) (calm : Calm k task) (is_at : IsAt program store p) (locals : p.locals ≡ a.locals)
       (within : p.within ≡ a.within) (rests_for : StandsFor program g store m) (rests : Rests g v a f.locals) (own_there : own_object i f ≡ a.within)
-      (knows : Knows g v p (view_of i schedule k task m f fs)) (left : p.frames_left ≡ frames_above fs) where
+      (knows : Knows g v p (view_of i schedule k task m f fs)) (left : p.frames_left ≡ frames_above k task fs) where
     abbrev c : Calls
     c = call p.frames_left
 

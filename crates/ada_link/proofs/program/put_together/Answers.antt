@@ -81,6 +81,7 @@ returns-clause-program c =
             tt,
           ));
       rows = c.split-rows.ensures.handlers;
+      attachments = c.in_ok-attachments.ensures.attachments;
       instructions = refl;
     }
 
@@ -146,6 +147,11 @@ pub returns-in_err-texts-clause-refused : goal.returns-in_err-texts-clause-refus
 returns-in_err-texts-clause-refused c =
     let whole = plain_refused (program_tree c.args.accepted.now) c.in_err-texts.field-0.0 c.in_err-texts.ensures.refused in
     search (rules, whole, c.from_residual-in_err-texts.ensures)
+
+pub returns-in_err-attachments-clause-refused : goal.returns-in_err-attachments-clause-refused
+returns-in_err-attachments-clause-refused c =
+    let whole = plain_refused (program_tree c.args.accepted.now) c.in_err-attachments.field-0.0 c.in_err-attachments.ensures.refused in
+    search (rules, whole, c.from_residual-in_err-attachments.ensures)
 
 pub returns-in_err-push-clause-refused : goal.returns-in_err-push-clause-refused
 returns-in_err-push-clause-refused c =
