@@ -77,10 +77,12 @@ def depths(operations, first, body, targets, bodies, objects):
     return [found.get(first + number, 0) for number in range(len(operations))], most
 
 
-def assembled(bodies, tasks, labels=("x",), words=(), objects=()):
-    """An image. A task is a name, a priority and the number of its body, main last; an object is ceiling, entry, barrier, word and words."""
+def assembled(bodies, tasks, labels=("x",), words=(), objects=(), attachments=()):
+    """An image. A task is a name, a priority and the number of its body, main last; an object is ceiling, entry, barrier, word and words; an attachment is a channel and the
+    number of the body that handles its lines."""
     image = Image()
     image.labels, image.words, image.objects, image.tasks = list(labels), list(words), list(objects), list(tasks)
+    image.attachments = list(attachments)
     for body in bodies:
         first = len(image.code)
         operations, places = parsed(body.text, first)

@@ -80,9 +80,10 @@ def sized(**counts):
     return mnemonics.assembled(" ".join(parts))
 
 
-# How many of each an image may have, and the byte of their count.
+# How many of each an image may have, and the byte of their count; that of the ninth one, and where the predefined exceptions end in version 1.
 LIMITS = [("subprograms", 145, 8), ("objects", 16, 10), ("tasks", 17, 12), ("exceptions", 32, 14), ("rows", 4_096, 16), ("labels", 1_024, 18), ("words", 8_192, 20)]
-PREDEFINED_END = 22 + 17 + 3 * 14
+NINTH = 22
+PREDEFINED_END = NINTH + 17 + 3 * 14
 
 
 def at_limits():
@@ -101,8 +102,34 @@ def at_limits():
     yield "empty label", empty[:PREDEFINED_END] + b"\0" + empty[PREDEFINED_END + 2 :], (47, PREDEFINED_END)
     yield "no subprogram", mnemonics.assembled("task T 1 0"), (47, 6)
     yield "no task", mnemonics.assembled("sub 4 - 1 0 0 0 0 RET 0 0 0"), (47, 12)
+    yield from attached()
     four = mnemonics.assembled(alone)
     yield "three exceptions", four[:15] + b"\3" + four[16 : PREDEFINED_END - 14] + four[PREDEFINED_END:], (47, 14)
+
+
+def attached():
+    """Images with handlers of interrupts: of each channel one at most, by rising channels, procedures without parameters and results of an object of the highest ceiling."""
+    at = PREDEFINED_END + 2 + 8 + 2 * 13 + 8
+    for attachments, rule in [
+        ("1 1", None), ("8 1", None), ("3 1 5 1", None), (" ".join(f"{channel} 1" for channel in range(1, 9)), None),
+        ("0 1", (47, at)), ("9 1", (47, at)), ("3 1 3 1", (47, at + 3)), ("3 1 2 1", (47, at + 3)), (" ".join(f"{channel} 1" for channel in range(1, 10)), (47, NINTH)),
+        ("3 2", (45, at + 1)), ("3 65535", (45, at + 1)), ("3 0", (47, at + 1)),
+    ]:  # fmt: skip
+        yield f"attached {attachments}", with_handler(attachments), rule
+    for what, changes in [("a lower ceiling", {"ceiling": 30}), ("a function", {"kind": 2}), ("a parameter", {"params": 1}), ("a result", {"results": 1})]:
+        yield f"a handler with {what}", with_handler("3 1", **changes), (47, at + 1)
+    handled = with_handler("3 1")
+    yield "version 2 without attachments", handled[:NINTH] + bytes(2) + handled[NINTH + 2 : at] + handled[at + 3 :], (47, NINTH)
+
+
+def with_handler(attachments, ceiling=31, kind=1, params=0, results=0):
+    """An image of a return, with an object whose subprogram handles the lines of channels."""
+    words = attachments.split()
+    rows = " ".join(f"attach {channel} {subprogram}" for channel, subprogram in zip(words[::2], words[1::2]))
+    body = "PUSH 0 0 0 RET 1 0 0" if results else "RET 0 0 0"
+    return mnemonics.assembled(
+        f"object {ceiling} - 0 0 0 sub 4 - 1 0 0 0 0 RET 0 0 0 sub {kind} 0 {2 + results} {params} {results} {params} {results} {body} task MAIN 15 0 {rows}"
+    )
 
 
 def told(program, path, data):

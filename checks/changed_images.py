@@ -27,7 +27,7 @@ sys.path.insert(0, os.path.join(HERE, "..", "bench"))
 from reference import STATUSES, World  # noqa: E402
 
 LIMIT, REFUSED, SECONDS, CHUNK = 1_000, 6, 300, 500
-SCHEDULE = [(500, 1, 7)]
+SCHEDULE = [(5, 2, 7), (5, 2, 8), (500, 1, 7), (500, 3, 9)]
 ALL = 255
 # Sources of rows, with how many of the 255 other values each byte of what they compile to gets; and how many of each image have several bytes changed.
 ROWS = [
@@ -35,6 +35,7 @@ ROWS = [
     ("handlers", "programs", "an exception of a handler passes by the other handlers of its sequence", 32),
     ("tasks and delays", "tasks", "a channel before its first line, at the very time of its line, and behind it", 32),
     ("objects and entries", "entries", "a consumer that waits is served by the producer, before that goes on", 32),
+    ("handlers of interrupts", "interrupts", "a task that waits is served by a handler, and the next line's handler runs before it", 32),
 ]
 SEVERAL = 2_000
 
@@ -67,7 +68,7 @@ def written_again(lines, data):
             bodies.append([*words[3:6:2], "0", *words[7::2]])
         elif words[0] == "task":
             text.append(f"task {words[1]} {words[3]} {words[5]}")
-        elif words[0] == "handler":
+        elif words[0] in ("handler", "attach"):
             text.append(line)
         else:
             text.append(" ".join(words[1:]))
@@ -155,6 +156,7 @@ def images_of(program, scratch):
     """The images by their names, with the number of values for each byte."""
     yield "return_alone", mnemonics.image_of("return_alone"), ALL
     yield "thousand", mnemonics.image_of("thousand"), ALL
+    yield "handled", mnemonics.image_of("handled"), ALL
     yield "every", images.every_operation().bytes(), 8
     for name, table, row, values in ROWS:
         source = os.path.join(scratch, "main.adb")

@@ -5,11 +5,12 @@ import struct
 from images import NAMES, NONE, OPERATIONS
 
 BY_OPCODE = {opcode: (name, taken, given) for name, (opcode, taken, given) in OPERATIONS.items()}
-HEADER = b"ARVN\0\1"
+MAGIC, VERSIONS = b"ARVN", (b"\0\1", b"\0\2")
+COUNTED = len(MAGIC) + 2
 WRONG_HEADER, CUT_SHORT, STRAY, OPERAND, OUTSIDE, MISSING, DEPTH, TABLES = range(40, 48)
 PLAIN, PROCEDURE, FUNCTION, ENTRY, TASK = range(5)
 COUNTS = [("instructions", 1, 65_535), ("subprograms", 1, 145), ("objects", 0, 16), ("tasks", 1, 17), ("exceptions", 4, 36), ("rows", 0, 4_096), ("labels", 0, 1_024)]
-WORDS, FRAME, CEILING, PRIORITY, LENGTH = 8_192, 512, 31, 30, 40
+WORDS, FRAME, CEILING, PRIORITY, LENGTH, CHANNELS = 8_192, 512, 31, 30, 40, 8
 ADDRESSED = set("LDL STL LDG STG LDP STP JMP JZ JNZ CALL PCALL ECALL PUT".split())
 REGIONS = {"LDX": 3, "STX": 3, "LDB": 3, "STB": 3, "CPY": 9}
 BLOCKS = {"LDB", "STB", "CPY"}
@@ -57,8 +58,9 @@ class Image:
     """The sections of an image's bytes, whatever their numbers stand for."""
 
     def __init__(self, data):
-        self.data, self.end = data, len(HEADER)
+        self.data, self.end, self.version = data, COUNTED, data[COUNTED - 1] if len(data) >= COUNTED else None
         instructions, subprograms, objects, tasks, exceptions, rows, labels, words = self.take("8H")
+        (attachments,) = self.take("H") if self.version == 2 else (0,)
         self.exceptions = [self.text() for _ in range(exceptions)]
         self.labels = [self.text() for _ in range(labels)]
         self.words = self.take(f"{words}q")
@@ -66,6 +68,7 @@ class Image:
         self.subprograms = [self.row("B6H", "kind owner end params results local stack") for _ in range(subprograms)]
         self.tasks = [self.task() for _ in range(tasks)]
         self.rows = [self.row("4H", "start end exception target") for _ in range(rows)]
+        self.attachments = [self.row("BH", "channel subprogram") for _ in range(attachments)]
         self.instructions = [self.row("BHHq", "opcode depth a k") for _ in range(instructions)]
 
     def take(self, form):
@@ -156,6 +159,8 @@ class Judge:
             self.judge_task(row)
         for row in image.rows:
             self.judge_row(row)
+        for before, row in zip([0, *(row.channel for row in image.attachments)], image.attachments):
+            self.judge_attachment(before, row)
         for place, row in enumerate(image.instructions):
             self.judge_instruction(place, row)
         return self.broken
@@ -163,9 +168,10 @@ class Judge:
     def judge_counts(self):
         image = self.image
         for number, (name, least, most) in enumerate(COUNTS):
-            self.need(least <= len(getattr(image, name)) <= most, len(HEADER) + 2 * number, TABLES)
+            self.need(least <= len(getattr(image, name)) <= most, COUNTED + 2 * number, TABLES)
         words = len(image.words) + sum(row.size for row in image.objects)
-        self.need(words <= WORDS, image.objects[-1].at + 6 if image.objects else len(HEADER) + 2 * len(COUNTS), TABLES)
+        self.need(words <= WORDS, image.objects[-1].at + 6 if image.objects else COUNTED + 2 * len(COUNTS), TABLES)
+        self.need(image.version != 2 or 1 <= len(image.attachments) <= CHANNELS, COUNTED + 2 * len(COUNTS) + 2, TABLES)
 
     def judge_object(self, number, row):
         subprograms = self.image.subprograms
@@ -223,6 +229,17 @@ class Judge:
             if row.target < len(image.instructions):
                 target = image.instructions[row.target]
                 self.need(target.depth == 1, target.at + 1, DEPTH)
+
+    def judge_attachment(self, before, row):
+        subprograms = self.image.subprograms
+        self.need(before < row.channel <= CHANNELS, row.at, TABLES)
+        self.need(row.subprogram < len(subprograms), row.at + 1, MISSING)
+        self.need(row.subprogram >= len(subprograms) or self.may_handle(subprograms[row.subprogram]), row.at + 1, TABLES)
+
+    def may_handle(self, body):
+        """Whether it is a procedure of an object of the highest ceiling, without parameters and results."""
+        objects = self.image.objects
+        return body.kind == PROCEDURE and body.params == body.results == 0 and body.owner < len(objects) and objects[body.owner].ceiling == CEILING
 
     def judge_instruction(self, place, row):
         if row.opcode not in BY_OPCODE:
@@ -297,9 +314,9 @@ class Judge:
 
 def fault_of(data):
     """The number of the rule that the bytes break first and the byte where they do, or None."""
-    if data[:4] != HEADER[: len(data[:4])]:
+    if not MAGIC.startswith(data[:4]):
         return WRONG_HEADER, 0
-    if data[4:6] != HEADER[4 : 4 + len(data[4:6])]:
+    if not any(version.startswith(data[4:6]) for version in VERSIONS):
         return WRONG_HEADER, 4
     try:
         image = Image(data)

@@ -35,6 +35,7 @@ class Image:
         self.words = []
         self.objects = []
         self.tasks = []
+        self.attachments = []
         self.exceptions = list(NAMES)
 
     def subprogram(self, kind, operations, owner=NONE, results=0, local=0):
@@ -52,7 +53,8 @@ class Image:
 
     def bytes(self):
         counts = (self.code, self.subprograms, self.objects, self.tasks, self.exceptions, self.rows, self.labels, self.words)
-        parts = [struct.pack(">4sH8H", b"ARVN", 1, *map(len, counts))]
+        parts = [struct.pack(">4sH8H", b"ARVN", 2 if self.attachments else 1, *map(len, counts))]
+        parts += [struct.pack(">H", len(self.attachments))] if self.attachments else []
         parts += [bytes([len(text)]) + text.encode() for text in (*self.exceptions, *self.labels)]
         parts.append(struct.pack(f">{len(self.words)}q", *self.words))
         for ceiling, entry, barrier, word, words in self.objects:
@@ -61,6 +63,7 @@ class Image:
         for name, priority, subprogram in self.tasks:
             parts.append(bytes([len(name)]) + name.encode() + struct.pack(">BH", priority, subprogram))
         parts += [struct.pack(">4H", *row) for row in self.rows]
+        parts += [struct.pack(">BH", *row) for row in self.attachments]
         parts += [struct.pack(">BHHq", *row) for row in self.code]
         return b"".join(parts)
 

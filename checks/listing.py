@@ -31,8 +31,10 @@ def number_or_none(value):
 
 def listing(data):
     image = Bytes(data)
-    assert image.take("4sH") == (b"ARVN", 1)
+    magic, version = image.take("4sH")
+    assert magic == b"ARVN" and version in (1, 2)
     instructions, subprograms, objects, tasks, exceptions, rows, labels, words = image.take("8H")
+    (attachments,) = image.take("H") if version == 2 else (0,)
     for number in range(exceptions):
         yield f"exception {number + 1} {image.text()}"
     for number in range(labels):
@@ -48,6 +50,7 @@ def listing(data):
         priority, subprogram = image.take("BH")
         yield f"task {name} priority {priority} sub {subprogram}"
     handlers = [image.take("4H") for _ in range(rows)]
+    attached = [image.take("BH") for _ in range(attachments)]
     at = 0
     for number, (kind, owner, end, parameters, results, local, stack) in enumerate(bodies):
         yield (
@@ -61,6 +64,8 @@ def listing(data):
     assert at == instructions and image.at == len(data)
     for start, end, exception, target in handlers:
         yield f"handler {start} {end} {exception} {target}"
+    for channel, subprogram in attached:
+        yield f"attach {channel} {subprogram}"
 
 
 if __name__ == "__main__":

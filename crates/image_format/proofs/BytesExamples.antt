@@ -1,5 +1,5 @@
 -- The bytes of small images, written out in full.
-use Rattle.std.proofs.Common.{◌≡◌, [], ◌∷◌, ◌++◌, pos, negsuc, Some, None, take, drop, replicate, refl}
+use Rattle.std.proofs.Common.{◌≡◌, [], ◌∷◌, ◌++◌, pos, negsuc, Some, None, length, take, drop, replicate, refl}
 use Rattle.std.specs.Prelude.{codes}
 use Rattle.image_format.specs.Bytes.{address_of, bytes_of, code_bytes, constant_of, data_bytes, half, header_bytes, instruction_bytes, name_bytes, object_bytes, opcode_of, subprogram_bytes, table_bytes, word}
 use Rattle.image.specs.Sections.{Sections}
@@ -7,7 +7,7 @@ use Rattle.image.specs.declared.instruction.Operation.TheVariants as op
 use Rattle.image.specs.declared.instruction.Region.TheVariants as regions
 use Rattle.image.specs.declared.objects.Barrier.TheVariants as barriers
 use Rattle.image.specs.declared.subprograms.Kind.TheVariants.{EntryBody}
-use Rattle.image_format.proofs.Images.{at, body, row, sub, task, thousand}
+use Rattle.image_format.proofs.Images.{at, body, handled, row, sub, task, thousand}
 
 -- the image that prints 1000
 thousand_bytes : bytes_of thousand ≡
@@ -23,6 +23,29 @@ thousand_bytes : bytes_of thousand ≡
     ∷ 40 ∷ 0 ∷ 0 ∷ 0 ∷ 0 ∷ 0 ∷ 0 ∷ 0 ∷ 0 ∷ 0 ∷ 0 ∷ 0 ∷ 0 ∷ []
 unfolding half word opcode_of address_of constant_of header_bytes name_bytes data_bytes table_bytes code_bytes
 thousand_bytes = refl
+
+-- the image with a handler of interrupts
+handled_bytes : bytes_of handled ≡
+    -- magic, version, counts, the ninth of attachments
+    codes "ARVN" ++ 0 ∷ 2 ∷ 0 ∷ 2 ∷ 0 ∷ 2 ∷ 0 ∷ 1 ∷ 0 ∷ 1 ∷ 0 ∷ 4 ∷ 0 ∷ 0 ∷ 0 ∷ 0 ∷ 0 ∷ 0 ∷ 0 ∷ 1
+    -- exceptions
+    ∷ 16 ∷ codes "CONSTRAINT_ERROR" ++ 13 ∷ codes "PROGRAM_ERROR" ++ 13 ∷ codes "STORAGE_ERROR" ++ 13 ∷ codes "TASKING_ERROR"
+    -- the object
+    ++ 31 ∷ 255 ∷ 255 ∷ 0 ∷ 0 ∷ 0 ∷ 0 ∷ 0
+    -- main's body and the handler
+    ∷ 4 ∷ 255 ∷ 255 ∷ 0 ∷ 1 ∷ 0 ∷ 0 ∷ 0 ∷ 0 ∷ 0 ∷ 0 ∷ 0 ∷ 0
+    ∷ 1 ∷ 0 ∷ 0 ∷ 0 ∷ 2 ∷ 0 ∷ 0 ∷ 0 ∷ 0 ∷ 0 ∷ 0 ∷ 0 ∷ 0
+    -- the task and the attachment
+    ∷ 4 ∷ codes "MAIN" ++ 15 ∷ 0 ∷ 0 ∷ 3 ∷ 0 ∷ 1
+    -- RET, RET
+    ∷ 40 ∷ 0 ∷ 0 ∷ 0 ∷ 0 ∷ 0 ∷ 0 ∷ 0 ∷ 0 ∷ 0 ∷ 0 ∷ 0 ∷ 0
+    ∷ 40 ∷ 0 ∷ 0 ∷ 0 ∷ 0 ∷ 0 ∷ 0 ∷ 0 ∷ 0 ∷ 0 ∷ 0 ∷ 0 ∷ 0 ∷ []
+unfolding half word opcode_of address_of constant_of header_bytes name_bytes data_bytes table_bytes code_bytes
+handled_bytes = refl
+
+handled_length : length (bytes_of handled) ≡ 154
+unfolding half word opcode_of address_of constant_of header_bytes name_bytes data_bytes table_bytes code_bytes
+handled_length = refl
 
 -- PUSH -1, in two's complement
 push_minus_one : instruction_bytes (at 0 (op.Push (negsuc 0))) ≡ 1 ∷ 0 ∷ 0 ∷ 0 ∷ 0 ∷ 255 ∷ 255 ∷ 255 ∷ 255 ∷ 255 ∷ 255 ∷ 255 ∷ 255 ∷ []
@@ -63,6 +86,7 @@ counted = record {
   subprograms = replicate 2 (body 1 0 0);
   tasks = replicate 4 (task [] 0 0);
   rows = replicate 6 (row 0 1 0 0);
+  attachments = [];
   instructions = replicate 1 (at 0 op.Return);
 }
 
@@ -72,7 +96,7 @@ counts = refl
 
 -- a plain word, a handler row and an instruction follow in this order
 abbrev ordered : Sections
-ordered = record { exceptions = []; labels = []; plain_words = pos 9 ∷ []; objects = []; subprograms = []; tasks = []; rows = row 1 2 3 4 ∷ []; instructions = at 0 op.Return ∷ [] }
+ordered = record { exceptions = []; labels = []; plain_words = pos 9 ∷ []; objects = []; subprograms = []; tasks = []; rows = row 1 2 3 4 ∷ []; attachments = []; instructions = at 0 op.Return ∷ [] }
 
 after_header : drop 22 (bytes_of ordered) ≡ 0 ∷ 0 ∷ 0 ∷ 0 ∷ 0 ∷ 0 ∷ 0 ∷ 9 ∷ 0 ∷ 1 ∷ 0 ∷ 2 ∷ 0 ∷ 3 ∷ 0 ∷ 4 ∷ 40 ∷ replicate 12 0
 unfolding half word opcode_of address_of constant_of header_bytes name_bytes data_bytes table_bytes code_bytes

@@ -1,10 +1,11 @@
 -- Small images for worked examples.
-use Rattle.std.proofs.Common.{ℕ, List, [], ◌∷◌, ◌++◌, pos, Some}
+use Rattle.std.proofs.Common.{ℕ, List, [], ◌∷◌, ◌++◌, pos, None, Some}
 use Rattle.std.specs.Prelude.{codes}
 use Rattle.handlers.specs.declared.rows.Row.{Row}
 use Rattle.base.specs.Names.{predefined}
 use Rattle.image.specs.ObjectTable.{ObjectRow}
 use Rattle.image.specs.Sections.{Sections}
+use Rattle.image.specs.declared.attachments.Attachment.{Attachment}
 use Rattle.image.specs.declared.instruction.Instr.{Instr}
 use Rattle.image.specs.declared.instruction.Operation.{Operation}
 use Rattle.image.specs.declared.instruction.Operation.TheVariants as op
@@ -36,13 +37,31 @@ row start end_ exception target = record { start = start; end_ = end_; exception
 -- labels, subprograms, tasks, rows and instructions of an image without objects
 abbrev pub plain_image : List (List ℕ) → List Subprogram → List Task → List Row → List Instr → Sections
 plain_image labels subprograms tasks rows instructions =
-    record { exceptions = predefined; labels = labels; plain_words = []; objects = []; subprograms = subprograms; tasks = tasks; rows = rows; instructions = instructions }
+    record { exceptions = predefined; labels = labels; plain_words = []; objects = []; subprograms = subprograms; tasks = tasks; rows = rows; attachments = []; instructions = instructions }
 
 abbrev pub say : ℕ → ℕ → List Instr
 say value label = at 0 (op.Push (pos value)) ∷ at 1 (op.PutLine label) ∷ []
 
 abbrev pub thousand : Sections
 thousand = plain_image (codes "x" ∷ []) (body 3 0 1 ∷ []) (main_is 0) [] (say 1000 0 ++ at 0 op.Return ∷ [])
+
+-- a procedure that handles the interrupts of channel 3
+
+abbrev pub attached : ℕ → ℕ → Attachment
+attached channel subprogram = record { channel = channel; subprogram = subprogram }
+
+abbrev pub handled : Sections
+handled = record {
+  exceptions = predefined;
+  labels = [];
+  plain_words = [];
+  objects = record { ceiling = 31; entry = None; barrier = barriers.Closed; words = [] } ∷ [];
+  subprograms = body 1 0 0 ∷ sub (ProtectedProcedure 0) 2 0 0 0 0 ∷ [];
+  tasks = main_is 0;
+  rows = [];
+  attachments = attached 3 1 ∷ [];
+  instructions = at 0 op.Return ∷ at 0 op.Return ∷ [];
+}
 
 -- a protected object with an entry, in an image with a handler
 
@@ -59,6 +78,7 @@ kept = record {
       sub (ProtectedProcedure 0) 5 1 0 1 2 ∷ sub (ProtectedFunction 0) 12 0 1 0 3 ∷ sub (EntryBody 0) 15 0 0 0 1 ∷ sub Plain 21 1 1 1 2 ∷ body 30 0 1 ∷ body 44 0 2 ∷ [];
   tasks = task (codes "A") 5 4 ∷ main_is 5;
   rows = row 21 26 1 28 ∷ [];
+  attachments = [];
   instructions =
       -- 0: a procedure of object 0
       at 0 (op.LoadLocal 0) ∷ at 1 (op.StoreObject 0) ∷ at 0 (op.Call 1) ∷ at 1 op.Drop ∷ at 0 op.Return

@@ -1,4 +1,5 @@
 mod BytesExamples
+pub mod Channels
 pub mod Images
 mod Listed
 mod ListingExamples

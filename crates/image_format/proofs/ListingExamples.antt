@@ -4,17 +4,17 @@ use Rattle.std.specs.Prelude.{codes}
 use Rattle.std.specs.Fmt.{digits}
 use Rattle.base.specs.Names.{predefined}
 use Rattle.image_format.specs.Bytes.{address_of, constant_of}
-use Rattle.image_format.specs.Listing.{frame_fields, instruction_line, listing_of, mnemonic, object_line, operands, row_line, subprogram_line}
+use Rattle.image_format.specs.Listing.{attach_line, frame_fields, instruction_line, listing_of, mnemonic, object_line, operands, row_line, subprogram_line}
 use Rattle.image.specs.Sections.{Sections}
 use Rattle.image.specs.declared.instruction.Operation.TheVariants as op
 use Rattle.image.specs.declared.instruction.Region.TheVariants as regions
 use Rattle.image.specs.declared.objects.Barrier.TheVariants as barriers
 use Rattle.image.specs.declared.subprograms.Kind.TheVariants.{EntryBody, Plain, TaskBody}
-use Rattle.image_format.proofs.Images.{at, body, row, sub, task, thousand}
+use Rattle.image_format.proofs.Images.{at, attached, body, handled, row, sub, task, thousand}
 
 -- the image of a single return
 abbrev returning : Sections
-returning = record { exceptions = predefined; labels = []; plain_words = []; objects = []; subprograms = body 1 0 0 ∷ []; tasks = task (codes "MAIN") 15 0 ∷ []; rows = []; instructions = at 0 op.Return ∷ [] }
+returning = record { exceptions = predefined; labels = []; plain_words = []; objects = []; subprograms = body 1 0 0 ∷ []; tasks = task (codes "MAIN") 15 0 ∷ []; rows = []; attachments = []; instructions = at 0 op.Return ∷ [] }
 
 returning_listed : listing_of returning ≡
     codes "exception 1 CONSTRAINT_ERROR\n"
@@ -42,6 +42,22 @@ thousand_listed : listing_of thousand ≡
 unfolding digits mnemonic operands frame_fields address_of constant_of
 thousand_listed = refl
 
+-- the image with a handler of interrupts
+handled_listed : listing_of handled ≡
+    codes "exception 1 CONSTRAINT_ERROR\n"
+    ++ codes "exception 2 PROGRAM_ERROR\n"
+    ++ codes "exception 3 STORAGE_ERROR\n"
+    ++ codes "exception 4 TASKING_ERROR\n"
+    ++ codes "object 0 ceiling 31 entry - barrier 0 word 0 size 0\n"
+    ++ codes "task MAIN priority 15 sub 0\n"
+    ++ codes "sub 0 kind 4 object - params 0 results 0 locals 0 stack 0\n"
+    ++ codes "    0 RET 0 0 0\n"
+    ++ codes "sub 1 kind 1 object 0 params 0 results 0 locals 0 stack 0\n"
+    ++ codes "    1 RET 0 0 0\n"
+    ++ codes "attach 3 1\n"
+unfolding digits mnemonic operands frame_fields address_of constant_of
+handled_listed = refl
+
 -- two subprograms, a handler row; numbers of instructions go on
 abbrev two_bodies : Sections
 two_bodies = record {
@@ -52,6 +68,7 @@ two_bodies = record {
   subprograms = sub Plain 2 1 0 1 1 ∷ sub TaskBody 3 0 0 0 0 ∷ [];
   tasks = [];
   rows = row 0 1 0 1 ∷ [];
+  attachments = [];
   instructions = at 0 (op.LoadLocal 0) ∷ at 1 op.Drop ∷ at 0 op.Return ∷ [];
 }
 
@@ -97,3 +114,7 @@ jump_listed = refl
 handler_listed : row_line (row 3 8 5 14) ≡ codes "handler 3 8 5 14\n"
 unfolding digits
 handler_listed = refl
+
+attachment_listed : attach_line (attached 8 12) ≡ codes "attach 8 12\n"
+unfolding digits
+attachment_listed = refl

@@ -5,6 +5,7 @@ use Rattle.handlers.specs.declared.rows.Row.{Row}
 use Rattle.image_format.specs.Bytes.{address_of, constant_of, kind_number}
 use Rattle.image.specs.ObjectTable.{ObjectRow}
 use Rattle.image.specs.Sections.{Sections, object_of}
+use Rattle.image.specs.declared.attachments.Attachment.{Attachment}
 use Rattle.image.specs.declared.instruction.Instr.{Instr}
 use Rattle.image.specs.declared.instruction.Operation.{Operation}
 use Rattle.image.specs.declared.instruction.Operation.TheVariants.{Push, Drop, Duplicate, LoadLocal, StoreLocal, LoadPlain, StorePlain, LoadObject, StoreObject, LoadIndexed, StoreIndexed, LoadBlock, StoreBlock, Copy, Negate, Absolute, Add, Subtract, Multiply, Divide, Modulo, Remainder, CheckRange, Equal, NotEqual, Less, LessOrEqual, Greater, GreaterOrEqual, And, Or, ExclusiveOr, Not, Jump, JumpIfZero, JumpIfNotZero, Call, ProtectedCall, EntryCall, Return, Raise, CheckBlocking, DelayUntil, PutLine, ReadInput, Clock}
@@ -111,6 +112,9 @@ subprogram_line n s = field (codes "sub ") n ++ field (codes " kind ") (kind_num
 abbrev pub row_line : Row → List ℕ
 row_line r = field (codes "handler ") r.start ++ field (codes " ") r.end_ ++ field (codes " ") r.exception ++ field (codes " ") r.target ++ codes "\n"
 
+abbrev pub attach_line : Attachment → List ℕ
+attach_line a = field (codes "attach ") a.channel ++ field (codes " ") a.subprogram ++ codes "\n"
+
 -- a line for each, numbered from n on
 abbrev pub numbered : {X : Type 0} → (ℕ → X → List ℕ) → ℕ → List X → List ℕ
 numbered line n [] = []
@@ -131,3 +135,4 @@ listing_of i =
     ++ flat_map task_line i.tasks
     ++ subprogram_lines 0 0 i.subprograms i.instructions
     ++ flat_map row_line i.rows
+    ++ flat_map attach_line i.attachments

@@ -1,13 +1,16 @@
 //! The bytes of an image (docs/FORMATS.md, "Sections").
 ghost use Rattle.std.specs.Prelude.{◌≡◌, [], ◌++◌, ◌∷◌, ◌≤◌, length, flat_map, sum_by, IfErr, IfOk, OnOk};
-ghost use Rattle.image_format.specs.Bytes.{address_of, barrier_bytes, bytes_of, code_bytes, constant_of, data_bytes, half, header_bytes, instruction_bytes, kind_number, name_bytes, object_bytes, opcode_of, region_number, row_bytes, subprogram_bytes, table_bytes, task_bytes, text, word};
+ghost use Rattle.image_format.specs.Bytes.{address_of, attached_count, attachment_bytes, barrier_bytes, bytes_of, code_bytes, constant_of, data_bytes, half, header_bytes, instruction_bytes, kind_number, name_bytes, object_bytes, opcode_of, region_number, row_bytes, subprogram_bytes, table_bytes, task_bytes, text, version_of, word};
 ghost use Rattle.image.specs.Faults.{memory_fault};
 
 use base::Text;
-use base::limits::WORDS;
+use base::limits::{CHANNELS, WORDS};
 use byteorder::{BigEndian, ByteOrder};
 use handlers::Row;
-use image::{Barrier, Image, ImageFault, Instr, Kind, Object, Operation, Region, Subprogram, Task};
+use image::{
+    Attachment, Barrier, Image, ImageFault, Instr, Kind, Object, Operation, Region, Subprogram,
+    Task,
+};
 use std::alloc::{AllocError, Global};
 
 #[tactic(auto, unfolding(crate::specs::Bytes::half))]
@@ -249,6 +252,13 @@ fn put_row(out: &mut Vec<u8>, row: &Row) -> Result<(), AllocError>
     put_half(out, row.target)
 }
 
+fn put_attachment(out: &mut Vec<u8>, a: &Attachment) -> Result<(), AllocError>
+    ensures { OnOk result (out.new.items ≡ out.old.items ++ attachment_bytes a.now) }
+{
+    out.push(a.channel)?;
+    put_half(out, a.subprogram)
+}
+
 fn put_texts(out: &mut Vec<u8>, texts: &[Text]) -> Result<(), AllocError>
     ensures { OnOk result (out.new.items ≡ out.old.items ++ flat_map text texts.now) }
 {
@@ -295,6 +305,15 @@ fn put_rows(out: &mut Vec<u8>, rows: &[Row]) -> Result<(), AllocError>
     Ok(())
 }
 
+fn put_attachments(out: &mut Vec<u8>, attachments: &[Attachment]) -> Result<(), AllocError>
+    ensures { OnOk result (out.new.items ≡ out.old.items ++ flat_map attachment_bytes attachments.now) }
+{
+    for attachment in attachments {
+        put_attachment(out, attachment)?;
+    }
+    Ok(())
+}
+
 fn put_instructions(out: &mut Vec<u8>, instructions: &[Instr]) -> Result<(), AllocError>
     ensures { OnOk result (out.new.items ≡ out.old.items ++ flat_map instruction_bytes instructions.now) }
 {
@@ -304,13 +323,34 @@ fn put_instructions(out: &mut Vec<u8>, instructions: &[Instr]) -> Result<(), All
     Ok(())
 }
 
-// The first four bytes, the version and the counts.
-fn put_header(out: &mut Vec<u8>, counts: &[u16; 8]) -> Result<(), AllocError>
-    ensures { OnOk result (out.new.items ≡ out.old.items ++ 65 ∷ 82 ∷ 86 ∷ 78 ∷ flat_map half (1 ∷ counts.now)) }
+// The first four bytes, the version and the counts that each version has.
+fn put_header(out: &mut Vec<u8>, version: u16, counts: &[u16; 8]) -> Result<(), AllocError>
+    ensures { OnOk result (out.new.items ≡ out.old.items ++ 65 ∷ 82 ∷ 86 ∷ 78 ∷ flat_map half (version ∷ counts.now)) }
 {
     out.extend_from_slice(b"ARVN")?;
-    put_half(out, 1)?;
+    put_half(out, version)?;
     put_halves(out, counts)
+}
+
+// The version that has a place for these attachments.
+fn version_of(attachments: &[Attachment]) -> u16
+    ensures { result ≡ version_of attachments.now }
+{
+    match attachments {
+        [] => 1,
+        [_, ..] => 2,
+    }
+}
+
+// The count of attachments, where there are any.
+fn put_attached_count(out: &mut Vec<u8>, attachments: &[Attachment]) -> Result<(), AllocError>
+    requires { length attachments.now ≤ CHANNELS }
+    ensures { OnOk result (out.new.items ≡ out.old.items ++ flat_map half (attached_count attachments.now)) }
+{
+    match attachments {
+        [] => Ok(()),
+        [_, ..] => put_half(out, attachments.len() as u16),
+    }
 }
 
 fn put_halves(out: &mut Vec<u8>, numbers: &[u16]) -> Result<(), AllocError>
@@ -343,7 +383,9 @@ fn counts(image: &Image) -> [u16; 8]
 fn put_head(out: &mut Vec<u8>, image: &Image) -> Result<(), AllocError>
     ensures { OnOk result (out.new.items ≡ out.old.items ++ header_bytes image.now) }
 {
-    put_header(out, &counts(image))
+    let attachments = image.attachments();
+    put_header(out, version_of(attachments), &counts(image))?;
+    put_attached_count(out, attachments)
 }
 
 #[tactic(auto, unfolding(crate::specs::Bytes::name_bytes))]
@@ -368,7 +410,8 @@ fn put_tables(out: &mut Vec<u8>, image: &Image) -> Result<(), AllocError>
 {
     put_subprograms(out, image.subprograms())?;
     put_tasks(out, image.tasks())?;
-    put_rows(out, image.rows())
+    put_rows(out, image.rows())?;
+    put_attachments(out, image.attachments())
 }
 
 #[tactic(auto, unfolding(crate::specs::Bytes::code_bytes))]
@@ -388,7 +431,7 @@ fn put_image(out: &mut Vec<u8>, image: &Image) -> Result<(), AllocError>
     put_code(out, image)
 }
 
-/// The bytes of an image.
+/// The bytes of an image: of version 2 where it has handlers of interrupts, else of version 1.
 ///
 /// # Errors
 /// 60, at byte 0, where memory was refused.

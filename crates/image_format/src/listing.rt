@@ -5,12 +5,12 @@ ghost use Rattle.std.specs.List.{list_all};
 ghost use Rattle.std.specs.Str.{IsAscii};
 ghost use Rattle.base.specs.Names.{is_label, is_name};
 ghost use Rattle.image.specs.Faults.{memory_fault};
-ghost use Rattle.image_format.specs.Listing.{barrier_fields, exception_line, field, frame_fields, instruction_line, label_line, listing_of, mnemonic, numbered, object_line, operands, optional_field, right_in_five, row_line, subprogram_line, subprogram_lines, task_line};
+ghost use Rattle.image_format.specs.Listing.{attach_line, barrier_fields, exception_line, field, frame_fields, instruction_line, label_line, listing_of, mnemonic, numbered, object_line, operands, optional_field, right_in_five, row_line, subprogram_line, subprogram_lines, task_line};
 
 use crate::encoding::{address_of, constant_of, kind_number};
 use base::Text;
 use handlers::Row;
-use image::{Barrier, Image, ImageFault, Instr, Object, Operation, Subprogram, Task};
+use image::{Attachment, Barrier, Image, ImageFault, Instr, Object, Operation, Subprogram, Task};
 use itoa::Buffer;
 use std::alloc::{AllocError, Global};
 
@@ -225,6 +225,14 @@ fn put_row(out: &mut String, r: &Row) -> Result<(), AllocError>
     out.push_str("\n")
 }
 
+fn put_attachment(out: &mut String, a: &Attachment) -> Result<(), AllocError>
+    ensures { OnOk result (string_bytes out.new ≡ string_bytes out.old ++ attach_line a.now) }
+{
+    put_field(out, "attach ", usize::from(a.channel))?;
+    put_field(out, " ", usize::from(a.subprogram))?;
+    out.push_str("\n")
+}
+
 // Exceptions are numbered from 1.
 fn put_exceptions(out: &mut String, names: &[Text]) -> Result<(), AllocError>
     requires { list_all is_name names.now ≡ true }
@@ -274,6 +282,15 @@ fn put_rows(out: &mut String, rows: &[Row]) -> Result<(), AllocError>
     Ok(())
 }
 
+fn put_attachments(out: &mut String, attachments: &[Attachment]) -> Result<(), AllocError>
+    ensures { OnOk result (string_bytes out.new ≡ string_bytes out.old ++ flat_map attach_line attachments.now) }
+{
+    for a in attachments {
+        put_attachment(out, a)?;
+    }
+    Ok(())
+}
+
 // Instructions that stand from a place on.
 fn put_instructions(
     out: &mut String,
@@ -318,10 +335,11 @@ fn put_image(out: &mut String, image: &Image) -> Result<(), AllocError>
     put_objects(out, image.objects())?;
     put_tasks(out, image.tasks())?;
     put_subprograms(out, image.subprograms(), image.instructions())?;
-    put_rows(out, image.rows())
+    put_rows(out, image.rows())?;
+    put_attachments(out, image.attachments())
 }
 
-/// The listing of an image: a line for each exception, label, object, task, subprogram with its instructions, and handler row.
+/// The listing of an image: a line for each exception, label, object, task, subprogram with its instructions, handler row, and handler of interrupts.
 ///
 /// # Errors
 /// 60, at byte 0, where memory was refused.

@@ -19,7 +19,7 @@ use Rattle.image.specs.Scalars.{are_equal}
 use Rattle.image.specs.Sections.{Sections, holder}
 use Rattle.image_loading.proofs.Accepted.{all_from, append_none, begun_from, first_begin, held_before, join, kept, map_at, nested_from, placed_from}
 use Rattle.image_loading.proofs.AcceptedSections.{Clear, apart, clear, counts_kept, exceptions_kept, labels_kept, none_at, predefined_kept}
-use Rattle.image_loading.proofs.AcceptedTables.{ends_kept, object_kept, row_kept, subprogram_kept, task_kept, where_body}
+use Rattle.image_loading.proofs.AcceptedTables.{attached_kept, ends_kept, object_kept, row_kept, subprogram_kept, task_kept, where_body}
 use Rattle.std.proofs.lemmas.Bool.{and_parts, eqb-true}
 
 -- Operands
@@ -154,5 +154,6 @@ accepted r none =
           (join _ _ (predefined_kept r c)
           (join _ _ (exceptions_kept r c)
           (join _ _ (labels_kept r c)
-          (join _ _ (all_from (λ row. nat_le row.exception (length i.exceptions)) i.rows (λ k row is. (row_kept r c k row is).exception)) (nested_from i.rows (λ k row is. (row_kept r c k row is).nested))))))))));
+          (join _ _ (all_from (λ row. nat_le row.exception (length i.exceptions)) i.rows (λ k row is. (row_kept r c k row is).exception))
+          (join _ _ (attached_kept r c) (nested_from i.rows (λ k row is. (row_kept r c k row is).nested)))))))))));
     }

@@ -8,7 +8,7 @@ use Rattle.base.specs.declared.limits.TheConstants.{EXCEPTIONS, INSTRUCTIONS, LA
 use Rattle.base.specs.declared.faults.TheConstants.{TABLES_DISAGREE}
 use Rattle.image_loading.specs.Decoding.{sections_of, text_from}
 use Rattle.image_loading.specs.FaultOrder.{ImageFaults}
-use Rattle.image_loading.specs.Loading.{all_crossing_faults, behind_object, behind_row, behind_task, behind_text, code_part_faults, code_start, count_faults, count_rule, crossing_faults, each, exception_faults, faults_as, few_words, head_faults, instruction_faults, is_exception, label_faults, labels_start, last_size_byte, object_faults, objects_start, place_faults, row_faults, rows_start, sections_faults, subprogram_faults, subprograms_start, table_faults, task_faults, tasks_start, text_byte, text_count_faults, text_faults, word_faults}
+use Rattle.image_loading.specs.Loading.{all_crossing_faults, attached_count_faults, attached_faults, attachment_part_faults, attachments_start, behind_object, behind_row, behind_task, behind_text, code_part_faults, code_start, count_faults, count_rule, crossing_faults, each, exception_faults, faults_as, few_words, head_faults, instruction_faults, is_exception, label_faults, labels_start, last_size_byte, names_start, object_faults, objects_start, place_faults, row_faults, rows_start, sections_faults, subprogram_faults, subprograms_start, table_faults, task_faults, tasks_start, text_byte, text_count_faults, text_faults, word_faults}
 use Rattle.image_loading.specs.Reading.{Raw}
 use Rattle.image.specs.Rules.{begins_with, has_counts, has_ends, is_within}
 use Rattle.image_loading.proofs.Accepted.{all_from, append_none, begins_from, each_at, join, kept, map_at}
@@ -19,11 +19,13 @@ pub record Clear (r : Raw) : Type 0 where
   pub counts : count_faults (sections_of r) ≡ []
   pub text_counts : text_count_faults (sections_of r) ≡ []
   pub words : word_faults r (sections_of r) ≡ []
-  pub exceptions : each behind_text exception_faults 0 22 r.exceptions ≡ []
+  pub exceptions : each behind_text exception_faults 0 (names_start r) r.exceptions ≡ []
   pub labels : each behind_text label_faults 0 (labels_start r) r.labels ≡ []
   pub objects : each behind_object (object_faults (sections_of r) (subprograms_start r)) 0 (objects_start r) r.objects ≡ []
   pub subprograms : each (behind_row 13) (subprogram_faults (sections_of r) (has_ends (sections_of r)) (code_start r)) 0 (subprograms_start r) r.subprograms ≡ []
   pub tasks : each behind_task (task_faults (sections_of r)) 0 (tasks_start r) r.tasks ≡ []
+  pub attached_count : attached_count_faults r ≡ []
+  pub attachments : attached_faults (sections_of r) 0 (attachments_start r) r.attachments ≡ []
   pub rows : each (behind_row 8) (row_faults (sections_of r) (has_ends (sections_of r)) (code_start r)) 0 (rows_start r) r.rows ≡ []
   pub crossings : each (behind_row 8) (crossing_faults r.rows) 0 (rows_start r) r.rows ≡ []
   pub operands : each (behind_row 13) instruction_faults 0 (code_start r) r.instructions ≡ []
@@ -37,11 +39,13 @@ pub clear : (r : Raw) → sections_faults r ≡ [] → Clear r
 clear r e =
     let i = sections_of r in
     let w = append_none (faults_as r i) (all_crossing_faults r) e in
-    let p = apart (head_faults r i ++ text_faults r) (table_faults r i) (code_part_faults r i) w.0 in
+    let p = apart (head_faults r i ++ text_faults r) (table_faults r i ++ attachment_part_faults r i) (code_part_faults r i) w.0 in
     let q = append_none (head_faults r i) (text_faults r) p.0 in
     let h = apart (count_faults i) (text_count_faults i) (word_faults r i) q.0 in
-    let t = append_none (each behind_text exception_faults 0 22 r.exceptions) (each behind_text label_faults 0 (labels_start r) r.labels) q.1 in
-    let b = apart (each behind_object (object_faults i (subprograms_start r)) 0 (objects_start r) r.objects) (each (behind_row 13) (subprogram_faults i (has_ends i) (code_start r)) 0 (subprograms_start r) r.subprograms) (each behind_task (task_faults i) 0 (tasks_start r) r.tasks) p.1 in
+    let t = append_none (each behind_text exception_faults 0 (names_start r) r.exceptions) (each behind_text label_faults 0 (labels_start r) r.labels) q.1 in
+    let g = append_none (table_faults r i) (attachment_part_faults r i) p.1 in
+    let v = append_none (attached_count_faults r) (attached_faults i 0 (attachments_start r) r.attachments) g.1 in
+    let b = apart (each behind_object (object_faults i (subprograms_start r)) 0 (objects_start r) r.objects) (each (behind_row 13) (subprogram_faults i (has_ends i) (code_start r)) 0 (subprograms_start r) r.subprograms) (each behind_task (task_faults i) 0 (tasks_start r) r.tasks) g.0 in
     let c = apart (each (behind_row 8) (row_faults i (has_ends i) (code_start r)) 0 (rows_start r) r.rows) (each (behind_row 13) instruction_faults 0 (code_start r) r.instructions) (if has_ends i then each (behind_row 13) (place_faults i (code_start r)) 0 (code_start r) r.instructions else []) p.2 in
     record {
       counts = h.0;
@@ -52,6 +56,8 @@ clear r e =
       objects = b.0;
       subprograms = b.1;
       tasks = b.2;
+      attached_count = v.0;
+      attachments = v.1;
       rows = c.0;
       crossings = w.1;
       operands = c.1;
@@ -99,7 +105,7 @@ label_short t e = (and_parts (nat_le (length t) LABEL_LIMIT) _ (and_parts (nat_l
 
 pub exception_at : (r : Raw) → Clear r → (k : ℕ) (t : List ℕ) → slice_get r.exceptions k ≡ Some t → is_exception k t ≡ true
 exception_at r c k t is =
-    let w = none_at behind_text exception_faults r.exceptions 22 k t c.exceptions is in
+    let w = none_at behind_text exception_faults r.exceptions (names_start r) k t c.exceptions is in
     kept TABLES_DISAGREE (text_byte w.0 t) (is_exception k t) w.1
 
 -- what is so of the exception of a number, decoded

@@ -1,14 +1,15 @@
 -- The rules of subprograms, objects, tasks and handler rows, from the faults that raw sections do not have.
-use Rattle.std.proofs.Common.{◌≡◌, ℕ, ◌+◌, ◌*◌, ◌-◌, ◌≤◌, [], ◌++◌, length, take, Bool, true, false, not, ◌&&◌, ◌||◌, Option, Some, None, refl, sym, subst, arith, ⊎_elim}
+use Rattle.std.proofs.Common.{◌≡◌, ℕ, ◌+◌, ◌*◌, ◌-◌, ◌≤◌, List, [], ◌∷◌, ◌++◌, length, take, Bool, true, false, not, ◌&&◌, ◌||◌, Option, Some, None, refl, sym, subst, arith, ⊎_elim}
 use Rattle.std.specs.Prelude.{is_some, nat_eq, nat_le, nat_lt, slice_get}
 use Rattle.std.specs.List.{list_all}
-use Rattle.std.proofs.lemmas.Bool.{true≢false, leb-true}
+use Rattle.std.proofs.lemmas.Bool.{true≢false, leb-true, ltb-true}
 use Rattle.std.proofs.lemmas.Bool.Decides.{eqb_tells}
 use Rattle.handlers.specs.declared.rows.Row.{Row}
 use Rattle.base.specs.Names.{is_name}
-use Rattle.base.specs.declared.limits.TheConstants.{CEILING, FRAME_WORDS, INSTRUCTIONS, SUBPROGRAMS, TASK_PRIORITY}
+use Rattle.base.specs.declared.limits.TheConstants.{CEILING, CHANNELS, FRAME_WORDS, INSTRUCTIONS, SUBPROGRAMS, TASK_PRIORITY}
 use Rattle.base.specs.declared.faults.TheConstants.{DEPTHS_DISAGREE, JUMP_OUTSIDE, NAMED_THING_MISSING, TABLES_DISAGREE}
 use Rattle.image_loading.specs.declared.raw_sections.RawSubprogram.{RawSubprogram}
+use Rattle.image.specs.declared.attachments.Attachment.{Attachment}
 use Rattle.image.specs.declared.subprograms.Kind.{Kind}
 use Rattle.image.specs.declared.subprograms.Kind.TheVariants.{Plain, ProtectedProcedure, ProtectedFunction, EntryBody, TaskBody}
 use Rattle.image.specs.declared.subprograms.Subprogram.{Subprogram}
@@ -16,11 +17,12 @@ use Rattle.image.specs.declared.tasks.Task.{Task}
 use Rattle.image_format.specs.Bytes.{kind_number}
 use Rattle.image_loading.specs.Decoding.{object_from, sections_of, subprogram_from, task_from}
 use Rattle.image_loading.specs.FaultOrder.{after, rule}
-use Rattle.image_loading.specs.Loading.{barrier_faults, behind_object, behind_row, behind_task, body_faults, ceiling_faults, code_start, crossing_faults, entry_body_faults, entry_called_faults, entry_faults, has_barrier, is_end, kind_faults, names_object, object_faults, objects_start, region_faults, row_faults, rows_start, size_faults, subprogram_faults, subprograms_start, target_faults, task_body_faults, task_faults, tasks_start, text_byte, word_of_barrier}
+use Rattle.image_loading.specs.Loading.{attached_faults, attachment_faults, attachments_start, barrier_faults, behind_object, behind_row, behind_task, body_faults, ceiling_faults, code_start, crossing_faults, entry_body_faults, entry_called_faults, entry_faults, handler_faults, has_barrier, is_end, kind_faults, names_object, object_faults, objects_start, region_faults, row_faults, rows_start, size_faults, subprogram_faults, subprograms_start, target_faults, task_body_faults, task_faults, tasks_start, text_byte, word_of_barrier}
 use Rattle.image.specs.ObjectTable.{ObjectRow}
+use Rattle.image.specs.Operations.{called}
 use Rattle.image_loading.specs.RawRows.{RawObjectRow, RawTaskRow}
 use Rattle.image_loading.specs.Reading.{Raw}
-use Rattle.image.specs.Rules.{are_nested, covers_places, has_body, has_depth, has_ends, has_entry, has_object, is_barrier, is_closed, is_closed_barrier, is_entry_body_of, is_entry_of_object, is_object, is_row_within, is_subprogram, is_task, is_task_body, is_within, none_or, some_and}
+use Rattle.image.specs.Rules.{are_attached, are_nested, covers_places, has_body, has_depth, has_ends, has_entry, has_object, is_attached, is_barrier, is_closed, is_closed_barrier, is_entry_body_of, is_entry_of_object, is_object, is_row_within, is_subprogram, is_task, is_task_body, is_within, may_handle, none_or, some_and}
 use Rattle.image.specs.Sections.{Sections, end_of, first_place, object_of}
 use Rattle.image_loading.proofs.Accepted.{append_none, begun_from, first_begin, join, kept, kept_where, map_at}
 use Rattle.image_loading.proofs.AcceptedSections.{Clear, apart, counts_kept, name_short, none_at, same_text}
@@ -205,3 +207,28 @@ row_kept r c k row is =
       within = kept_where JUMP_OUTSIDE (after byte 6) ordered (is_row_within i row) b.0;
       target = kept_where DEPTHS_DISAGREE (after code (13 * row.target + 1)) ordered (has_depth i row.target 1) b.1;
     }
+
+-- Attachments
+
+attachment_kept : (i : Sections) (last byte : ℕ) (a : Attachment) → attachment_faults i last byte a ≡ [] → is_attached i last a ≡ true
+attachment_kept i last byte a e =
+    let at = after byte 1 in
+    let rises = nat_lt last a.channel && nat_le a.channel CHANNELS in
+    let inside = nat_lt a.subprogram (length i.subprograms) in
+    let handles = none_or (called i a.subprogram) (may_handle i) in
+    let p = append_none (rule TABLES_DISAGREE byte (not rises)) (handler_faults i at a.subprogram) e in
+    let q = append_none (rule NAMED_THING_MISSING at (not inside)) (rule TABLES_DISAGREE at (not handles)) p.1 in
+    let channel = and_parts (nat_lt last a.channel) _ (kept TABLES_DISAGREE byte rises p.0) in
+    let there = slice_get_inside i.subprograms a.subprogram (ltb-true a.subprogram (length i.subprograms) (kept NAMED_THING_MISSING at inside q.0)) in
+    let may = subst (λ o. none_or o (may_handle i) ≡ true) there.1 (kept TABLES_DISAGREE at handles q.1) in
+    join _ _ channel.0 (join _ _ channel.1 (subst (λ o. some_and o (may_handle i) ≡ true) (sym there.1) may))
+
+attached_from : (i : Sections) (attachments : List Attachment) (last byte : ℕ) → attached_faults i last byte attachments ≡ []
+    → are_attached i last attachments ≡ true
+attached_from i [] last byte e = refl
+attached_from i (a ∷ rest) last byte e =
+    let p = append_none (attachment_faults i last byte a) (attached_faults i a.channel (after byte 3) rest) e in
+    join _ _ (attachment_kept i last byte a p.0) (attached_from i rest a.channel (after byte 3) p.1)
+
+pub attached_kept : (r : Raw) → Clear r → are_attached (sections_of r) 0 (sections_of r).attachments ≡ true
+attached_kept r c = attached_from (sections_of r) r.attachments 0 (attachments_start r) c.attachments

@@ -2,6 +2,7 @@ mod Accepted
 mod AcceptedCode
 mod AcceptedSections
 mod AcceptedTables
+mod AttachedExamples
 mod ComesBack
 mod Counts
 mod Crossings
@@ -14,6 +15,7 @@ mod Opcodes
 mod OrderExamples
 mod ReadBack
 mod ReadLoop
+mod ReadSteps
 mod Spelled
 mod SpelledImage
 mod SpelledRows

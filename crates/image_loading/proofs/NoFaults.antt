@@ -2,28 +2,29 @@
 use Rattle.std.proofs.Common.{◌≡◌, ℕ, zero, suc, ◌+◌, ◌*◌, ◌-◌, ◌<◌, ◌≤◌, ℤ, pos, negsuc, List, [], ◌∷◌, ◌++◌, length, map, take, Bool, true, false, not, ◌&&◌, ◌||◌, Option, Some, None, refl, sym, ap, ◌∙◌, subst, arith, ⊎_elim}
 use Rattle.std.specs.Prelude.{bytes_eq, int_le, is_some, nat_eq, nat_le, nat_lt, slice_get, unwrap_or, if◌then◌else◌}
 use Rattle.std.specs.List.{list_all}
-use Rattle.std.proofs.lemmas.Bool.{true≢false, leb-true, ltb-true}
+use Rattle.std.proofs.lemmas.Bool.{le-leb, lt-ltb, true≢false, leb-true, ltb-true}
 use Rattle.std.proofs.lemmas.Bool.Decides.{eqb_tells, leb_tells}
-use Rattle.std.proofs.lemmas.Option.{none-some, same_Some}
+use Rattle.std.proofs.lemmas.Option.{none-some, same_Some, slice_get_within}
 use Rattle.base.specs.Names.{is_label, is_name, predefined}
 use Rattle.base.specs.declared.faults.TheConstants.{DEPTHS_DISAGREE, JUMP_OUTSIDE, NAMED_THING_MISSING, OPERAND_OUT_OF_RANGE, TABLES_DISAGREE}
-use Rattle.base.specs.declared.limits.TheConstants.{CEILING, EXCEPTIONS, FRAME_WORDS, INSTRUCTIONS, LABELS, OBJECTS, ROWS, SUBPROGRAMS, TASKS, TASK_PRIORITY}
+use Rattle.base.specs.declared.limits.TheConstants.{CEILING, CHANNELS, EXCEPTIONS, FRAME_WORDS, INSTRUCTIONS, LABELS, OBJECTS, ROWS, SUBPROGRAMS, TASKS, TASK_PRIORITY}
 use Rattle.handlers.specs.Nesting.{all_nested, are_nested}
 use Rattle.handlers.specs.declared.rows.Row.{Row}
 use Rattle.image.specs.ObjectTable.{ObjectRow}
-use Rattle.image.specs.Operations.{goes_on, jump_target, taken_by}
-use Rattle.image.specs.Rules.{all_begun, begins_with, covers_places, depth_after, has_body, has_depth, has_effect, has_ends, has_entry, has_object, has_operands, in_holder, is_barrier, is_closed, is_closed_barrier, is_entry_body_of, is_entry_of_object, is_object, is_return, is_row_within, is_subprogram, is_task, is_task_body, is_within, jumps_within, keeps_depth, last_end, leaves_depth, names_things, none_or, some_and}
+use Rattle.image.specs.Operations.{called, goes_on, jump_target, taken_by}
+use Rattle.image.specs.Rules.{all_begun, are_attached, begins_with, covers_places, depth_after, has_body, has_depth, has_effect, has_ends, has_entry, has_object, has_operands, in_holder, is_attached, is_barrier, is_closed, is_closed_barrier, is_entry_body_of, is_entry_of_object, is_object, is_return, is_row_within, is_subprogram, is_task, is_task_body, is_within, jumps_within, keeps_depth, last_end, leaves_depth, may_handle, names_things, none_or, some_and}
 use Rattle.image.specs.Scalars.{are_equal}
 use Rattle.image.specs.Sections.{Sections, end_of, first_place, holder, object_of}
+use Rattle.image.specs.declared.attachments.Attachment.{Attachment}
 use Rattle.image.specs.declared.instruction.Instr.{Instr}
 use Rattle.image.specs.declared.subprograms.Kind.{Kind}
 use Rattle.image.specs.declared.subprograms.Kind.TheVariants.{Plain, ProtectedProcedure, ProtectedFunction, EntryBody, TaskBody}
 use Rattle.image.specs.declared.subprograms.Subprogram.{Subprogram}
 use Rattle.image.specs.declared.tasks.Task.{Task}
-use Rattle.image_format.specs.Bytes.{address_of, constant_of, kind_number}
+use Rattle.image_format.specs.Bytes.{address_of, constant_of, kind_number, version_of}
 use Rattle.image_loading.specs.Decoding.{instruction_of}
 use Rattle.image_loading.specs.FaultOrder.{ImageFaults, after, rule}
-use Rattle.image_loading.specs.Loading.{barrier_faults, barrier_number, body_faults, code_faults, count_faults, count_rule, crossing_faults, decoded_faults, each, effect_faults, entry_body_faults, entry_called_faults, entry_faults, exception_faults, few_words, has_barrier, instruction_faults, is_end, is_exception, jump_faults, kind_faults, label_faults, may_use_object, names_object, object_faults, object_of_kind, operand_faults, operation_faults, place_faults, row_faults, size_faults, subprogram_faults, task_faults, text_byte, text_count_faults, word_of_barrier}
+use Rattle.image_loading.specs.Loading.{attached_faults, attachment_faults, barrier_faults, barrier_number, body_faults, code_faults, count_faults, count_rule, crossing_faults, decoded_faults, each, effect_faults, entry_body_faults, entry_called_faults, entry_faults, exception_faults, few_words, handler_faults, has_barrier, instruction_faults, is_end, is_exception, jump_faults, kind_faults, label_faults, may_use_object, names_object, object_faults, object_of_kind, operand_faults, operation_faults, place_faults, row_faults, size_faults, subprogram_faults, task_faults, text_byte, text_count_faults, word_of_barrier}
 use Rattle.image_loading.proofs.Accepted.{first_begin, join, nested_either_way}
 use Rattle.image_loading.proofs.DecodedBack.{instruction_back, object_back, operation_back, subprogram_back}
 use Rattle.image_loading.proofs.ReadBack.{raw_instruction, raw_object, raw_subprogram, raw_task}
@@ -277,6 +278,38 @@ nested_before (q ∷ rows) all (suc k) r is =
 
 pub crossings_none : (i : Sections) → Facts i → (k : ℕ) (r : Row) → slice_get i.rows k ≡ Some r → (c : ℕ) → crossing_faults i.rows k c r ≡ []
 crossings_none i f k r is c = unbroken TABLES_DISAGREE (after c 2) (list_all (are_nested r) (take k i.rows)) (nested_before i.rows f.nested k r is)
+
+-- Attachments
+
+pub attached_count_none : (attachments : List Attachment) → length attachments ≤ CHANNELS
+    → rule TABLES_DISAGREE 22 (nat_eq (version_of attachments) 2 && not (is_within 1 (length attachments) CHANNELS)) ≡ []
+attached_count_none [] few = refl
+attached_count_none (a ∷ more) few =
+    let n = length (a ∷ more) in
+    unbroken TABLES_DISAGREE 22 (is_within 1 n CHANNELS) (join (nat_le 1 n) _ (le-leb 1 n (omega arith)) (le-leb n CHANNELS few))
+
+attachment_none : (i : Sections) (last byte : ℕ) (a : Attachment) → is_attached i last a ≡ true → attachment_faults i last byte a ≡ []
+attachment_none i last byte a e =
+    let at = after byte 1 in
+    let n = a.subprogram in
+    let p = and_parts (nat_lt last a.channel) _ e in
+    let q = and_parts (nat_le a.channel CHANNELS) _ p.1 in
+    let s = some_and-true (called i n) (may_handle i) q.1 in
+    let rises = nat_lt last a.channel && nat_le a.channel CHANNELS in
+    let inside = nat_lt n (length i.subprograms) in
+    let handles = none_or (called i n) (may_handle i) in
+    none_two (rule TABLES_DISAGREE byte (not rises)) (handler_faults i at n) (unbroken TABLES_DISAGREE byte rises (join (nat_lt last a.channel) _ p.0 q.0))
+    (none_two (rule NAMED_THING_MISSING at (not inside)) (rule TABLES_DISAGREE at (not handles))
+    (unbroken NAMED_THING_MISSING at inside (lt-ltb n (length i.subprograms) (slice_get_within i.subprograms n s.0 s.1)))
+    (unbroken TABLES_DISAGREE at handles (subst (λ o. none_or o (may_handle i) ≡ true) (sym s.1) s.2)))
+
+pub attached_none : (i : Sections) (attachments : List Attachment) (last byte : ℕ) → are_attached i last attachments ≡ true
+    → attached_faults i last byte attachments ≡ []
+attached_none i [] last byte e = refl
+attached_none i (a ∷ rest) last byte e =
+    let p = and_parts (is_attached i last a) _ e in
+    none_two (attachment_faults i last byte a) (attached_faults i a.channel (after byte 3) rest) (attachment_none i last byte a p.0)
+    (attached_none i rest a.channel (after byte 3) p.1)
 
 -- Instructions
 

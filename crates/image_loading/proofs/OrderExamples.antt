@@ -5,7 +5,7 @@ use Rattle.image_format.specs.Bytes.{address_of, code_bytes, constant_of, data_b
 use Rattle.image_loading.specs.Decoding.{operation_from}
 use Rattle.image_loading.specs.FaultOrder.{ImageFaults, fault_at}
 use Rattle.image_loading.specs.Loading.{image_fault, image_faults}
-use Rattle.image_loading.specs.Reading.{byte_at, half_at, read_bytes, read_counts, read_image, read_instruction, read_many, read_object, read_raw, read_row, read_subprogram, read_task, read_text, read_word, word_at}
+use Rattle.image_loading.specs.Reading.{byte_at, half_at, read_attached_count, read_bytes, read_counts, read_image, read_instruction, read_many, read_object, read_raw, read_row, read_subprogram, read_task, read_text, read_word, word_at}
 use Rattle.image.specs.declared.fault.ImageFault.{ImageFault}
 use Rattle.image_loading.proofs.LoadingExamples.{kept_bytes, put}
 
@@ -18,7 +18,7 @@ abbrev other_magic : Change
 other_magic = put 3 (0 ∷ [])
 
 abbrev other_version : Change
-other_version = put 5 (2 ∷ [])
+other_version = put 5 (3 ∷ [])
 
 -- 41: without the last byte; 42: with one more
 abbrev cut_short : Change
@@ -105,15 +105,15 @@ pairs =
     ∷ []
 
 one_alone : map (λ p. image_fault (p.one kept_bytes)) pairs ≡ map (λ p. Some p.first) pairs
-unfolding read_image read_counts read_raw read_many read_bytes read_text read_word read_object read_subprogram read_task read_row read_instruction byte_at half_at word_at operation_from half word opcode_of address_of constant_of header_bytes name_bytes data_bytes table_bytes code_bytes
+unfolding read_image read_attached_count read_counts read_raw read_many read_bytes read_text read_word read_object read_subprogram read_task read_row read_instruction byte_at half_at word_at operation_from half word opcode_of address_of constant_of header_bytes name_bytes data_bytes table_bytes code_bytes
 one_alone = refl
 
 other_alone : map (λ p. image_fault (p.other kept_bytes)) pairs ≡ map (λ p. Some p.second) pairs
-unfolding read_image read_counts read_raw read_many read_bytes read_text read_word read_object read_subprogram read_task read_row read_instruction byte_at half_at word_at operation_from half word opcode_of address_of constant_of header_bytes name_bytes data_bytes table_bytes code_bytes
+unfolding read_image read_attached_count read_counts read_raw read_many read_bytes read_text read_word read_object read_subprogram read_task read_row read_instruction byte_at half_at word_at operation_from half word opcode_of address_of constant_of header_bytes name_bytes data_bytes table_bytes code_bytes
 other_alone = refl
 
 first_of_two : map (λ p. image_fault (p.one (p.other kept_bytes))) pairs ≡ map (λ p. Some p.first) pairs
-unfolding read_image read_counts read_raw read_many read_bytes read_text read_word read_object read_subprogram read_task read_row read_instruction byte_at half_at word_at operation_from half word opcode_of address_of constant_of header_bytes name_bytes data_bytes table_bytes code_bytes
+unfolding read_image read_attached_count read_counts read_raw read_many read_bytes read_text read_word read_object read_subprogram read_task read_row read_instruction byte_at half_at word_at operation_from half word opcode_of address_of constant_of header_bytes name_bytes data_bytes table_bytes code_bytes
 first_of_two = refl
 
 -- Of 43 to 47 the one at the least byte, and there the one with the least number: images that break two of them and no other.
@@ -178,9 +178,9 @@ abbrev are_both : ImageFaults → ImageFault → ImageFault → Bool
 are_both faults a b = nat_eq (length faults) 2 && (has faults a && has faults b)
 
 two_broken : map (λ w. are_both (image_faults (w.change kept_bytes)) w.first w.second) wrongs ≡ map (λ w. true) wrongs
-unfolding read_image read_counts read_raw read_many read_bytes read_text read_word read_object read_subprogram read_task read_row read_instruction byte_at half_at word_at operation_from half word opcode_of address_of constant_of header_bytes name_bytes data_bytes table_bytes code_bytes
+unfolding read_image read_attached_count read_counts read_raw read_many read_bytes read_text read_word read_object read_subprogram read_task read_row read_instruction byte_at half_at word_at operation_from half word opcode_of address_of constant_of header_bytes name_bytes data_bytes table_bytes code_bytes
 two_broken = refl
 
 least_named : map (λ w. image_fault (w.change kept_bytes)) wrongs ≡ map (λ w. Some w.first) wrongs
-unfolding read_image read_counts read_raw read_many read_bytes read_text read_word read_object read_subprogram read_task read_row read_instruction byte_at half_at word_at operation_from half word opcode_of address_of constant_of header_bytes name_bytes data_bytes table_bytes code_bytes
+unfolding read_image read_attached_count read_counts read_raw read_many read_bytes read_text read_word read_object read_subprogram read_task read_row read_instruction byte_at half_at word_at operation_from half word opcode_of address_of constant_of header_bytes name_bytes data_bytes table_bytes code_bytes
 least_named = refl

@@ -11,16 +11,17 @@ use Rattle.std.proofs.lemmas.List.Concat.{flat_map-cons}
 use Rattle.std.proofs.lemmas.Nat.{from_be_bytes-to_be_bytes_2, from_be_bytes-to_be_bytes_8}
 use Rattle.handlers.specs.declared.rows.Row.{Row}
 use Rattle.image.specs.ObjectTable.{ObjectRow}
+use Rattle.image.specs.declared.attachments.Attachment.{Attachment}
 use Rattle.image.specs.declared.instruction.Instr.{Instr}
 use Rattle.image.specs.declared.objects.Barrier.{Barrier}
 use Rattle.image.specs.declared.objects.Barrier.TheVariants.{Closed, Open, Word}
 use Rattle.image.specs.declared.subprograms.Subprogram.{Subprogram}
 use Rattle.image.specs.declared.tasks.Task.{Task}
-use Rattle.image_format.specs.Bytes.{address_of, barrier_bytes, constant_of, half, instruction_bytes, kind_number, object_bytes, opcode_of, row_bytes, subprogram_bytes, task_bytes, text, word}
+use Rattle.image_format.specs.Bytes.{address_of, attachment_bytes, barrier_bytes, constant_of, half, instruction_bytes, kind_number, object_bytes, opcode_of, row_bytes, subprogram_bytes, task_bytes, text, word}
 use Rattle.image_loading.specs.Loading.{barrier_number, object_of_kind, word_of_barrier}
-use Rattle.image_loading.specs.NumberRanges.{EachOf, InstructionFits, IsHalf, IsWord, ObjectFits, RowFits, SubprogramFits, TaskNumbersFit}
+use Rattle.image_loading.specs.NumberRanges.{AttachmentFits, EachOf, InstructionFits, IsHalf, IsWord, ObjectFits, RowFits, SubprogramFits, TaskNumbersFit}
 use Rattle.image_loading.specs.RawRows.{RawObjectRow, RawTaskRow}
-use Rattle.image_loading.specs.Reading.{ByteReading, and_then, byte_at, half_at, handler_row, instruction_row, made, object_row, read_bytes, read_instruction, read_many, read_object, read_row, read_subprogram, read_task, read_text, read_word, subprogram_row, word_at}
+use Rattle.image_loading.specs.Reading.{ByteReading, and_then, attachment_row, byte_at, half_at, handler_row, instruction_row, made, object_row, read_attachment, read_bytes, read_instruction, read_many, read_object, read_row, read_subprogram, read_task, read_text, read_word, subprogram_row, word_at}
 use Rattle.image_loading.specs.declared.raw_sections.RawInstruction.{RawInstruction}
 use Rattle.image_loading.specs.declared.raw_sections.RawSubprogram.{RawSubprogram}
 
@@ -89,6 +90,15 @@ row_same r f = λ j. record {
 pub row_back : Back read_row row_bytes (λ r. r) RowFits
 unfolding read_row half
 row_back r fits rest = ap (made handler_row) (bytes_back 8 (row_bytes r) rest refl) ∙ ap (λ v. Some (v, rest)) (row_same r fits)
+
+attachment_same : (a : Attachment) → AttachmentFits a → attachment_row (attachment_bytes a) ≡ a
+unfolding half byte_at
+attachment_same a f = λ j. record { channel = a.channel; subprogram = half_is (attachment_bytes a) 1 a.subprogram [] refl f j }
+
+pub attachment_back : Back read_attachment attachment_bytes (λ a. a) AttachmentFits
+unfolding read_attachment half
+attachment_back a fits rest =
+    ap (made attachment_row) (bytes_back 3 (attachment_bytes a) rest refl) ∙ ap (λ v. Some (v, rest)) (attachment_same a fits)
 
 abbrev pub raw_subprogram : Subprogram → RawSubprogram
 raw_subprogram s = record { kind = kind_number s.kind; object = object_of_kind s.kind; end_ = s.end_; parameters = s.parameters; results = s.results; locals = s.locals; stack = s.stack }

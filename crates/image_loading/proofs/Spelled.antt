@@ -76,6 +76,10 @@ pub byte_step : (row : List ℕ) (k : ℕ) → k < length row → byte_at row k 
 unfolding byte_at
 byte_step row k lt = sym (drop-next row k 0 lt)
 
+pub take_all : {X : Type 0} (xs : List X) → take (length xs) xs ≡ xs
+take_all [] = refl
+take_all (x ∷ xs) = ap (λ ys. x ∷ ys) (take_all xs)
+
 -- What a reader takes
 
 pub some_pair : {X : Type 0} (a b : X × List ℕ) → Some a ≡ Some b → a ≡ b

@@ -3,9 +3,9 @@ use Rattle.std.proofs.Common.{◌≡◌, ℕ, ◌+◌, ◌≤◌, List, [], ◌�
 use Rattle.std.specs.Prelude.{flat_map}
 use Rattle.std.proofs.lemmas.List.{append-nil}
 use Rattle.std.proofs.Math.ListN.{drop_of_length-le}
-use Rattle.image_format.specs.Bytes.{half, row_bytes, text, word}
+use Rattle.image_format.specs.Bytes.{attachment_bytes, half, row_bytes, text, word}
 use Rattle.image_loading.specs.RawRows.{RawObjectRow, RawTaskRow}
-use Rattle.image_loading.specs.Reading.{byte_at, half_at, handler_row, instruction_row, made, object_row, read_bytes, read_instruction, read_many, read_object, read_row, read_subprogram, read_task, read_text, read_word, subprogram_row, word_at}
+use Rattle.image_loading.specs.Reading.{attachment_row, byte_at, half_at, handler_row, instruction_row, made, object_row, read_attachment, read_bytes, read_instruction, read_many, read_object, read_row, read_subprogram, read_task, read_text, read_word, subprogram_row, word_at}
 use Rattle.image_loading.specs.declared.raw_sections.RawInstruction.{RawInstruction}
 use Rattle.image_loading.specs.declared.raw_sections.RawSubprogram.{RawSubprogram}
 use Rattle.image_loading.proofs.Spelled.{IsBytes, Reads, Spells, bound, byte_step, half_step, made_of, many_read, piece_read, spells_as, spells_then, word_step}
@@ -60,6 +60,17 @@ row_read bytes x fits e =
     (half_chain row 8 2 4 _ p.long p.row_fits refl (omega arith)
     (half_chain row 8 4 6 _ p.long p.row_fits refl (omega arith) (half_chain row 8 6 8 [] p.long p.row_fits refl (omega arith) (ended row 8 p.long)))) in
     subst (λ y. Spells bytes (row_bytes y.0) y.1) a.2 (spells_as bytes row (row_bytes (handler_row row)) a.0.1 (sym whole) p.spells)
+
+pub attachment_read : Reads read_attachment attachment_bytes
+unfolding read_attachment
+attachment_read bytes x fits e =
+    let a = made_of (read_bytes 3 bytes) attachment_row x e in
+    let p = piece_read 3 bytes a.0 fits a.1 in
+    let row = a.0.0 in
+    let halves : half (half_at row 1) ≡ drop 1 row =
+    sym (append-nil (half (half_at row 1))) ∙ half_chain row 3 1 3 [] p.long p.row_fits refl (omega arith) (ended row 3 p.long) in
+    let whole : attachment_bytes (attachment_row row) ≡ row = ap (λ t. byte_at row 0 ∷ t) halves ∙ byte_step row 0 (omega (arith, p.long)) in
+    subst (λ y. Spells bytes (attachment_bytes y.0) y.1) a.2 (spells_as bytes row (attachment_bytes (attachment_row row)) a.0.1 (sym whole) p.spells)
 
 pub subprogram_read : Reads read_subprogram raw_subprogram_bytes
 unfolding read_subprogram

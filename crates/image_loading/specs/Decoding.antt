@@ -90,5 +90,6 @@ sections_of r = record {
   subprograms = map subprogram_from r.subprograms;
   tasks = map task_from r.tasks;
   rows = r.rows;
+  attachments = r.attachments;
   instructions = map instruction_of r.instructions;
 }

@@ -5,19 +5,20 @@ use Rattle.std.specs.List.{Contains}
 use Rattle.handlers.specs.Nesting.{crosses_one}
 use Rattle.handlers.specs.declared.rows.Row.{Row}
 use Rattle.base.specs.Names.{is_label, is_name, predefined}
-use Rattle.base.specs.declared.limits.TheConstants.{CEILING, EXCEPTIONS, FRAME_WORDS, INSTRUCTIONS, LABELS, NAME_LIMIT, OBJECTS, ROWS, SUBPROGRAMS, TASK_PRIORITY, TASKS, WORDS}
+use Rattle.base.specs.declared.limits.TheConstants.{CEILING, CHANNELS, EXCEPTIONS, FRAME_WORDS, INSTRUCTIONS, LABELS, NAME_LIMIT, OBJECTS, ROWS, SUBPROGRAMS, TASK_PRIORITY, TASKS, WORDS}
 use Rattle.base.specs.declared.faults.TheConstants.{DEPTHS_DISAGREE, JUMP_OUTSIDE, NAMED_THING_MISSING, OPERAND_OUT_OF_RANGE, SECTION_CUT_SHORT, STRAY_BYTES, TABLES_DISAGREE, WRONG_HEADER}
 use Rattle.image.specs.declared.fault.ImageFault.{ImageFault}
 use Rattle.image_format.specs.Bytes.{address_of, constant_of, kind_number}
 use Rattle.image_loading.specs.Decoding.{instruction_of, object_from, operation_of, sections_of, subprogram_from}
 use Rattle.image_loading.specs.FaultOrder.{ImageFaults, after, fault_at, first_of, rule}
 use Rattle.image.specs.ObjectTable.{ObjectRow}
-use Rattle.image.specs.Operations.{goes_on, jump_target, taken_by}
+use Rattle.image.specs.Operations.{called, goes_on, jump_target, taken_by}
 use Rattle.image_loading.specs.RawRows.{RawObjectRow, RawTaskRow}
 use Rattle.image_loading.specs.Reading.{Raw, read_image}
-use Rattle.image.specs.Rules.{covers_places, depth_after, has_depth, has_effect, has_ends, has_entry, has_object, has_operands, has_region, is_barrier, is_closed, is_closed_barrier, is_entry_of_object, is_return, is_row_within, is_task_body, is_within, jumps_within, names_things, none_or}
+use Rattle.image.specs.Rules.{covers_places, depth_after, has_depth, has_effect, has_ends, has_entry, has_object, has_operands, has_region, is_barrier, is_closed, is_closed_barrier, is_entry_of_object, is_return, is_row_within, is_task_body, is_within, jumps_within, may_handle, names_things, none_or}
 use Rattle.image.specs.Scalars.{are_equal}
 use Rattle.image.specs.Sections.{Sections, first_place, holder, object_of, writes_object}
+use Rattle.image.specs.declared.attachments.Attachment.{Attachment}
 use Rattle.image.specs.declared.instruction.Instr.{Instr}
 use Rattle.image.specs.declared.instruction.Operation.{Operation}
 use Rattle.image.specs.declared.instruction.Operation.TheVariants.{LoadObject, StoreObject}
@@ -45,8 +46,12 @@ abbrev pub behind_all : {X : Type 0} → (ℕ → X → ℕ) → ℕ → List X 
 behind_all behind byte [] = byte
 behind_all behind byte (x ∷ xs) = behind_all behind (behind byte x) xs
 
+-- behind the counts, of which version 2 has one more
+abbrev pub names_start : Raw → ℕ
+names_start r = if nat_eq r.version 2 then 24 else 22
+
 abbrev pub labels_start : Raw → ℕ
-labels_start r = behind_all behind_text 22 r.exceptions
+labels_start r = behind_all behind_text (names_start r) r.exceptions
 
 abbrev pub words_start : Raw → ℕ
 words_start r = behind_all behind_text (labels_start r) r.labels
@@ -63,8 +68,11 @@ tasks_start r = after (subprograms_start r) (13 * length r.subprograms)
 abbrev pub rows_start : Raw → ℕ
 rows_start r = behind_all behind_task (tasks_start r) r.tasks
 
+abbrev pub attachments_start : Raw → ℕ
+attachments_start r = after (rows_start r) (8 * length r.rows)
+
 abbrev pub code_start : Raw → ℕ
-code_start r = after (rows_start r) (8 * length r.rows)
+code_start r = after (attachments_start r) (3 * length r.attachments)
 
 -- the faults of each element, by its number and the byte where it begins
 abbrev pub each : {X : Type 0} → (ℕ → X → ℕ) → (ℕ → ℕ → X → ImageFaults) → ℕ → ℕ → List X → ImageFaults
@@ -92,6 +100,10 @@ count_faults i =
 abbrev pub text_count_faults : Sections → ImageFaults
 text_count_faults i =
     count_rule 14 4 (length i.exceptions) EXCEPTIONS ++ count_rule 16 0 (length i.rows) ROWS ++ count_rule 18 0 (length i.labels) LABELS
+
+-- version 2 has attachments
+abbrev pub attached_count_faults : Raw → ImageFaults
+attached_count_faults r = rule TABLES_DISAGREE 22 (nat_eq r.version 2 && not (is_within 1 (length r.attachments) CHANNELS))
 
 abbrev pub word_faults : Raw → Sections → ImageFaults
 word_faults r i = rule TABLES_DISAGREE (last_size_byte 20 (objects_start r) r.objects) (not (few_words i))
@@ -225,6 +237,20 @@ target_faults i ordered code byte row =
 abbrev pub row_faults : Sections → Bool → ℕ → ℕ → ℕ → Row → ImageFaults
 row_faults i ordered code number byte row = region_faults i byte row ++ target_faults i ordered code byte row
 
+-- Attachments. 47: the channel, in its range and above the last one; the subprogram may handle interrupts. 45: it is there
+
+abbrev pub handler_faults : Sections → ℕ → ℕ → ImageFaults
+handler_faults i byte n =
+    rule NAMED_THING_MISSING byte (not (nat_lt n (length i.subprograms))) ++ rule TABLES_DISAGREE byte (not (none_or (called i n) (may_handle i)))
+
+abbrev pub attachment_faults : Sections → (last : ℕ) → ℕ → Attachment → ImageFaults
+attachment_faults i last byte a =
+    rule TABLES_DISAGREE byte (not (nat_lt last a.channel && nat_le a.channel CHANNELS)) ++ handler_faults i (after byte 1) a.subprogram
+
+abbrev pub attached_faults : Sections → (last : ℕ) → ℕ → List Attachment → ImageFaults
+attached_faults i last byte [] = []
+attached_faults i last byte (a ∷ rest) = attachment_faults i last byte a ++ attached_faults i a.channel (after byte 3) rest
+
 -- Instructions. 43: the opcode; the operands that are named, and 0 where none is, which is what the operation has in bytes.
 -- 44: the jump's target. 45: what is named, at the operand; at the opcode where a word of the object is used outside it.
 -- 46: the depth, of the one of two instructions that stands later
@@ -289,13 +315,16 @@ abbrev pub head_faults : Raw → Sections → ImageFaults
 head_faults r i = count_faults i ++ text_count_faults i ++ word_faults r i
 
 abbrev pub text_faults : Raw → ImageFaults
-text_faults r = each behind_text exception_faults 0 22 r.exceptions ++ each behind_text label_faults 0 (labels_start r) r.labels
+text_faults r = each behind_text exception_faults 0 (names_start r) r.exceptions ++ each behind_text label_faults 0 (labels_start r) r.labels
 
 abbrev pub table_faults : Raw → Sections → ImageFaults
 table_faults r i =
     each behind_object (object_faults i (subprograms_start r)) 0 (objects_start r) r.objects
     ++ each (behind_row 13) (subprogram_faults i (has_ends i) (code_start r)) 0 (subprograms_start r) r.subprograms
     ++ each behind_task (task_faults i) 0 (tasks_start r) r.tasks
+
+abbrev pub attachment_part_faults : Raw → Sections → ImageFaults
+attachment_part_faults r i = attached_count_faults r ++ attached_faults i 0 (attachments_start r) r.attachments
 
 abbrev pub code_part_faults : Raw → Sections → ImageFaults
 code_part_faults r i =
@@ -304,7 +333,7 @@ code_part_faults r i =
     ++ (if has_ends i then each (behind_row 13) (place_faults i (code_start r)) 0 (code_start r) r.instructions else [])
 
 abbrev pub faults_as : Raw → Sections → ImageFaults
-faults_as r i = (head_faults r i ++ text_faults r) ++ table_faults r i ++ code_part_faults r i
+faults_as r i = (head_faults r i ++ text_faults r) ++ (table_faults r i ++ attachment_part_faults r i) ++ code_part_faults r i
 
 abbrev pub all_crossing_faults : Raw → ImageFaults
 all_crossing_faults r = each (behind_row 8) (crossing_faults r.rows) 0 (rows_start r) r.rows
@@ -319,11 +348,14 @@ agrees front bytes = let n = min (length front) (length bytes) in bytes_eq (take
 abbrev pub magic : List ℕ
 magic = 65 ∷ 82 ∷ 86 ∷ 78 ∷ []
 
-abbrev pub magic_and_version : List ℕ
-magic_and_version = 65 ∷ 82 ∷ 86 ∷ 78 ∷ 0 ∷ 1 ∷ []
+abbrev pub magic_and_version : ℕ → List ℕ
+magic_and_version version = 65 ∷ 82 ∷ 86 ∷ 78 ∷ 0 ∷ version ∷ []
+
+abbrev pub has_version : List ℕ → Bool
+has_version bytes = agrees (magic_and_version 1) bytes || agrees (magic_and_version 2) bytes
 
 abbrev pub header_faults : List ℕ → ImageFaults
-header_faults bytes = rule WRONG_HEADER 0 (not (agrees magic bytes)) ++ rule WRONG_HEADER 4 (agrees magic bytes && not (agrees magic_and_version bytes))
+header_faults bytes = rule WRONG_HEADER 0 (not (agrees magic bytes)) ++ rule WRONG_HEADER 4 (agrees magic bytes && not (has_version bytes))
 
 -- 41: no section ends early; 42: nothing follows
 abbrev pub read_faults : List ℕ → Option (Raw × List ℕ) → ImageFaults

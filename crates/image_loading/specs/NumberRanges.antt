@@ -4,6 +4,7 @@ use Rattle.std.specs.Int.{w64}
 use Rattle.handlers.specs.declared.rows.Row.{Row}
 use Rattle.image.specs.ObjectTable.{ObjectRow}
 use Rattle.image.specs.Sections.{Sections}
+use Rattle.image.specs.declared.attachments.Attachment.{Attachment}
 use Rattle.image.specs.declared.instruction.Instr.{Instr}
 use Rattle.image.specs.declared.subprograms.Subprogram.{Subprogram}
 use Rattle.image.specs.declared.tasks.Task.{Task}
@@ -42,6 +43,9 @@ pub record RowFits (r : Row) : Type 0 where
   pub exception : IsHalf r.exception
   pub target : IsHalf r.target
 
+abbrev pub AttachmentFits : Attachment → Type 0
+AttachmentFits a = IsHalf a.subprogram
+
 pub record InstructionFits (x : Instr) : Type 0 where
   pub depth : IsHalf x.depth
   pub address : IsHalf (address_of x.operation)
@@ -53,4 +57,5 @@ pub record SectionsFit (i : Sections) : Type 0 where
   pub subprograms : EachOf SubprogramFits i.subprograms
   pub tasks : EachOf TaskNumbersFit i.tasks
   pub rows : EachOf RowFits i.rows
+  pub attachments : EachOf AttachmentFits i.attachments
   pub instructions : EachOf InstructionFits i.instructions

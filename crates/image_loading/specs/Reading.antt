@@ -1,14 +1,16 @@
 -- The sections that the bytes of an image give, nothing judged (docs/FORMATS.md, "Sections"). Numbers are big-endian.
-use Rattle.std.specs.Prelude.{ℕ, zero, suc, ℤ, List, [], ◌∷◌, length, take, drop, Option, Some, None, nat_lt, get_or, if◌then◌else◌}
+use Rattle.std.specs.Prelude.{ℕ, zero, suc, ℤ, List, [], ◌∷◌, length, take, drop, Option, Some, None, nat_eq, nat_lt, get_or, if◌then◌else◌}
 use Rattle.std.specs.Int.{cast_signed, from_be_bytes, w16, w64}
 use Rattle.handlers.specs.declared.rows.Row.{Row}
+use Rattle.image.specs.declared.attachments.Attachment.{Attachment}
 use Rattle.image_loading.specs.RawRows.{RawObjectRow, RawTaskRow}
 use Rattle.image_loading.specs.declared.reading.Counts.{Counts}
 use Rattle.image_loading.specs.declared.raw_sections.RawInstruction.{RawInstruction}
 use Rattle.image_loading.specs.declared.raw_sections.RawSubprogram.{RawSubprogram}
 
--- the sections in the order of the bytes
+-- the version, and the sections in the order of the bytes
 pub record Raw : Type 0 where
+  pub version : ℕ
   pub exceptions : List (List ℕ)
   pub labels : List (List ℕ)
   pub plain_words : List ℤ
@@ -16,6 +18,7 @@ pub record Raw : Type 0 where
   pub subprograms : List RawSubprogram
   pub tasks : List RawTaskRow
   pub rows : List Row
+  pub attachments : List Attachment
   pub instructions : List RawInstruction
 
 -- what stands at the front of bytes, and the bytes behind it, unless they end early
@@ -90,16 +93,23 @@ handler_row row = record { start = half_at row 0; end_ = half_at row 2; exceptio
 unfoldable pub read_row : ByteReading Row
 read_row bytes = made handler_row (read_bytes 8 bytes)
 
+abbrev pub attachment_row : List ℕ → Attachment
+attachment_row row = record { channel = byte_at row 0; subprogram = half_at row 1 }
+
+unfoldable pub read_attachment : ByteReading Attachment
+read_attachment bytes = made attachment_row (read_bytes 3 bytes)
+
 abbrev pub instruction_row : List ℕ → RawInstruction
 instruction_row row = record { opcode = byte_at row 0; depth = half_at row 1; address = half_at row 3; constant = word_at row 5 }
 
 unfoldable pub read_instruction : ByteReading RawInstruction
 read_instruction bytes = made instruction_row (read_bytes 13 bytes)
 
--- how many there are of each, behind magic and version
-abbrev pub counts_row : List ℕ → Counts
-counts_row row =
+-- the version and how many there are of each, behind the magic
+abbrev pub counts_row : List ℕ → ℕ → Counts
+counts_row row attachments =
     record {
+      version = half_at row 4;
       instructions = half_at row 6;
       subprograms = half_at row 8;
       objects = half_at row 10;
@@ -108,10 +118,15 @@ counts_row row =
       rows = half_at row 16;
       labels = half_at row 18;
       plain_words = half_at row 20;
+      attachments = attachments;
     }
 
+-- the count of attachments, which version 2 has alone
+unfoldable pub read_attached_count : ℕ → ByteReading ℕ
+read_attached_count version bytes = if nat_eq version 2 then made (λ row. half_at row 0) (read_bytes 2 bytes) else Some (0, bytes)
+
 unfoldable pub read_counts : ByteReading Counts
-read_counts bytes = made counts_row (read_bytes 22 bytes)
+read_counts bytes = and_then (read_bytes 22 bytes) (λ row left. made (counts_row row) (read_attached_count (half_at row 4) left))
 
 -- the sections, as many of each as the counts say
 unfoldable pub read_raw : Counts → ByteReading Raw
@@ -123,8 +138,10 @@ read_raw c bytes =
     (λ objects b4. and_then (read_many read_subprogram c.subprograms b4)
     (λ subprograms b5. and_then (read_many read_task c.tasks b5)
     (λ tasks b6. and_then (read_many read_row c.rows b6)
-    (λ rows b7. made
+    (λ rows b7. and_then (read_many read_attachment c.attachments b7)
+    (λ attachments b8. made
     (λ instructions. record {
+      version = c.version;
       exceptions = exceptions;
       labels = labels;
       plain_words = plain_words;
@@ -132,9 +149,10 @@ read_raw c bytes =
       subprograms = subprograms;
       tasks = tasks;
       rows = rows;
+      attachments = attachments;
       instructions = instructions;
     })
-    (read_many read_instruction c.instructions b7))))))))
+    (read_many read_instruction c.instructions b8)))))))))
 
 unfoldable pub read_image : ByteReading Raw
 read_image bytes = and_then (read_counts bytes) read_raw

@@ -249,6 +249,7 @@ impl RawSections {
             subprograms: subprograms(alloc, &self.subprograms)?,
             tasks: tasks(alloc, &self.tasks)?,
             rows: rows(alloc, &self.rows)?,
+            attachments: self.attachments.to_vec(alloc)?,
             instructions: instructions(alloc, &self.instructions)?,
         })
     }

@@ -15,8 +15,8 @@ pub fn bytes_come_back()
     ensures { BytesComeBack }
 {}
 
-/// Each image comes back from its own bytes: `load` of what `encode` gives is that image again, unless memory was refused. So images of
-/// equal bytes are equal. It reads the image's numbers, which have the 16 and 64 bits of their places, and does nothing else.
+/// Each image comes back from its own bytes: `load` of what `encode` gives is that image again, unless memory was refused. So
+/// images of equal bytes are equal. It reads the image's numbers, which have the 16 and 64 bits of their places, and does nothing else.
 pub fn comes_back(image: &Image)
     ensures { ComesFrom (bytes_of image.now) image.now }
 {

@@ -1,9 +1,9 @@
 //! Loads images from bytes with full checks (docs/FORMATS.md, "Well-formed images").
-ghost use Rattle.std.specs.Prelude.{◌≡◌, ◌++◌, [], if◌then◌else◌, IfErr, IfOk};
+ghost use Rattle.std.specs.Prelude.{◌≡◌, ◌++◌, [], length, nat_eq, not, ◌&&◌, if◌then◌else◌, IfErr, IfOk};
 ghost use Rattle.image_loading.specs.Loaded.{IsLoaded, IsRead, RefusesBytes};
 ghost use Rattle.image_format.specs.Bytes.{bytes_of};
 ghost use Rattle.image_loading.specs.FaultOrder.{first_of};
-ghost use Rattle.image_loading.specs.Loading.{agrees, all_crossing_faults, behind_object, behind_row, behind_task, code_part_faults, code_start, each, faults_as, head_faults, header_faults, instruction_faults, labels_start, object_faults, objects_start, place_faults, row_faults, rows_start, subprogram_faults, subprograms_start, table_faults, task_faults, tasks_start, text_faults, word_faults, words_start};
+ghost use Rattle.image_loading.specs.Loading.{agrees, all_crossing_faults, attached_count_faults, attachment_part_faults, attachments_start, behind_object, behind_row, behind_task, code_part_faults, code_start, each, faults_as, has_version, head_faults, header_faults, instruction_faults, labels_start, names_start, object_faults, objects_start, place_faults, row_faults, rows_start, subprogram_faults, subprograms_start, table_faults, task_faults, tasks_start, text_faults, word_faults, words_start};
 ghost use Rattle.image.specs.Rules.{has_ends};
 
 use crate::code_faults::{operands_fault, places_fault};
@@ -11,20 +11,27 @@ use crate::fault_order::{after, after_all, is_no_later, rule, sooner};
 use crate::raw_sections::RawSections;
 use crate::reading::{Unread, read};
 use crate::table_faults::{
-    behind_objects, behind_tasks, behind_texts, count_fault, crossing_fault, exceptions_fault,
-    labels_fault, last_size_byte, objects_fault, rows_fault, subprograms_fault, tasks_fault,
-    text_count_fault,
+    attached_fault, behind_objects, behind_tasks, behind_texts, count_fault, crossing_fault,
+    exceptions_fault, labels_fault, last_size_byte, objects_fault, rows_fault, subprograms_fault,
+    tasks_fault, text_count_fault,
 };
 use base::faults::{SECTION_CUT_SHORT, STRAY_BYTES, TABLES_DISAGREE, WRONG_HEADER};
+use base::limits::CHANNELS;
 use image::{Draft, Image, ImageFault, Parts};
 use std::alloc::{AllocError, Global};
 
 // Where each section begins.
 impl RawSections {
+    fn names_start(&self) -> u32
+        ensures { result ≡ names_start self.now }
+    {
+        if self.version == 2 { 24 } else { 22 }
+    }
+
     fn labels_start(&self) -> u32
         ensures { result ≡ labels_start self.now }
     {
-        behind_texts(22, &self.exceptions)
+        behind_texts(self.names_start(), &self.exceptions)
     }
 
     fn words_start(&self) -> u32
@@ -57,10 +64,16 @@ impl RawSections {
         behind_tasks(self.tasks_start(), &self.tasks)
     }
 
+    fn attachments_start(&self) -> u32
+        ensures { result ≡ attachments_start self.now }
+    {
+        after_all(self.rows_start(), 8, self.rows.len())
+    }
+
     fn code_start(&self) -> u32
         ensures { result ≡ code_start self.now }
     {
-        after_all(self.rows_start(), 8, self.rows.len())
+        after_all(self.attachments_start(), 3, self.attachments.len())
     }
 }
 
@@ -88,7 +101,7 @@ impl RawSections {
         ensures { result ≡ first_of (text_faults self.now) }
     {
         sooner(
-            exceptions_fault(22, &self.exceptions),
+            exceptions_fault(self.names_start(), &self.exceptions),
             labels_fault(self.labels_start(), &self.labels),
         )
     }
@@ -133,6 +146,30 @@ impl RawSections {
                 self.all_tasks_fault(parts),
             ),
         )
+    }
+
+    fn attached_count_fault(&self) -> Option<ImageFault>
+        ensures { result ≡ first_of (attached_count_faults self.now) }
+    {
+        let count = self.attachments.len();
+        let within = 1 <= count && count <= usize::from(CHANNELS);
+        rule(TABLES_DISAGREE, 22, self.version == 2 && !within)
+    }
+
+    #[tactic(auto, using(crate::proofs::FirstFault::first_append))]
+    fn attachment_part_fault(&self, parts: &Parts) -> Option<ImageFault>
+        ensures { result ≡ first_of (attachment_part_faults self.now parts.now) }
+    {
+        sooner(
+            self.attached_count_fault(),
+            attached_fault(parts, self.attachments_start(), &self.attachments),
+        )
+    }
+
+    fn all_tables_fault(&self, parts: &Parts) -> Option<ImageFault>
+        ensures { result ≡ first_of (table_faults self.now parts.now ++ attachment_part_faults self.now parts.now) }
+    {
+        sooner(self.table_fault(parts), self.attachment_part_fault(parts))
     }
 
     fn all_rows_fault(&self, draft: &Draft) -> Option<ImageFault>
@@ -188,7 +225,7 @@ impl RawSections {
         let parts = draft.parts();
         sooner(
             self.words_and_texts_fault(parts),
-            sooner(self.table_fault(parts), self.code_part_fault(draft)),
+            sooner(self.all_tables_fault(parts), self.code_part_fault(draft)),
         )
     }
 
@@ -223,13 +260,20 @@ fn agrees(front: &[u8], bytes: &[u8]) -> bool
     front[..both] == bytes[..both]
 }
 
+// Whether the version is one of the two, as far as bytes are there.
+fn has_version(bytes: &[u8]) -> bool
+    ensures { result ≡ has_version bytes.now }
+{
+    agrees(b"ARVN\x00\x01", bytes) || agrees(b"ARVN\x00\x02", bytes)
+}
+
 // The magic and the version.
 #[tactic(auto, using(crate::proofs::FirstFault::first_append))]
 fn header_fault(bytes: &[u8]) -> Option<ImageFault>
     ensures { result ≡ first_of (header_faults bytes.now) }
 {
     let magic = agrees(b"ARVN", bytes);
-    let header = agrees(b"ARVN\x00\x01", bytes);
+    let header = has_version(bytes);
     sooner(
         rule(WRONG_HEADER, 0, !magic),
         rule(WRONG_HEADER, 4, magic && !header),

@@ -1,9 +1,9 @@
 //! The numbers of an image fit where they stand in its bytes: each is read, and has 16 or 64 bits.
 ghost use Rattle.image.specs.Rules.{IsWellFormed};
-ghost use Rattle.image_loading.specs.NumberRanges.{EachOf, InstructionFits, IsWord, ObjectFits, RowFits, SectionsFit, SubprogramFits, TaskNumbersFit};
+ghost use Rattle.image_loading.specs.NumberRanges.{AttachmentFits, EachOf, InstructionFits, IsWord, ObjectFits, RowFits, SectionsFit, SubprogramFits, TaskNumbersFit};
 
 use handlers::Row;
-use image::{Barrier, Image, Instr, Object, Subprogram, Task};
+use image::{Attachment, Barrier, Image, Instr, Object, Subprogram, Task};
 use image_format::{address_of, constant_of};
 
 fn words_fit(words: &[i64])
@@ -83,6 +83,20 @@ fn rows_fit(rows: &[Row])
     }
 }
 
+fn attachment_fits(a: &Attachment)
+    ensures { AttachmentFits a.now }
+{
+    let _subprogram = a.subprogram;
+}
+
+fn attachments_fit(attachments: &[Attachment])
+    ensures { EachOf AttachmentFits attachments.now }
+{
+    for a in attachments {
+        attachment_fits(a);
+    }
+}
+
 fn instruction_fits(x: &Instr)
     ensures { InstructionFits x.now }
 {
@@ -109,5 +123,6 @@ pub(crate) fn sections_fit(image: &Image)
     subprograms_fit(image.subprograms());
     tasks_fit(image.tasks());
     rows_fit(image.rows());
+    attachments_fit(image.attachments());
     instructions_fit(image.instructions());
 }

@@ -1,5 +1,6 @@
 //! The sections of an image as its bytes give them, nothing judged (docs/FORMATS.md, "Sections").
 use handlers::Row;
+use image::Attachment;
 use std::marker::Model;
 
 /// A name or a label of any length.
@@ -71,9 +72,10 @@ pub(crate) struct RawInstruction {
     pub constant: i64,
 }
 
-/// The sections in the order of the bytes.
+/// The version, and the sections in the order of the bytes.
 #[derive(Drop)]
 pub(crate) struct RawSections {
+    pub version: u16,
     pub exceptions: Vec<RawText>,
     pub labels: Vec<RawText>,
     pub plain_words: Vec<i64>,
@@ -81,6 +83,7 @@ pub(crate) struct RawSections {
     pub subprograms: Vec<RawSubprogram>,
     pub tasks: Vec<RawTask>,
     pub rows: Vec<Row>,
+    pub attachments: Vec<Attachment>,
     pub instructions: Vec<RawInstruction>,
 }
 
@@ -90,6 +93,7 @@ impl Model for RawSections {
     ghost Value = { Raw };
 
     ghost view = { λ r. record {
+      version = r.version;
       exceptions = r.exceptions.items;
       labels = r.labels.items;
       plain_words = r.plain_words.items;
@@ -97,6 +101,7 @@ impl Model for RawSections {
       subprograms = r.subprograms.items;
       tasks = r.tasks.items;
       rows = r.rows.items;
+      attachments = r.attachments.items;
       instructions = r.instructions.items;
     } };
 }

@@ -1,12 +1,13 @@
 //! Reads the sections of an image off its bytes, nothing judged (docs/FORMATS.md, "Sections").
 ghost use Rattle.std.specs.Prelude.{◌≡◌, ◌+◌, ◌≤◌, IfOk, length};
 ghost use Rattle.image_loading.specs.ReadResults.{ReadsAs};
-ghost use Rattle.image_loading.specs.Reading.{byte_at, counts_row, half_at, handler_row, instruction_row, read_bytes, read_counts, read_image, read_instruction, read_many, read_object, read_raw, read_row, read_subprogram, read_task, read_text, read_word, subprogram_row, word_at};
+ghost use Rattle.image_loading.specs.Reading.{attachment_row, byte_at, counts_row, half_at, handler_row, instruction_row, read_attached_count, read_attachment, read_bytes, read_counts, read_image, read_instruction, read_many, read_object, read_raw, read_row, read_subprogram, read_task, read_text, read_word, subprogram_row, word_at};
 
 use crate::raw_sections::{
     RawInstruction, RawObject, RawSections, RawSubprogram, RawTask, RawText,
 };
 use handlers::Row;
+use image::Attachment;
 use std::alloc::{AllocError, AllocFailed, Global};
 
 /// Why bytes were not read.
@@ -159,6 +160,18 @@ fn row_of(bytes: &[u8]) -> Result<(Row, &[u8]), Unread>
     Ok((handler, rest))
 }
 
+#[tactic(auto, unfolding(crate::specs::Reading::read_attachment))]
+fn attachment_of(bytes: &[u8]) -> Result<(Attachment, &[u8]), Unread>
+    ensures { ReadsAs (λ x. (x.0, x.1.now)) result (read_attachment bytes.now) }
+{
+    let (row, rest) = bytes_of(bytes, 3)?;
+    let attachment = Attachment {
+        channel: byte_at(row, 0),
+        subprogram: half_at(row, 1),
+    };
+    Ok((attachment, rest))
+}
+
 #[tactic(auto, unfolding(crate::specs::Reading::read_instruction))]
 fn instruction_of(bytes: &[u8]) -> Result<(RawInstruction, &[u8]), Unread>
     ensures { ReadsAs (λ x. (x.0, x.1.now)) result (read_instruction bytes.now) }
@@ -255,6 +268,23 @@ fn rows_of(alloc: Global, count: u16, bytes: &[u8]) -> Result<(Vec<Row>, &[u8]),
     Ok((rows, rest))
 }
 
+fn attachments_of(
+    alloc: Global,
+    count: u16,
+    bytes: &[u8],
+) -> Result<(Vec<Attachment>, &[u8]), Unread>
+    ensures { ReadsAs (λ x. (x.0.items, x.1.now)) result (read_many read_attachment count bytes.now) }
+{
+    let mut attachments = Vec::new(alloc);
+    let mut rest = bytes;
+    for _ in 0..count {
+        let (attachment, after) = attachment_of(rest)?;
+        attachments.push(attachment)?;
+        rest = after;
+    }
+    Ok((attachments, rest))
+}
+
 fn instructions_of(
     alloc: Global,
     count: u16,
@@ -272,9 +302,10 @@ fn instructions_of(
     Ok((instructions, rest))
 }
 
-/// How many there are of each, as the header says.
+/// The version and how many there are of each, as the header says.
 #[derive(Clone, Copy)]
 pub(crate) struct Counts {
+    pub version: u16,
     pub instructions: u16,
     pub subprograms: u16,
     pub objects: u16,
@@ -283,6 +314,19 @@ pub(crate) struct Counts {
     pub rows: u16,
     pub labels: u16,
     pub plain_words: u16,
+    pub attachments: u16,
+}
+
+// How many attachments there are: version 2 says it.
+#[tactic(auto, unfolding(crate::specs::Reading::read_attached_count))]
+fn attached_count_of(version: u16, bytes: &[u8]) -> Result<(u16, &[u8]), Unread>
+    ensures { ReadsAs (λ x. (x.0, x.1.now)) result (read_attached_count version bytes.now) }
+{
+    if version != 2 {
+        return Ok((0, bytes));
+    }
+    let (count, rest) = bytes_of(bytes, 2)?;
+    Ok((half_at(count, 0), rest))
 }
 
 #[tactic(auto, unfolding(crate::specs::Reading::read_counts))]
@@ -290,7 +334,10 @@ fn counts_of(bytes: &[u8]) -> Result<(Counts, &[u8]), Unread>
     ensures { ReadsAs (λ x. (x.0, x.1.now)) result (read_counts bytes.now) }
 {
     let (header, rest) = bytes_of(bytes, 22)?;
+    let version = half_at(header, 4);
+    let (attachments, rest) = attached_count_of(version, rest)?;
     let counts = Counts {
+        version,
         instructions: half_at(header, 6),
         subprograms: half_at(header, 8),
         objects: half_at(header, 10),
@@ -299,6 +346,7 @@ fn counts_of(bytes: &[u8]) -> Result<(Counts, &[u8]), Unread>
         rows: half_at(header, 16),
         labels: half_at(header, 18),
         plain_words: half_at(header, 20),
+        attachments,
     };
     Ok((counts, rest))
 }
@@ -314,8 +362,10 @@ fn sections_of(alloc: Global, counts: Counts, bytes: &[u8]) -> Result<(RawSectio
     let (subprograms, rest) = subprograms_of(alloc, counts.subprograms, rest)?;
     let (tasks, rest) = tasks_of(alloc, counts.tasks, rest)?;
     let (rows, rest) = rows_of(alloc, counts.rows, rest)?;
+    let (attachments, rest) = attachments_of(alloc, counts.attachments, rest)?;
     let (instructions, rest) = instructions_of(alloc, counts.instructions, rest)?;
     let sections = RawSections {
+        version: counts.version,
         exceptions,
         labels,
         plain_words,
@@ -323,6 +373,7 @@ fn sections_of(alloc: Global, counts: Counts, bytes: &[u8]) -> Result<(RawSectio
         subprograms,
         tasks,
         rows,
+        attachments,
         instructions,
     };
     Ok((sections, rest))

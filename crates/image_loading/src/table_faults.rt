@@ -3,8 +3,9 @@ ghost use Rattle.std.specs.Prelude.{◌≡◌, slice_get, IfOk};
 ghost use Rattle.std.specs.List.{list_all};
 ghost use Rattle.image_loading.specs.Decoding.{object_from};
 ghost use Rattle.image_loading.specs.FaultOrder.{first_of};
-ghost use Rattle.image_loading.specs.Loading.{barrier_faults, barrier_number, behind_all, behind_object, behind_row, behind_task, behind_text, body_faults, ceiling_faults, count_faults, count_rule, crossing_faults, decoded_faults, each, entry_body_faults, entry_called_faults, entry_faults, exception_faults, has_barrier, is_end, is_exception, kind_faults, label_faults, last_size_byte, names_object, object_faults, region_faults, row_faults, size_faults, subprogram_faults, target_faults, task_body_faults, task_faults, text_byte, text_count_faults, word_of_barrier};
-ghost use Rattle.image.specs.Rules.{are_nested, has_entry, is_barrier, is_task_body, none_or};
+ghost use Rattle.image_loading.specs.Loading.{attached_faults, attachment_faults, barrier_faults, barrier_number, behind_all, behind_object, behind_row, behind_task, behind_text, body_faults, ceiling_faults, count_faults, count_rule, crossing_faults, decoded_faults, each, entry_body_faults, entry_called_faults, entry_faults, exception_faults, handler_faults, has_barrier, is_end, is_exception, kind_faults, label_faults, last_size_byte, names_object, object_faults, region_faults, row_faults, size_faults, subprogram_faults, target_faults, task_body_faults, task_faults, text_byte, text_count_faults, word_of_barrier};
+ghost use Rattle.image.specs.Operations.{called};
+ghost use Rattle.image.specs.Rules.{are_nested, has_entry, is_barrier, is_task_body, may_handle, none_or};
 ghost use Rattle.image.specs.Sections.{first_place};
 
 use crate::fault_order::{after, after_all, rule, sooner};
@@ -12,12 +13,12 @@ use crate::raw_sections::{RawObject, RawSubprogram, RawTask, RawText};
 use base::PredefinedException;
 use base::faults::{DEPTHS_DISAGREE, JUMP_OUTSIDE, NAMED_THING_MISSING, TABLES_DISAGREE};
 use base::limits::{
-    CEILING, EXCEPTIONS, FRAME_WORDS, INSTRUCTIONS, LABELS, NAME_LIMIT, OBJECTS, ROWS, SUBPROGRAMS,
-    TASK_PRIORITY, TASKS,
+    CEILING, CHANNELS, EXCEPTIONS, FRAME_WORDS, INSTRUCTIONS, LABELS, NAME_LIMIT, OBJECTS, ROWS,
+    SUBPROGRAMS, TASK_PRIORITY, TASKS,
 };
 use base::names::{is_label, is_name};
 use handlers::{Row, first_crossing};
-use image::{Barrier, Draft, ImageFault, Kind, Parts, Subprogram};
+use image::{Attachment, Barrier, Draft, ImageFault, Kind, Parts, Subprogram};
 use image_format::kind_number;
 use std::alloc::{AllocError, Global};
 
@@ -608,4 +609,56 @@ pub(crate) fn crossing_fault(
         None => None,
         Some(number) => rule(TABLES_DISAGREE, after(after_all(start, 8, number), 2), true),
     })
+}
+
+// Whether the subprogram, if it is there, may handle interrupts.
+fn has_handler(parts: &Parts, number: u16) -> bool
+    ensures { result ≡ none_or (called parts.now number) (may_handle parts.now) }
+{
+    match parts.called(number) {
+        None => true,
+        Some(s) => parts.may_handle(&s),
+    }
+}
+
+#[tactic(auto, using(crate::proofs::FirstFault::first_append))]
+fn handler_fault(parts: &Parts, byte: u32, number: u16) -> Option<ImageFault>
+    ensures { result ≡ first_of (handler_faults parts.now byte number) }
+{
+    let exists = usize::from(number) < parts.subprograms.len();
+    let handles = has_handler(parts, number);
+    sooner(
+        rule(NAMED_THING_MISSING, byte, !exists),
+        rule(TABLES_DISAGREE, byte, !handles),
+    )
+}
+
+#[tactic(auto, using(crate::proofs::FirstFault::first_append))]
+fn attachment_fault(parts: &Parts, last: u8, byte: u32, a: &Attachment) -> Option<ImageFault>
+    ensures { result ≡ first_of (attachment_faults parts.now last byte a.now) }
+{
+    let rises = last < a.channel && a.channel <= CHANNELS;
+    sooner(
+        rule(TABLES_DISAGREE, byte, !rises),
+        handler_fault(parts, after(byte, 1), a.subprogram),
+    )
+}
+
+/// The first fault of the attachments.
+pub(crate) fn attached_fault(
+    parts: &Parts,
+    start: u32,
+    attachments: &[Attachment],
+) -> Option<ImageFault>
+    ensures { result ≡ first_of (attached_faults parts.now 0 start attachments.now) }
+{
+    let mut fault = None;
+    let mut last = 0;
+    let mut byte = start;
+    for a in attachments {
+        fault = sooner(fault, attachment_fault(parts, last, byte, a));
+        last = a.channel;
+        byte = after(byte, 3);
+    }
+    fault
 }

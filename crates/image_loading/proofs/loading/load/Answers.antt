@@ -3,7 +3,7 @@ use Rattle.image_loading.specs.Loading.{sections_faults}
 use Rattle.image_loading.proofs.LoadedImage.{faultless, loaded, refused, same_bytes}
 use Rattle.image_loading.proofs.loading.load.Goals as goal
 
-none : (c : goal.After-drop-raw-inside-9) → sections_faults c.in_ok-raw.raw ≡ []
+none : (c : goal.After-drop-raw-inside-10) → sections_faults c.in_ok-raw.raw ≡ []
 none c =
     faultless c.in_ok-raw.raw c.in_ok-draft.draft c.in-Ok-None.field-0 (c.in_ok-draft.ensures.same ∙ c.in-Ok.ensures) c.in-Ok-None.ensures c.in-Ok-None.field-0-is
 
