@@ -18,7 +18,7 @@ package App is
    task Worker with Priority => 3;
    task Server is entry Get; end Server;
    protected Store with Priority => 5 is
-      procedure Give (V : Integer);
+      procedure Give (V : Integer) with Attach_Handler => 1;
       function Held return Integer;
       entry Take (V : out Integer);
    private

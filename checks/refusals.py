@@ -26,6 +26,7 @@ ROWS = [
     ("entries", "who is served runs as soon as the active priority falls below its own"),
     ("entries", "a consumer that waits is served by the producer, before that goes on"),
     ("entries", "a caller that nobody serves"),
+    ("interrupts", "a task that waits is served by a handler, and the next line's handler runs before it"),
 ]
 
 
@@ -128,6 +129,7 @@ def calls_of(program, folder):
         Call("compile over a file", words, {"main.adb": terms, "new.img": b"what was there"}, "", leaves={"new.img": image}),
         Call("list", ["list", "main.img"], {"main.img": image}, listing),
         Call("run", ["run", "main.img", "empty", "100000"], {"main.img": image, **empty}, term_lines),
+        Call("run of a handler of interrupts", ["run", "main.img", "empty", "1"], {"main.img": mnemonics.image_of("handled"), **empty}, "ended at 0\n"),
         Call("run of a refused image", ["run", "main.img", "empty", "1"], {"main.img": mnemonics.image_of("return_alone 102=00"), **empty}, "", "image fault 43 at byte 102\n", 6),
         Call("usage", ["go", "main.adb", "empty", "x"], {}, "", "usage\n", 1),
     ]

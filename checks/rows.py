@@ -3,11 +3,11 @@
 
     rows.py PROGRAM WATCHER FOLDER SCRATCH
 
-A table has rows of one kind, told by its name: programs, time, delays, tasks, protected, entries, traces, refused and spelling have sources, schedules has schedules, images and
-operations have images, words has words.
+A table has rows of one kind, told by its name: programs, time, delays, tasks, protected, entries, interrupts, traces, refused and spelling have sources, schedules has schedules, images
+and operations have images, words has words.
 
 - A source is called by `go`, by `trace`, whose rows tell the same lines, then by `compile`, and what was compiled by `run`; one of traces by `trace` alone, with each byte of its rows. Where it is refused, no image is made, and one that was there stays.
-- What was compiled of a row of tasks, delays, protected objects or entries is also run, on a schedule that is read, by the WATCHER (crates/exclusion_main), which asks after each step whether
+- What was compiled of a row of tasks, delays, protected objects, entries or handlers of interrupts is also run, on a schedule that is read, by the WATCHER (crates/exclusion_main), which asks after each step whether
   exclusion holds. It takes as many steps as the least limit that gives the row's lines, where the row has `limits`, or as the limit that cuts it.
 - A row has a name, and lines of a word and what belongs to it: the whole `text`, or what stands in the frame in the place of SPEC and BODY (`spec`, `body`;
   the frame loses a line without text, and has an empty procedure where it calls one that no `body` has), or an image (`image`, checks/mnemonics.py); a
@@ -28,7 +28,7 @@ import mnemonics
 
 FRAMED = "    "
 STATUSES = {"fault": 2, "schedule": 7, "image": 6, "usage": 1, "cannot": 1, "accepted": 0}
-WATCHED = {"tasks", "delays", "protected", "entries"}
+WATCHED = {"tasks", "delays", "protected", "entries", "interrupts"}
 DEFAULT_RUN = "procedure Run is begin null; end Run;"
 # A main that calls a procedure of an object, and writes the number of an exception that this leaves.
 CALLING = """label given label caught word 7 word 8 object 20 - 0 0 2 own 11 own 12 task MAIN 5 0
@@ -276,7 +276,7 @@ def run_words(caller, row):
     caller.same(row, "files have changed", files_left, files)
 
 
-KINDS = {"programs": run_source, "time": run_source, "delays": run_source, "tasks": run_source, "protected": run_source, "entries": run_source, "refused": run_source, "spelling": run_source, "schedules": run_source, "traces": run_trace, "images": run_image, "operations": run_image, "words": run_words}
+KINDS = {"programs": run_source, "time": run_source, "delays": run_source, "tasks": run_source, "protected": run_source, "entries": run_source, "interrupts": run_source, "refused": run_source, "spelling": run_source, "schedules": run_source, "traces": run_trace, "images": run_image, "operations": run_image, "words": run_words}
 
 
 def check_table(program, watcher, path, scratch):

@@ -17,7 +17,7 @@ import rows
 sys.path.insert(0, os.path.join(os.path.dirname(os.path.abspath(__file__)), "..", "bench"))
 from reference import STATUSES, World  # noqa: E402
 
-TABLES = ("programs", "time", "delays", "tasks", "protected", "entries", "traces")
+TABLES = ("programs", "time", "delays", "tasks", "protected", "entries", "interrupts", "traces")
 STEPS, ALL_STEPS = 3_000, 1_000_000
 REFUSED = (rows.STATUSES["fault"], rows.STATUSES["schedule"])
 PLACED = re.compile(r"^(\d+ \d+ \w+ raises \w+(?: at its call)?) at \d+:\d+$", re.M)
@@ -45,6 +45,19 @@ def objects_of(source):
     return [name for name in re.findall(r"\bPROTECTED\s+(\w+)", text) if name != "BODY"]
 
 
+def world_of(program, folder, source, schedule, names=()):
+    """The reference's world at the start of what the program compiles of a source."""
+    write(os.path.join(folder, "main.adb"), source)
+    subprocess.run([program, "compile", "main.adb", "main.img"], cwd=folder, capture_output=True, check=False)
+    lines = [tuple(map(int, line.split())) for line in schedule.decode().splitlines()]
+    return World(read(os.path.join(folder, "main.img")), lines, names)
+
+
+def write(path, content):
+    with open(path, "wb") as file:
+        file.write(content)
+
+
 def read(path):
     with open(path, "rb") as file:
         return file.read()
@@ -63,13 +76,10 @@ class Comparer:
 
     def write(self, source, schedule):
         for file, content in (("main.adb", source), ("input", schedule)):
-            with open(os.path.join(self.folder, file), "wb") as written:
-                written.write(content)
+            write(os.path.join(self.folder, file), content)
 
     def reference_of(self, source, schedule):
-        self.call("compile", "main.adb", "main.img")
-        lines = [tuple(map(int, line.split())) for line in schedule.decode().splitlines()]
-        return World(read(os.path.join(self.folder, "main.img")), lines, objects_of(source)).trace(STEPS)
+        return world_of(self.program, self.folder, source, schedule, objects_of(source)).trace(STEPS)
 
     def compare(self, name, steps, expected, placed):
         """Traces the source that was written: its trace is what is expected, with the places of exceptions or without them, and the status that of its last line."""

@@ -12,13 +12,13 @@ import shutil
 import subprocess
 import sys
 
-from traces import ALL_STEPS, REFUSED, STEPS, examples_of
+from traces import ALL_STEPS, REFUSED, STEPS, examples_of, world_of
 import rows
 
 sys.path.insert(0, os.path.join(os.path.dirname(os.path.abspath(__file__)), "..", "bench"))
-from reference import STATUSES, World  # noqa: E402
+from reference import STATUSES  # noqa: E402
 
-TABLES = ("delays", "tasks", "protected", "entries", "traces")
+TABLES = ("delays", "tasks", "protected", "entries", "interrupts", "traces")
 STATES = {"ready": 0, "running": 1, "asleep": 2, "queued": 3, "served": 4, "finished": 5}
 LEFT = 6
 NAME = re.compile(r"[A-Za-z_][A-Za-z0-9_$]*$")
@@ -133,9 +133,9 @@ def values_of(world):
     for number in range(len(world.tasks)):
         values += [LEFT if number == left else STATES[world.place(number)[0]], world.active(number)]
     for o, queued in enumerate(world.queued):
-        inside = [number for number in range(len(world.tasks)) if o in world.inside(number)]
+        inside = [number for number in range(len(world.everyone())) if o in world.inside(number)]
         need(len(inside) <= 1, f"tasks {inside} are inside object {o}")
-        values += [inside[0] + 1 if inside else 0, 0 if queued is None else queued + 1]
+        values += [min(inside[0], len(world.tasks)) + 1 if inside else 0, 0 if queued is None else queued + 1]
     return values
 
 
@@ -183,9 +183,7 @@ class Checker:
         for file, content in (("main.adb", source), ("input", schedule)):
             with open(self.path(file), "wb") as written:
                 written.write(content)
-        self.call(self.program, "compile", "main.adb", "main.img")
-        with open(self.path("main.img"), "rb") as image:
-            world = World(image.read(), [tuple(map(int, line.split())) for line in schedule.decode().splitlines()])
+        world = world_of(self.program, self.folder, source, schedule)
         run = self.call(self.program, "trace", "--vcd", "main.adb", "input", str(limit))
         try:
             dump = Dump(run.stdout.decode("ascii"))

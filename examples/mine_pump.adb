@@ -1,5 +1,6 @@
 --  The pump of a mine: channel 1 is the level of the water in centimetres, channel 2 the methane in the air in hundredths of a percent. The pump runs from a high
---  level on until a low one, but never where there is gas; an alarm is written where gas comes, by a task that waits for it at an entry.
+--  level on until a low one, but never where there is gas. Another level of the water is an interrupt, whose handler opens the entry at which a task waits for it;
+--  at the methane a task looks each five milliseconds. An alarm is written where gas comes, by a task that waits for it at an entry.
 pragma Profile (Ravenscar);
 pragma Partition_Elaboration_Policy (Sequential);
 with Ada.Real_Time; use Ada.Real_Time;
@@ -8,6 +9,14 @@ package App is
    High_Water : constant Integer := 100;
    Low_Water  : constant Integer := 60;
    Gas_Limit  : constant Integer := 50;
+
+   protected Water_Gauge is
+      procedure Changed with Attach_Handler => 1;
+      entry Wait (Level : out Integer);
+   private
+      Due  : Boolean := False;
+      Last : Integer := 0;
+   end Water_Gauge;
 
    protected Pump with Priority => 20 is
       procedure Water (Level : Integer);
@@ -33,6 +42,20 @@ package App is
    task Log with Priority => 4;
 end App;
 package body App is
+   protected body Water_Gauge is
+      procedure Changed is
+      begin
+         Last := Read (1);
+         Due := True;
+      end Changed;
+
+      entry Wait (Level : out Integer) when Due is
+      begin
+         Level := Last;
+         Due := False;
+      end Wait;
+   end Water_Gauge;
+
    protected body Alarm is
       procedure Raise_It (Level : Integer) is
       begin
@@ -93,12 +116,11 @@ package body App is
    end Gas_Watch;
 
    task body Water_Watch is
-      Next : Time := Clock;
+      Level : Integer;
    begin
-      for I in 1 .. 10 loop
-         Pump.Water (Read (1));
-         Next := Next + Milliseconds (10);
-         delay until Next;
+      loop
+         Water_Gauge.Wait (Level);
+         Pump.Water (Level);
       end loop;
    end Water_Watch;
 

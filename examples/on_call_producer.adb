@@ -1,6 +1,6 @@
 --  The program of the guide for the Ravenscar profile (Burns, Dobbing, Vardanega), with numbers in place of its workloads. A regular producer does its work every
 --  second; each second time it has more than it can do, and asks a producer on call, which waits for requests; each third time it wakes a reader of the log of
---  external events. These come from channel 1, at which a task looks ten times a second.
+--  external events. These are interrupts of channel 1, whose handler releases a task that writes them to the log.
 pragma Profile (Ravenscar);
 pragma Partition_Elaboration_Policy (Sequential);
 with Ada.Real_Time; use Ada.Real_Time;
@@ -24,6 +24,13 @@ package App is
       Due   : Boolean := False;
    end Requests;
 
+   protected Event_Queue is
+      procedure Signal with Attach_Handler => 1;
+      entry Wait;
+   private
+      Signalled : Boolean := False;
+   end Event_Queue;
+
    protected Activation_Log with Priority => 13 is
       procedure Write;
       procedure Ask;
@@ -34,7 +41,7 @@ package App is
       Asked   : Boolean := False;
    end Activation_Log;
 
-   task Event_Source with Priority => 12;
+   task External_Event_Server with Priority => 12;
    task Regular_Producer with Priority => 7;
    task On_Call_Producer with Priority => 5;
    task Log_Reader with Priority => 3;
@@ -60,6 +67,18 @@ package body App is
       end Extract;
    end Requests;
 
+   protected body Event_Queue is
+      procedure Signal is
+      begin
+         Signalled := True;
+      end Signal;
+
+      entry Wait when Signalled is
+      begin
+         Signalled := False;
+      end Wait;
+   end Event_Queue;
+
    protected body Activation_Log is
       procedure Write is
       begin
@@ -80,19 +99,13 @@ package body App is
       end Latest;
    end Activation_Log;
 
-   task body Event_Source is
-      Next : Time := Clock;
-      Seen : Integer := 0;
+   task body External_Event_Server is
    begin
-      for I in 1 .. 10 * Rounds loop
-         if Read (1) /= Seen then
-            Seen := Read (1);
-            Activation_Log.Write;
-         end if;
-         Next := Next + Milliseconds (100);
-         delay until Next;
+      loop
+         Event_Queue.Wait;
+         Activation_Log.Write;
       end loop;
-   end Event_Source;
+   end External_Event_Server;
 
    task body Regular_Producer is
       Next  : Time := Clock;
