@@ -2,7 +2,7 @@
 use Rattle.std.proofs.Common.{length-set, ◌≡◌, inl, ℕ, ◌+◌, ◌<◌, ◌≤◌, List, [], ◌∷◌, length, Bool, true, false, cond, Option, Some, None, refl, sym, ap, ◌∙◌, subst, arith, ⊎_elim}
 use Rattle.std.proofs.lemmas.Bool.{cases_lt}
 use Rattle.std.specs.Prelude.{◌&&◌, not, slice_set}
-use Rattle.base.specs.declared.limits.TheConstants.{FRAMES, FRAME_WORDS}
+use Rattle.base.specs.declared.limits.TheConstants.{FRAMES}
 use Rattle.base.specs.declared.schedule.ScheduleLine.{ScheduleLine}
 use Rattle.kernel.specs.Effects as effects
 use Rattle.kernel.specs.Effects.{TakesOver, HandsBack, closes_last, ending_of, is_last, is_over, service}
@@ -20,6 +20,7 @@ use Rattle.image.specs.Steps as steps
 use Rattle.image.specs.Steps.{behaviour, is_open}
 use Rattle.image_laws.specs.Laws.{CodeLeadsOn, ImagesHaveSize}
 use Rattle.image_laws.specs.Linked.{Fitting, FitsEntry, IsAwaiting, IsCalling, OwesFor}
+use Rattle.image_laws.specs.Room.{widest}
 use Rattle.image_laws.specs.Shape.{is_own}
 use Rattle.image_laws.specs.Whole.{RunnerOwes}
 use Rattle.task_steps.specs.Acting.{given_of}
@@ -56,7 +57,7 @@ given_fits : (i : Sections) (o u : ℕ) (outer : List Action) (g : Option steps.
 given_fits i o u outer None f = absurd f
 given_fits i o u outer (Some x) f = (x, refl, f)
 
-fewer : (i : Sections) (o : ℕ) (x : steps.Given) (room : ℕ) → FitsEntry i o x → room + results_of (entry_called i o) ≤ FRAME_WORDS → room + words_given x ≤ FRAME_WORDS
+fewer : (i : Sections) (o : ℕ) (x : steps.Given) (room : ℕ) → FitsEntry i o x → room + results_of (entry_called i o) ≤ widest i → room + words_given x ≤ widest i
 fewer i o (steps.Results words) room f le = omega (arith, f, le)
 fewer i o (steps.Raised e) room f le = omega (arith, le)
 

@@ -3,7 +3,7 @@ use Rattle.std.proofs.Common.{◌≡◌, ℕ, ◌+◌, ◌<◌, ◌≤◌, lengt
 use Rattle.std.proofs.lemmas.Bool.{and_parts, leb-true}
 use Rattle.std.proofs.lemmas.Option.{none-some, same_Some, slice_get_within}
 use Rattle.std.specs.Prelude.{slice_get, nat_le}
-use Rattle.base.specs.declared.limits.TheConstants.{FRAME_WORDS, INSTRUCTIONS}
+use Rattle.base.specs.declared.limits.TheConstants.{INSTRUCTIONS}
 use Rattle.image.specs.Frames.{Frame, TaskState}
 use Rattle.image.specs.Operations.{called, called_if, entry_called, entry_of, given_by, parameters_of, results_of, taken_by}
 use Rattle.image.specs.RuleFacts.{facts}
@@ -15,7 +15,9 @@ use Rattle.image.specs.declared.instruction.Operation.TheVariants.{Call, EntryCa
 use Rattle.image.specs.declared.subprograms.Subprogram.{Subprogram}
 use Rattle.image_laws.specs.Laws.{CodeLeadsOn, ImagesHaveSize}
 use Rattle.image_laws.specs.Linked.{IsAwaiting, IsCalling}
+use Rattle.image_laws.specs.Room.{widest}
 use Rattle.image_laws.specs.Shape.{callee}
+use Rattle.image_laws.proofs.Widest.{within_widest}
 
 -- the subprogram of an entry, whose parameters the caller has on its operand stack
 pub record Entry (i : Sections) (o : ℕ) (f : Frame) : Type 0 where
@@ -25,19 +27,19 @@ pub record Entry (i : Sections) (o : ℕ) (f : Frame) : Type 0 where
   pub is_called : called i n ≡ Some s
   pub there : s.parameters ≤ length f.stack
   pub fits : s.parameters ≤ s.locals
-  pub room : s.locals ≤ FRAME_WORDS
+  pub room : s.locals ≤ widest i
 
 -- a frame that waits at a call has room for the results, and a place to go on at
-pub record HasRoomFor (n : ℕ) (f : Frame) : Type 0 where
+pub record HasRoomFor (width n : ℕ) (f : Frame) : Type 0 where
   pub next : f.place < INSTRUCTIONS
-  pub room : length f.locals + length f.stack + n ≤ FRAME_WORDS
+  pub room : length f.locals + length f.stack + n ≤ width
 
 module _ (i : Sections) (w : IsWellFormed i) (leads : CodeLeadsOn) (size : ImagesHaveSize) where
-  pub subprogram_fits : (n : ℕ) (s : Subprogram) → called i n ≡ Some s → (s.parameters ≤ s.locals) × (s.locals ≤ FRAME_WORDS)
+  pub subprogram_fits : (n : ℕ) (s : Subprogram) → called i n ≡ Some s → (s.parameters ≤ s.locals) × (s.locals ≤ widest i)
   subprogram_fits n s is =
       let here = and_parts (nat_le s.parameters s.locals) _ (placed-at (is_subprogram i) i.subprograms n s (facts i w).subprograms is) in
-      let words = leb-true _ _ (and_parts (nat_le (s.locals + s.stack) FRAME_WORDS) _ here.1).0 in
-      (leb-true _ _ here.0, omega (arith, words))
+      let narrow = within_widest i.subprograms n s is in
+      (leb-true _ _ here.0, omega (arith, narrow))
 
   entry_by : (o : ℕ) (f : Frame) (e : Option ℕ) → entry_of (slice_get i.objects o) ≡ e → (s : Subprogram) → called_if i e ≡ Some s → parameters_of (called_if i e) ≤ length f.stack → Entry i o f
   entry_by o f None is s there enough = absurd (none-some s there)
@@ -68,7 +70,7 @@ module _ (i : Sections) (w : IsWellFormed i) (leads : CodeLeadsOn) (size : Image
   given_at n _ e = absurd (none-some n e)
 
   -- a served caller has room for the entry's results
-  pub room_for : (o : ℕ) (own : Bool) (u : TaskState) → IsAwaiting i own o u → HasRoomFor (results_of (entry_called i o)) u.frame
+  pub room_for : (o : ℕ) (own : Bool) (u : TaskState) → IsAwaiting i own o u → HasRoomFor (widest i) (results_of (entry_called i o)) u.frame
   room_for o own u a =
       let q = a.waiting in
       let x = leads i w u.frame.place q.s q.x q.stands.instruction q.stands.within in
@@ -76,4 +78,4 @@ module _ (i : Sections) (w : IsWellFormed i) (leads : CodeLeadsOn) (size : Image
       let gives = given_at a.n q.x.operation q.calls ∙ ap (λ v. results_of (called_if i v)) (sym a.entry) in
       let inside = slice_get_within i.instructions u.frame.place q.x q.stands.instruction in
       let few = (size i w).instructions in
-      record { next = omega (arith, inside, few); room = omega (arith, x.after, x.words, x.taken, takes, gives, q.depth, q.stands.locals) }
+      record { next = omega (arith, inside, few); room = omega (arith, x.after, x.narrow, x.taken, takes, gives, q.depth, q.stands.locals) }

@@ -1,5 +1,5 @@
-mod Ahead
 mod Advancing
+mod Ahead
 mod Apart
 mod Begun
 mod Ending
@@ -8,6 +8,7 @@ mod Going
 mod Handlers
 mod Leading
 mod Pushing
+mod RowsOf
 mod ServedFrame
 mod Settle
 mod Settled

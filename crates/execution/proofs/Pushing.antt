@@ -1,7 +1,6 @@
 -- Words put on an operand stack from the last one down.
 use Rattle.std.proofs.Common.{◌≡◌, ℕ, ◌+◌, ◌-◌, ◌<◌, ◌≤◌, ℤ, List, ◌∷◌, ◌++◌, length, drop, get_or, sym, ap, ◌∙◌, arith, length-drop, length-append}
 use Rattle.std.proofs.Math.Seq.{drop-length}
-use Rattle.base.specs.declared.limits.TheConstants.{FRAME_WORDS}
 use Rattle.image.specs.Frames.{TaskState}
 use Rattle.image.specs.RuleLaws.{drop-next}
 
@@ -20,8 +19,8 @@ pushed_nothing s words =
     let e : length words ≡ length words - 0 = omega arith in
     record { state = ap (with_words s) (sym (drop-length words)) ∙ ap (λ k. with_words s (drop k words)) e }
 
-pub pushed_room : (old now : TaskState) (words : List ℤ) (n : ℕ) → length old.frame.locals + length old.frame.stack + length words ≤ FRAME_WORDS → Pushed old now words n → n < length words → length now.frame.locals + length now.frame.stack < FRAME_WORDS
-pushed_room old now words n room p lt =
+pub pushed_room : (width : ℕ) (old now : TaskState) (words : List ℤ) (n : ℕ) → length old.frame.locals + length old.frame.stack + length words ≤ width → Pushed old now words n → n < length words → length now.frame.locals + length now.frame.stack < width
+pushed_room width old now words n room p lt =
     let locals = ap (λ s. length s.frame.locals) p.state in
     let stack = ap (λ s. length s.frame.stack) p.state in
     let sum = length-append (drop (length words - n) words) old.frame.stack in

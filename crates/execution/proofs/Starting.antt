@@ -13,9 +13,11 @@ use Rattle.image.specs.Rules.{IsWellFormed}
 use Rattle.image.specs.Sections.{Sections}
 use Rattle.image.specs.declared.tasks.Task.{Task}
 use Rattle.image_laws.specs.Whole.{StartsWhole}
+use Rattle.processor.specs.Layout.{TaskRow}
 use Rattle.tasking.specs.Held as tasking
 use Rattle.execution.specs.Held.{begun, body_state, prepared, row_at, task_at}
 use Rattle.execution.proofs.Begun.{all_at_start}
+use Rattle.execution.proofs.RowsOf.{body_rows}
 use Rattle.execution.proofs.Tasks.{task_row}
 
 -- tasks
@@ -79,6 +81,7 @@ fits_image starts i w =
     }
 
 -- a list of what is left, once nothing is left
-pub all_begun : (i : Sections) (tasks : List TaskState) (bodies : List Task) (n : ℕ) → length bodies ≤ n → tasks ++ map (λ t. body_state i t.subprogram) (drop n bodies) ≡ map (λ t. body_state i t.subprogram) bodies → tasks ≡ map (λ t. body_state i t.subprogram) bodies
-all_begun i tasks bodies n le is =
-    sym (append-nil tasks) ∙ (ap (λ l. tasks ++ map (λ t. body_state i t.subprogram) l) (sym (drop_all n bodies le)) ∙ is)
+pub all_begun : (i : Sections) (width : ℕ) (rows : List TaskRow) (bodies : List Task) (n : ℕ) → length bodies ≤ n → rows ++ body_rows i width (drop n bodies) ≡ body_rows i width bodies
+    → rows ≡ body_rows i width bodies
+all_begun i width rows bodies n le is =
+    sym (append-nil rows) ∙ (ap (λ l. rows ++ body_rows i width l) (sym (drop_all n bodies le)) ∙ is)

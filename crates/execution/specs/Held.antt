@@ -1,5 +1,5 @@
 -- What a run holds between steps, the world of code that this is, and when steps lead from one to another.
-use Rattle.std.specs.Prelude.{◌≡◌, ℕ, ◌++◌, ◌∷◌, ◌||◌, List, [], Bool, not, get_or, length, nat_lt, slice_set, Option, Some, None, if◌then◌else◌}
+use Rattle.std.specs.Prelude.{◌≡◌, ℕ, ◌++◌, ◌∷◌, ◌||◌, List, [], Bool, not, get_or, length, map, nat_lt, slice_set, Option, Some, None, if◌then◌else◌}
 use Rattle.base.specs.declared.schedule.ScheduleLine.{ScheduleLine}
 use Rattle.kernel.specs.State as kernel
 use Rattle.kernel.specs.Worlds.{Tasks, among, run}
@@ -10,6 +10,7 @@ use Rattle.image.specs.Sections.{Sections}
 use Rattle.image.specs.Steps.{behaviour}
 use Rattle.image.specs.Texts.{text_at}
 use Rattle.processor.specs.Decoding.{words_in}
+use Rattle.processor.specs.Layout.{TaskRow}
 use Rattle.task_steps.specs.Acting.{MemoryRows}
 use Rattle.tasking.specs.Held as tasking
 use Rattle.tasking.specs.Held.{is_handler, kernel_of}
@@ -23,6 +24,15 @@ pub record HeldWorld : Type 0 where
   pub memory : MemoryRows
   pub tasks : List TaskState
   pub tasking : tasking.Held
+
+-- the tasks that rows hold
+abbrev pub tasks_in : List TaskRow → List TaskState
+tasks_in rows = map (λ r. r.task) rows
+
+-- the frames of all rows may have so many words
+abbrev pub RowsAreWide : ℕ → List TaskRow → Type 0
+RowsAreWide width [] = Unit {0}
+RowsAreWide width (r ∷ rows) = (r.width ≡ width) × RowsAreWide width rows
 
 -- a task at the first instruction of subprogram n
 abbrev pub body_state : Sections → ℕ → TaskState

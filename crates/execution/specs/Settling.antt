@@ -1,6 +1,6 @@
 -- What the kernel owes to the step of a task, and when it has settled that; nobody has to believe this.
 use Rattle.std.specs.Prelude.{◌≡◌, ◌≢◌, ◌⊎◌, ℕ, ◌+◌, ◌<◌, ◌≤◌, List, length, Option, Some, None, Bool, true, false, drop, slice_get, slice_set, if◌then◌else◌}
-use Rattle.base.specs.declared.limits.TheConstants.{FRAME_WORDS, FRAMES, INSTRUCTIONS}
+use Rattle.base.specs.declared.limits.TheConstants.{FRAMES, INSTRUCTIONS}
 use Rattle.kernel.specs.Calm.{IsRunner}
 use Rattle.kernel.specs.Effects.{after, call_refusal, is_full}
 use Rattle.kernel.specs.State as kernel
@@ -12,6 +12,7 @@ use Rattle.image.specs.Sections.{Sections}
 use Rattle.image.specs.Steps as steps
 use Rattle.image.specs.Steps.{act, behaviour}
 use Rattle.image.specs.declared.subprograms.Subprogram.{Subprogram}
+use Rattle.image_laws.specs.Room.{widest}
 use Rattle.image_laws.specs.Whole.{IsWhole}
 use Rattle.task_steps.specs.Acting.{effect_of, given_of, stepped_of}
 use Rattle.task_steps.specs.declared.acts.Act.{Act}
@@ -84,7 +85,7 @@ pub record CanServe (i : Sections) (tasks : List TaskState) (t o u : ℕ) : Type
   pub other : u ≢ t
   pub there : s.parameters ≤ length (row_at i tasks u).frame.stack
   pub fits : s.parameters ≤ s.locals
-  pub room : s.locals ≤ FRAME_WORDS
+  pub room : s.locals ≤ widest i
   pub left : length (row_at i tasks t).callers < FRAMES
 
 -- the words that a caller is given
@@ -98,7 +99,7 @@ pub record CanReceive (i : Sections) (tasks : List TaskState) (u : ℕ) (g : Opt
   pub is : g ≡ Some given
   pub caller : u < length i.tasks
   pub next : (row_at i tasks u).frame.place < INSTRUCTIONS
-  pub room : length (row_at i tasks u).frame.locals + length (row_at i tasks u).frame.stack + words_given given ≤ FRAME_WORDS
+  pub room : length (row_at i tasks u).frame.locals + length (row_at i tasks u).frame.stack + words_given given ≤ widest i
 
 -- a task without so many words of its operand stack
 abbrev pub without : ℕ → TaskState → TaskState

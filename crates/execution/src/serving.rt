@@ -1,12 +1,13 @@
 //! What the end of an action makes of two tasks: the body of an entry is run for a queued caller, or the caller goes on (RM 9.5.3).
-ghost use Rattle.std.specs.Prelude.{◌≡◌, ◌≤◌, ◌+◌, ◌++◌, length};
-ghost use Rattle.base.specs.declared.limits.TheConstants.{FRAME_WORDS};
+ghost use Rattle.std.specs.Prelude.{◌≡◌, ◌≤◌, ◌+◌, ◌++◌, Some, length};
+ghost use Rattle.image.specs.Steps.{Raised, Results};
 ghost use Rattle.task_steps.specs.Acting.{given_of};
 ghost use Rattle.execution.specs.Settling.{CanReceive, CanServe, given_tasks, served_tasks};
 
 use crate::state::State;
 use clock::Delays;
 use dispatch::Ready;
+use image_laws::code_leads_on;
 use processor::{Role, TaskState};
 use task_steps::{Given, called, entry, first_place};
 
@@ -16,6 +17,7 @@ impl<'a, R: Ready, D: Delays> State<'a, R, D> {
         requires { CanServe self.old.image self.old.tasks task object caller }
         ensures { self.new ≡ record self.old { tasks = served_tasks self.old.image self.old.tasks task object caller } }
     {
+        code_leads_on();
         let Some(number) = entry(&self.program, u16::from(object)) else {
             unreachable!()
         };
@@ -45,24 +47,43 @@ impl<'a, R: Ready, D: Delays> State<'a, R, D> {
         requires { CanReceive self.old.image self.old.tasks caller (given_of self.old.memory.passed given) }
         ensures { self.new ≡ record self.old { tasks = given_tasks self.old.image self.old.tasks caller (given_of self.old.memory.passed given) } }
     {
+        match given {
+            Some(Given::Results) => self.gives_results(caller),
+            Some(Given::Raised(exception)) => self.gives_exception(caller, exception),
+            None => unreachable!(),
+        }
+    }
+
+    // The caller goes on behind its entry call with the words that are on their way.
+    fn gives_results(&mut self, caller: u8)
+        requires { CanReceive self.old.image self.old.tasks caller (Some (Results self.old.memory.passed)) }
+        ensures { self.new ≡ record self.old { tasks = given_tasks self.old.image self.old.tasks caller (Some (Results self.old.memory.passed)) } }
+    {
         let Some(state) = self.tasks.get_mut(usize::from(caller)) else {
             unreachable!()
         };
-        match given {
-            Some(Given::Results) => {
-                push_results(state, self.memory.passed());
-                state.advance();
-            }
-            Some(Given::Raised(exception)) => state.set_raising(Some(exception)),
-            None => unreachable!(),
-        }
+        push_results(state, self.memory.passed());
+        state.advance();
+    }
+
+    // The caller raises an exception at its entry call in its next step.
+    fn gives_exception(&mut self, caller: u8, exception: u16)
+        requires { CanReceive self.old.image self.old.tasks caller (Some (Raised exception)) }
+        ensures { self.new ≡ record self.old { tasks = given_tasks self.old.image self.old.tasks caller (Some (Raised exception)) } }
+    {
+        let Some(state) = self.tasks.get_mut(usize::from(caller)) else {
+            unreachable!()
+        };
+        state.set_raising(Some(exception));
     }
 }
 
 // Puts these words on the operand stack of a task, the first one on top.
 fn push_results(state: &mut TaskState, words: &[i64])
-    requires { length state.old.frame.locals + length state.old.frame.stack + length words.now ≤ FRAME_WORDS }
-    ensures { state.new ≡ record state.old { frame = record state.old.frame { stack = words.now ++ state.old.frame.stack } } }
+    requires { length state.old.task.frame.locals + length state.old.task.frame.stack + length words.now ≤ state.old.width }
+    ensures { state.new ≡ record state.old {
+      task = record state.old.task { frame = record state.old.task.frame { stack = words.now ++ state.old.task.frame.stack } };
+    } }
 {
     for index in 0..words.len() {
         state.push(words[words.len() - 1 - index]);

@@ -3,6 +3,7 @@ ghost use Rattle.std.specs.Prelude.{◌≡◌, ◌+◌, ◌-◌, ◌<◌, ◌≤
 ghost use Rattle.base.specs.declared.limits.TheConstants.{CHANNELS, OBJECTS, TASKS};
 ghost use Rattle.image.specs.Code.{initial_state, partition_of as image_partition, start};
 ghost use Rattle.image.specs.Rules.{IsWellFormed};
+ghost use Rattle.image_laws.specs.Room.{widest};
 ghost use Rattle.image_laws.specs.Whole.{IsWhole};
 ghost use Rattle.kernel.specs.Calm.{IsRunner};
 ghost use Rattle.kernel.specs.Invariant.{Fits};
@@ -48,13 +49,15 @@ pub(crate) struct State<'a, R: Ready, D: Delays> {
 impl<'a, R: Ready, D: Delays> Model for State<'a, R, D> {
     ghost use Rattle.std.specs.Prelude.{◌≡◌, ◌+◌, length};
     ghost use Rattle.image.specs.Rules.{IsWellFormed};
-    ghost use Rattle.execution.specs.Held.{HeldWorld};
+    ghost use Rattle.image_laws.specs.Room.{widest};
+    ghost use Rattle.execution.specs.Held.{RowsAreWide, HeldWorld, tasks_in};
 
     ghost Value = { HeldWorld };
 
-    ghost view = { λ s. record { image = s.program; schedule = s.schedule.now; memory = s.memory; tasks = s.tasks.items; tasking = s.tasking } };
+    ghost view = { λ s. record { image = s.program; schedule = s.schedule.now; memory = s.memory; tasks = tasks_in s.tasks.items; tasking = s.tasking } };
 
-    ghost invariant = { λ s. IsWellFormed s.program × (length s.tasks.items ≡ length s.program.tasks + 1) };
+    ghost invariant = { λ s. IsWellFormed s.program × (length s.tasks.items ≡ length s.program.tasks + 1)
+        × RowsAreWide (widest s.program) s.tasks.items };
 }
 
 impl<'a, R: Ready, D: Delays> State<'a, R, D> {
@@ -76,7 +79,7 @@ impl<'a, R: Ready, D: Delays> State<'a, R, D> {
         let program = Program::new(alloc, image)?;
         let memory = Memory::new(alloc, image)?;
         let mut tasks = initial_tasks(alloc, &program)?;
-        tasks.push(TaskState::new(alloc, 0, 0, 0)?)?;
+        tasks.push(TaskState::new(alloc, 0, 0, 0, program.width())?)?;
         let parameters = Parameters::new(alloc)?;
         let tasking = initial_tasking(alloc, image, schedule)?;
         let mut state = State {
@@ -188,7 +191,8 @@ impl<'a, R: Ready, D: Delays> State<'a, R, D> {
 
 // The tasks at the first instruction of their bodies.
 fn initial_tasks(alloc: Global, program: &Program) -> Result<Vec<TaskState>, AllocError>
-    ensures tasks { IfOk result (λ tasks. tasks.items ≡ map (λ t. body_state program.now t.subprogram) program.now.tasks) }
+    ensures { IfOk result (λ tasks. tasks.items ≡
+        map (λ t. record { task = body_state program.now t.subprogram; width = widest program.now }) program.now.tasks) }
 {
     let bodies = program.image().tasks();
     let mut tasks = Vec::new(alloc);
@@ -200,15 +204,16 @@ fn initial_tasks(alloc: Global, program: &Program) -> Result<Vec<TaskState>, All
 
 // A task at the first instruction of this subprogram.
 fn initial_task(alloc: Global, program: &Program, number: u16) -> Result<TaskState, AllocError>
-    ensures { IfOk result (λ s. s ≡ body_state program.now number) }
+    ensures { IfOk result (λ s. s ≡ record { task = body_state program.now number; width = widest program.now }) }
 {
     code_leads_on();
     let _image = program.image();
+    let width = program.width();
     match called(program, number) {
-        None => TaskState::new(alloc, number, 0, 0),
+        None => TaskState::new(alloc, number, 0, 0, width),
         Some(subprogram) => {
             let place = first_place(program, number);
-            TaskState::new(alloc, number, place, subprogram.locals)
+            TaskState::new(alloc, number, place, subprogram.locals, width)
         }
     }
 }
@@ -315,7 +320,9 @@ fn is_another(before: Option<u8>, handler: u8) -> bool
 
 // What a handler needs at its start: the frame of its procedure, above the one that never runs.
 fn begin_handler(program: &Program, channel: u8, state: &mut TaskState)
-    ensures { state.new ≡ handler_state program.now channel }
+    requires { state.old.width ≡ widest program.now }
+    ensures task { state.new.task ≡ handler_state program.now channel }
+    ensures width { state.new.width ≡ state.old.width }
 {
     code_leads_on();
     let image = program.image();

@@ -284,16 +284,16 @@ no_task = refl
 three_exceptions : broken (record kept { exceptions = take 3 predefined }) ≡ 47 ∷ []
 three_exceptions = refl
 
-tasks_too_many : broken (record kept { tasks = replicate 18 (task (codes "A") 5 4) }) ≡ 47 ∷ []
+tasks_too_many : broken (record kept { tasks = replicate 66 (task (codes "A") 5 4) }) ≡ 47 ∷ []
 tasks_too_many = refl
 
-tasks_at_most : broken (record kept { tasks = replicate 17 (task (codes "A") 5 4) }) ≡ []
+tasks_at_most : broken (record kept { tasks = replicate 65 (task (codes "A") 5 4) }) ≡ []
 tasks_at_most = refl
 
-objects_too_many : broken (record kept { objects = object_of_entry ∷ replicate 16 (second_object None barriers.Closed) }) ≡ 47 ∷ []
+objects_too_many : broken (record kept { objects = object_of_entry ∷ replicate 64 (second_object None barriers.Closed) }) ≡ 47 ∷ []
 objects_too_many = refl
 
-objects_at_most : broken (record kept { objects = object_of_entry ∷ replicate 15 (second_object None barriers.Closed) }) ≡ []
+objects_at_most : broken (record kept { objects = object_of_entry ∷ replicate 63 (second_object None barriers.Closed) }) ≡ []
 objects_at_most = refl
 
 exceptions_too_many : broken (record kept { exceptions = predefined ++ replicate 33 (codes "BAD") }) ≡ 47 ∷ []
@@ -308,7 +308,7 @@ plain_words_too_many = refl
 plain_words_at_most : broken (record kept { plain_words = replicate 8190 (pos 0) }) ≡ []
 plain_words_at_most = refl
 
-subprograms_too_many : has_counts (record kept { subprograms = replicate 146 (body 1 0 0) }) ≡ false
+subprograms_too_many : has_counts (record kept { subprograms = replicate 194 (body 1 0 0) }) ≡ false
 subprograms_too_many = refl
 
 rows_too_many : has_counts (record kept { rows = replicate 4097 (row 0 1 0 0) }) ≡ false

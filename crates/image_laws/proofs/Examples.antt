@@ -230,21 +230,21 @@ reader_text : code_text reader (record { time = pos 500; channel = 1; value = po
 unfolding digits
 reader_text = refl
 
--- The 33rd frame: F (29) takes frames 3 to 32, F (30) one more
+-- The 129th frame: F (125) takes frames 3 to 128, F (126) one more
 
 abbrev deep : Sections
 deep =
     plain_image (codes "f" ∷ codes "g" ∷ codes "se" ∷ []) (sub Plain 11 1 1 1 3 ∷ sub Plain 22 0 0 0 1 ∷ body 24 0 0 ∷ []) (main_is 2) (row 11 18 3 18 ∷ [])
     (at 0 (op.LoadLocal 0) ∷ at 1 (op.JumpIfNotZero 4) ∷ at 0 (op.Push (pos 0)) ∷ at 1 op.Return
     ∷ at 0 (op.Push (pos 1)) ∷ at 1 (op.LoadLocal 0) ∷ at 2 (op.Push (pos 1)) ∷ at 3 op.Subtract ∷ at 2 (op.Call 0) ∷ at 2 op.Add ∷ at 1 op.Return
-    ∷ at 0 (op.Push (pos 29)) ∷ at 1 (op.Call 0) ∷ at 1 (op.PutLine 0) ∷ at 0 (op.Push (pos 30)) ∷ at 1 (op.Call 0) ∷ at 1 (op.PutLine 1) ∷ at 0 op.Return
+    ∷ at 0 (op.Push (pos 125)) ∷ at 1 (op.Call 0) ∷ at 1 (op.PutLine 0) ∷ at 0 (op.Push (pos 126)) ∷ at 1 (op.Call 0) ∷ at 1 (op.PutLine 1) ∷ at 0 op.Return
     ∷ at 1 op.Drop ∷ at 0 (op.Push (pos 0)) ∷ at 1 (op.PutLine 2) ∷ at 0 op.Return
     ∷ at 0 (op.Call 1) ∷ at 0 op.Return ∷ [])
 
 deep_keeps : keeps deep ≡ true
 deep_keeps = refl
 
-deep_text : code_text deep [] 1000 ≡ codes "0 MAIN f 29\n0 MAIN se 0\nended at 0\n"
+deep_text : code_text deep [] 4000 ≡ codes "0 MAIN f 125\n0 MAIN se 0\nended at 0\n"
 unfolding digits
 deep_text = refl
 

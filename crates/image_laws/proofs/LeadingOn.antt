@@ -10,6 +10,7 @@ use Rattle.image_laws.specs.Laws.{CodeLeadsOn, EachIsHeld, HasSize, ImagesHaveSi
 use Rattle.image.specs.declared.subprograms.Subprogram.{Subprogram}
 use Rattle.image.specs.RuleFacts.{facts}
 use Rattle.image.specs.RuleLaws.{holder_here, holder_later}
+use Rattle.image_laws.proofs.Widest.{widest_low, within_widest}
 use Rattle.image_laws.proofs.WellFormed.{depths, ends_within, frame_words, held_inside, holder_number_of, jump_held, last_end-next, last_is, names, not_last, rising}
 
 place_within : (i : Sections) → IsWellFormed i → (place : ℕ) (s : Subprogram) → holder i.subprograms place ≡ Some s → (p : ℕ) → p < s.end_ → p < length i.instructions
@@ -33,6 +34,7 @@ code_leads_on i w place s x is held =
       before = d.before;
       after = d.after;
       words = (frame_words i w n.0 s n.1).1;
+      narrow = within_widest i.subprograms n.0 s n.1;
     }
 
 someone : (subprograms : List Subprogram) (place : ℕ) → place < last_end subprograms → (s : Subprogram) × (holder subprograms place ≡ Some s)
@@ -64,5 +66,6 @@ images_have_size i w =
       subprograms = leb-true _ _ (and_parts (nat_le 1 (length i.subprograms)) _ b.0).1;
       tasks = leb-true _ _ (and_parts (nat_le 1 (length i.tasks)) _ c.0).1;
       objects = leb-true _ _ e.0;
+      wide = widest_low i.subprograms (λ n s is. (frame_words i w n s is).1);
       words = leb-true _ _ g.1;
     }

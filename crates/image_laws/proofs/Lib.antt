@@ -17,4 +17,5 @@ mod StepLinks
 mod Unread
 mod WellFormed
 mod Wholeness
+pub mod Widest
 mod Widths

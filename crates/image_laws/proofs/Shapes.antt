@@ -36,6 +36,7 @@ use Rattle.image.specs.declared.subprograms.Subprogram.{Subprogram}
 use Rattle.image.specs.declared.tasks.Task.{Task}
 use Rattle.image.specs.RuleLaws.{list_all-at, slice_get_inside}
 use Rattle.image_laws.proofs.HandlerProcedures.{handler_procedure}
+use Rattle.image_laws.proofs.Widest.{within_widest}
 use Rattle.image_laws.proofs.WellFormed.{body_kind, bodies, some_subprogram, begin_depth, begin_held, depths, frame_words, handler_held, has_depth-is, holder_next, jump_held, not_last}
 
 abbrev pub instr : ℕ → Operation → Instr
@@ -570,4 +571,4 @@ pub frames_have_room : FramesHaveRoom
 frames_have_room i w f s x st =
     let d = depths i w f.place x.depth x.operation s st.instruction st.within in
     let words = frame_words i w f.subprogram s st.subprogram in
-    record { operands = d.taken; before = d.before; after = d.after; parameters = words.0; words = words.1 }
+    record { operands = d.taken; before = d.before; after = d.after; parameters = words.0; words = words.1; narrow = within_widest i.subprograms f.subprogram s st.subprogram }

@@ -22,7 +22,6 @@ pub use decoding::decode;
 pub use operation::{Operation, Reckoning, Test};
 pub use program::Program;
 pub use role::Role;
-pub use row::TASK_WORDS;
 pub use running::{Within, run_within};
 pub use shared::{initial_row, object_words, plain_words, store_object_words, store_plain_words};
 pub use task_state::{CALLERS, TaskState};

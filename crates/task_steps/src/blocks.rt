@@ -3,6 +3,7 @@ ghost use Rattle.std.specs.Prelude.{◌≡◌, ◌+◌, ◌<◌, ◌≤◌, IfSo
 ghost use Rattle.base.specs.declared.limits.TheConstants.{WORDS};
 ghost use Rattle.image.specs.Frames.{region_words, words_at, words_put};
 ghost use Rattle.image.specs.declared.instruction.Operation.TheVariants as operations;
+ghost use Rattle.image_laws.specs.Room.{widest};
 ghost use Rattle.processor.specs.Decoding.{with_block, words_in};
 ghost use Rattle.task_steps.specs.Stepping.{Does, PutsWords, IsReadyFor, IsBlockKept, Put, block_at};
 
@@ -22,8 +23,10 @@ pub(crate) fn load_block(
     region: Region,
     count: u16,
 ) -> Act
-    requires { IsReadyFor program.now state.old (operations.LoadBlock region count) }
-    ensures { Does program.now (operations.LoadBlock region count) state.old memory.old result memory.new state.new }
+    requires here { IsReadyFor program.now state.old.task (operations.LoadBlock region count) }
+    requires width { state.old.width ≡ widest program.now }
+    ensures does { Does program.now (operations.LoadBlock region count) state.old.task memory.old result memory.new state.new.task }
+    ensures width { state.new.width ≡ state.old.width }
 {
     let index = operand(state, 0);
     if !keep_block(program, state, memory, region, index, count) {
@@ -43,8 +46,9 @@ pub(crate) fn store_block(
     region: Region,
     count: u16,
 ) -> Act
-    requires { IsReadyFor program.now state.old (operations.StoreBlock region count) }
-    ensures { Does program.now (operations.StoreBlock region count) state.old memory.old result memory.new state.new }
+    requires { IsReadyFor program.now state.old.task (operations.StoreBlock region count) }
+    ensures does { Does program.now (operations.StoreBlock region count) state.old.task memory.old result memory.new state.new.task }
+    ensures width { state.new.width ≡ state.old.width }
 {
     let index = operand(state, count);
     memory.keep(state.top(count));
@@ -65,8 +69,9 @@ pub(crate) fn copy(
     source: Region,
     count: u16,
 ) -> Act
-    requires { IsReadyFor program.now state.old (operations.Copy target source count) }
-    ensures { Does program.now (operations.Copy target source count) state.old memory.old result memory.new state.new }
+    requires { IsReadyFor program.now state.old.task (operations.Copy target source count) }
+    ensures does { Does program.now (operations.Copy target source count) state.old.task memory.old result memory.new state.new.task }
+    ensures width { state.new.width ≡ state.old.width }
 {
     let from = operand(state, 0);
     let to = operand(state, 1);
@@ -98,7 +103,7 @@ fn region_words<'a>(
     memory: &'a Memory,
     region: Region,
 ) -> &'a [i64]
-    ensures { result.now ≡ region_words program.now region (words_in program.now memory.now.shared) state.now.frame }
+    ensures { result.now ≡ region_words program.now region (words_in program.now memory.now.shared) state.now.task.frame }
 {
     match region {
         Region::Locals => state.locals(),
@@ -119,9 +124,9 @@ fn keep_block(
     index: i64,
     count: u16,
 ) -> bool
-    requires { length state.now.frame.locals ≤ WORDS }
+    requires { length state.now.task.frame.locals ≤ WORDS }
     ensures shared { memory.new.shared ≡ memory.old.shared }
-    ensures kept { IsBlockKept (words_at (region_words program.now region (words_in program.now memory.old.shared) state.now.frame) index count)
+    ensures kept { IsBlockKept (words_at (region_words program.now region (words_in program.now memory.old.shared) state.now.task.frame) index count)
         result memory.new.passed }
 {
     let words = region_words(program, state, memory, region);
@@ -141,10 +146,10 @@ fn keep_words(
     at: usize,
     count: usize,
 )
-    requires room { length state.now.frame.locals ≤ WORDS }
-    requires within { at + count ≤ length (region_words program.now region (words_in program.now memory.old.shared) state.now.frame) }
+    requires room { length state.now.task.frame.locals ≤ WORDS }
+    requires within { at + count ≤ length (region_words program.now region (words_in program.now memory.old.shared) state.now.task.frame) }
     ensures shared { memory.new.shared ≡ memory.old.shared }
-    ensures passed { memory.new.passed ≡ take count (drop at (region_words program.now region (words_in program.now memory.old.shared) state.now.frame)) }
+    ensures passed { memory.new.passed ≡ take count (drop at (region_words program.now region (words_in program.now memory.old.shared) state.now.task.frame)) }
 {
     match region {
         Region::Locals => memory.keep(&state.locals()[at..at + count]),
@@ -164,8 +169,9 @@ fn put_block(
     region: Region,
     index: i64,
 ) -> bool
-    ensures { Put program.now region (words_put (region_words program.now region (words_in program.now memory.old.shared) state.old.frame) index
-        memory.old.passed) result memory.old state.old memory.new state.new }
+    ensures put { Put program.now region (words_put (region_words program.now region (words_in program.now memory.old.shared) state.old.task.frame) index
+        memory.old.passed) result memory.old state.old.task memory.new state.new.task }
+    ensures width { state.new.width ≡ state.old.width }
 {
     let words = region_words(program, state, memory, region);
     let Some(at) = block_at(words.len(), index, memory.passed().len()) else {
@@ -183,9 +189,10 @@ fn put_words(
     region: Region,
     at: usize,
 )
-    requires { at + length memory.old.passed ≤ length (region_words program.now region (words_in program.now memory.old.shared) state.old.frame) }
-    ensures { PutsWords program.now region (with_block (region_words program.now region (words_in program.now memory.old.shared) state.old.frame) at
-        memory.old.passed) memory.old state.old memory.new state.new }
+    requires { at + length memory.old.passed ≤ length (region_words program.now region (words_in program.now memory.old.shared) state.old.task.frame) }
+    ensures put { PutsWords program.now region (with_block (region_words program.now region (words_in program.now memory.old.shared) state.old.task.frame) at
+        memory.old.passed) memory.old state.old.task memory.new state.new.task }
+    ensures width { state.new.width ≡ state.old.width }
 {
     match region {
         Region::Locals => state.store_locals(at, memory.passed()),

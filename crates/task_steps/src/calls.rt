@@ -1,10 +1,10 @@
 //! Calls (RM 6.4, 9.5.1, 9.5.3): the refusals of the kernel, each an exception at the call, and the frame of the call.
 ghost use Rattle.std.specs.Prelude.{◌≡◌, ◌<◌, ◌≤◌, ◌||◌, ℕ, List, None, Some, length};
-ghost use Rattle.base.specs.declared.limits.TheConstants.{FRAME_WORDS};
 ghost use Rattle.base.specs.declared.schedule.ScheduleLine.{ScheduleLine};
 ghost use Rattle.image.specs.Sections.{object_of};
 ghost use Rattle.image.specs.Steps.{enters, queues, with_frame_left};
 ghost use Rattle.image.specs.declared.instruction.Operation.TheVariants as operations;
+ghost use Rattle.image_laws.specs.Room.{widest};
 ghost use Rattle.kernel.specs.Effects.{is_above_ceiling, is_inside_any};
 ghost use Rattle.kernel.specs.State.{Kernel, is_task as of_task};
 ghost use Rattle.processor.specs.Decoding.{words_in};
@@ -33,8 +33,10 @@ pub(crate) fn call(
     memory: &Memory,
     number: u16,
 ) -> Act
-    requires { IsReadyFor program.now state.old (operations.Call number) }
-    ensures { DoesAs program.now (operations.Call number) state.old memory.now result memory.now state.new is_task }
+    requires here { IsReadyFor program.now state.old.task (operations.Call number) }
+    requires width { state.old.width ≡ widest program.now }
+    ensures does { DoesAs program.now (operations.Call number) state.old.task memory.now result memory.now state.new.task is_task }
+    ensures width { state.new.width ≡ state.old.width }
 {
     let Some(subprogram) = called(program, number) else {
         unreachable!()
@@ -62,9 +64,11 @@ pub(crate) fn protected_call<R: Ready, D: Delays>(
 ) -> Act
     requires task { StandsThere (kernel_of tasking.now) task }
     requires objects { (kernel_of tasking.now).partition.objects ≡ length program.now.objects }
-    requires here { IsReadyFor program.now state.old (operations.ProtectedCall number) }
-    ensures { (schedule : List ScheduleLine) → DoesIn program.now (operations.ProtectedCall number) state.old memory.now result memory.now state.new
-        schedule (kernel_of tasking.now) task }
+    requires here { IsReadyFor program.now state.old.task (operations.ProtectedCall number) }
+    requires width { state.old.width ≡ widest program.now }
+    ensures does { (schedule : List ScheduleLine) → DoesIn program.now (operations.ProtectedCall number) state.old.task memory.now result memory.now
+        state.new.task schedule (kernel_of tasking.now) task }
+    ensures width { state.new.width ≡ state.old.width }
 {
     let Some(subprogram) = called(program, number) else {
         unreachable!()
@@ -123,9 +127,11 @@ pub(crate) fn entry_call<R: Ready, D: Delays>(
 ) -> Act
     requires task { StandsThere (kernel_of tasking.now) task }
     requires objects { (kernel_of tasking.now).partition.objects ≡ length program.now.objects }
-    requires here { IsReadyFor program.now state.old (operations.EntryCall object) }
-    ensures { (schedule : List ScheduleLine) → DoesIn program.now (operations.EntryCall object) state.old memory.now result memory.now state.new
-        schedule (kernel_of tasking.now) task }
+    requires here { IsReadyFor program.now state.old.task (operations.EntryCall object) }
+    requires width { state.old.width ≡ widest program.now }
+    ensures does { (schedule : List ScheduleLine) → DoesIn program.now (operations.EntryCall object) state.old.task memory.now result memory.now
+        state.new.task schedule (kernel_of tasking.now) task }
+    ensures width { state.new.width ≡ state.old.width }
 {
     let Some(number) = entry(program, object) else {
         unreachable!()
@@ -179,12 +185,14 @@ fn queue<R: Ready, D: Delays>(
     object: u8,
 ) -> Act
     requires object { object < (kernel_of tasking.now).partition.objects }
-    requires quiet { state.old.raising ≡ None }
-    requires raises { MayRaise program.now state.old }
-    ensures { (schedule : List ScheduleLine) (t : ℕ) → of_task (kernel_of tasking.now).partition t ≡ is_task → with_frame_left program.now schedule
-        (kernel_of tasking.now) t (words_in program.now memory.now.shared) state.old.frame state.old.callers
-        (queues program.now schedule (kernel_of tasking.now) t (words_in program.now memory.now.shared) state.old.frame state.old.callers object)
-        ≡ stepped_of program.now result memory.now state.new }
+    requires quiet { state.old.task.raising ≡ None }
+    requires raises { MayRaise program.now state.old.task }
+    requires width { state.old.width ≡ widest program.now }
+    ensures does { (schedule : List ScheduleLine) (t : ℕ) → of_task (kernel_of tasking.now).partition t ≡ is_task → with_frame_left program.now schedule
+        (kernel_of tasking.now) t (words_in program.now memory.now.shared) state.old.task.frame state.old.task.callers
+        (queues program.now schedule (kernel_of tasking.now) t (words_in program.now memory.now.shared) state.old.task.frame state.old.task.callers object)
+        ≡ stepped_of program.now result memory.now state.new.task }
+    ensures width { state.new.width ≡ state.old.width }
 {
     if is_full(is_task, state) {
         return raise_predefined(program, state, memory, PredefinedException::StorageError);
@@ -207,15 +215,17 @@ fn enter(
     role: Role,
     effect: Effect,
 ) -> Act
-    requires there { subprogram.now.parameters ≤ length state.old.frame.stack }
+    requires there { subprogram.now.parameters ≤ length state.old.task.frame.stack }
     requires fits { subprogram.now.parameters ≤ subprogram.now.locals }
-    requires room { subprogram.now.locals ≤ FRAME_WORDS }
-    requires quiet { state.old.raising ≡ None }
-    requires raises { MayRaise program.now state.old }
-    ensures { (schedule : List ScheduleLine) (k : Kernel) (t : ℕ) → of_task k.partition t ≡ is_task → with_frame_left program.now schedule k t
-        (words_in program.now memory.now.shared) state.old.frame state.old.callers
-        (enters program.now schedule k t (words_in program.now memory.now.shared) state.old.frame state.old.callers
-        (effect_of program.now effect) (role_of role) number subprogram.now) ≡ stepped_of program.now result memory.now state.new }
+    requires room { subprogram.now.locals ≤ widest program.now }
+    requires quiet { state.old.task.raising ≡ None }
+    requires raises { MayRaise program.now state.old.task }
+    requires width { state.old.width ≡ widest program.now }
+    ensures does { (schedule : List ScheduleLine) (k : Kernel) (t : ℕ) → of_task k.partition t ≡ is_task → with_frame_left program.now schedule k t
+        (words_in program.now memory.now.shared) state.old.task.frame state.old.task.callers
+        (enters program.now schedule k t (words_in program.now memory.now.shared) state.old.task.frame state.old.task.callers
+        (effect_of program.now effect) (role_of role) number subprogram.now) ≡ stepped_of program.now result memory.now state.new.task }
+    ensures width { state.new.width ≡ state.old.width }
 {
     if is_full(is_task, state) {
         return raise_predefined(program, state, memory, PredefinedException::StorageError);

@@ -73,27 +73,27 @@ fn failure(value: Checked) -> Option<u16>
 
 // The word on top of the running frame's operand stack.
 fn top(state: &TaskState) -> i64
-    requires there { 1 ≤ length state.now.frame.stack }
-    requires few { length state.now.frame.stack ≤ FRAME_WORDS }
-    ensures { state.now.frame.stack ≡ result ∷ drop 1 state.now.frame.stack }
+    requires there { 1 ≤ length state.now.task.frame.stack }
+    requires few { length state.now.task.frame.stack ≤ FRAME_WORDS }
+    ensures { state.now.task.frame.stack ≡ result ∷ drop 1 state.now.task.frame.stack }
 {
     operand(state, 0)
 }
 
 // The two words on top, the deeper one first.
 fn top_two(state: &TaskState) -> (i64, i64)
-    requires there { 2 ≤ length state.now.frame.stack }
-    requires few { length state.now.frame.stack ≤ FRAME_WORDS }
-    ensures { state.now.frame.stack ≡ result.1 ∷ result.0 ∷ drop 2 state.now.frame.stack }
+    requires there { 2 ≤ length state.now.task.frame.stack }
+    requires few { length state.now.task.frame.stack ≤ FRAME_WORDS }
+    ensures { state.now.task.frame.stack ≡ result.1 ∷ result.0 ∷ drop 2 state.now.task.frame.stack }
 {
     (operand(state, 1), operand(state, 0))
 }
 
 // A word on top that is checked against the two above it.
 fn check_top(state: &TaskState) -> Checked
-    requires there { 3 ≤ length state.now.frame.stack }
-    requires few { length state.now.frame.stack ≤ FRAME_WORDS }
-    ensures { failure result ≡ of_three (λ v least most. failure (in_bounds least most v)) state.now.frame.stack }
+    requires there { 3 ≤ length state.now.task.frame.stack }
+    requires few { length state.now.task.frame.stack ≤ FRAME_WORDS }
+    ensures { failure result ≡ of_three (λ v least most. failure (in_bounds least most v)) state.now.task.frame.stack }
 {
     let value = operand(state, 2);
     let least = operand(state, 1);
@@ -107,9 +107,9 @@ fn check_top(state: &TaskState) -> Checked
 
 // What stands in the place of the value of one word.
 fn of_word(state: &TaskState, operation: Operation) -> Option<u16>
-    requires there { 1 ≤ length state.now.frame.stack }
-    requires few { length state.now.frame.stack ≤ FRAME_WORDS }
-    ensures { result ≡ word_failure operation state.now.frame.stack }
+    requires there { 1 ≤ length state.now.task.frame.stack }
+    requires few { length state.now.task.frame.stack ≤ FRAME_WORDS }
+    ensures { result ≡ word_failure operation state.now.task.frame.stack }
 {
     let word = top(state);
     match operation {
@@ -121,9 +121,9 @@ fn of_word(state: &TaskState, operation: Operation) -> Option<u16>
 
 // What stands in the place of the value of two words.
 fn of_words(state: &TaskState, operation: Operation) -> Option<u16>
-    requires there { 2 ≤ length state.now.frame.stack }
-    requires few { length state.now.frame.stack ≤ FRAME_WORDS }
-    ensures { result ≡ words_failure operation state.now.frame.stack }
+    requires there { 2 ≤ length state.now.task.frame.stack }
+    requires few { length state.now.task.frame.stack ≤ FRAME_WORDS }
+    ensures { result ≡ words_failure operation state.now.task.frame.stack }
 {
     let (left, right) = top_two(state);
     match operation {
@@ -139,7 +139,7 @@ fn of_words(state: &TaskState, operation: Operation) -> Option<u16>
 
 // A call needs a frame behind those that there are.
 fn without_frame(is_task: bool, state: &TaskState) -> Option<u16>
-    ensures { result ≡ with_frame (frames_counted is_task state.now.callers) None }
+    ensures { result ≡ with_frame (frames_counted is_task state.now.task.callers) None }
 {
     if is_full(is_task, state) {
         Some(PredefinedException::StorageError.number())
@@ -150,8 +150,8 @@ fn without_frame(is_task: bool, state: &TaskState) -> Option<u16>
 
 // CALL.
 fn of_call(program: &Program, is_task: bool, state: &TaskState, number: u16) -> Option<u16>
-    requires { IsReadyFor program.now state.now (operations.Call number) }
-    ensures { result ≡ of_call (frames_counted is_task state.now.callers) (length state.now.frame.stack) (called program.now number) }
+    requires { IsReadyFor program.now state.now.task (operations.Call number) }
+    ensures { result ≡ of_call (frames_counted is_task state.now.task.callers) (length state.now.task.frame.stack) (called program.now number) }
 {
     let Some(_) = called(program, number) else {
         unreachable!()
@@ -169,9 +169,9 @@ fn of_protected_call<R: Ready, D: Delays>(
 ) -> Option<u16>
     requires task { StandsThere (kernel_of tasking.now) task }
     requires objects { (kernel_of tasking.now).partition.objects ≡ length program.now.objects }
-    requires here { IsReadyFor program.now state.now (operations.ProtectedCall number) }
-    ensures { let k = kernel_of tasking.now in result ≡ of_protected k task (frames_in_use k.partition task state.now.callers)
-        (length state.now.frame.stack) (called program.now number) }
+    requires here { IsReadyFor program.now state.now.task (operations.ProtectedCall number) }
+    ensures { let k = kernel_of tasking.now in result ≡ of_protected k task (frames_in_use k.partition task state.now.task.callers)
+        (length state.now.task.frame.stack) (called program.now number) }
 {
     let Some(subprogram) = called(program, number) else {
         unreachable!()
@@ -194,9 +194,9 @@ fn of_entry_call<R: Ready, D: Delays>(
 ) -> Option<u16>
     requires task { StandsThere (kernel_of tasking.now) task }
     requires objects { (kernel_of tasking.now).partition.objects ≡ length program.now.objects }
-    requires here { IsReadyFor program.now state.now (operations.EntryCall object) }
+    requires here { IsReadyFor program.now state.now.task (operations.EntryCall object) }
     ensures { let k = kernel_of tasking.now in result ≡ of_entry program.now k task (words_in program.now memory.now.shared)
-        (frames_in_use k.partition task state.now.callers) (length state.now.frame.stack) object (entry_of (slice_get program.now.objects object)) }
+        (frames_in_use k.partition task state.now.task.callers) (length state.now.task.frame.stack) object (entry_of (slice_get program.now.objects object)) }
 {
     let Some(number) = entry(program, object) else {
         unreachable!()
@@ -241,9 +241,9 @@ fn of_operation<R: Ready, D: Delays>(
 ) -> Option<u16>
     requires task { StandsThere (kernel_of tasking.now) task }
     requires objects { (kernel_of tasking.now).partition.objects ≡ length program.now.objects }
-    requires here { IsReadyFor program.now state.now operation }
-    ensures { result ≡ of_operation program.now schedule.now (kernel_of tasking.now) task (words_in program.now memory.now.shared) state.now.frame
-        (frames_in_use (kernel_of tasking.now).partition task state.now.callers) operation }
+    requires here { IsReadyFor program.now state.now.task operation }
+    ensures { result ≡ of_operation program.now schedule.now (kernel_of tasking.now) task (words_in program.now memory.now.shared) state.now.task.frame
+        (frames_in_use (kernel_of tasking.now).partition task state.now.task.callers) operation }
 {
     match operation {
         Operation::Negate | Operation::Absolute => of_word(state, operation),
@@ -279,8 +279,8 @@ fn exception_ahead<R: Ready, D: Delays>(
 ) -> Option<u16>
     requires task { StandsThere (kernel_of tasking.now) task }
     requires objects { (kernel_of tasking.now).partition.objects ≡ length program.now.objects }
-    requires sound { IsSound program.now (is_task (kernel_of tasking.now).partition task) state.now }
-    ensures { result ≡ raised program.now schedule.now (kernel_of tasking.now) task (solo_in program.now memory.now state.now) }
+    requires sound { IsSound program.now (is_task (kernel_of tasking.now).partition task) state.now.task }
+    ensures { result ≡ raised program.now schedule.now (kernel_of tasking.now) task (solo_in program.now memory.now state.now.task) }
 {
     frames_have_room();
     let _image = program.image();
@@ -360,7 +360,7 @@ fn operation_cause<R: Ready, D: Delays>(
 ) -> Option<Cause>
     requires task { StandsThere (kernel_of tasking.now) task }
     requires objects { (kernel_of tasking.now).partition.objects ≡ length program.now.objects }
-    requires here { IsReadyFor program.now state.now operation }
+    requires here { IsReadyFor program.now state.now.task operation }
     ensures { result ≡ operation_cause program.now (kernel_of tasking.now) task operation }
 {
     match operation {
@@ -382,8 +382,8 @@ fn cause_here<R: Ready, D: Delays>(
 ) -> Option<Cause>
     requires task { StandsThere (kernel_of tasking.now) task }
     requires objects { (kernel_of tasking.now).partition.objects ≡ length program.now.objects }
-    requires sound { IsSound program.now (is_task (kernel_of tasking.now).partition task) state.now }
-    ensures { result ≡ cause_here program.now (kernel_of tasking.now) task state.now state.now.raising }
+    requires sound { IsSound program.now (is_task (kernel_of tasking.now).partition task) state.now.task }
+    ensures { result ≡ cause_here program.now (kernel_of tasking.now) task state.now.task state.now.task.raising }
 {
     frames_have_room();
     let _image = program.image();
@@ -406,8 +406,8 @@ fn cause_of<R: Ready, D: Delays>(
 ) -> Option<Cause>
     requires task { StandsThere (kernel_of tasking.now) task }
     requires objects { (kernel_of tasking.now).partition.objects ≡ length program.now.objects }
-    requires sound { IsSound program.now (is_task (kernel_of tasking.now).partition task) state.now }
-    ensures { result ≡ where_refused (Some exception) (cause_here program.now (kernel_of tasking.now) task state.now state.now.raising) }
+    requires sound { IsSound program.now (is_task (kernel_of tasking.now).partition task) state.now.task }
+    ensures { result ≡ where_refused (Some exception) (cause_here program.now (kernel_of tasking.now) task state.now.task state.now.task.raising) }
 {
     if exception == PredefinedException::ProgramError.number() {
         cause_here(program, tasking, task, state)
@@ -427,8 +427,8 @@ pub fn raising_ahead<R: Ready, D: Delays>(
 ) -> Option<Raising>
     requires task { StandsThere (kernel_of tasking.now) task }
     requires objects { (kernel_of tasking.now).partition.objects ≡ length program.now.objects }
-    requires sound { IsSound program.now (is_task (kernel_of tasking.now).partition task) state.now }
-    ensures { result ≡ raising_ahead program.now schedule.now (kernel_of tasking.now) task (solo_in program.now memory.now state.now) }
+    requires sound { IsSound program.now (is_task (kernel_of tasking.now).partition task) state.now.task }
+    ensures { result ≡ raising_ahead program.now schedule.now (kernel_of tasking.now) task (solo_in program.now memory.now state.now.task) }
 {
     let exception = exception_ahead(program, schedule, tasking, task, state, memory)?;
     Some(Raising {

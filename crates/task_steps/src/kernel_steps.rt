@@ -7,6 +7,7 @@ ghost use Rattle.base.specs.declared.schedule.ScheduleLine.{ScheduleLine};
 ghost use Rattle.image.specs.Scalars.{input_of};
 ghost use Rattle.image.specs.Steps.{unwind};
 ghost use Rattle.image.specs.declared.instruction.Operation.TheVariants as operations;
+ghost use Rattle.image_laws.specs.Room.{widest};
 ghost use Rattle.kernel.specs.Effects.{is_inside_any};
 ghost use Rattle.kernel.specs.State.{Kernel};
 ghost use Rattle.processor.specs.Decoding.{words_in};
@@ -36,11 +37,13 @@ fn refuse_inside<R: Ready, D: Delays>(
     memory: &Memory,
 ) -> Option<Act>
     requires task { StandsThere (kernel_of tasking.now) task }
-    requires raises { MayRaise program.now state.old }
+    requires raises { MayRaise program.now state.old.task }
+    requires width { state.old.width ≡ widest program.now }
     ensures inside { is_some result ≡ is_inside_any (kernel_of tasking.now) task }
-    ensures refused { IfSome result (λ act. unwind program.now (words_in program.now memory.now.shared) (number_of ProgramError) state.old.frame
-        state.old.callers ≡ stepped_of program.now act memory.now state.new) }
-    ensures passed { result ≡ None → state.new ≡ state.old }
+    ensures refused { IfSome result (λ act. unwind program.now (words_in program.now memory.now.shared) (number_of ProgramError) state.old.task.frame
+        state.old.task.callers ≡ stepped_of program.now act memory.now state.new.task) }
+    ensures passed { result ≡ None → state.new.task ≡ state.old.task }
+    ensures width { state.new.width ≡ state.old.width }
 {
     if tasking.is_inside_any(task) {
         Some(raise_predefined(program, state, memory, PredefinedException::ProgramError))
@@ -58,9 +61,11 @@ pub(crate) fn check_blocking<R: Ready, D: Delays>(
     memory: &Memory,
 ) -> Act
     requires task { StandsThere (kernel_of tasking.now) task }
-    requires here { IsReadyFor program.now state.old operations.CheckBlocking }
-    ensures { (schedule : List ScheduleLine) → DoesIn program.now operations.CheckBlocking state.old memory.now result memory.now state.new schedule
-        (kernel_of tasking.now) task }
+    requires here { IsReadyFor program.now state.old.task operations.CheckBlocking }
+    requires width { state.old.width ≡ widest program.now }
+    ensures does { (schedule : List ScheduleLine) → DoesIn program.now operations.CheckBlocking state.old.task memory.now result memory.now state.new.task
+        schedule (kernel_of tasking.now) task }
+    ensures width { state.new.width ≡ state.old.width }
 {
     if let Some(act) = refuse_inside(program, tasking, task, state, memory) {
         return act;
@@ -78,9 +83,11 @@ pub(crate) fn delay_until<R: Ready, D: Delays>(
     memory: &Memory,
 ) -> Act
     requires task { StandsThere (kernel_of tasking.now) task }
-    requires here { IsReadyFor program.now state.old operations.DelayUntil }
-    ensures { (schedule : List ScheduleLine) → DoesIn program.now operations.DelayUntil state.old memory.now result memory.now state.new schedule
+    requires here { IsReadyFor program.now state.old.task operations.DelayUntil }
+    requires width { state.old.width ≡ widest program.now }
+    ensures does { (schedule : List ScheduleLine) → DoesIn program.now operations.DelayUntil state.old.task memory.now result memory.now state.new.task schedule
         (kernel_of tasking.now) task }
+    ensures width { state.new.width ≡ state.old.width }
 {
     if let Some(act) = refuse_inside(program, tasking, task, state, memory) {
         return act;
@@ -92,8 +99,9 @@ pub(crate) fn delay_until<R: Ready, D: Delays>(
 
 /// PUT.
 pub(crate) fn put_line(program: &Program, state: &mut TaskState, memory: &Memory, label: u16) -> Act
-    requires { IsReadyFor program.now state.old (operations.PutLine label) }
-    ensures { Does program.now (operations.PutLine label) state.old memory.now result memory.now state.new }
+    requires { IsReadyFor program.now state.old.task (operations.PutLine label) }
+    ensures does { Does program.now (operations.PutLine label) state.old.task memory.now result memory.now state.new.task }
+    ensures width { state.new.width ≡ state.old.width }
 {
     let value = state.pop();
     state.advance();
@@ -108,8 +116,11 @@ pub(crate) fn read_input<R: Ready, D: Delays>(
     state: &mut TaskState,
     memory: &Memory,
 ) -> Act
-    requires { IsReadyFor program.now state.old operations.ReadInput }
-    ensures { (t : ℕ) → DoesIn program.now operations.ReadInput state.old memory.now result memory.now state.new schedule.now (kernel_of tasking.now) t }
+    requires here { IsReadyFor program.now state.old.task operations.ReadInput }
+    requires width { state.old.width ≡ widest program.now }
+    ensures does { (t : ℕ) → DoesIn program.now operations.ReadInput state.old.task memory.now result memory.now state.new.task schedule.now
+        (kernel_of tasking.now) t }
+    ensures width { state.new.width ≡ state.old.width }
 {
     let channel = operand(state, 0);
     match input(schedule, tasking.now(), channel) {
@@ -140,9 +151,11 @@ pub(crate) fn clock<R: Ready, D: Delays>(
     state: &mut TaskState,
     memory: &Memory,
 ) -> Act
-    requires { IsReadyFor program.now state.old operations.Clock }
-    ensures { (schedule : List ScheduleLine) (t : ℕ) → DoesIn program.now operations.Clock state.old memory.now result memory.now state.new schedule
-        (kernel_of tasking.now) t }
+    requires here { IsReadyFor program.now state.old.task operations.Clock }
+    requires width { state.old.width ≡ widest program.now }
+    ensures does { (schedule : List ScheduleLine) (t : ℕ) → DoesIn program.now operations.Clock state.old.task memory.now result memory.now state.new.task
+        schedule (kernel_of tasking.now) t }
+    ensures width { state.new.width ≡ state.old.width }
 {
     state.push(tasking.now());
     state.advance();
@@ -151,8 +164,10 @@ pub(crate) fn clock<R: Ready, D: Delays>(
 
 /// RAISE: the exception that the top word names.
 pub(crate) fn raise_named(program: &Program, state: &mut TaskState, memory: &Memory) -> Act
-    requires { IsReadyFor program.now state.old operations.Raise }
-    ensures { Does program.now operations.Raise state.old memory.now result memory.now state.new }
+    requires here { IsReadyFor program.now state.old.task operations.Raise }
+    requires width { state.old.width ≡ widest program.now }
+    ensures does { Does program.now operations.Raise state.old.task memory.now result memory.now state.new.task }
+    ensures width { state.new.width ≡ state.old.width }
 {
     let number = operand(state, 0);
     match lookups::exception(program, number) {
@@ -163,9 +178,9 @@ pub(crate) fn raise_named(program: &Program, state: &mut TaskState, memory: &Mem
 
 /// The word of the operand stack with so many above it.
 pub(crate) fn operand(state: &TaskState, above: u16) -> i64
-    requires there { above < length state.now.frame.stack }
-    requires few { length state.now.frame.stack ≤ FRAME_WORDS }
-    ensures { drop above state.now.frame.stack ≡ result ∷ drop (above + 1) state.now.frame.stack }
+    requires there { above < length state.now.task.frame.stack }
+    requires few { length state.now.task.frame.stack ≤ FRAME_WORDS }
+    ensures { drop above state.now.task.frame.stack ≡ result ∷ drop (above + 1) state.now.task.frame.stack }
 {
     state.top(above + 1)[0]
 }

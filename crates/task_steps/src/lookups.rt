@@ -13,7 +13,7 @@ use processor::{Program, TaskState};
 
 /// The operation of the running frame's instruction, where there is one.
 pub(crate) fn operation(program: &Program, state: &TaskState) -> Option<Operation>
-    ensures { result ≡ option_map (λ x. x.operation) (slice_get program.now.instructions state.now.frame.place) }
+    ensures { result ≡ option_map (λ x. x.operation) (slice_get program.now.instructions state.now.task.frame.place) }
 {
     let place = usize::from(state.place());
     program
@@ -50,8 +50,8 @@ pub fn first_place(program: &Program, number: u16) -> u16
 
 /// Whether no frame is left for a call: the frames of a task are the one that runs and those below it, of which the last one of a handler never runs (C.3.1).
 pub(crate) fn is_full(is_task: bool, state: &TaskState) -> bool
-    ensures left { result ≡ false → frames_counted is_task state.now.callers < FRAMES }
-    ensures none { result ≡ true → FRAMES ≤ frames_counted is_task state.now.callers }
+    ensures left { result ≡ false → frames_counted is_task state.now.task.callers < FRAMES }
+    ensures none { result ≡ true → FRAMES ≤ frames_counted is_task state.now.task.callers }
 {
     let limit = if is_task { FRAMES - 1 } else { FRAMES };
     limit <= state.callers()
@@ -59,7 +59,7 @@ pub(crate) fn is_full(is_task: bool, state: &TaskState) -> bool
 
 /// How many words the running frame's subprogram gives.
 pub(crate) fn results(program: &Program, state: &TaskState) -> u16
-    ensures { result ≡ results_of (called program.now state.now.frame.subprogram) }
+    ensures { result ≡ results_of (called program.now state.now.task.frame.subprogram) }
 {
     match called(program, state.subprogram()) {
         None => 0,
@@ -69,7 +69,7 @@ pub(crate) fn results(program: &Program, state: &TaskState) -> u16
 
 /// The object that the running frame's subprogram belongs to.
 pub(crate) fn own_object(program: &Program, state: &TaskState) -> Option<u16>
-    ensures { result ≡ own_object program.now state.now.frame }
+    ensures { result ≡ own_object program.now state.now.task.frame }
 {
     match called(program, state.subprogram()) {
         None => None,

@@ -1,6 +1,7 @@
 //! The operations that do more than to work on words of the running frame and shared ones, one by one.
 ghost use Rattle.std.specs.Prelude.{◌≡◌, None, Some, length, option_map, slice_get, true};
 ghost use Rattle.image.specs.Steps.{act};
+ghost use Rattle.image_laws.specs.Room.{widest};
 ghost use Rattle.image_laws.specs.Shape.{IsSound};
 ghost use Rattle.kernel.specs.State.{is_task};
 ghost use Rattle.processor.specs.Decoding.{is_left};
@@ -56,12 +57,14 @@ pub(crate) fn operate_here<R: Ready, D: Delays>(
 ) -> Act
     requires task { StandsThere (kernel_of tasking.now) task }
     requires objects { (kernel_of tasking.now).partition.objects ≡ length program.now.objects }
-    requires sound { IsSound program.now (is_task (kernel_of tasking.now).partition task) state.old }
-    requires quiet { state.old.raising ≡ None }
-    requires here { Some operation ≡ option_map (λ x. x.operation) (slice_get program.now.instructions state.old.frame.place) }
+    requires sound { IsSound program.now (is_task (kernel_of tasking.now).partition task) state.old.task }
+    requires quiet { state.old.task.raising ≡ None }
+    requires here { Some operation ≡ option_map (λ x. x.operation) (slice_get program.now.instructions state.old.task.frame.place) }
     requires left { is_left operation ≡ true }
-    ensures { act program.now schedule.now (kernel_of tasking.now) task (solo_in program.now memory.old state.old) ≡ stepped_of program.now result
-        memory.new state.new }
+    requires width { state.old.width ≡ widest program.now }
+    ensures does { act program.now schedule.now (kernel_of tasking.now) task (solo_in program.now memory.old state.old.task) ≡ stepped_of program.now result
+        memory.new state.new.task }
+    ensures width { state.new.width ≡ state.old.width }
 {
     frames_have_room();
     let _image = program.image();
@@ -80,9 +83,11 @@ fn operate<R: Ready, D: Delays>(
 ) -> Act
     requires task { StandsThere (kernel_of tasking.now) task }
     requires objects { (kernel_of tasking.now).partition.objects ≡ length program.now.objects }
-    requires here { IsReadyFor program.now state.old operation }
+    requires here { IsReadyFor program.now state.old.task operation }
     requires left { is_left operation ≡ true }
-    ensures { DoesIn program.now operation state.old memory.old result memory.new state.new schedule.now (kernel_of tasking.now) task }
+    requires width { state.old.width ≡ widest program.now }
+    ensures does { DoesIn program.now operation state.old.task memory.old result memory.new state.new.task schedule.now (kernel_of tasking.now) task }
+    ensures width { state.new.width ≡ state.old.width }
 {
     match operation {
         Operation::LoadBlock { region, words } => load_block(program, state, memory, region, words),

@@ -1,9 +1,9 @@
 //! Raising: frames are removed up to one that handles the exception, or to the end of an action (RM 11.4).
 ghost use Rattle.std.specs.Prelude.{◌≡◌, ◌<◌, ◌∷◌, [], IfSome, None, Some, length, pos};
 ghost use Rattle.base.specs.Exceptions.{number_of};
-ghost use Rattle.base.specs.declared.limits.TheConstants.{FRAME_WORDS};
 ghost use Rattle.handlers.specs.Innermost.{handler_of};
 ghost use Rattle.image.specs.Steps.{unwind};
+ghost use Rattle.image_laws.specs.Room.{widest};
 ghost use Rattle.processor.specs.Decoding.{words_in};
 ghost use Rattle.task_steps.specs.Acting.{stepped_of};
 ghost use Rattle.task_steps.specs.Stepping.{MayRaise, Unwinds};
@@ -26,9 +26,11 @@ pub(crate) fn raise_predefined(
     memory: &Memory,
     exception: PredefinedException,
 ) -> Act
-    requires { MayRaise program.now state.old }
-    ensures { unwind program.now (words_in program.now memory.now.shared) (number_of exception) state.old.frame state.old.callers ≡ stepped_of
-        program.now result memory.now state.new }
+    requires raises { MayRaise program.now state.old.task }
+    requires width { state.old.width ≡ widest program.now }
+    ensures does { unwind program.now (words_in program.now memory.now.shared) (number_of exception) state.old.task.frame state.old.task.callers ≡ stepped_of
+        program.now result memory.now state.new.task }
+    ensures width { state.new.width ≡ state.old.width }
 {
     raise(program, state, memory, exception.number())
 }
@@ -40,9 +42,11 @@ pub(crate) fn raise(
     memory: &Memory,
     exception: u16,
 ) -> Act
-    requires { MayRaise program.now state.old }
-    ensures { unwind program.now (words_in program.now memory.now.shared) exception state.old.frame state.old.callers ≡ stepped_of program.now result
-        memory.now state.new }
+    requires raises { MayRaise program.now state.old.task }
+    requires width { state.old.width ≡ widest program.now }
+    ensures does { unwind program.now (words_in program.now memory.now.shared) exception state.old.task.frame state.old.task.callers ≡ stepped_of program.now
+        result memory.now state.new.task }
+    ensures width { state.new.width ≡ state.old.width }
 {
     loop {
         if let Some(act) = unwind_frame(program, state, memory, exception) {
@@ -58,8 +62,10 @@ fn unwind_frame(
     memory: &Memory,
     exception: u16,
 ) -> Option<Act>
-    requires { MayRaise program.now state.old }
-    ensures { Unwinds program.now memory.now exception state.old result state.new }
+    requires raises { MayRaise program.now state.old.task }
+    requires width { state.old.width ≡ widest program.now }
+    ensures unwinds { Unwinds program.now memory.now exception state.old.task result state.new.task }
+    ensures width { state.new.width ≡ state.old.width }
 {
     if let Some(target) = handler(program, state, exception) {
         state.handle(target, exception);
@@ -75,10 +81,11 @@ fn unwind_frame(
 
 // Removes the running frame, which doesn't handle the exception: with an action the step ends.
 fn remove(program: &Program, state: &mut TaskState, memory: &Memory, exception: u16) -> Option<Act>
-    requires sound { MayRaise program.now state.old }
-    requires callers { 0 < length state.old.callers }
-    requires unhandled { handler_of program.now.rows state.old.frame.place exception ≡ None }
-    ensures { Unwinds program.now memory.now exception state.old result state.new }
+    requires sound { MayRaise program.now state.old.task }
+    requires callers { 0 < length state.old.task.callers }
+    requires unhandled { handler_of program.now.rows state.old.task.frame.place exception ≡ None }
+    ensures unwinds { Unwinds program.now memory.now exception state.old.task result state.new.task }
+    ensures width { state.new.width ≡ state.old.width }
 {
     frames_have_room();
     let _image = program.image();
@@ -115,9 +122,9 @@ pub(crate) fn ends(program: &Program, memory: &Memory, object: u16, given: Optio
 
 // Where the running frame goes on that handles the exception.
 fn handler(program: &Program, state: &TaskState, exception: u16) -> Option<u16>
-    requires { MayRaise program.now state.now }
-    ensures is { result ≡ handler_of program.now.rows state.now.frame.place exception }
-    ensures room { IfSome result (λ _. length state.now.frame.locals < FRAME_WORDS) }
+    requires { MayRaise program.now state.now.task }
+    ensures is { result ≡ handler_of program.now.rows state.now.task.frame.place exception }
+    ensures room { IfSome result (λ _. length state.now.task.frame.locals < widest program.now) }
 {
     steps_sound();
     frames_have_room();

@@ -1,6 +1,8 @@
-use Rattle.std.proofs.Common.{◌≡◌, Some, sym, ◌∙◌, rules}
+use Rattle.std.proofs.Common.{◌≡◌, Some, ap, sym, ◌∙◌, arith, rules}
 use Rattle.image.specs.Attachments.{attached_to}
 use Rattle.image.specs.Operations.{called}
+use Rattle.image_laws.specs.Room.{widest}
+use Rattle.processor.specs.Layout.{TaskRow}
 use Rattle.execution.proofs.Entries.{subprogram_fits}
 use Rattle.execution.proofs.Handlers.{handler_is, handles, no_parameters}
 use Rattle.execution.proofs.state.begin_handler.Goals as goal
@@ -28,13 +30,15 @@ serve-requires-clause-fits c =
 pub serve-requires-clause-room : goal.serve-requires-clause-room
 serve-requires-clause-room c =
     let there : called c.args.program.now c.in-Some.number ≡ Some c.in-Some-called.subprogram = search rules in
-    (subprogram_fits c.args.program.now c.image-image.ensures.well_formed c.code_leads_on.ensures.leads_on c.code_leads_on.ensures.size c.in-Some.number c.in-Some-called.subprogram there).1
+    let fits = (subprogram_fits c.args.program.now c.image-image.ensures.well_formed c.code_leads_on.ensures.leads_on c.code_leads_on.ensures.size c.in-Some.number c.in-Some-called.subprogram there).1 in
+    let width : c.restart.new.self.width ≡ widest c.args.program.now = ap {A = TaskRow} (λ r. r.width) c.restart.ensures ∙ c.requires in
+    omega (arith, fits, width)
 
-pub returns : goal.returns
-returns c =
+pub returns-clause-task : goal.returns-clause-task
+returns-clause-task c =
     let i = c.args.program.now in
     let is : attached_to c.args.channel i.attachments ≡ Some c.in-Some.number = search rules in
     let there : called i c.in-Some.number ≡ Some c.in-Some-called.subprogram = search rules in
-    handler_is i c.args.channel c.in-Some.number c.first_place-place.result c.in-Some-called.subprogram _ c.restart.new.self c.serve.new.self is there
+    handler_is i c.args.channel c.in-Some.number c.first_place-place.result c.in-Some-called.subprogram _ c.restart.new.self.task c.serve.new.self.task is there
     (no_parameters i c.image-image.ensures.well_formed c.args.channel c.in-Some.number c.in-Some-called.subprogram is there)
     c.first_place-place.ensures c.handler_role-role.ensures (search rules) c.serve.ensures.frame c.serve.ensures.callers c.serve.ensures.raising

@@ -9,13 +9,13 @@ use Rattle.tasking.specs.Held.{kernel_of}
 use Rattle.task_steps.proofs.CallSteps.{entry_calls, entry_closed, entry_open}
 use Rattle.task_steps.proofs.calls.entry_call.Goals as goal
 
-pub returns-then-not-is_open : goal.returns-then-not-is_open
-returns-then-not-is_open g c = λ schedule.
+pub returns-then-not-is_open-clause-does : goal.returns-then-not-is_open-clause-does
+returns-then-not-is_open-clause-does g c = λ schedule.
     let i = c.args.program.now in
     let k = kernel_of c.args.tasking.now in
     let m = words_in i c.args.memory.now.shared in
-    let f = c.args.state.now.frame in
-    let fs = c.args.state.now.callers in
+    let f = c.args.state.now.task.frame in
+    let fs = c.args.state.now.task.callers in
     let s = c.in-Some-called.subprogram in
     let n = c.in-Some.number in
     let o = c.args.object in
@@ -26,15 +26,15 @@ returns-then-not-is_open g c = λ schedule.
     let allowed : (is_inside_any k c.args.task || is_above_ceiling k c.args.task o) ≡ false = search rules in
     entry_calls i schedule k c.args.task m f fs o n s entry there enough
     ∙ (entry_closed i schedule k c.args.task m f fs o n s allowed closed
-    ∙ subst (λ p. with_frame_left i schedule k c.args.task m f fs (queues i schedule k c.args.task m f fs p) ≡ stepped_of i c.queue.result c.args.memory.now c.queue.new.state) c.object_number-object.ensures (c.queue.ensures schedule c.args.task (sym c.is_task-is_task.ensures)))
+    ∙ subst (λ p. with_frame_left i schedule k c.args.task m f fs (queues i schedule k c.args.task m f fs p) ≡ stepped_of i c.queue.result c.args.memory.now c.queue.new.state.task) c.object_number-object.ensures (c.queue.ensures.does schedule c.args.task (sym c.is_task-is_task.ensures)))
 
-pub returns : goal.returns
-returns g c = λ schedule.
+pub returns-clause-does : goal.returns-clause-does
+returns-clause-does g c = λ schedule.
     let i = c.args.program.now in
     let k = kernel_of c.args.tasking.now in
     let m = words_in i c.args.memory.now.shared in
-    let f = c.args.state.now.frame in
-    let fs = c.args.state.now.callers in
+    let f = c.args.state.now.task.frame in
+    let fs = c.args.state.now.task.callers in
     let s = c.in-Some-called.subprogram in
     let n = c.in-Some.number in
     let o = c.args.object in
@@ -48,4 +48,4 @@ returns g c = λ schedule.
     entry_calls i schedule k c.args.task m f fs o n s entry there enough
     ∙ (entry_open i schedule k c.args.task m f fs o n s allowed barrier
     ∙ (sym (λ j. with_frame_left i schedule k c.args.task m f fs (enters i schedule k c.args.task m f fs (Opens (number j)) (Opened (object j)) n s))
-    ∙ c.enter.ensures schedule k c.args.task (sym c.is_task-is_task.ensures)))
+    ∙ c.enter.ensures.does schedule k c.args.task (sym c.is_task-is_task.ensures)))

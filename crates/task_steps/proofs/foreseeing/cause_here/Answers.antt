@@ -6,7 +6,7 @@ use Rattle.task_steps.proofs.foreseeing.cause_here.Goals as goal
 
 pub operation_cause-requires-clause-here : goal.operation_cause-requires-clause-here
 operation_cause-requires-clause-here g c =
-    let quiet : c.args.state.now.raising ≡ None = search rules in
+    let quiet : c.args.state.now.task.raising ≡ None = search rules in
     is_ready c.args.program.now c.image-image.ensures.well_formed c.frames_have_room.ensures
-    (is_task (kernel_of c.args.tasking.now).partition c.args.task) c.args.state.now c.in-Some.operation c.requires.sound quiet
+    (is_task (kernel_of c.args.tasking.now).partition c.args.task) c.args.state.now.task c.in-Some.operation c.requires.sound quiet
     c.in-Some.ensures

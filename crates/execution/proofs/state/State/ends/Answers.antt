@@ -10,6 +10,7 @@ use Rattle.tasking.specs.declared.reports.Ending.{Ending as Left}
 use Rattle.execution.specs.Held.{HeldWorld}
 use Rattle.execution.specs.Settling.{CanReceive, CanServe, KernelDoes, given_tasks, served_tasks}
 use Rattle.execution.proofs.Ending.{can_receive, can_serve, caller_of, served_goes_on}
+use Rattle.execution.proofs.RowsOf.{tasks_count}
 use Rattle.execution.proofs.Settle.{does_give, does_seen, does_serve}
 use Rattle.execution.proofs.Tasks.{there_in}
 use Rattle.execution.proofs.state.State.ends.Goals as goal
@@ -25,7 +26,7 @@ pub serves-requires : goal.serves-requires
 serves-requires g c =
     let now = c.args.self.now in
     let w = subst (λ h. IsWellFormed h.image) c.self.view_is c.self.invariant.0 in
-    let size = subst (λ h. length h.tasks ≡ length h.image.tasks + 1) c.self.view_is c.self.invariant.1 in
+    let size = subst (λ h. length h.tasks ≡ length h.image.tasks + 1) c.self.view_is (tasks_count c.self.inside.tasks.items ∙ c.self.invariant.1) in
     let there = there_in _ now c.args.task _ c.self.view_is c.handler-handler.ensures.same c.handler-handler.ensures.running c.requires.whole.partition c.requires.runs.running in
     let is = ending_is _ now c.args.task c.args.is_open _ _ c.self.view_is c.end_action-ended.ensures.ending c.in-TakesOver.is in
     subst (λ h. CanServe h.image h.tasks c.args.task c.in-TakesOver.object c.in-TakesOver.caller) (sym c.self.view_is)
@@ -36,7 +37,7 @@ pub hands_back-requires : goal.hands_back-requires
 hands_back-requires g c =
     let now = c.args.self.now in
     let w = subst (λ h. IsWellFormed h.image) c.self.view_is c.self.invariant.0 in
-    let size = subst (λ h. length h.tasks ≡ length h.image.tasks + 1) c.self.view_is c.self.invariant.1 in
+    let size = subst (λ h. length h.tasks ≡ length h.image.tasks + 1) c.self.view_is (tasks_count c.self.inside.tasks.items ∙ c.self.invariant.1) in
     let there = there_in _ now c.args.task _ c.self.view_is c.handler-handler.ensures.same c.handler-handler.ensures.running c.requires.whole.partition c.requires.runs.running in
     let is = ending_is _ now c.args.task c.args.is_open _ _ c.self.view_is c.end_action-ended.ensures.ending c.in-HandsBack.is in
     subst (λ h. CanReceive h.image h.tasks c.in-HandsBack.caller (given_of h.memory.passed c.args.given)) (sym c.self.view_is)
@@ -57,7 +58,7 @@ returns-in-TakesOver g c =
     let now = c.args.self.now in
     let a : Act = record { effect = acts.Ends c.args.is_open; given = c.args.given } in
     let w = subst (λ h. IsWellFormed h.image) c.self.view_is c.self.invariant.0 in
-    let size = subst (λ h. length h.tasks ≡ length h.image.tasks + 1) c.self.view_is c.self.invariant.1 in
+    let size = subst (λ h. length h.tasks ≡ length h.image.tasks + 1) c.self.view_is (tasks_count c.self.inside.tasks.items ∙ c.self.invariant.1) in
     let there = there_in _ now c.args.task _ c.self.view_is c.handler-handler.ensures.same c.handler-handler.ensures.running c.requires.whole.partition c.requires.runs.running in
     let kernel = c.end_action-ended.ensures.kernel ∙ ap (λ h. after c.args.task (Ends c.args.is_open) (kernel_of h.tasking)) c.self.view_is in
     let over = c.end_action-ended.ensures.over ∙ ap (λ h. is_handler_over (kernel_of h.tasking) c.args.task (Ends c.args.is_open)) c.self.view_is in
@@ -75,7 +76,7 @@ returns-in-HandsBack g c =
     let now = c.args.self.now in
     let a : Act = record { effect = acts.Ends c.args.is_open; given = c.args.given } in
     let w = subst (λ h. IsWellFormed h.image) c.self.view_is c.self.invariant.0 in
-    let size = subst (λ h. length h.tasks ≡ length h.image.tasks + 1) c.self.view_is c.self.invariant.1 in
+    let size = subst (λ h. length h.tasks ≡ length h.image.tasks + 1) c.self.view_is (tasks_count c.self.inside.tasks.items ∙ c.self.invariant.1) in
     let there = there_in _ now c.args.task _ c.self.view_is c.handler-handler.ensures.same c.handler-handler.ensures.running c.requires.whole.partition c.requires.runs.running in
     let kernel = c.end_action-ended.ensures.kernel ∙ ap (λ h. after c.args.task (Ends c.args.is_open) (kernel_of h.tasking)) c.self.view_is in
     let over = c.end_action-ended.ensures.over ∙ ap (λ h. is_handler_over (kernel_of h.tasking) c.args.task (Ends c.args.is_open)) c.self.view_is in

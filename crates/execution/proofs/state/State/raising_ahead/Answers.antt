@@ -5,12 +5,14 @@ use Rattle.image_laws.specs.Whole.{IsWhole}
 use Rattle.kernel.specs.Calm.{IsRunner}
 use Rattle.kernel.specs.State.{is_task}
 use Rattle.kernel.specs.Worlds.{solo_of}
+use Rattle.processor.specs.Layout.{TaskRow}
 use Rattle.task_steps.specs.Acting.{solo_in}
 use Rattle.task_steps.specs.Raised.{raising_ahead}
 use Rattle.tasking.specs.Held.{kernel_of}
-use Rattle.execution.specs.Held.{rest_of, row_of, task_at, world_of}
+use Rattle.execution.specs.Held.{rest_of, row_of, task_at, tasks_in, world_of}
 use Rattle.execution.specs.Settling.{RunsThere}
 use Rattle.execution.proofs.Ahead.{ahead_same}
+use Rattle.execution.proofs.RowsOf.{task_get}
 use Rattle.execution.proofs.Tasks.{at_row, there_in}
 use Rattle.execution.proofs.state.State.raising_ahead.Goals as goal
 
@@ -30,11 +32,13 @@ raising_ahead-requires-clause-sound g c =
     let t = subst (λ h. RunsThere h.image h.tasking.handler c.args.task) (sym c.self.view_is)
     (there_in _ c.args.self.now c.args.task _ c.self.view_is c.handler-handler.ensures.same c.handler-handler.ensures.running c.requires.whole.partition c.requires.runs.running) in
     let row = c.row-row.ensures ∙ ap (λ h. row_of h.image task) (sym c.self.view_is) in
-    let here : c.in-Some.state.now ≡ task_at program c.self.inside.tasking.handler c.self.inside.tasks.items task =
-    c.in-Some.ensures.lookup.3.1 start ∙ ap (λ n. get_or c.deref.result.now n start) row
-    ∙ (ap (λ ts. get_or ts (row_of program task) start) c.deref.ensures.value
-    ∙ sym (at_row program c.self.inside.tasking.handler c.self.inside.tasks.items task t.here)) in
-    subst (λ p. IsSound program (is_task p task) c.in-Some.state.now) (sym whole.partition) (subst (IsSound program (is_task (partition_of program) task)) (sym here) sound)
+    let rows = c.self.inside.tasks.items in
+    let none : TaskRow = record { task = start; width = 0 } in
+    let here : c.in-Some.state.now.task ≡ task_at program c.self.inside.tasking.handler (tasks_in rows) task =
+    ap {A = TaskRow} (λ r. r.task) (c.in-Some.ensures.lookup.3.1 none ∙ ap (λ n. get_or c.deref.result.now n none) row
+    ∙ ap (λ rs. get_or rs (row_of program task) none) c.deref.ensures.value)
+    ∙ (task_get rows (row_of program task) none ∙ sym (at_row program c.self.inside.tasking.handler (tasks_in rows) task t.here)) in
+    subst (λ p. IsSound program (is_task p task) c.in-Some.state.now.task) (sym whole.partition) (subst (IsSound program (is_task (partition_of program) task)) (sym here) sound)
 
 pub returns : goal.returns
 returns g c = λ lines.
@@ -46,13 +50,15 @@ returns g c = λ lines.
     let t = subst (λ h. RunsThere h.image h.tasking.handler c.args.task) (sym c.self.view_is)
     (there_in _ c.args.self.now c.args.task _ c.self.view_is c.handler-handler.ensures.same c.handler-handler.ensures.running c.requires.whole.partition c.requires.runs.running) in
     let row = c.row-row.ensures ∙ ap (λ h. row_of h.image task) (sym c.self.view_is) in
-    let here : c.in-Some.state.now ≡ task_at program c.self.inside.tasking.handler c.self.inside.tasks.items task =
-    c.in-Some.ensures.lookup.3.1 start ∙ ap (λ n. get_or c.deref.result.now n start) row
-    ∙ (ap (λ ts. get_or ts (row_of program task) start) c.deref.ensures.value
-    ∙ sym (at_row program c.self.inside.tasking.handler c.self.inside.tasks.items task t.here)) in
+    let rows = c.self.inside.tasks.items in
+    let none : TaskRow = record { task = start; width = 0 } in
+    let here : c.in-Some.state.now.task ≡ task_at program c.self.inside.tasking.handler (tasks_in rows) task =
+    ap {A = TaskRow} (λ r. r.task) (c.in-Some.ensures.lookup.3.1 none ∙ ap (λ n. get_or c.deref.result.now n none) row
+    ∙ ap (λ rs. get_or rs (row_of program task) none) c.deref.ensures.value)
+    ∙ (task_get rows (row_of program task) none ∙ sym (at_row program c.self.inside.tasking.handler (tasks_in rows) task t.here)) in
     subst (λ h. c.raising_ahead.result ≡ raising_ahead h.image h.schedule (record (kernel_of h.tasking) { lines = lines }) task (solo_of task (rest_of h)))
     c.self.view_is
     (c.raising_ahead.ensures
     ∙ ap (λ s. raising_ahead program schedule k task (solo_in program c.self.inside.memory s)) here
     ∙ sym (ahead_same program k lines task c.lines_unread.ensures schedule
-    (solo_in program c.self.inside.memory (task_at program c.self.inside.tasking.handler c.self.inside.tasks.items task))))
+    (solo_in program c.self.inside.memory (task_at program c.self.inside.tasking.handler (tasks_in rows) task))))

@@ -4,6 +4,7 @@ use Rattle.image.specs.Rules.{IsWellFormed}
 use Rattle.kernel.specs.Interrupts.{actor_if}
 use Rattle.tasking.specs.Held.{kernel_of}
 use Rattle.execution.specs.Held.{HeldWorld}
+use Rattle.execution.proofs.RowsOf.{tasks_count}
 use Rattle.execution.proofs.Settle.{settles_begun, still_there}
 use Rattle.execution.proofs.state.State.settle.Goals as goal
 
@@ -19,7 +20,7 @@ prepare_if_begun-requires g c =
 pub returns-clause-settles : goal.returns-clause-settles
 returns-clause-settles g c =
     let w = subst (λ h. IsWellFormed h.image) c.self.view_is c.self.invariant.0 in
-    let size = subst (λ h. length h.tasks ≡ length h.image.tasks + 1) c.self.view_is c.self.invariant.1 in
+    let size = subst (λ h. length h.tasks ≡ length h.image.tasks + 1) c.self.view_is (tasks_count c.self.inside.tasks.items ∙ c.self.invariant.1) in
     let before =
     subst (λ h. h.tasking.handler ≡ actor_if (kernel_of h.tasking).partition (kernel_of h.tasking).running) c.self.view_is
     (sym c.handler-before.ensures.same ∙ c.handler-before.ensures.running) in
