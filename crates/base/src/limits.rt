@@ -22,7 +22,7 @@ pub const CEILING: u8 = 31;
 /// Instructions of an image.
 pub const INSTRUCTIONS: usize = 65_535;
 /// Subprograms of an image: those of the source, the tasks' bodies and main's.
-pub const SUBPROGRAMS: usize = 145;
+pub const SUBPROGRAMS: usize = 193;
 /// The predefined exceptions (RM 11.1).
 pub const PREDEFINED_EXCEPTIONS: usize = 4;
 /// Exceptions of an image: the predefined ones and those of the source.
@@ -38,14 +38,14 @@ pub const FORMALS: usize = 8;
 /// Components of an array.
 pub const COMPONENTS: usize = 1_024;
 /// Tasks, main among them.
-pub const TASKS: usize = 17;
+pub const TASKS: usize = 65;
 /// Protected objects.
-pub const OBJECTS: usize = 16;
+pub const OBJECTS: usize = 64;
 /// Handler rows of an image.
 pub const ROWS: usize = 4_096;
 
 /// Open frames of a task, its body's frame among them.
-pub const FRAMES: usize = 32;
+pub const FRAMES: usize = 128;
 /// Words of a frame: its locals and its operand stack.
 pub const FRAME_WORDS: usize = 512;
 

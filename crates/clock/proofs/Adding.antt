@@ -7,6 +7,7 @@ use Rattle.std.proofs.lemmas.Bool.{ltb-true, ltb-false, eqb-true, eq-eqb}
 use Rattle.std.proofs.lemmas.List.{length-map, map-append}
 use Rattle.std.proofs.lemmas.List.Sorted.{Contains-permutation, IsPermutation-append_comm, IsPermutation-map, IsPermutation-pop_more, IsPermutation-sym, IsPermutation-to_front}
 use Rattle.std.proofs.lemmas.Map.Keys.{IsDistinct-IsPermutation, IsDistinct-tail}
+use Rattle.base.specs.declared.limits.TheConstants.{TASKS}
 use Rattle.clock.specs.declared.delays.Sleeper.{Sleeper}
 use Rattle.clock.specs.declared.heap.Entry.{Entry}
 use Rattle.clock.specs.Numbering.{Numbered, added as one_added, free_number}
@@ -264,7 +265,7 @@ all_grown p done done' x pass passes grown z h =
 pub emptied : (all done left : List Entry) → IsPermutation all (done ++ left) → left ≡ [] → IsPermutation all done
 emptied all done left moved none = subst (IsPermutation all) (append-nil done) (subst (λ l. IsPermutation all (done ++ l)) none moved)
 
-pub empty_numbered : (next : ℕ) (xs : List Entry) → xs ≡ [] → (length xs ≤ 17) × AreNumbered next xs
+pub empty_numbered : (next : ℕ) (xs : List Entry) → xs ≡ [] → (length xs ≤ TASKS) × AreNumbered next xs
 unfolding IsDistinct
 empty_numbered next xs none = rw none (search rules, (tt, λ z h. absurd h))
 

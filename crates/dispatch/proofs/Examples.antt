@@ -4,7 +4,7 @@ use Rattle.dispatch.specs.Rings.{tasks_from}
 
 -- task 1 in the first place, 2 in the second, and 9 in the last
 abbrev places : List ℕ
-places = (1 ∷ 2 ∷ []) ++ replicate 14 0 ++ 9 ∷ []
+places = (1 ∷ 2 ∷ []) ++ replicate 62 0 ++ 9 ∷ []
 
 none : tasks_from places 5 0 ≡ []
 none = refl
@@ -12,5 +12,5 @@ none = refl
 in_order : tasks_from places 0 2 ≡ 1 ∷ 2 ∷ []
 in_order = refl
 
-round_the_end : tasks_from places 16 3 ≡ 9 ∷ 1 ∷ 2 ∷ []
+round_the_end : tasks_from places 64 3 ≡ 9 ∷ 1 ∷ 2 ∷ []
 round_the_end = refl

@@ -19,10 +19,10 @@ same_or {P} a b yes' no' = go (nat_eq a b) refl where
   go false e = no' (λ same. absurd (true_false (sym (eq-eqb a b same) ∙ e)))
 
 -- places are read alike from starts that are the same round the end
-pub same_from : (places : List ℕ) (a b count : ℕ) → a % 17 ≡ b % 17 → tasks_from places a count ≡ tasks_from places b count
+pub same_from : (places : List ℕ) (a b count : ℕ) → a % 65 ≡ b % 65 → tasks_from places a count ≡ tasks_from places b count
 same_from places a b zero e = refl
 same_from places a b (suc count) e =
-    let next : (a + 1) % 17 ≡ (b + 1) % 17 = omega (arith, e) in
+    let next : (a + 1) % 65 ≡ (b + 1) % 65 = omega (arith, e) in
     rw (e, same_from places (a + 1) (b + 1) count next) refl
 
 pub length_from : (places : List ℕ) (at count : ℕ) → length (tasks_from places at count) ≡ count
@@ -30,49 +30,49 @@ length_from places at zero = refl
 length_from places at (suc count) = ap suc (length_from places (at + 1) count)
 
 -- a write at a place that is not read
-pub not_read : (places : List ℕ) (k task at count : ℕ) → ((i : ℕ) → i < count → (at + i) % 17 ≡ k → ⊥)
+pub not_read : (places : List ℕ) (k task at count : ℕ) → ((i : ℕ) → i < count → (at + i) % 65 ≡ k → ⊥)
     → tasks_from (set places k task) at count ≡ tasks_from places at count
 not_read places k task at zero other = refl
 not_read places k task at (suc count) other =
-    let here : at % 17 ≡ k → ⊥ = λ e. other 0 (omega arith) (omega (arith, e)) in
-    rw (get_or-set_other places k (at % 17) task 0 here, not_read places k task (at + 1) count (λ i h e. other (i + 1) (omega (arith, h)) (omega (arith, e)))) refl
+    let here : at % 65 ≡ k → ⊥ = λ e. other 0 (omega arith) (omega (arith, e)) in
+    rw (get_or-set_other places k (at % 65) task 0 here, not_read places k task (at + 1) count (λ i h e. other (i + 1) (omega (arith, h)) (omega (arith, e)))) refl
 
 -- one task more is read behind the others
-one_more : (places : List ℕ) (at count : ℕ) → tasks_from places at (suc count) ≡ tasks_from places at count ++ get_or places ((at + count) % 17) 0 ∷ []
-one_more places at zero = let e : at ≡ at + 0 = omega arith in ap (λ n. get_or places (n % 17) 0 ∷ []) e
+one_more : (places : List ℕ) (at count : ℕ) → tasks_from places at (suc count) ≡ tasks_from places at count ++ get_or places ((at + count) % 65) 0 ∷ []
+one_more places at zero = let e : at ≡ at + 0 = omega arith in ap (λ n. get_or places (n % 65) 0 ∷ []) e
 one_more places at (suc count) =
     let e : at + 1 + count ≡ at + suc count = omega arith in
-    ap (λ l. get_or places (at % 17) 0 ∷ l) (one_more places (at + 1) count ∙ ap (λ n. tasks_from places (at + 1) count ++ get_or places (n % 17) 0 ∷ []) e)
+    ap (λ l. get_or places (at % 65) 0 ∷ l) (one_more places (at + 1) count ∙ ap (λ n. tasks_from places (at + 1) count ++ get_or places (n % 65) 0 ∷ []) e)
 
 -- what the three changes of a ring make of its tasks
-pub pushed_back : (places tasks : List ℕ) (start count task : ℕ) → tasks_from places start count ≡ tasks → length places ≡ 17 → count < 17
-    → tasks_from (set places ((start + count) % 17) task) start (count + 1) ≡ tasks ++ task ∷ []
+pub pushed_back : (places tasks : List ℕ) (start count task : ℕ) → tasks_from places start count ≡ tasks → length places ≡ 65 → count < 65
+    → tasks_from (set places ((start + count) % 65) task) start (count + 1) ≡ tasks ++ task ∷ []
 pushed_back places tasks start count task is long room =
-    let k : ℕ = (start + count) % 17 in
+    let k : ℕ = (start + count) % 65 in
     let at : k < length places = omega (arith, long) in
     ap (tasks_from (set places k task) start) (add-one count)
     ∙ one_more (set places k task) start count
     ∙ ap (λ l. l ++ get_or (set places k task) k 0 ∷ []) (not_read places k task start count (λ i h e. absurd (omega (arith, h, e, room))) ∙ is)
     ∙ ap (λ n. tasks ++ n ∷ []) (get_or-set_same places k task 0 at)
 
-pub pushed_front : (places tasks : List ℕ) (start count task : ℕ) → tasks_from places start count ≡ tasks → length places ≡ 17 → count < 17 → start < 17
-    → tasks_from (set places ((start + 17 - 1) % 17) task) ((start + 17 - 1) % 17) (count + 1) ≡ task ∷ tasks
+pub pushed_front : (places tasks : List ℕ) (start count task : ℕ) → tasks_from places start count ≡ tasks → length places ≡ 65 → count < 65 → start < 65
+    → tasks_from (set places ((start + 65 - 1) % 65) task) ((start + 65 - 1) % 65) (count + 1) ≡ task ∷ tasks
 pushed_front places tasks start count task is long room h =
-    let k : ℕ = (start + 17 - 1) % 17 in
+    let k : ℕ = (start + 65 - 1) % 65 in
     let at : k < length places = omega (arith, long) in
-    let here : k % 17 ≡ k = omega arith in
-    let behind : (k + 1) % 17 ≡ start % 17 = omega (arith, h) in
+    let here : k % 65 ≡ k = omega arith in
+    let behind : (k + 1) % 65 ≡ start % 65 = omega (arith, h) in
     ap (tasks_from (set places k task) k) (add-one count)
-    ∙ ap (λ l. get_or (set places k task) (k % 17) 0 ∷ l)
+    ∙ ap (λ l. get_or (set places k task) (k % 65) 0 ∷ l)
     (same_from (set places k task) (k + 1) start count behind ∙ not_read places k task start count (λ i lt e. absurd (omega (arith, lt, e, room, h))) ∙ is)
     ∙ ap (λ n. get_or (set places k task) n 0 ∷ tasks) here
     ∙ ap (λ n. n ∷ tasks) (get_or-set_same places k task 0 at)
 
-pub popped : (places tasks : List ℕ) (start count : ℕ) → tasks_from places start count ≡ tasks → tasks_from places ((start + 1) % 17) (count - 1) ≡ drop 1 tasks
+pub popped : (places tasks : List ℕ) (start count : ℕ) → tasks_from places start count ≡ tasks → tasks_from places ((start + 1) % 65) (count - 1) ≡ drop 1 tasks
 popped places tasks start zero is = ap (drop 1) is
 popped places tasks start (suc count) is =
     let e : suc count - 1 ≡ count = omega arith in
-    ap (tasks_from places ((start + 1) % 17)) e ∙ same_from places ((start + 1) % 17) (start + 1) count (omega arith) ∙ ap (drop 1) is
+    ap (tasks_from places ((start + 1) % 65)) e ∙ same_from places ((start + 1) % 65) (start + 1) count (omega arith) ∙ ap (drop 1) is
 
 -- a list that holds somebody has its bit
 pub marked : (mask k : ℕ) (lists : List (List ℕ)) (i : ℕ) (tasks : List ℕ) → i ≡ k → k < 32 → length lists ≡ 32 → is_occupied tasks ≡ true → IsMask mask lists

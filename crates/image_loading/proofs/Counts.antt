@@ -10,9 +10,9 @@ use Rattle.image.specs.Sections.{Sections}
 -- counts of a well-formed image, and the words of its objects together
 pub record Fits (i : Sections) : Type 0 where
   pub instructions : length i.instructions ≤ 65535
-  pub subprograms : length i.subprograms ≤ 145
-  pub objects : length i.objects ≤ 16
-  pub tasks : length i.tasks ≤ 17
+  pub subprograms : length i.subprograms ≤ 193
+  pub objects : length i.objects ≤ 64
+  pub tasks : length i.tasks ≤ 65
   pub exceptions : length i.exceptions ≤ 36
   pub rows : length i.rows ≤ 4096
   pub labels : length i.labels ≤ 1024

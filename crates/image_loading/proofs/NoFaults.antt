@@ -92,8 +92,8 @@ pub record Counted (i : Sections) : Type 0 where
   pub first : count_faults i ≡ []
   pub second : text_count_faults i ≡ []
   pub words : few_words i ≡ true
-  pub subprograms : length i.subprograms ≤ 145
-  pub objects : length i.objects ≤ 16
+  pub subprograms : length i.subprograms ≤ 193
+  pub objects : length i.objects ≤ 64
 
 up_to : (byte count most : ℕ) → nat_le count most ≡ true → count_rule byte 0 count most ≡ []
 up_to byte count most e = unbroken TABLES_DISAGREE byte (is_within 0 count most) (join (nat_le 0 count) _ (at_least_none count) e)
@@ -182,7 +182,7 @@ objects_none i f start k o is c =
 
 -- Subprograms
 
-names_own : (o : Option ℕ) (m : ℕ) → none_or o (λ n. nat_lt n m) ≡ true → m ≤ 16 → not (is_some o && nat_eq (unwrap_or o 65535) 65535) ≡ true
+names_own : (o : Option ℕ) (m : ℕ) → none_or o (λ n. nat_lt n m) ≡ true → m ≤ 64 → not (is_some o && nat_eq (unwrap_or o 65535) 65535) ≡ true
 names_own None m e le = refl
 names_own (Some n) m e le =
     let lt : n < m = ltb-true n m e in

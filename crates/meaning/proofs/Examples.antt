@@ -1,6 +1,6 @@
 -- Programs worked by computation: what their runs write.
-use Rattle.std.proofs.Common.{◌≡◌, ℕ, zero, suc, ◌+◌, List, [], ◌∷◌, Option, Some, None, false, true, refl}
-use Rattle.std.specs.Prelude.{pos, codes}
+use Rattle.std.proofs.Common.{◌≡◌, ℕ, zero, suc, ◌+◌, List, [], ◌∷◌, ◌++◌, Option, Some, None, false, true, refl}
+use Rattle.std.specs.Prelude.{pos, codes, decimal}
 use Rattle.std.specs.Fmt.{digits}
 use Rattle.ada_tree.specs.declared.expression.Identifier.{Identifier}
 use Rattle.ada_tree.specs.declared.expression.UnaryOperator.TheVariants as unary
@@ -146,27 +146,27 @@ calls_other_text : source_text calls_other [] 20 ≡ codes "0 MAIN i 2\n0 MAIN r
 unfolding digits
 calls_other_text = refl
 
--- main takes a frame, and 31 calls are open when the 32nd is refused
-calls_itself_text : source_text (runs (called (codes "RUN") ∷ [])) [] 200 ≡ codes "unhandled STORAGE_ERROR in MAIN at 0\n"
+-- main takes a frame, and 127 calls are open when the 128th is refused
+calls_itself_text : source_text (runs (called (codes "RUN") ∷ [])) [] 800 ≡ codes "unhandled STORAGE_ERROR in MAIN at 0\n"
 unfolding digits
 calls_itself_text = refl
 
--- a chain of n + 1 calls: with main's own frame 32 frames may be open
-abbrev letter : ℕ → List ℕ
-letter n = (65 + n) ∷ []
+-- a chain of n + 1 calls: with main's own frame 128 frames may be open
+abbrev link : ℕ → List ℕ
+link n = codes "P" ++ decimal n
 
 abbrev chain : ℕ → List BodyItemTree
-chain zero = procedure (letter 0) (put_line (codes "d") (num 1) ∷ []) NoHandlers ∷ []
-chain (suc n) = procedure (letter (suc n)) (called (letter n) ∷ []) NoHandlers ∷ chain n
+chain zero = procedure (link 0) (put_line (codes "d") (num 1) ∷ []) NoHandlers ∷ []
+chain (suc n) = procedure (link (suc n)) (called (link n) ∷ []) NoHandlers ∷ chain n
 
 abbrev deep : ℕ → ProgramTree
-deep n = program_of (Some (package_of (chain n))) (main.Call (named (codes "APP")) (named (letter n)) ∷ [])
+deep n = program_of (Some (package_of (chain n))) (main.Call (named (codes "APP")) (named (link n)) ∷ [])
 
-deep_text : source_text (deep 30) [] 200 ≡ codes "0 MAIN d 1\nended at 0\n"
+deep_text : source_text (deep 126) [] 800 ≡ codes "0 MAIN d 1\nended at 0\n"
 unfolding digits
 deep_text = refl
 
-too_deep_text : source_text (deep 31) [] 200 ≡ codes "unhandled STORAGE_ERROR in MAIN at 0\n"
+too_deep_text : source_text (deep 127) [] 800 ≡ codes "unhandled STORAGE_ERROR in MAIN at 0\n"
 unfolding digits
 too_deep_text = refl
 

@@ -77,16 +77,16 @@ pub nothing_is_copied_back_after_a_raise : text_of (program_of nothing_is_copied
 unfolding digits
 nothing_is_copied_back_after_a_raise = refl
 
--- function F (N : Integer) return Integer is begin return (if N = 0 then 0 else 1 + F (N - 1)); end F; procedure Run is begin Put ("f", F (29)); Put ("g", F
--- (30)); exception when Storage_Error => Put ("se", 0); end Run;
+-- function F (N : Integer) return Integer is begin return (if N = 0 then 0 else 1 + F (N - 1)); end F; procedure Run is begin Put ("f", F (125)); Put ("g", F
+-- (126)); exception when Storage_Error => Put ("se", 0); end Run;
 abbrev calls_within_a_function_tree : ProgramTree
 calls_within_a_function_tree = app ([]) (SubprogramBody (function "F" (formal "N" mode.In "INTEGER" ∷ []) "INTEGER") (body ([]) (stmts_of ((Return 0 (Some
     (Conditional 0 (Binary binary.Equal (v "N") (num 0)) (num 0) NoElsifValues (Binary binary.Add (num 1) (named "F" (args (Value (Binary binary.Subtract (v
-    "N") (num 1)) ∷ []) ∷ [])))))) ∷ [])) NoHandlers) ∷ SubprogramBody (procedure "RUN" []) (body ([]) (stmts_of ((put "f" (named "F" (args (Value (num 29) ∷
-    []) ∷ []))) ∷ (put "g" (named "F" (args (Value (num 30) ∷ []) ∷ []))) ∷ [])) (MoreHandlers (Chosen (id "STORAGE_ERROR") ∷ []) (stmts_of ((put "se" (num
+    "N") (num 1)) ∷ []) ∷ [])))))) ∷ [])) NoHandlers) ∷ SubprogramBody (procedure "RUN" []) (body ([]) (stmts_of ((put "f" (named "F" (args (Value (num 125) ∷
+    []) ∷ []))) ∷ (put "g" (named "F" (args (Value (num 126) ∷ []) ∷ []))) ∷ [])) (MoreHandlers (Chosen (id "STORAGE_ERROR") ∷ []) (stmts_of ((put "se" (num
     0)) ∷ [])) NoHandlers)) ∷ [])
 
-calls_within_a_function : text_of (program_of calls_within_a_function_tree) ([]) 40 ≡ codes "0 MAIN f 29\n0 MAIN se 0\nended at 0\n"
+calls_within_a_function : text_of (program_of calls_within_a_function_tree) ([]) 40 ≡ codes "0 MAIN f 125\n0 MAIN se 0\nended at 0\n"
 unfolding digits
 calls_within_a_function = refl
 

@@ -43,7 +43,7 @@ another_task_runs_before_the_exception_goes_on = refl
 -- X : Integer := 0; procedure Deep (N : Integer); protected P with Priority => 10 is procedure Give (X : Integer); entry Take (X : out Integer); private V :
 -- Integer := 0; Full : Boolean := False; end P; task T with Priority => 5; protected body P is procedure Give (X : Integer) is begin V := X; Full := True;
 -- end Give; entry Take (X : out Integer) when Full is begin X := V; Full := False; end Take; end P; procedure Deep (N : Integer) is begin if N = 0 then
--- P.Take (X); else Deep (N - 1); end if; end Deep; task body T is begin Deep (30); exception when Storage_Error => Put ("se", 1); end T; procedure Run is
+-- P.Take (X); else Deep (N - 1); end if; end Deep; task body T is begin Deep (126); exception when Storage_Error => Put ("se", 1); end T; procedure Run is
 -- begin null; end Run;
 abbrev an_entry_call_at_the_last_frame_tree : ProgramTree
 an_entry_call_at_the_last_frame_tree = app (OfObject (object "X" "INTEGER" (Some (num 0))) ∷ OfDeclared (procedure "DEEP" (formal "N" mode.In "INTEGER" ∷ []))
@@ -54,10 +54,10 @@ an_entry_call_at_the_last_frame_tree = app (OfObject (object "X" "INTEGER" (Some
     (v "V")) ∷ (assign "FULL" [] (v "FALSE")) ∷ [])) NoHandlers) ∷ []) (id "P") ∷ SubprogramBody (procedure "DEEP" (formal "N" mode.In "INTEGER" ∷ [])) (body
     ([]) (stmts_of ((If 0 (Binary binary.Equal (v "N") (num 0)) (stmts_of ((call "P" (dot "TAKE" ∷ args (Value (v "X") ∷ []) ∷ [])) ∷ [])) NoElsifs (stmts_of
     ((call "DEEP" (args (Value (Binary binary.Subtract (v "N") (num 1)) ∷ []) ∷ [])) ∷ []))) ∷ [])) NoHandlers) ∷ TaskBody (id "T") (body ([]) (stmts_of
-    ((call "DEEP" (args (Value (num 30) ∷ []) ∷ [])) ∷ [])) (MoreHandlers (Chosen (id "STORAGE_ERROR") ∷ []) (stmts_of ((put "se" (num 1)) ∷ [])) NoHandlers))
+    ((call "DEEP" (args (Value (num 126) ∷ []) ∷ [])) ∷ [])) (MoreHandlers (Chosen (id "STORAGE_ERROR") ∷ []) (stmts_of ((put "se" (num 1)) ∷ [])) NoHandlers))
     ∷ SubprogramBody (procedure "RUN" []) (body ([]) (stmts_of ((Null 0) ∷ [])) NoHandlers) ∷ [])
 
-an_entry_call_at_the_last_frame : text_of (program_of an_entry_call_at_the_last_frame_tree) ([]) 500 ≡ codes "0 T se 1\nended at 0\n"
+an_entry_call_at_the_last_frame : text_of (program_of an_entry_call_at_the_last_frame_tree) ([]) 3000 ≡ codes "0 T se 1\nended at 0\n"
 unfolding digits
 an_entry_call_at_the_last_frame = refl
 

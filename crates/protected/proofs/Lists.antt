@@ -97,7 +97,7 @@ flipped_among p [] = refl
 flipped_among p (x ∷ objects) = ap (λ b. b || list_any (nat_eq p) objects) (flips p x) ∙ ap (λ b. nat_eq x p || b) (flipped_among p objects)
 
 -- there is room for one more
-pub room : (count o : ℕ) (objects : List ℕ) → AreObjects count objects → count ≤ 16 → o < count → is_among o objects ≡ false → length objects < 16
+pub room : (count o : ℕ) (objects : List ℕ) → AreObjects count objects → count ≤ 64 → o < count → is_among o objects ≡ false → length objects < 64
 room count o objects are few known none =
     let long : suc (length objects) ≤ count = length-le_from_distinct_below (o ∷ objects) count (distinct_front o objects none are.0)
     (λ p h. in_front count o objects are known p (sym (flipped_among p (o ∷ objects)) ∙ h)) in
@@ -212,14 +212,14 @@ nothing_open : (count : ℕ) → AreObjects count []
 unfolding IsDistinct
 nothing_open count = (tt, λ o h. absurd (true_false (sym h)))
 
-pub kept_at_start : (bases ceilings given given' : List ℕ) (opened : List (List ℕ)) (queued : List (Option ℕ)) → bases ≡ given → ceilings ≡ given' → length given ≤ 17
-    → length given' ≤ 16 → opened ≡ replicate 18 [] → length queued ≡ 16 → KeepsActions bases ceilings opened queued
+pub kept_at_start : (bases ceilings given given' : List ℕ) (opened : List (List ℕ)) (queued : List (Option ℕ)) → bases ≡ given → ceilings ≡ given' → length given ≤ 65
+    → length given' ≤ 64 → opened ≡ replicate 66 [] → length queued ≡ 64 → KeepsActions bases ceilings opened queued
 kept_at_start bases ceilings given given' opened queued same same' tasks objects none queues = record {
-  tasks = subst (λ l. length l ≤ 17) (sym same) tasks;
-  objects = subst (λ l. length l ≤ 16) (sym same') objects;
+  tasks = subst (λ l. length l ≤ 65) (sym same) tasks;
+  objects = subst (λ l. length l ≤ 64) (sym same') objects;
   rows = ap length none;
   queues = queues;
-  opened_are = λ t. subst (AreObjects (length ceilings)) (sym (ap (λ ls. get_or ls t []) none ∙ nothing_at 18 t)) (nothing_open (length ceilings));
+  opened_are = λ t. subst (AreObjects (length ceilings)) (sym (ap (λ ls. get_or ls t []) none ∙ nothing_at 66 t)) (nothing_open (length ceilings));
 }
 
 pub view_at_start : (bases ceilings given given' : List ℕ) (opened opened' : List (List ℕ)) (queued : List (Option ℕ)) → bases ≡ given → ceilings ≡ given' → opened ≡ opened'

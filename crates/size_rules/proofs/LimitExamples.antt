@@ -53,10 +53,10 @@ abbrev tasks : ℕ → List ItemTree
 tasks zero = []
 tasks (suc n) = tasks n ++ OfTask (record { place = n; name = named n; aspect = None; definition = None }) ∷ []
 
-tasks_within : least (size_faults (program_of (tasks 16) [])) ≡ None
+tasks_within : least (size_faults (program_of (tasks 64) [])) ≡ None
 tasks_within = refl
 
-tasks_beyond : least (size_faults (program_of (tasks 17) [])) ≡ passed_at 16
+tasks_beyond : least (size_faults (program_of (tasks 65) [])) ≡ passed_at 64
 tasks_beyond = refl
 
 abbrev protected_objects : ℕ → List ItemTree
@@ -65,10 +65,10 @@ protected_objects (suc n) =
     protected_objects n
     ++ OfProtected (record { place = n; name = named n; aspect = None; operations = []; components = []; end_name = named n }) ∷ []
 
-protected_objects_within : least (size_faults (program_of (protected_objects 16) [])) ≡ None
+protected_objects_within : least (size_faults (program_of (protected_objects 64) [])) ≡ None
 protected_objects_within = refl
 
-protected_objects_beyond : least (size_faults (program_of (protected_objects 17) [])) ≡ passed_at 16
+protected_objects_beyond : least (size_faults (program_of (protected_objects 65) [])) ≡ passed_at 64
 protected_objects_beyond = refl
 
 abbrev procedures : ℕ → List ItemTree

@@ -214,12 +214,12 @@ module _ (program : Program) (s : Scope) (all : List BodyItemTree) (w : IsPackag
 
 -- ---- limits
 
-declared_by : (k : _) (p : PackageTree) → length (places_of k (package_things p)) ≤ 16
-    → ((s : Scope) (d : TaskTree) → places_of k (item_things s (OfTask d)) ≡ d.place ∷ []) → length (declared_names (declared_in (Some p))) ≤ 16
+declared_by : (k : _) (p : PackageTree) → length (places_of k (package_things p)) ≤ 64
+    → ((s : Scope) (d : TaskTree) → places_of k (item_things s (OfTask d)) ≡ d.place ∷ []) → length (declared_names (declared_in (Some p))) ≤ 64
 declared_by k p few own =
-    within_kind k p 16 (length (declared_names (declared_in (Some p)))) few (declared_few k own (start_in (Some p)) (declared_in (Some p)))
+    within_kind k p 64 (length (declared_names (declared_in (Some p)))) few (declared_few k own (start_in (Some p)) (declared_in (Some p)))
 
-declared_within : (o : Option PackageTree) → optional_size_faults o ≡ [] → length (declared_names (declared_in o)) ≤ 16
+declared_within : (o : Option PackageTree) → optional_size_faults o ≡ [] → length (declared_names (declared_in o)) ≤ 64
 declared_within None h = omega arith
 declared_within (Some p) h =
     let ts = package_things p in
@@ -228,7 +228,7 @@ declared_within (Some p) h =
     (front_empty (subprogram_faults ts ++ task_faults ts ++ protected_object_faults ts) (exception_faults ts)
     (front_empty (subprogram_faults ts ++ task_faults ts ++ protected_object_faults ts ++ exception_faults ts) (words_faults _ ts)
     (declared_none p h)))) in
-    declared_by kind.Task p (within_limit 16 (places_of kind.Task ts) none) (λ s d. refl)
+    declared_by kind.Task p (within_limit 64 (places_of kind.Task ts) none) (λ s d. refl)
 
 pub tasks_few : (t : ProgramTree) → optional_size_faults t.package_ ≡ [] → length (program_of t).tasks ≤ TASKS
 tasks_few t h =
@@ -237,7 +237,7 @@ tasks_few t h =
     under (length (program_of t).tasks) (length (tasks_among s all (items_among all))) (length (declared_names all))
     (ap length (tasks_are t) ∙ length-append (tasks_among s all (items_among all)) _) (tasks_declared s all all) (declared_within t.package_ h)
   where
-    under : (n a b : ℕ) → n ≡ a + 1 → a ≤ b → b ≤ 16 → n ≤ TASKS
+    under : (n a b : ℕ) → n ≡ a + 1 → a ≤ b → b ≤ 64 → n ≤ TASKS
     under n a b e h i = omega (arith, e, h, i)
 
 pub subprograms_few : LawsOfNames → (t : ProgramTree) → IsLegal t → IsRestricted t → optional_size_faults t.package_ ≡ []
@@ -250,5 +250,5 @@ subprograms_few laws t legal restricted h =
     (names_many names all) (subprograms_within laws t legal restricted h) (bodies_few (program_of t) (start_in t.package_) all w)
     (declared_within t.package_ h)
   where
-    under : (n a b o c : ℕ) → n ≡ a + b + o → a + o ≤ 128 → b ≤ c → c ≤ 16 → suc n ≤ SUBPROGRAMS
+    under : (n a b o c : ℕ) → n ≡ a + b + o → a + o ≤ 128 → b ≤ c → c ≤ 64 → suc n ≤ SUBPROGRAMS
     under n a b o c e h i j = omega (arith, e, h, i, j)

@@ -9,4 +9,4 @@ mod tasking;
 
 pub use protected::Refusal;
 pub use reports::{Ended, Ending, Outcome, Place};
-pub use tasking::{Attached, Tasking};
+pub use tasking::{ACTORS, Attached, Tasking};

@@ -23,6 +23,9 @@ use dispatch::Ready;
 use protected::{Objects, Refusal};
 use std::marker::Model;
 
+/// How many may be inside an object at most: all tasks and a handler.
+pub const ACTORS: usize = TASKS + 1;
+
 /// For each channel, in the place of its number, the object whose procedure is its handler, if it has one (RM C.3.1).
 pub type Attached = [Option<u8>; 9];
 
@@ -317,7 +320,7 @@ impl<'a, R: Ready, D: Delays> Tasking<'a, R, D> {
     }
 
     /// The tasks inside an object, by their numbers, and the handler (RM 9.5.1).
-    pub fn inside(&self, object: u8) -> ArrayVec<u8, 18>
+    pub fn inside(&self, object: u8) -> ArrayVec<u8, ACTORS>
         ensures { result.items ≡ inside (kernel_of self.now) object }
     {
         let _ = &self.running;
@@ -329,7 +332,7 @@ impl<'a, R: Ready, D: Delays> Tasking<'a, R, D> {
     }
 
     // The tasks among them.
-    fn tasks_inside(&self, object: u8) -> ArrayVec<u8, 18>
+    fn tasks_inside(&self, object: u8) -> ArrayVec<u8, ACTORS>
         ensures tasks { result.items ≡ inside_among (kernel_of self.now).partition.tasks (kernel_of self.now) object }
         ensures few { length result.items ≤ TASKS }
     {

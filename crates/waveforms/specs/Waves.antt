@@ -1,5 +1,5 @@
 -- The value change dump of a run, byte for byte (docs/FORMATS.md, "Value change dumps").
-use Rattle.std.specs.Prelude.{ℕ, zero, suc, ◌+◌, ◌*◌, List, [], ◌∷◌, ◌++◌, Option, Some, None, codes, decimal, length, nat_eq, bytes_eq, false, slice_get, if◌then◌else◌}
+use Rattle.std.specs.Prelude.{ℕ, zero, suc, ◌+◌, ◌*◌, ◌/◌, ◌%◌, List, [], ◌∷◌, ◌++◌, Option, Some, None, codes, decimal, length, nat_eq, nat_lt, bytes_eq, false, slice_get, if◌then◌else◌}
 use Rattle.std.specs.Fmt.{digits}
 use Rattle.base.specs.Names.{is_name}
 use Rattle.base.specs.declared.schedule.ScheduleLine.{ScheduleLine}
@@ -9,11 +9,13 @@ use Rattle.image.specs.Code.{code}
 use Rattle.image.specs.Sections.{Sections}
 use Rattle.image.specs.Texts.{names_of}
 use Rattle.waveforms.specs.Signals.{all_below, values}
+use Rattle.waveforms.specs.declared.text.TheConstants.{CODES}
 
--- Signals are numbered in the order of their declarations, from 0; each has one printable character as its code.
+-- Signals are numbered in the order of their declarations, from 0. The code of one is its number in digits of 94, each a printable character
+-- from 33 on: one character for the first 94 signals, two for those behind them.
 
 abbrev pub signal_code : ℕ → List ℕ
-signal_code s = (33 + s) ∷ []
+signal_code s = (if nat_lt s CODES then [] else (33 + s / CODES) ∷ []) ++ (33 + s % CODES) ∷ []
 
 -- Declarations
 

@@ -21,7 +21,7 @@ use machine::task_name;
 use std::alloc::{AllocError, Global};
 
 /// The most bytes of a signal's declaration.
-const DECLARATION_BYTES: usize = 29;
+const DECLARATION_BYTES: usize = 30;
 
 /// The most bytes of a scope with two signals.
 const SCOPE_BYTES: usize = 34 + NAME_LIMIT + 2 * DECLARATION_BYTES;
@@ -37,7 +37,7 @@ fn declaration(width: &[u8], signal: usize, name: &[u8]) -> ArrayVec<u8, DECLARA
     put(&mut text, b"$var wire ");
     put(&mut text, width);
     put(&mut text, b" ");
-    text.push(signal_code(signal));
+    put(&mut text, signal_code(signal).as_slice());
     put(&mut text, b" ");
     put(&mut text, name);
     put(&mut text, b" $end\n");

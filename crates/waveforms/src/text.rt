@@ -2,6 +2,7 @@
 ghost use Rattle.std.specs.Prelude.{◌≡◌, ◌+◌, ◌*◌, ◌<◌, ◌≤◌, ◌++◌, false, length};
 ghost use Rattle.std.specs.Fmt.{digits};
 ghost use Rattle.arrayvec.specs.ArrayVec.{array_vec_len};
+ghost use Rattle.waveforms.specs.Waves as waves;
 ghost use Rattle.waveforms.specs.Waves.{changes_text, ending_text, start_text, tick_text, value_text, values_text};
 ghost use Rattle.waveforms.specs.declared.text.TheConstants.{FRONT_BYTES, TICK_BYTES, VALUE_BYTES};
 ghost use Rattle.waveforms.specs.declared.values.TheConstants.{SIGNALS};
@@ -11,11 +12,14 @@ use arrayvec::ArrayVec;
 use itoa::Buffer;
 use machine::LineText;
 
-/// The code of the first signal; those of the others follow it.
+/// The first of the characters of codes.
 const FIRST_CODE: u8 = 33;
 
+/// How many characters codes are made of.
+const CODES: usize = 94;
+
 /// The most bytes of a value's line: 64 digits, the code, and what stands around these.
-const VALUE_BYTES: usize = 68;
+const VALUE_BYTES: usize = 69;
 
 /// The most bytes of a tick's line.
 const TICK_BYTES: usize = 42;
@@ -55,11 +59,16 @@ fn binary(number: u64) -> ArrayVec<u8, 64>
 }
 
 /// The code of a signal.
-pub(crate) fn signal_code(signal: usize) -> u8
+pub(crate) fn signal_code(signal: usize) -> ArrayVec<u8, 2>
     requires { signal < SIGNALS }
-    ensures { result ≡ 33 + signal }
+    ensures { result.items ≡ waves.signal_code signal }
 {
-    FIRST_CODE + signal as u8
+    let mut code = ArrayVec::new();
+    if CODES <= signal {
+        code.push(FIRST_CODE + (signal / CODES) as u8);
+    }
+    code.push(FIRST_CODE + (signal % CODES) as u8);
+    code
 }
 
 // The line of a signal's value.
@@ -71,7 +80,7 @@ fn value_line(signal: usize, value: u64) -> ArrayVec<u8, VALUE_BYTES>
     put(&mut line, b"b");
     put(&mut line, binary(value).as_slice());
     put(&mut line, b" ");
-    line.push(signal_code(signal));
+    put(&mut line, signal_code(signal).as_slice());
     put(&mut line, b"\n");
     line
 }

@@ -6,4 +6,4 @@ pub returns : goal.returns
 returns c =
     let r = c.self.inside in
     pushed_back r.places c.args.self.now r.start r.count c.args.task c.self.view_is c.self.invariant.0
-    (subst (λ n. n < 17) (sym (ap length c.self.view_is) ∙ length_from r.places r.start r.count) c.requires)
+    (subst (λ n. n < 65) (sym (ap length c.self.view_is) ∙ length_from r.places r.start r.count) c.requires)

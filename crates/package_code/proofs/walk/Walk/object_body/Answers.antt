@@ -69,7 +69,7 @@ returns-in_err-short-clause-refused c =
     c.requires.restricted c.args.self.now.place c.args.name.now (map protected_item_tree c.args.items.now)
     c.requires.at.0 c.requires.at.1 in
     let is = c.object_number-object.ensures ∙ ap (λ s. object_number s c.args.name.now) c.scope.ensures in
-    let most : (program_of (program_tree c.args.accepted.now)).objects ≤ 16 = c.requires.objects in
+    let most : (program_of (program_tree c.args.accepted.now)).objects ≤ 64 = c.requires.objects in
     let small : c.object_number-object.result ≤ 65535 = omega (arith, few, is, most) in
     search (arith, rules, small)
 

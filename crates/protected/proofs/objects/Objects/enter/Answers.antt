@@ -28,7 +28,7 @@ invariant_of-self c =
     let both = opened_kept (λ l. l.items) o.bases.items o.ceilings.items o.opened o.queued a c.row_of.result c.args.task c.index-self-row_of.result c.self.view_is c.self.invariant
     c.row_of.ensures c.requires.task in
     kept_put (λ l. l.items) o.bases.items o.ceilings.items o.opened o.queued c.row_of.result _ c.self.invariant
-    (subst (λ n. n < 18) (sym c.row_of.ensures) (row_low c.args.task (length a.bases) c.requires.task both.1.tasks))
+    (subst (λ n. n < 66) (sym c.row_of.ensures) (row_low c.args.task (length a.bases) c.requires.task both.1.tasks))
     (carried (length a.ceilings) (length o.ceilings.items) (opened_by a c.args.task ++ c.args.object ∷ []) c.push.new.self.items
     (one_more (length a.ceilings) c.args.object (opened_by a c.args.task) (both.1.opened_are (row_of c.args.task)) c.requires.object
     (none_open a c.args.task c.args.object c.requires.allowed))
