@@ -81,7 +81,7 @@ def sized(**counts):
 
 
 # How many of each an image may have, and the byte of their count; that of the ninth one, and where the predefined exceptions end in version 1.
-LIMITS = [("subprograms", 145, 8), ("objects", 16, 10), ("tasks", 17, 12), ("exceptions", 32, 14), ("rows", 4_096, 16), ("labels", 1_024, 18), ("words", 8_192, 20)]
+LIMITS = [("subprograms", 193, 8), ("objects", 64, 10), ("tasks", 65, 12), ("exceptions", 32, 14), ("rows", 4_096, 16), ("labels", 1_024, 18), ("words", 8_192, 20)]
 NINTH = 22
 PREDEFINED_END = NINTH + 17 + 3 * 14
 

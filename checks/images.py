@@ -97,10 +97,10 @@ def every_operation():
 
 
 def large(count):
-    """Straight code with a jump in each part, in up to 145 subprograms, with words, and rows that are nested."""
+    """Straight code with a jump in each part, in up to 193 subprograms, with words, and rows that are nested."""
     image = Image()
     image.words = list(range(count // 8))
-    subprograms = max(1, count * 145 // 65535)
+    subprograms = max(1, count * 193 // 65535)
     for number in range(subprograms):
         first = len(image.code)
         length = count * (number + 1) // subprograms - first

@@ -11,8 +11,8 @@ import sys
 # So many of each may be declared beside the procedure Run: their declaration and their body, where `#` stands for a number and the mark is where one too
 # many is at fault.
 LIMITS = [
-    (16, "^task T#;", "task body T# is begin null; end T#;"),
-    (16, "^protected P# is procedure Go; end P#;", "protected body P# is procedure Go is begin null; end Go; end P#;"),
+    (64, "^task T#;", "task body T# is begin null; end T#;"),
+    (64, "^protected P# is procedure Go; end P#;", "protected body P# is procedure Go is begin null; end Go; end P#;"),
     (32, "^E# : exception;", ""),
     (127, "^procedure P#;", "procedure P# is begin null; end P#;"),
     (127, "", "^procedure P# is begin null; end P#;"),

@@ -35,7 +35,7 @@ CALLING = """label given label caught word 7 word 8 object 20 - 0 0 2 own 11 own
     sub 4 - 4 0 0 0 1 PCALL 0 1 0 RET 0 0 0 PUT 1 1 0 RET 0 0 0 handler 0 2 0 2"""
 CALLING_PLACES = 4
 JOBS = 2
-MOST_STEPS = 2_000
+MOST_STEPS = 5_000
 MOST_LIMIT = 2**64 - 1
 STATUS_OF_LIMIT = 5
 

@@ -77,22 +77,30 @@ def many_bodies():
 
 def many_tasks():
     """As many tasks as may be declared, each with as many words of objects as a small body may have."""
-    tasks = range(1, 17)
+    tasks = range(1, 65)
     start = f"type V is array (1 .. {WORDS}) of Integer;\n" + "".join(f"task T{number};\n" for number in tasks)
     bodies = "".join(
-        f'task body T{number} is\nA : V;\nbegin\nA ({WORDS}) := {number};\nPut ("n", A ({WORDS}));\nend T{number};\n' for number in tasks
+        f'task body T{number} is\nA : V;\nbegin\nPut ("n", A ({WORDS}));\nend T{number};\n' for number in tasks
     )
-    lines = "".join(f"0 T{number} n {number}\n" for number in tasks)
+    lines = "".join(f"0 T{number} n {-(2**63)}\n" for number in tasks)
     return padded(start + bodies + "procedure Run is\nbegin\n", 'Put ("n", 0);\nend Run;\n'), lines + ended(0)
 
 
+def many_objects():
+    """As many protected objects as may be declared, each with an entry."""
+    objects = range(1, 65)
+    start = "".join(f"protected P{number} is entry E; end P{number};\n" for number in objects)
+    bodies = "".join(f"protected body P{number} is entry E when True is begin null; end E; end P{number};\n" for number in objects)
+    return padded(start + bodies + "procedure Run is\nbegin\nP1.E;\nP64.E;\n", 'Put ("n", 0);\nend Run;\n'), ended(0)
+
+
 def many_entries():
-    """As many protected objects as may be declared, each with an entry that copies as many words in and back as a small body may have."""
-    objects = range(1, 17)
+    """Protected objects, as many as there is room for, each with an entry that copies as many words in and back as a small body may have."""
+    objects = range(1, 33)
     start = f"type V is array (1 .. {WORDS}) of Integer;\n" + "".join(f"protected P{number} is entry E (A : in out V); end P{number};\n" for number in objects)
     bodies = "".join(f"protected body P{number} is entry E (A : in out V) when True is begin A (1) := A (1) + 1; end E; end P{number};\n" for number in objects)
     calls = "".join(f"P{number}.E (A);\n" for number in objects)
-    return padded(start + bodies + "procedure Run is\nA : V;\nbegin\nA (1) := 0;\n" + calls, 'Put ("n", A (1));\nend Run;\n'), ended(16)
+    return padded(start + bodies + "procedure Run is\nA : V;\nbegin\nA (1) := 0;\n" + calls, 'Put ("n", A (1));\nend Run;\n'), ended(32)
 
 
 FUNCTION = "function F (A, B, C, D, E, G, H, I : Integer) return Integer is begin return A + I; end F;\n"
@@ -161,7 +169,7 @@ def wide_arrays():
     return padded(start, 'Put ("n", A1 (1_024));\nend Run;\n'), ended(8)
 
 
-SOURCES = [counted_sums, many_bodies, many_tasks, many_entries, deep_operands, deep_conditions, deep_statements, many_handlers, wide_arrays]
+SOURCES = [counted_sums, many_bodies, many_tasks, many_objects, many_entries, deep_operands, deep_conditions, deep_statements, many_handlers, wide_arrays]
 
 
 def main():

@@ -1,5 +1,5 @@
 #!/usr/bin/env python3
-"""Reads the value change dumps of sources in the tables and of the examples, and compares each value at each tick with those of bench/reference.py.
+"""Reads the value change dumps of sources in the tables, of full_programs.py and of the examples, and compares each value at each tick with those of bench/reference.py.
 
     waves.py PROGRAM FOLDER EXAMPLES SCRATCH
 
@@ -13,6 +13,7 @@ import subprocess
 import sys
 
 from traces import ALL_STEPS, REFUSED, STEPS, examples_of, world_of
+import full_programs
 import rows
 
 sys.path.insert(0, os.path.join(os.path.dirname(os.path.abspath(__file__)), "..", "bench"))
@@ -21,6 +22,7 @@ from reference import STATUSES  # noqa: E402
 TABLES = ("delays", "tasks", "protected", "entries", "interrupts", "traces")
 STATES = {"ready": 0, "running": 1, "asleep": 2, "queued": 3, "served": 4, "finished": 5}
 LEFT = 6
+FIRST_CODE, CODES = 33, 94
 NAME = re.compile(r"[A-Za-z_][A-Za-z0-9_$]*$")
 
 
@@ -126,14 +128,21 @@ def signals_of(world, objects):
     return signals
 
 
+def code_of(signal):
+    """The code of a signal, by its number from 0."""
+    first = chr(FIRST_CODE + signal // CODES) if signal >= CODES else ""
+    return first + chr(FIRST_CODE + signal % CODES)
+
+
 def values_of(world):
     """Their values."""
     left = world.running if world.outcome and world.outcome.startswith("unhandled") else None
     values = [world.now]
     for number in range(len(world.tasks)):
         values += [LEFT if number == left else STATES[world.place(number)[0]], world.active(number)]
+    entered = [world.inside(number) for number in range(len(world.everyone()))]
     for o, queued in enumerate(world.queued):
-        inside = [number for number in range(len(world.everyone())) if o in world.inside(number)]
+        inside = [number for number, objects in enumerate(entered) if o in objects]
         need(len(inside) <= 1, f"tasks {inside} are inside object {o}")
         values += [min(inside[0], len(world.tasks)) + 1 if inside else 0, 0 if queued is None else queued + 1]
     return values
@@ -142,6 +151,7 @@ def values_of(world):
 def compare(dump, world, objects, limit):
     """Each value at each tick is the reference's, nothing else is told to change, and the dump ends behind the last step."""
     need(dump.signals == signals_of(world, objects), f"signals {dump.signals}")
+    need(list(dump.codes) == [code_of(signal) for signal in range(len(dump.signals))], f"codes {list(dump.codes)}")
     told, steps = [None] * len(dump.signals), 0
     while True:
         values = values_of(world)
@@ -157,12 +167,14 @@ def compare(dump, world, objects, limit):
 
 
 def sources_of(folder):
-    """Names, sources and schedules of the rows that are compiled and run."""
+    """Names, sources and schedules of the rows that are compiled and run, and of the programs with as many tasks and objects as there may be."""
     for table in TABLES:
         with open(os.path.join(folder, f"{table}.txt"), encoding="utf-8") as file:
             for row in rows.rows_of(table, file.read().split("\n")):
                 if rows.expected_of(row)[2] not in REFUSED:
                     yield row["name"], rows.framed(row["frame"], row), rows.bytes_of("".join(row.get("schedule", [])))
+    for name, (text, *_) in full_programs.PROGRAMS:
+        yield name, text.encode(), b""
 
 
 class Checker:

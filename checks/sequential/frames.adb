@@ -1,4 +1,4 @@
---  Calls down to the 32nd frame: main's is the first one.
+--  Calls down to the 128th frame: main's is the first one.
 pragma Profile (Ravenscar);
 pragma Partition_Elaboration_Policy (Sequential);
 with Control_IO; use Control_IO;
@@ -13,7 +13,7 @@ package body App is
       Before : Natural := Deepest;
    begin
       Deepest := Level;
-      if Level < 32 then
+      if Level < 128 then
          Down (Level + 1);
       end if;
       Put ("level", Level * 100 + Before);
@@ -51,10 +51,10 @@ package body App is
    begin
       Down (3);
       Put ("deepest", Deepest);
-      Put ("sum", Sum_To (29));
+      Put ("sum", Sum_To (125));
       Put ("fibonacci", Fibonacci (15));
-      Even (29);
-      Even (28);
+      Even (125);
+      Even (124);
    end Run;
 end App;
 with App;
