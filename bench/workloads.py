@@ -117,6 +117,20 @@ def turns(rounds=50_000):
     return assembled([Body(TASK, text, locals=1)], tasks, words=[0]), lines, 17 * (rounds * 14 + 3)
 
 
+def sleepers(rounds=2_000):
+    """65 tasks that all sleep, each for a time of its own, ten microseconds apart: whenever one wakes, the others sleep on."""
+    text = f"""
+        LDG 1; PUSH 10; ADD; STG 1; LDG 1; STL 0
+        top: LDL 0; DLY
+        LDG 0; PUSH 1; ADD; STG 0
+        LDL 0; PUSH 650; ADD; STL 0; LDL 0; PUSH {650 * rounds + 1}; LT; JNZ top
+        LDG 0; PUT 0; RET"""
+    names = [f"T{number}" for number in range(64)] + ["MAIN"]
+    before = 65 * (rounds - 1)
+    lines = [f"{650 * (rounds - 1) + 10 * place} {name} x {before + place}" for place, name in enumerate(names, 1)]
+    return assembled([Body(TASK, text, locals=1)], [(name, 10, 0) for name in names], words=[0, 0]), lines, 65 * (6 + 14 * rounds + 3)
+
+
 def hand_over(values=500_000):
     """A producer puts values into one object and waits at another's entry, where the consumer lets it go on; each handing over serves one call."""
     producer = f"""
@@ -187,6 +201,7 @@ WORKLOADS = {
     "arrays_of_plain_words": lambda: arrays(1, 8_000, 150),
     "straight_sums": straight_sums,
     "turns": turns,
+    "sleepers": sleepers,
     "hand_over": hand_over,
 }
 

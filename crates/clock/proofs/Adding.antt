@@ -172,7 +172,7 @@ has_right : (xs ys : List Entry) (z : Entry) → IsAmong z ys → IsAmong z (xs 
 has_right [] ys z h = h
 has_right (x ∷ xs) ys z h = inr (has_right xs ys z h)
 
-has_either : (xs ys : List Entry) (z : Entry) → IsAmong z (xs ++ ys) → IsAmong z xs ⊎ IsAmong z ys
+pub has_either : (xs ys : List Entry) (z : Entry) → IsAmong z (xs ++ ys) → IsAmong z xs ⊎ IsAmong z ys
 has_either [] ys z h = inr h
 has_either (x ∷ xs) ys z (inl e) = inl (inl e)
 has_either (x ∷ xs) ys z (inr h) = either (has_either xs ys z h) (λ a. inl (inr a)) (λ b. inr b)

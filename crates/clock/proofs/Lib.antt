@@ -3,6 +3,7 @@ mod Lines
 mod Examples
 mod Heaps
 mod Adding
+mod Passing
 mod Waking
 mod Asleep
 mod HeapExamples

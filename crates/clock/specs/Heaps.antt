@@ -1,5 +1,5 @@
 -- Sleepers in a heap: the one that is taken first stands at the front, and each other one behind its parent.
-use Rattle.std.specs.Prelude.{◌≡◌, ℕ, ℤ, int_le, ◌+◌, ◌-◌, ◌/◌, ◌<◌, List, [], ◌∷◌, length, map, get_or, Option, Some, None, Bool, true, false, nat_eq, nat_lt, ◌⊎◌, if◌then◌else◌}
+use Rattle.std.specs.Prelude.{◌≡◌, ℕ, ℤ, int_le, ◌+◌, ◌-◌, ◌/◌, ◌<◌, List, [], ◌∷◌, ◌++◌, filter, length, map, get_or, Option, Some, None, Bool, true, false, nat_eq, nat_lt, ◌⊎◌, if◌then◌else◌}
 use Rattle.std.specs.Ordering.{int_cmp, is_lt, nat_cmp, ordering_then}
 use Rattle.std.specs.List.{IsDistinct}
 use Rattle.std.specs.List.Sorted.{IsPermutation}
@@ -58,6 +58,16 @@ TakesOut before after e = IsPermutation before (e ∷ after) × (length before �
 
 abbrev pub TakesDue : ℤ → List Entry → List Entry → Entry → Type 0
 TakesDue now before after e = IsPermutation before (e ∷ after) × (is_due_entry now e ≡ true) × (length before ≡ length after + 1)
+
+-- all that are due are taken out, in any order, and the others change places
+pub record TakesAllDue (now : ℤ) (before after due : List Entry) : Type 0 where
+  pub moved : IsPermutation before (due ++ after)
+  pub all_due : (e : Entry) → IsAmong e due → is_due_entry now e ≡ true
+  pub nobody_due : IsNobodyDue now after
+
+-- more than a quarter are due
+abbrev pub are_many_due : ℤ → List Entry → Bool
+are_many_due now entries = nat_lt (length entries / 4) (length (filter (is_due_entry now) entries))
 
 -- an entry among others that stand by their numbers
 abbrev pub insert : Entry → List Entry → List Entry

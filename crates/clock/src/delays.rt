@@ -16,7 +16,7 @@ pub struct Sleeper {
     pub wake: i64,
 }
 
-/// The sleeping tasks, in the order in which they began to wait. Nothing takes memory or fails. There is room for 17, which are all the
+/// The sleeping tasks, in the order in which they began to wait. Nothing takes memory or fails. There is room for 65, which are all the
 /// tasks that there are.
 pub trait Delays {
     ghost sleepers: { Self → List Row };

@@ -2,7 +2,7 @@
 ghost use Rattle.std.specs.Prelude.{◌≡◌, ◌<◌, ◌≤◌, ◌-◌, ◌^◌, [], filter, length, not};
 ghost use Rattle.clock.specs.Numbering.{added, free_number};
 ghost use Rattle.clock.specs.Sleepers.{due, waiting};
-ghost use Rattle.clock.specs.Heaps.{AreDistinct, AreNumbered, IsWithin, by_number, earlier, entry_of, is_due_entry, sleepers_of};
+ghost use Rattle.clock.specs.Heaps.{AreDistinct, AreNumbered, IsWithin, TakesAllDue, are_many_due, by_number, earlier, entry_of, is_due_entry, sleepers_of};
 ghost use Rattle.base.specs.declared.limits.TheConstants.{TASKS};
 
 use crate::delays::Delays;
@@ -10,6 +10,7 @@ use crate::heap::{Entry, Heap};
 use arrayvec::ArrayVec;
 use base::limits::TASKS;
 use std::marker::Model;
+use std::mem;
 
 /// A binary heap, by wake time and then by the number of adding. Where the next number is the greatest value of 64 bits, the sleepers
 /// are numbered anew from 0 in their order before one is added.
@@ -177,11 +178,63 @@ fn take_due(heap: &mut Heap, now: i64) -> ArrayVec<Entry, TASKS>
     ensures within { IsWithin heap.new heap.old }
     ensures long { length heap.new ≤ length heap.old }
 {
+    let mut due = all_due(heap, now);
+    sort(due.as_mut_slice());
+    due
+}
+
+// Takes out those that wait for a time or an earlier one: in one pass over all where they are many.
+fn all_due(heap: &mut Heap, now: i64) -> ArrayVec<Entry, TASKS>
+    requires { length heap.old ≤ TASKS }
+    ensures { TakesAllDue now heap.old heap.new result.items }
+{
+    if are_many_due(heap, now) {
+        split_due(heap, now)
+    } else {
+        pop_due(heap, now)
+    }
+}
+
+// Whether more than a quarter of the sleepers wait for a time or an earlier one.
+fn are_many_due(heap: &Heap, now: i64) -> bool
+    ensures { result ≡ are_many_due now heap.now }
+{
+    let entries = heap.entries();
+    let mut count = 0;
+    for entry in entries {
+        if entry.wake <= now {
+            count += 1;
+        }
+    }
+    entries.len() / 4 < count
+}
+
+// Takes out those that wait for a time or an earlier one, in one pass over all.
+fn split_due(heap: &mut Heap, now: i64) -> ArrayVec<Entry, TASKS>
+    requires { length heap.old ≤ TASKS }
+    ensures { TakesAllDue now heap.old heap.new result.items }
+{
+    let all = mem::replace(heap, Heap::new());
+    let mut due = ArrayVec::new();
+    for entry in all.entries() {
+        if entry.wake <= now {
+            due.push(*entry);
+        } else {
+            heap.push(*entry);
+        }
+    }
+    due
+}
+
+// Takes out those that wait for a time or an earlier one, one after the other.
+fn pop_due(heap: &mut Heap, now: i64) -> ArrayVec<Entry, TASKS>
+    requires { length heap.old ≤ TASKS }
+    ensures { TakesAllDue now heap.old heap.new result.items }
+{
     let mut due = ArrayVec::new();
     while let Some(entry) = heap.pop_due(now) {
         due.push(entry);
     }
-    sort(due.as_mut_slice());
     due
 }
 

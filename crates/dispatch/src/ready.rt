@@ -4,7 +4,7 @@ ghost use Rattle.dispatch.specs.Queues.{Queues, head_at, highest, with_head, wit
 ghost use Rattle.base.specs.declared.limits.TheConstants.{PRIORITIES, TASKS};
 
 /// The ready tasks that do not run: for each priority a list, its head first (RM D.2.1). Nothing takes memory or fails. Priorities are
-/// below 32, and each list has room for 17 tasks, which are all that there are.
+/// below 32, and each list has room for 65 tasks, which are all that there are.
 pub trait Ready {
     ghost queues: { Self → Queues };
 
