@@ -1,5 +1,7 @@
 //! Images with changed bytes: each is refused, or is written as the bytes that it was loaded from, both pairs of keepers do the same with it,
 //! and exclusion holds after each step.
+ghost use Rattle.std.specs.Prelude.{◌≡◌};
+
 use crate::exclusion::excludes;
 use crate::worked_images::worked_images;
 use clock::{HeapDelays, ListDelays, Schedule};
@@ -7,8 +9,10 @@ use dispatch::{ListReady, RingReady};
 use image::Image;
 use image_format::encode;
 use image_loading::load;
-use machine::{Event, Machine};
+use machine::{Event, Machine, Steps};
 use std::alloc::{AllocError, Global};
+use std::marker::Brand;
+use std::sync::ledger::{Blank, Ledger};
 use std::test::Fail;
 
 fn are_same(left: &Event, right: &Event) -> bool {
@@ -21,14 +25,21 @@ fn are_same(left: &Event, right: &Event) -> bool {
 }
 
 // Whether both machines do the same in their next steps, up to an outcome, and exclusion holds after each.
-fn go_on_alike(
+fn go_on_alike<L: Ledger>(
+    rt: &HostRuntime,
     rings: &mut Machine<'_, RingReady, HeapDelays>,
     lists: &mut Machine<'_, ListReady, ListDelays>,
     limit: u16,
-) -> bool {
+    blank: Blank,
+) -> bool
+    requires name { blank.name ≡ L.name }
+    requires parts { blank.parts ≡ L.parts }
+    requires one { L.parts ≡ 1 }
+{
+    let mut steps = Steps::<L>::new(rt, blank);
     for _ in 0..limit {
-        let event = rings.step();
-        if !are_same(&event, &lists.step()) || !excludes(rings) || !excludes(lists) {
+        let event = rings.step(&mut steps);
+        if !are_same(&event, &lists.step(&mut steps)) || !excludes(rings) || !excludes(lists) {
             return false;
         }
         if let Event::Done(_) = event {
@@ -39,10 +50,11 @@ fn go_on_alike(
 }
 
 // Whether an image does the same over both pairs of keepers.
-fn runs_alike(alloc: Global, image: &Image, schedule: &Schedule) -> bool {
+fn runs_alike(rt: &HostRuntime, image: &Image, schedule: &Schedule) -> bool {
+    let alloc = rt.alloc();
     match Machine::start(alloc, image, schedule) {
         Ok(mut rings) => match Machine::start(alloc, image, schedule) {
-            Ok(mut lists) => go_on_alike(&mut rings, &mut lists, 1_000),
+            Ok(mut lists) => go_on_alike::<Brand>(rt, &mut rings, &mut lists, 1_000, Blank::new(1)),
             Err(_) => false,
         },
         Err(_) => false,
@@ -50,11 +62,12 @@ fn runs_alike(alloc: Global, image: &Image, schedule: &Schedule) -> bool {
 }
 
 // Whether bytes are refused by a rule of images, or are those of the image that they are loaded as, which runs alike.
-fn is_refused_or_alike(alloc: Global, bytes: &[u8], schedule: &Schedule) -> bool {
+fn is_refused_or_alike(rt: &HostRuntime, bytes: &[u8], schedule: &Schedule) -> bool {
+    let alloc = rt.alloc();
     match load(alloc, bytes) {
         Err(fault) => 40 <= fault.number && fault.number <= 47,
         Ok(image) => match encode(alloc, &image) {
-            Ok(again) => again.as_slice() == bytes && runs_alike(alloc, &image, schedule),
+            Ok(again) => again.as_slice() == bytes && runs_alike(rt, &image, schedule),
             Err(_) => false,
         },
     }
@@ -71,15 +84,15 @@ fn changed(alloc: Global, bytes: &[u8], at: usize, value: u8) -> Result<Vec<u8>,
 
 // Whether they are so with each byte changed by each number up to this one, 0 for no change.
 fn are_all_refused_or_alike(
-    alloc: Global,
+    rt: &HostRuntime,
     bytes: &[u8],
     schedule: &Schedule,
     most: u8,
 ) -> Result<bool, AllocError> {
     for (at, byte) in bytes.iter().enumerate() {
         for change in 0..=most {
-            let other = changed(alloc, bytes, at, *byte ^ change)?;
-            if !is_refused_or_alike(alloc, &other, schedule) {
+            let other = changed(rt.alloc(), bytes, at, *byte ^ change)?;
+            if !is_refused_or_alike(rt, &other, schedule) {
                 return Ok(false);
             }
         }
@@ -95,7 +108,7 @@ fn exclusion_holds_whatever_byte_is_changed(rt: HostRuntime) -> Result<(), Fail>
     for (number, (bytes, _)) in worked_images().iter().enumerate() {
         let most = if number < 3 { 255 } else { 3 };
         assert!(rt;
-            are_all_refused_or_alike(alloc, bytes, &schedule, most)?,
+            are_all_refused_or_alike(&rt, bytes, &schedule, most)?,
             "image {number}"
         );
     }

@@ -1,15 +1,19 @@
 //! Runs an image step by step and asks at its start and after each step whether exclusion holds: exclusion_main IMAGE SCHEDULE LIMIT.
 #![tactic(auto)]
 
+ghost use Rattle.std.specs.Prelude.{◌≡◌};
+
 use base::faults::MEMORY_REFUSED;
 use clock::{HeapDelays, Schedule};
 use crate_tests::exclusion::excludes;
 use dispatch::RingReady;
 use image::Image;
 use image_loading::load;
-use machine::{Event, Machine};
+use machine::{Event, Machine, Steps};
 use std::io::{self, ErrorKind};
+use std::marker::Brand;
 use std::process::ExitCode;
+use std::sync::ledger::{Blank, Ledger};
 use std::{env, fs};
 
 /// What is told of a run by the exit status.
@@ -37,14 +41,24 @@ struct Watched {
 }
 
 // Takes at most this many steps, up to an outcome or to the first one behind which exclusion doesn't hold.
-fn watch(machine: &mut Machine<'_, RingReady, HeapDelays>, limit: u64) -> Watched {
+fn watch<L: Ledger>(
+    rt: &HostRuntime,
+    machine: &mut Machine<'_, RingReady, HeapDelays>,
+    limit: u64,
+    blank: Blank,
+) -> Watched
+    requires name { blank.name ≡ L.name }
+    requires parts { blank.parts ≡ L.parts }
+    requires one { L.parts ≡ 1 }
+{
+    let mut counter = Steps::<L>::new(rt, blank);
     let mut steps = 0;
     let mut holds = excludes(machine);
     for taken in 0..limit {
         if !holds {
             break;
         }
-        let event = machine.step();
+        let event = machine.step(&mut counter);
         steps = taken + 1;
         holds = excludes(machine);
         if let Event::Done(_) = event {
@@ -83,7 +97,7 @@ fn status_of_run(
     limit: u64,
 ) -> io::Result<Status> {
     match Machine::start(rt.alloc(), image, schedule) {
-        Ok(mut machine) => tell(rt, watch(&mut machine, limit)),
+        Ok(mut machine) => tell(rt, watch::<Brand>(rt, &mut machine, limit, Blank::new(1))),
         Err(_) => Ok(Status::NoMemory),
     }
 }

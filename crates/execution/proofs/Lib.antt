@@ -5,7 +5,7 @@ mod Begun
 mod Ending
 mod Entries
 mod Going
-mod Handlers
+pub mod Handlers
 mod Leading
 mod Pushing
 mod RowsOf

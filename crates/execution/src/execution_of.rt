@@ -17,8 +17,8 @@ use image_laws::{effects_named, lines_unread, steps_whole};
 use kernel::laws::somebody_runs;
 use processor::Steps;
 use std::alloc::{AllocError, Global};
-use std::marker::{Brand, Model};
-use std::sync::ledger::{Blank, Ledger};
+use std::marker::Model;
+use std::sync::ledger::Ledger;
 use task_steps::{Memory, Raising};
 use tasking::Tasking;
 use tasking::laws::{kept_with_lines, lines_apart};
@@ -92,28 +92,16 @@ impl<'a, R: Ready, D: Delays> Execution<'a, R, D> {
         Advance { left, line: None }
     }
 
-    /// Does one step, and tells the line that it wrote, if any. Nothing is done once there is an outcome.
-    pub fn step(&mut self) -> Option<Line>
+    /// Does one step, which is counted, and tells the line that it wrote, if any. Nothing is done once there is an outcome.
+    pub fn step<L: Ledger>(&mut self, steps: &mut Steps<L>) -> Option<Line>
         ensures leads { (kernel_of self.old.tasking).outcome ≡ None → Leads 1 self.old self.new (lines_of self.old.image result) }
         ensures going { IfSome result (λ line. (kernel_of self.new.tasking).outcome ≡ None) }
-        ensures over { (o : KernelOutcome) → (kernel_of self.old.tasking).outcome ≡ Some o → (result ≡ None) × (self.new ≡ self.old) }
+        ensures count { (kernel_of self.old.tasking).outcome ≡ None → steps.new ≡ steps.old + 1 }
+        ensures over { (o : KernelOutcome) → (kernel_of self.old.tasking).outcome ≡ Some o → (result ≡ None) × (self.new ≡ self.old) × (steps.new ≡ steps.old) }
     {
-        self.one_step::<Brand>(Blank::new(1))
-    }
-
-    // The same, where nobody reads how many steps it was.
-    fn one_step<L: Ledger>(&mut self, blank: Blank) -> Option<Line>
-        requires name { blank.name ≡ L.name }
-        requires parts { blank.parts ≡ L.parts }
-        requires some { 0 < L.parts }
-        ensures leads { (kernel_of self.old.tasking).outcome ≡ None → Leads 1 self.old self.new (lines_of self.old.image result) }
-        ensures going { IfSome result (λ line. (kernel_of self.new.tasking).outcome ≡ None) }
-        ensures over { (o : KernelOutcome) → (kernel_of self.old.tasking).outcome ≡ Some o → (result ≡ None) × (self.new ≡ self.old) }
-    {
-        let mut steps = Steps::<L>::new(blank);
         match self.runner() {
             None => None,
-            Some(task) => self.advance_task(task, 1, &mut steps).line,
+            Some(task) => self.advance_task(task, 1, steps).line,
         }
     }
 

@@ -1,3 +1,4 @@
+mod Exclusion
 mod Inside
 mod Pieces
 pub mod Runs

@@ -15,7 +15,7 @@ pub use fault::RunFault;
 pub use memory_sink::{MemorySink, Plan};
 pub use processor::Steps;
 pub use reports::{Event, LINE_BYTES, LineText, Outcome};
-pub use running::{Machine, run, run_counted, run_over};
+pub use running::{Machine, run, run_over};
 pub use task_state::TaskState;
 pub use tasking::Place;
 pub use text::{ActorName, actor_name, exception_name, last_line, task_name};

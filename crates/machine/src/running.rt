@@ -3,16 +3,16 @@ ghost use Rattle.std.specs.Prelude.{◌≡◌, None, Some, ℕ, ◌+◌, ◌-◌
 ghost use Rattle.std.specs.Io.KnownBytes.{Appends};
 ghost use Rattle.base.specs.declared.limits.TheConstants.{OBJECTS, PRIORITIES, TASKS};
 ghost use Rattle.kernel.specs.Exclusion.{FourStatements};
-ghost use Rattle.kernel.specs.Interrupts.{told};
-ghost use Rattle.kernel.specs.State.{active, inside, is_object_open, Line as KernelLine, Outcome as KernelOutcome};
+ghost use Rattle.kernel.specs.State.{active, is_object_open, Line as KernelLine, Outcome as KernelOutcome};
 ghost use Rattle.kernel.specs.Text.{line_text as text_line, lines_text};
 ghost use Rattle.image.specs.Code.{code, code_text};
 ghost use Rattle.image.specs.Steps.{is_open};
 ghost use Rattle.image.specs.Texts.{names_of};
 ghost use Rattle.execution.specs.Ahead.{next_raising};
 ghost use Rattle.execution.specs.Held.{line_of, world_of, world_with};
+ghost use Rattle.machine.specs.Exclusion.{Excludes, observed};
 ghost use Rattle.machine.specs.Stands.{EndsBy, IsLast, ShowsText, HoldsWorld, kernel_outcome};
-ghost use Rattle.machine.specs.TaskStates.{active_asked, place_asked, state_of};
+ghost use Rattle.machine.specs.TaskStates.{place_asked};
 ghost use Rattle.machine.specs.Written.{AppendsBeginning};
 ghost use Rattle.tasking.specs.Held.{kernel_of, place_of};
 ghost use Rattle.tasking.specs.Waits.{wake_time};
@@ -28,12 +28,12 @@ use clock::{Delays, ListDelays, Schedule};
 use dispatch::{Ready, RingReady};
 use execution::{Execution, Line, Raising};
 use image::Image;
-use image_laws::{code_leads_on, lines_grow_on, outcome_stays};
-use kernel::laws::{four_statements_hold, left_unmoved};
+use image_laws::{code_leads_on, lines_grow_on, outcome_stays, steps_whole};
+use kernel::laws::{four_statements_hold, inside_lists, left_unmoved};
 use processor::Steps;
 use std::alloc::Global;
-use std::marker::{Brand, Model};
-use std::sync::ledger::{Blank, Ledger};
+use std::marker::Model;
+use std::sync::ledger::Ledger;
 use tasking::{Place, Refusal};
 
 /// A machine that runs an image, over keepers of ready and of sleeping tasks. Memory is taken by `start` alone.
@@ -68,21 +68,23 @@ impl<'a, R: Ready, D: Delays> Machine<'a, R, D> {
         Ok(Machine { execution })
     }
 
-    /// Does one step and tells what it has shown. It leads from the world of code after m steps to the one after m + 1. After the last
-    /// step it tells the outcome again and changes nothing.
-    pub fn step(&mut self) -> Event
+    /// Does one step, which is counted, and tells what it has shown. It leads from the world of code after m steps to the one after m + 1. After the last
+    /// step it tells the outcome again, changes nothing and counts nothing.
+    pub fn step<L: Ledger>(&mut self, steps: &mut Steps<L>) -> Event
         ensures world { (m : ℕ) → HoldsWorld self.old (code self.old.image self.old.schedule m) → HoldsWorld self.new
             (code self.old.image self.old.schedule (m + 1)) × ShowsText self.old.image (code self.old.image self.old.schedule m).kernel
             (code self.old.image self.old.schedule (m + 1)).kernel result }
         ensures image { self.new.image ≡ self.old.image }
         ensures schedule { self.new.schedule ≡ self.old.schedule }
-        ensures done { (o : KernelOutcome) → (kernel_of self.old.tasking).outcome ≡ Some o → self.new ≡ self.old }
+        ensures one { steps.new ≤ steps.old + 1 }
+        ensures count { (kernel_of self.old.tasking).outcome ≡ None → steps.new ≡ steps.old + 1 }
+        ensures done { (o : KernelOutcome) → (kernel_of self.old.tasking).outcome ≡ Some o → (self.new ≡ self.old) × (steps.new ≡ steps.old) }
     {
         outcome_stays();
         if let Some(outcome) = self.outcome() {
             return Event::Done(outcome);
         }
-        match self.execution.step() {
+        match self.execution.step(steps) {
             Some(line) => Event::Line(self.text_of(&line)),
             None => match self.outcome() {
                 Some(outcome) => Event::Done(outcome),
@@ -100,7 +102,7 @@ impl<'a, R: Ready, D: Delays> Machine<'a, R, D> {
 
     /// The number of the running task, or 255 while the handler of an interrupt runs (RM C.3.1).
     pub fn running(&self) -> Option<u8>
-        ensures { let k = kernel_of self.now.tasking in result ≡ option_map (told k.partition) k.running }
+        ensures { result ≡ (observed self.now).running }
     {
         let tasking = self.execution.tasking();
         let task = tasking.running()?;
@@ -157,7 +159,7 @@ impl<'a, R: Ready, D: Delays> Machine<'a, R, D> {
     /// The number of tasks.
     pub fn tasks(&self) -> u8
         ensures image { result ≡ length self.now.image.tasks }
-        ensures kernel { result ≡ (kernel_of self.now.tasking).partition.tasks }
+        ensures kernel { result ≡ (observed self.now).tasks }
         ensures few { result ≤ TASKS }
     {
         self.execution.tasking().task_count()
@@ -176,7 +178,7 @@ impl<'a, R: Ready, D: Delays> Machine<'a, R, D> {
 
     /// Where a task is (RM 9, D.2.1), or by 255 the handler that runs; a number that no task has has finished.
     pub fn state(&self, task: u8) -> TaskState
-        ensures { result ≡ state_of (place_asked (kernel_of self.now.tasking) task) }
+        ensures { result ≡ (observed self.now).state task }
     {
         match self.place(task) {
             Place::Running => TaskState::Running,
@@ -209,7 +211,7 @@ impl<'a, R: Ready, D: Delays> Machine<'a, R, D> {
     pub fn is_inside(&self, task: u8, object: u8) -> bool
         requires task { task < length self.now.image.tasks }
         requires object { object < length self.now.image.objects }
-        ensures { result ≡ is_object_open object ((kernel_of self.now.tasking).actions task) }
+        ensures { result ≡ (observed self.now).is_inside task object }
     {
         let refusal = self.execution.tasking().call_refusal(task, object);
         matches!(refusal, Some(Refusal::SameObject))
@@ -218,7 +220,7 @@ impl<'a, R: Ready, D: Delays> Machine<'a, R, D> {
     /// The active priority of a task (RM D.3), or by 255 of the handler that runs: the greatest of its base priority and the ceilings of its open actions; 0
     /// for a number that no task has.
     pub fn active(&self, task: u8) -> u8
-        ensures { result ≡ active_asked (kernel_of self.now.tasking) task }
+        ensures { result ≡ (observed self.now).active task }
     {
         let tasking = self.execution.tasking();
         match tasking.asked(task) {
@@ -229,18 +231,16 @@ impl<'a, R: Ready, D: Delays> Machine<'a, R, D> {
 
     /// Whether the barrier of an object is open (RM 9.5.2); not so for a number that no object has.
     pub fn barrier(&self, object: u8) -> bool
-        ensures { result ≡ is_open self.now.image (world_of self.now).rest.memory object }
+        ensures { result ≡ (observed self.now).barrier object }
     {
         let image = self.execution.image();
         self.execution.memory().is_open(image, object)
     }
 
-    /// The tasks inside an object, by their numbers, and the handler, which is 255 (RM 9.5.1). By ceilings alone there is one at most; no task within an action
-    /// waits; the highest runs; and a call is queued only while its barrier is closed or somebody is inside.
+    /// The tasks inside an object, by their numbers, and the handler, which is 255 (RM 9.5.1). By ceilings alone there is one at most.
     pub fn inside(&self, object: u8) -> ArrayVec<u8, TASKS>
-        ensures tasks { let k = kernel_of self.now.tasking in result.items ≡ map (told k.partition) (inside k object) }
+        ensures tasks { result.items ≡ (observed self.now).inside object }
         ensures one { length result.items ≤ 1 }
-        ensures exclusion { FourStatements (is_open self.now.image (world_of self.now).rest.memory) (kernel_of self.now.tasking) }
     {
         four_statements_hold();
         let tasking = self.execution.tasking();
@@ -256,9 +256,24 @@ impl<'a, R: Ready, D: Delays> Machine<'a, R, D> {
     /// The task whose call waits in the queue of an object, if there is one (RM D.7).
     pub fn queued(&self, object: u8) -> Option<u8>
         requires { object < length self.now.image.objects }
-        ensures { result ≡ (kernel_of self.now.tasking).queued object }
+        ensures { result ≡ (observed self.now).queued object }
     {
         self.execution.tasking().queued(object)
+    }
+
+    /// Exclusion by ceilings holds in the world that the machine is in, as its calls answer (RM 9.5.1, 9.5.3, D.2.1, D.3), whatever code the image holds: one
+    /// task is inside an object at most; those inside objects have different active priorities, and none of them waits; the highest runs; and a task waits for
+    /// its call only while the barrier is closed or somebody is inside. A law: it does nothing.
+    pub fn exclusion_holds(&self)
+        ensures answers { Excludes (observed self.now) }
+        ensures kernel { FourStatements (is_open self.now.image (world_of self.now).rest.memory) (kernel_of self.now.tasking) }
+    {
+        four_statements_hold();
+        inside_lists();
+        steps_whole();
+        code_leads_on();
+        let _instructions = self.execution.image().instructions();
+        let _tasking = self.execution.tasking();
     }
 
     /// The outcome, once there is one.
@@ -351,7 +366,7 @@ impl<'a, R: Ready, D: Delays> Machine<'a, R, D> {
 /// # Errors
 /// `Memory` where memory was refused, before anything is written; `Write` where a write failed, and what was written then is a beginning
 /// of the text.
-pub fn run_counted<R: Ready + Drop, D: Delays + Drop, S: Sink, L: Ledger>(
+pub fn run_over<R: Ready + Drop, D: Delays + Drop, S: Sink, L: Ledger>(
     alloc: Global,
     image: &Image,
     schedule: &Schedule,
@@ -376,60 +391,17 @@ pub fn run_counted<R: Ready + Drop, D: Delays + Drop, S: Sink, L: Ledger>(
     }
 }
 
-/// Runs an image as `run_counted` does.
-///
-/// # Errors
-/// Those of `run_counted`.
-pub fn run_over<R: Ready + Drop, D: Delays + Drop, S: Sink>(
-    alloc: Global,
-    image: &Image,
-    schedule: &Schedule,
-    limit: u64,
-    sink: &mut S,
-) -> Result<Outcome, RunFault>
-    ensures text { OnOk result (Appends (S.bytes sink.old) (S.bytes sink.new) (code_text image.now schedule.now limit)) }
-    ensures ends { IfOk result (λ outcome. EndsBy outcome (code image.now schedule.now limit)) }
-    ensures kept { OnOk result (S.failures sink.new ≡ S.failures sink.old) }
-    ensures memory { result ≡ Err RunFault.Memory → sink.new ≡ sink.old }
-    ensures failed { result ≡ Err RunFault.Write → S.failures sink.old < S.failures sink.new }
-    ensures beginning { AppendsBeginning (S.bytes sink.old) (S.bytes sink.new) (code_text image.now schedule.now limit) }
-{
-    run_with::<R, D, S, Brand>(alloc, image, schedule, limit, sink, Blank::new(1))
-}
-
-// The same, where nobody reads how many steps it was.
-fn run_with<R: Ready + Drop, D: Delays + Drop, S: Sink, L: Ledger>(
-    alloc: Global,
-    image: &Image,
-    schedule: &Schedule,
-    limit: u64,
-    sink: &mut S,
-    blank: Blank,
-) -> Result<Outcome, RunFault>
-    requires name { blank.name ≡ L.name }
-    requires parts { blank.parts ≡ L.parts }
-    requires some { 0 < L.parts }
-    ensures text { OnOk result (Appends (S.bytes sink.old) (S.bytes sink.new) (code_text image.now schedule.now limit)) }
-    ensures ends { IfOk result (λ outcome. EndsBy outcome (code image.now schedule.now limit)) }
-    ensures kept { OnOk result (S.failures sink.new ≡ S.failures sink.old) }
-    ensures memory { result ≡ Err RunFault.Memory → sink.new ≡ sink.old }
-    ensures failed { result ≡ Err RunFault.Write → S.failures sink.old < S.failures sink.new }
-    ensures beginning { AppendsBeginning (S.bytes sink.old) (S.bytes sink.new) (code_text image.now schedule.now limit) }
-{
-    let mut steps = Steps::<L>::new(blank);
-    run_counted::<R, D, S, L>(alloc, image, schedule, limit, sink, &mut steps)
-}
-
-/// The same over rings of ready tasks and a list of sleeping ones, which for no more than 17 is faster than a heap.
+/// The same over rings of ready tasks and a list of sleeping ones.
 ///
 /// # Errors
 /// Those of `run_over`.
-pub fn run<S: Sink>(
+pub fn run<S: Sink, L: Ledger>(
     alloc: Global,
     image: &Image,
     schedule: &Schedule,
     limit: u64,
     sink: &mut S,
+    steps: &mut Steps<L>,
 ) -> Result<Outcome, RunFault>
     ensures text { OnOk result (Appends (S.bytes sink.old) (S.bytes sink.new) (code_text image.now schedule.now limit)) }
     ensures ends { IfOk result (λ outcome. EndsBy outcome (code image.now schedule.now limit)) }
@@ -437,6 +409,7 @@ pub fn run<S: Sink>(
     ensures memory { result ≡ Err RunFault.Memory → sink.new ≡ sink.old }
     ensures failed { result ≡ Err RunFault.Write → S.failures sink.old < S.failures sink.new }
     ensures beginning { AppendsBeginning (S.bytes sink.old) (S.bytes sink.new) (code_text image.now schedule.now limit) }
+    ensures count { steps.new ≤ steps.old + limit }
 {
-    run_over::<RingReady, ListDelays, S>(alloc, image, schedule, limit, sink)
+    run_over::<RingReady, ListDelays, S, L>(alloc, image, schedule, limit, sink, steps)
 }

@@ -5,7 +5,8 @@ ghost use Rattle.std.specs.Prelude.{◌≡◌, ◌+◌, ◌<◌};
 use std::marker::Model;
 use std::sync::ledger::{Blank, Book, Ledger, Share};
 
-/// How many steps tasks have taken. It takes no bytes at run time, and only `tick` and `tick_by` change it.
+/// How many steps tasks have taken. It takes no bytes at run time, and only `tick` and `tick_by` change it. Whoever takes steps is given one, and makes none:
+/// that takes the system's runtime, which only a program's `main` and tests have. So the steps of a call show on the counter that it is given.
 #[derive(Drop)]
 pub struct Steps<L: Ledger> {
     book: Book<L>,
@@ -24,7 +25,7 @@ impl<L: Ledger> Model for Steps<L> {
 
 impl<L: Ledger> Steps<L> {
     /// No step, over a new ledger.
-    pub fn new(blank: Blank) -> Steps<L>
+    pub fn new(_rt: &HostRuntime, blank: Blank) -> Steps<L>
         requires name { blank.name ≡ L.name }
         requires parts { blank.parts ≡ L.parts }
         requires some { 0 < L.parts }
@@ -40,6 +41,7 @@ impl<L: Ledger> Steps<L> {
     {
         self.book.add(&mut self.share, 1);
     }
+
     /// So many steps more.
     pub fn tick_by(&mut self, count: u64)
         ensures { self.new ≡ self.old + count }

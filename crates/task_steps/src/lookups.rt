@@ -87,7 +87,7 @@ pub fn entry(program: &Program, object: u16) -> Option<u16>
     }
 }
 
-/// An object's number as tasks have it: there are at most 16.
+/// An object's number as tasks have it: there are at most 64.
 pub(crate) fn object_number(program: &Program, object: u16) -> u8
     requires { object < length program.now.objects }
     ensures { result ≡ object }

@@ -1,5 +1,5 @@
 //! Traces of runs.
-ghost use Rattle.std.specs.Prelude.{◌≡◌, ◌+◌, ◌-◌, ◌<◌, ◌≤◌, ◌++◌, Err, IfErr, IfOk, None, OnErr, OnOk, Some, ℕ, length};
+ghost use Rattle.std.specs.Prelude.{◌≡◌, ◌+◌, ◌-◌, ◌<◌, ◌≤◌, ◌*◌, ◌++◌, Err, IfErr, IfOk, None, OnErr, OnOk, Some, ℕ, length};
 ghost use Rattle.std.specs.Io.KnownBytes.{Appends};
 ghost use Rattle.image.specs.Code.{code};
 ghost use Rattle.machine.specs.Stands.{EndsBy, HoldsWorld};
@@ -17,8 +17,9 @@ use clock::{Delays, HeapDelays, Schedule};
 use dispatch::{Ready, RingReady};
 use image::{Image, Text};
 use image_laws::outcome_stays;
-use machine::{Machine, Outcome, Raising, RunFault, Sink, SinkError, last_line, write_all};
+use machine::{Machine, Outcome, Raising, RunFault, Sink, SinkError, Steps, last_line, write_all};
 use std::alloc::Global;
+use std::sync::ledger::Ledger;
 
 // Writes the rows of events.
 fn write_events<O: Origins, S: Sink>(
@@ -122,7 +123,7 @@ fn write_step<R: Ready, D: Delays, O: Origins, S: Sink>(
 }
 
 // Takes steps up to an outcome, `limit` of them at most, by two machines of which one stays a step behind the other, and writes the rows.
-fn trace_on<R: Ready, D: Delays, O: Origins, S: Sink>(
+fn trace_on<R: Ready, D: Delays, O: Origins, S: Sink, L: Ledger>(
     image: &Image,
     objects: &[Text],
     origins: &O,
@@ -130,6 +131,7 @@ fn trace_on<R: Ready, D: Delays, O: Origins, S: Sink>(
     after: &mut Machine<'_, R, D>,
     limit: u64,
     sink: &mut S,
+    steps: &mut Steps<L>,
 ) -> Result<Outcome, RunFault>
     requires image { after.old.image ≡ image.now }
     requires image_before { before.old.image ≡ image.now }
@@ -144,6 +146,7 @@ fn trace_on<R: Ready, D: Delays, O: Origins, S: Sink>(
     ensures failed { OnErr result (S.failures sink.old < S.failures sink.new) }
     ensures beginning { OnErr result (AppendsBeginning (S.bytes sink.old) (S.bytes sink.new)
         (rows_text (row_names image.now objects.now (O.origin origins.now)) (rows image.now after.old.schedule limit))) }
+    ensures count { steps.new ≤ steps.old + 2 * limit }
 {
     outcome_stays();
     match write_events(
@@ -164,7 +167,7 @@ fn trace_on<R: Ready, D: Delays, O: Origins, S: Sink>(
             return Ok(outcome);
         }
         let raising = before.raising_ahead();
-        let told = after.step();
+        let told = after.step(steps);
         step += 1;
         match write_step(
             image, objects, origins, before, after, raising, &told, step, sink,
@@ -172,18 +175,18 @@ fn trace_on<R: Ready, D: Delays, O: Origins, S: Sink>(
             Ok(()) => {}
             Err(_) => return Err(RunFault::Write),
         }
-        before.step();
+        before.step(steps);
     }
     Ok(after.outcome_or_limit())
 }
 
 /// Runs an image as `machine::run` does, with the same outcome, and writes its trace: the rows of the start and of each step, and the last line of the run.
 /// Its protected objects have these names, in the order of their numbers; one for which there is none is told by its number. Where an exception is raised,
-/// it is told where its instruction comes from, if the origins know that.
+/// it is told where its instruction comes from, if the origins know that. Two machines take at most `limit` steps each, which are counted.
 ///
 /// # Errors
 /// `Memory` where memory was refused, before anything is written; `Write` where a write failed, and what was written then is a beginning of the trace.
-pub fn trace<O: Origins, S: Sink>(
+pub fn trace<O: Origins, S: Sink, L: Ledger>(
     alloc: Global,
     image: &Image,
     objects: &[Text],
@@ -191,6 +194,7 @@ pub fn trace<O: Origins, S: Sink>(
     schedule: &Schedule,
     limit: u64,
     sink: &mut S,
+    steps: &mut Steps<L>,
 ) -> Result<Outcome, RunFault>
     ensures text { OnOk result (Appends (S.bytes sink.old) (S.bytes sink.new) (trace_text image.now objects.now (O.origin origins.now) schedule.now limit)) }
     ensures ends { IfOk result (λ outcome. EndsBy outcome (code image.now schedule.now limit)) }
@@ -198,6 +202,7 @@ pub fn trace<O: Origins, S: Sink>(
     ensures memory { result ≡ Err RunFault.Memory → sink.new ≡ sink.old }
     ensures failed { result ≡ Err RunFault.Write → S.failures sink.old < S.failures sink.new }
     ensures beginning { AppendsBeginning (S.bytes sink.old) (S.bytes sink.new) (trace_text image.now objects.now (O.origin origins.now) schedule.now limit) }
+    ensures count { steps.new ≤ steps.old + 2 * limit }
 {
     let mut before: Machine<'_, RingReady, HeapDelays> = Machine::start(alloc, image, schedule)?;
     let mut after: Machine<'_, RingReady, HeapDelays> = Machine::start(alloc, image, schedule)?;
@@ -209,6 +214,7 @@ pub fn trace<O: Origins, S: Sink>(
         &mut after,
         limit,
         sink,
+        steps,
     )?;
     let text = last_line(image, &outcome);
     match write_all(sink, text.as_slice()) {

@@ -1,5 +1,5 @@
 //! Runs as value change dumps.
-ghost use Rattle.std.specs.Prelude.{◌≡◌, ◌+◌, ◌<◌, ◌++◌, Err, IfErr, IfOk, OnErr, OnOk, length};
+ghost use Rattle.std.specs.Prelude.{◌≡◌, ◌+◌, ◌<◌, ◌≤◌, ◌++◌, Err, IfErr, IfOk, OnErr, OnOk, length};
 ghost use Rattle.std.specs.Io.KnownBytes.{Appends};
 ghost use Rattle.image.specs.Code.{code};
 ghost use Rattle.machine.specs.Stands.{EndsBy, HoldsWorld};
@@ -16,8 +16,9 @@ use clock::{Delays, HeapDelays, Schedule};
 use dispatch::{Ready, RingReady};
 use image::Image;
 use image_laws::outcome_stays;
-use machine::{Machine, Outcome, RunFault, Sink, SinkError, last_line, write_all};
+use machine::{Machine, Outcome, RunFault, Sink, SinkError, Steps, last_line, write_all};
 use std::alloc::{AllocError, Global};
+use std::sync::ledger::Ledger;
 
 // How a run ended, and behind how many steps.
 #[derive(Clone, Copy)]
@@ -60,10 +61,11 @@ fn write_step<S: Sink>(
 }
 
 // Takes steps up to an outcome, `limit` of them at most, and writes what each has changed.
-fn write_steps<R: Ready, D: Delays, S: Sink>(
+fn write_steps<R: Ready, D: Delays, S: Sink, L: Ledger>(
     machine: &mut Machine<'_, R, D>,
     limit: u64,
     sink: &mut S,
+    steps: &mut Steps<L>,
 ) -> Result<Ending, RunFault>
     requires { HoldsWorld machine.old (code machine.old.image machine.old.schedule 0) }
     ensures changes { OnOk result (Appends (S.bytes sink.old) (S.bytes sink.new) (steps_text machine.old.image machine.old.schedule limit)) }
@@ -73,6 +75,7 @@ fn write_steps<R: Ready, D: Delays, S: Sink>(
     ensures fault { IfErr result (λ fault. fault ≡ RunFault.Write) }
     ensures failed { OnErr result (S.failures sink.old < S.failures sink.new) }
     ensures beginning { OnErr result (AppendsBeginning (S.bytes sink.old) (S.bytes sink.new) (steps_text machine.old.image machine.old.schedule limit)) }
+    ensures count { steps.new ≤ steps.old + limit }
 {
     outcome_stays();
     let mut before = values_of(machine);
@@ -81,7 +84,7 @@ fn write_steps<R: Ready, D: Delays, S: Sink>(
         if let Some(outcome) = machine.outcome() {
             return Ok(Ending { outcome, taken });
         }
-        machine.step();
+        machine.step(steps);
         taken += 1;
         let after = values_of(machine);
         match write_step(taken, &before, &after, sink) {
@@ -95,17 +98,18 @@ fn write_steps<R: Ready, D: Delays, S: Sink>(
 }
 
 /// Runs an image as `machine::run` does, with the same outcome, and writes the run as a value change dump, in which protected objects have
-/// these names; those that have none here, or no name that Ada allows, have their number.
+/// these names; those that have none here, or no name that Ada allows, have their number. It takes at most `limit` steps, which are counted.
 ///
 /// # Errors
 /// `Memory` where memory was refused, before anything is written; `Write` where a write failed, and what was written then is a beginning of the dump.
-pub fn waves<S: Sink>(
+pub fn waves<S: Sink, L: Ledger>(
     alloc: Global,
     image: &Image,
     names: &[Text],
     schedule: &Schedule,
     limit: u64,
     sink: &mut S,
+    steps: &mut Steps<L>,
 ) -> Result<Outcome, RunFault>
     ensures text { OnOk result (Appends (S.bytes sink.old) (S.bytes sink.new) (waves_text image.now names.now schedule.now limit)) }
     ensures ends { IfOk result (λ outcome. EndsBy outcome (code image.now schedule.now limit)) }
@@ -113,6 +117,7 @@ pub fn waves<S: Sink>(
     ensures memory { result ≡ Err RunFault.Memory → sink.new ≡ sink.old }
     ensures failed { result ≡ Err RunFault.Write → S.failures sink.old < S.failures sink.new }
     ensures beginning { AppendsBeginning (S.bytes sink.old) (S.bytes sink.new) (waves_text image.now names.now schedule.now limit) }
+    ensures count { steps.new ≤ steps.old + limit }
 {
     let mut machine: Machine<'_, RingReady, HeapDelays> = Machine::start(alloc, image, schedule)?;
     let start = beginning(alloc, image, names, &machine)?;
@@ -120,7 +125,7 @@ pub fn waves<S: Sink>(
         Ok(()) => {}
         Err(_) => return Err(RunFault::Write),
     }
-    let ending = write_steps(&mut machine, limit, sink)?;
+    let ending = write_steps(&mut machine, limit, sink, steps)?;
     let last = last_line(image, &ending.outcome);
     match write_all(sink, ending_text(ending.taken, &last).as_slice()) {
         Ok(()) => Ok(ending.outcome),

@@ -5,3 +5,6 @@ ghosts-run_both_over-L-Ledger a = record { name = a.first.name; parts = a.first.
 
 abbrev pub ghosts-run_both_over-M-Ledger : goal.ghosts-run_both_over-M-Ledger
 ghosts-run_both_over-M-Ledger a = record { name = a.second.name; parts = a.second.parts }
+
+abbrev pub ghosts-run_both_over-N-Ledger : goal.ghosts-run_both_over-N-Ledger
+ghosts-run_both_over-N-Ledger a = record { name = a.third.name; parts = a.third.parts }

@@ -13,6 +13,7 @@ loop-step-init g c =
       traced_start c.args.image.now c.args.objects.now (g.O.Origins.origin c.args.origins.now) c.args.after.now.schedule c.args.after.now c.requires.image refl c.requires.stands _ _ (now ∙ c.now.ensures) (c.as_slice.ensures.value ∙ c.starts.ensures)
           c.args.before.now c.requires.image_before c.requires.schedule c.requires.stands_before _ _ _ _ c.in-Ok.ensures.whole c.in-Ok.ensures.kept,
       omega arith,
+      omega arith,
     )
 
 pub loop-step-preserved : goal.loop-step-preserved
@@ -21,6 +22,7 @@ loop-step-preserved g c =
       traced_on _ _ _ _ _ _ _ _ _ _ _ c.loop-step.invariant.0 c.raising_ahead-raising.result c.raising_ahead-raising.ensures c.step-told.new.self c.step-told.result c.step-told.ensures.world (sym c.in_default.ensures.outcome) _
           c.step.new.self c.step.result c.step.ensures.world c.step.ensures.image c.step-told.ensures.image c.step.ensures.schedule c.step-told.ensures.schedule _ c.in-Ok-write_step.ensures.whole c.in-Ok-write_step.ensures.kept,
       omega (arith, less),
+      omega (arith, c.loop-step.invariant.2, c.step-told.ensures.one, c.step.ensures.one),
     )
 
 pub returns-in-Err-write_step-clause-beginning : goal.returns-in-Err-write_step-clause-beginning
@@ -54,3 +56,12 @@ returns-clause-ends g c =
     let high = c.loop-step-test.false in
     let at : c.loop-step.step ≡ c.args.limit = omega (arith, low, high) in
     (traced_over c.outcome_stays.ensures _ _ _ _ _ c.args.limit _ _ _ _ _ _ c.loop-step.invariant.0 low (inl at) _ c.outcome_or_limit.ensures).ends
+
+pub returns-in-Err-write_step-clause-count : goal.returns-in-Err-write_step-clause-count
+returns-in-Err-write_step-clause-count g c = omega (arith, c.loop-step-test.true, c.loop-step.invariant.2, c.step-told.ensures.one)
+
+pub returns-in-Some-clause-count : goal.returns-in-Some-clause-count
+returns-in-Some-clause-count g c = omega (arith, c.loop-step.invariant.1, c.loop-step.invariant.2)
+
+pub returns-clause-count : goal.returns-clause-count
+returns-clause-count g c = omega (arith, c.loop-step.invariant.1, c.loop-step.invariant.2)

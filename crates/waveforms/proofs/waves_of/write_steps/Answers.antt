@@ -3,7 +3,7 @@ use Rattle.waveforms.proofs.Dumped.{broken_step, dumped_nothing, dumped_on, dump
 use Rattle.waveforms.proofs.waves_of.write_steps.Goals as goal
 
 pub loop-taken-init : goal.loop-taken-init
-loop-taken-init g c = (dumped_nothing c.args.machine.now _ _ _ c.requires c.values_of-before.ensures, omega arith)
+loop-taken-init g c = (dumped_nothing c.args.machine.now _ _ _ c.requires c.values_of-before.ensures, omega arith, omega arith)
 
 pub loop-taken-preserved : goal.loop-taken-preserved
 loop-taken-preserved g c =
@@ -11,6 +11,7 @@ loop-taken-preserved g c =
       dumped_on _ _ _ _ _ _ _ _ _ c.loop-taken.invariant.0 c.step.new.self c.step.result c.step.ensures.world (sym c.in_default.ensures.outcome) _ c.values_of-after.ensures _
           c.step.ensures.image c.step.ensures.schedule _ c.in-Ok.ensures.whole c.in-Ok.ensures.kept,
       omega (arith, less),
+      omega (arith, c.loop-taken.invariant.2, c.step.ensures.one),
     )
 
 pub returns-in-Err-clause-beginning : goal.returns-in-Err-clause-beginning
@@ -57,3 +58,12 @@ returns-clause-taken g c =
     let high = c.loop-taken-test.false in
     let at : c.loop-taken.taken ≡ c.args.limit = omega (arith, low, high) in
     (dumped_over c.outcome_stays.ensures _ _ _ c.args.limit _ _ _ _ _ _ c.loop-taken.invariant.0 low (inl at) _ c.outcome_or_limit-outcome.ensures).taken_is
+
+pub returns-in-Err-clause-count : goal.returns-in-Err-clause-count
+returns-in-Err-clause-count g c = omega (arith, c.loop-taken-test.true, c.loop-taken.invariant.2, c.step.ensures.one)
+
+pub returns-in-Some-clause-count : goal.returns-in-Some-clause-count
+returns-in-Some-clause-count g c = omega (arith, c.loop-taken.invariant.1, c.loop-taken.invariant.2)
+
+pub returns-clause-count : goal.returns-clause-count
+returns-clause-count g c = omega (arith, c.loop-taken.invariant.1, c.loop-taken.invariant.2)

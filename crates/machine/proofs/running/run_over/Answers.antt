@@ -1,7 +1,7 @@
 use Rattle.std.proofs.Common.{◌∙◌}
 use Rattle.machine.proofs.Runs.{part_of_lines, part_of_text, whole_beginning, whole_text}
 use Rattle.image.specs.Code.{code_text}
-use Rattle.machine.proofs.running.run_counted.Goals as goal
+use Rattle.machine.proofs.running.run_over.Goals as goal
 
 pub returns-in_err-outcome-clause-beginning : goal.returns-in_err-outcome-clause-beginning
 returns-in_err-outcome-clause-beginning g c =
