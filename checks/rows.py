@@ -15,6 +15,7 @@ and operations have images, words has words.
 - A row on one line has what is expected, `: `, and the text, the schedule or the words.
 - A row with `limits` is run with each limit from 0 on: up to the first one that gives the row's lines it writes whole lines of these, no fewer than with the
   limit before, and then where the limit cut it, at a time between those of the lines around; from there on it gives the row's lines.
+- What a row with `checks N` compiles to has N instructions CHK in its listing.
 - Of the image of a row with `cut`, each beginning is too short by what isn't there, and is refused at its end.
 - `\\n`, `\\xNN` and the like stand for bytes, and {5*ab} for a part five times.
 """
@@ -190,6 +191,13 @@ class Caller:
             if (run.stdout, run.stderr, run.returncode) != (ended.stdout, ended.stderr, ended.returncode):
                 self.wrong.append(f"{row['name']}: with limit {more}: status {run.returncode}, {run.stdout!r}, {run.stderr!r}, and not as with limit {limit}")
 
+    def counts(self, row, mnemonic, expected):
+        """The listing of the compiled image has so many instructions of this mnemonic."""
+        run = subprocess.run([self.program, "list", "main.img"], cwd=self.folder, capture_output=True, check=False)
+        self.calls += 1
+        found = sum(mnemonic in line.split() for line in run.stdout.decode().splitlines())
+        self.same(row, f"{found} instructions {mnemonic}, expected {expected}", (run.returncode, found), (0, expected))
+
     def same(self, row, what, found, expected):
         if found != expected:
             self.wrong.append(f"{row['name']}: {what}")
@@ -224,6 +232,8 @@ def run_source(caller, row):
     else:
         caller.call(row, ["compile", "main.adb", "main.img"], b"", b"", 0)
         caller.call(row, ["run", "main.img", "input", limit], out, err, status)
+        if "checks" in row:
+            caller.counts(row, "CHK", int(row["checks"][0]))
         steps = int(limit) if status == STATUS_OF_LIMIT else None
         if "limits" in row:
             steps = caller.grows(row, ["go", "main.adb", "input"], out)

@@ -1,5 +1,5 @@
 -- Code of expressions whose values are checked against a subtype.
-use Rattle.std.proofs.Common.{◌≡◌, ℕ, ℤ, ◌+◌, true, false, None, Option, Some, refl, sym, ap, ◌∙◌, subst, arith}
+use Rattle.std.proofs.Common.{◌≡◌, ℕ, ℤ, ◌+◌, Bool, true, false, None, Option, Some, refl, sym, ap, ◌∙◌, subst, arith}
 use Rattle.std.specs.Prelude.{pos}
 use Rattle.kernel.specs.Laws.{QuietStays}
 use Rattle.ada_tree.specs.ExpressionTree.{ExprTree}
@@ -35,6 +35,7 @@ use Rattle.expr_soundness.proofs.Arguments as arguments
 use Rattle.expr_soundness.proofs.Arguments.{slot_suits}
 use Rattle.expr_soundness.proofs.Parts.{subtype_values}
 use Rattle.expr_code.specs.Views.{At}
+use Rattle.expr_code.specs.Checks.{ChecksAsNeeded, ChecksUnless}
 use Rattle.expr_code.specs.Code.{Adds, here}
 use Rattle.expr_code.specs.Computing.{AlwaysPasses, ComputesChecked, ComesToNumber}
 use Rattle.expr_code.specs.Emitting.{EmitsChecked, EmitsExpression, has_numbers, IsFit, IsLegalExpression, WantedFits}
@@ -114,6 +115,28 @@ module _ (spared : ChecksAreSpared) (all : AllValuesLie) (i : Sections) (v : Vis
       spared v.scope p calls sees.names.agrees (sound.0 p sees.unit.sound) (all v.scope p calls sees.names.agrees sees.unit.values sees.loops sound.1) e
       legal.wanted t legal.unbroken inside x is
 
+-- the check of an expression's value, where the depth and the bounds are those of the expression
+pub check_of : (v : Visible) (t : Subtype) (e : ExprTree) (mid new : Code) (depth one : ℕ) (b : ℤ × ℤ) → one ≡ depth + 1 → b ≡ bounds_of v.scope e
+    → ChecksUnless (is_inside b t) mid one t new → ChecksUnless (is_inside (bounds_of v.scope e) t) mid (depth + 1) t new
+check_of v t e mid new depth one b p q c =
+    subst (λ n. ChecksUnless (is_inside (bounds_of v.scope e) t) mid n t new) p (subst (λ x. ChecksUnless (is_inside x t) mid one t new) q c)
+
+pub check_added : (old low high new : Code) (depth one two : ℕ) (t : Subtype) (x y : ℤ) (inside : Bool) → inside ≡ false → one ≡ depth + 1 → two ≡ one + 1
+    → x ≡ t.first → y ≡ t.last → Adds old depth (op.Push x) low → Adds low one (op.Push y) high → Adds high two op.CheckRange new
+    → ChecksUnless inside old depth t new
+check_added old low high new depth one two t x y inside false_is p q sx sy a b c =
+    subst (λ x. ChecksUnless x old depth t new) (sym false_is) (record {
+      low = low;
+      high = high;
+      first = subst (λ z. Adds old depth (op.Push z) low) sx a;
+      last = subst (λ n. Adds low n (op.Push t.last) high) p (subst (λ z. Adds low one (op.Push z) high) sy b);
+      check = subst (λ n. Adds high n op.CheckRange new) (q ∙ ap (λ n. n + 1) p) c;
+    })
+
+pub as_needed : (v : Visible) (old mid new : Code) (depth : ℕ) (t : Subtype) (e : ExprTree) → EmitsExpression v old depth 1 e mid
+    → ChecksUnless (is_inside (bounds_of v.scope e) t) mid (depth + 1) t new → ChecksAsNeeded v old depth t e new
+as_needed v old mid new depth t e emits checks = record { value = mid; emits = emits; checks = checks }
+
 module _ (quiet : QuietStays) (laws : ExpressionsAreTyped) (words : ValuesHaveWords) (v : Visible) (old mid : Code) (depth : ℕ) (t : Subtype) (e : ExprTree) (h : IsFit v.scope t e) (inner : EmitsExpression v old depth 1 e mid) where
   pub unchecked_emits : form_at v.scope t.type_number ≡ Some Booleans → EmitsChecked v old depth t e mid
   unchecked_emits form = record {
@@ -185,3 +208,10 @@ module _ (quiet : QuietStays) (laws : ExpressionsAreTyped) (words : ValuesHaveWo
           single = one_number words v.scope t numbers;
           typed = shaped laws v t e h;
         }
+
+  -- the check just where the bounds of the expression do not lie inside the subtype
+  pub needed_emits : ChecksAreSpared → AllValuesLie → (new : Code) (inside : Bool) → is_inside (bounds_of v.scope e) t ≡ inside
+      → has_numbers (form_at v.scope t.type_number) ≡ true → ChecksUnless inside mid (depth + 1) t new → EmitsChecked v old depth t e new
+  needed_emits spared all new true inside numbers same = subst (λ c. EmitsChecked v old depth t e c) (sym same) (spared_emits spared all inside numbers)
+  needed_emits spared all new false inside numbers c =
+      checked_emits c.low c.high new (depth + 1) (depth + 1 + 1) (depth + 1 + 1 + 1) t.first t.last refl refl refl refl refl c.first c.last c.check numbers

@@ -1,5 +1,5 @@
 -- How many words code that was added finds on the operand stack at most: code behind code, and each form of an expression.
-use Rattle.std.proofs.Common.{◌≡◌, ◌<◌, ◌≤◌, ◌+◌, ℕ, ℤ, pos, suc, inl, inr, List, [], ◌∷◌, length, map, Some, None, sym, ap, ◌∙◌, subst, arith}
+use Rattle.std.proofs.Common.{◌≡◌, ◌<◌, ◌≤◌, ◌+◌, ℕ, ℤ, Bool, true, false, refl, pos, suc, inl, inr, List, [], ◌∷◌, length, map, Some, None, sym, ap, ◌∙◌, subst, arith}
 use Rattle.std.specs.Prelude.{get_or, max, slice_get}
 use Rattle.std.proofs.Math.Nat.{le-max_right}
 use Rattle.ada_tree.specs.declared.expression.Argument.{Argument}
@@ -18,6 +18,7 @@ use Rattle.types.specs.Scopes.{number_of}
 use Rattle.types.specs.Standings.{stands_first}
 use Rattle.expr_soundness.proofs.Positions.{same_some}
 use Rattle.expr_code.specs.Branches.{Branch, Closes, branch_of, in_front}
+use Rattle.expr_code.specs.Checks.{ChecksUnless}
 use Rattle.expr_code.specs.Code.{IsShallow}
 use Rattle.expr_code.specs.Going.{AddsAtOffset, AddsByWords, AddsLessFirst, AddsOffset, AddsTwo}
 use Rattle.expr_code.specs.OperatorCode.{binary_operation}
@@ -273,6 +274,13 @@ module _ (v : Visible) (depth : ℕ) where
     where
       whole : (k : ℕ) → depth + k ≤ depth + max 3 k
       whole k = omega arith
+
+  -- the value, and its check where it is needed
+  pub needed_shallow : (e : ExprTree) (a b f : Code) (t : Subtype) (inside : Bool) → IsShallow a b (depth + peak v.scope e)
+      → ChecksUnless inside b (depth + 1) t f → IsShallow a f (depth + checked_peak (peak v.scope e))
+  needed_shallow e a b f t true p same = subst (λ c. IsShallow a c (depth + checked_peak (peak v.scope e))) (sym same) (unchecked_shallow e a b p)
+  needed_shallow e a b f t false p c =
+      check_shallow e a b c.low c.high f (depth + 1) (depth + 1 + 1) (depth + 1 + 1 + 1) refl refl refl p c.first.shallow c.last.shallow c.check.shallow
 
   -- ---- names
 

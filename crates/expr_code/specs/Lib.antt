@@ -8,6 +8,7 @@ pub mod Naming
 pub mod Seeing
 pub mod Flows
 pub mod Emitting
+pub mod Checks
 pub mod Branches
 pub mod Locating
 pub mod Going

@@ -1,13 +1,14 @@
 //! The code of expressions whose values are checked against a subtype (RM 4.6, 6.4.1).
-ghost use Rattle.std.specs.Prelude.{◌≡◌, true, IfErr, IfOk, OnOk, ◌+◌};
+ghost use Rattle.std.specs.Prelude.{◌≡◌, true, IfErr, IfOk, IsOk, OnOk, ◌+◌};
 ghost use Rattle.image.specs.Rules.{is_block};
 ghost use Rattle.ada_tree.specs.ExpressionTree.{expr_tree};
 ghost use Rattle.types.specs.Layouts.{words_of};
 ghost use Rattle.types.specs.Scopes.{form_at};
 ghost use Rattle.expr_code.specs.Emitting.{EmitsChecked, EmitsFitting, has_numbers, is_composite, IsFit};
-ghost use Rattle.expr_code.specs.Code.{Extends, IsShallow};
+ghost use Rattle.expr_code.specs.Checks.{ChecksAsNeeded, ChecksUnless};
+ghost use Rattle.expr_code.specs.Code.{Extends, IsShallow, here};
 ghost use Rattle.expr_code.specs.Providing.{HasWhatExpressionsNeed, is_passable};
-ghost use Rattle.expr_code.specs.Refusing.{RefusesChecked, RefusesFitting, checked_peak, peak};
+ghost use Rattle.expr_code.specs.Refusing.{IsRefused, RefusesChecked, RefusesFitting, checked_peak, peak};
 ghost use Rattle.expr_soundness.specs.BoundsLaw.{is_inside};
 ghost use Rattle.expr_soundness.specs.SoundScopes.{IsKnown, SoundScope};
 
@@ -47,6 +48,8 @@ impl Code {
         ensures refused { IfErr result (λ why. RefusesChecked visible.now self.old depth (expr_tree e.now) why) }
         ensures kept { IfErr result (λ why. Extends self.old self.new) }
         ensures shallow { OnOk result (IsShallow self.old self.new (depth + checked_peak (peak visible.now.scope (expr_tree e.now)))) }
+        ensures needed { has_numbers (form_at visible.now.scope subtype.type_number) ≡ true → OnOk result
+            (ChecksAsNeeded visible.now self.old depth subtype (expr_tree e.now) self.new) }
         ensures emits { OnOk result (EmitsChecked visible.now self.old depth subtype (expr_tree e.now) self.new) }
     {
         quiet_stays();
@@ -61,7 +64,7 @@ impl Code {
         }
     }
 
-    // The same of a subtype of numbers: without the check where the bounds of the value lie inside the subtype.
+    // The code of a value of a subtype of numbers, with the check where the bounds of the expression don't lie inside.
     #[cycle(expression)]
     fn checked_as_needed(
         &mut self,
@@ -77,6 +80,7 @@ impl Code {
         ensures refused { IfErr result (λ why. RefusesChecked visible.now self.old depth (expr_tree e.now) why) }
         ensures kept { IfErr result (λ why. Extends self.old self.new) }
         ensures shallow { OnOk result (IsShallow self.old self.new (depth + checked_peak (peak visible.now.scope (expr_tree e.now)))) }
+        ensures needed { OnOk result (ChecksAsNeeded visible.now self.old depth subtype (expr_tree e.now) self.new) }
         ensures emits { OnOk result (EmitsChecked visible.now self.old depth subtype (expr_tree e.now) self.new) }
     {
         quiet_stays();
@@ -84,40 +88,29 @@ impl Code {
         checks_are_spared();
         all_values_lie();
         values_have_words();
-        if is_inside(bounds(&visible.scope, e), subtype) {
-            self.of_width(visible, depth, 1, e)
-        } else {
-            self.ranged(visible, depth, subtype, e)
-        }
+        self.of_width(visible, depth, 1, e)?;
+        self.check(above(depth)?, bounds(&visible.scope, e), subtype)
     }
 
-    // With the check: the value, between the subtype's first and last.
-    #[cycle(expression)]
-    fn ranged(
-        &mut self,
-        visible: &Visible,
-        depth: u16,
-        subtype: Subtype,
-        e: &Expr,
-    ) -> Result<(), Refusal>
-        requires sound { SoundScope visible.now.scope }
-        requires covered { HasWhatExpressionsNeed visible.now }
-        requires fit { IsFit visible.now.scope subtype (expr_tree e.now) }
-        requires numbers { has_numbers (form_at visible.now.scope subtype.type_number) ≡ true }
-        ensures refused { IfErr result (λ why. RefusesChecked visible.now self.old depth (expr_tree e.now) why) }
+    /// Adds the check that the value on top of the operand stack, which has `depth` words, lies in a subtype of numbers (RM 3.5, 4.6). It is left out where
+    /// these bounds of the value lie inside the subtype.
+    ///
+    /// # Errors
+    /// `Limit` where the three instructions pass a limit of images; `Memory` where memory was refused. Neither comes where the check is left out.
+    pub fn check(&mut self, depth: u16, bounds: (i64, i64), subtype: Subtype) -> Result<(), Refusal>
+        ensures checks { OnOk result (ChecksUnless (is_inside bounds subtype) self.old depth subtype self.new) }
+        ensures needless { is_inside bounds subtype ≡ true → IsOk result × self.new ≡ self.old }
+        ensures refused { IfErr result (λ why. IsRefused (here self.old + 3) (depth + 2) why) }
         ensures kept { IfErr result (λ why. Extends self.old self.new) }
-        ensures shallow { OnOk result (IsShallow self.old self.new (depth + checked_peak (peak visible.now.scope (expr_tree e.now)))) }
-        ensures emits { OnOk result (EmitsChecked visible.now self.old depth subtype (expr_tree e.now) self.new) }
     {
-        quiet_stays();
-        expressions_are_typed();
-        values_have_words();
-        self.of_width(visible, depth, 1, e)?;
+        if is_inside(bounds, subtype) {
+            return Ok(());
+        }
         let one = above(depth)?;
         let two = above(one)?;
-        self.emit(one, Operation::Push(subtype.first))?;
-        self.emit(two, Operation::Push(subtype.last))?;
-        self.emit(above(two)?, Operation::CheckRange)
+        self.emit(depth, Operation::Push(subtype.first))?;
+        self.emit(one, Operation::Push(subtype.last))?;
+        self.emit(two, Operation::CheckRange)
     }
 
     /// The same of a subtype of whatever words. Tells how many words the value takes.

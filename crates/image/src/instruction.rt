@@ -96,7 +96,7 @@ pub enum Operation {
     JumpIfZero(u16),
     /// 24 JNZ: takes a word, and goes on at this instruction where it isn't 0.
     JumpIfNotZero(u16),
-    /// 25 CALL: takes the parameters and calls the subprogram of this number; Storage_Error at the 33rd frame.
+    /// 25 CALL: takes the parameters and calls the subprogram of this number; Storage_Error where 128 frames are in use.
     Call(u16),
     /// 26 PCALL: an external call of a procedure or function of an object, whose action it opens; Program_Error for the same object or the ceiling (RM 9.5.1,
     /// D.3).

@@ -16,7 +16,7 @@ pub fn begins_sound()
 {}
 
 /// In a well-formed image each step of a task keeps the shape of its frames, whatever the kernel, the schedule and the words:
-/// at most 32 frames, each at an instruction of its subprogram with the declared locals, the running one with the operands that its
+/// at most 128 frames, each at an instruction of its subprogram with the declared locals, the running one with the operands that its
 /// instruction declares, those below waiting at their calls.
 pub fn steps_sound()
     ensures { StepsSound }

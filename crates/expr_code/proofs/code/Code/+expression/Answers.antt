@@ -13,10 +13,12 @@ use Rattle.ada_tree.specs.declared.expression.Argument.TheFolds as folds
 use Rattle.ada_tree.specs.declared.expression.Expr as expressions
 use Rattle.ada_tree.specs.ExpressionTree.{argument_trees, Arguments, expr_tree, MoreSelectors, Named, name_tree, NoSelectors, selector_tree}
 use Rattle.expr_code.specs.Emitting.{EmitsExpression, IsLegalExpression}
+use Rattle.expr_soundness.specs.BoundsLaw.{is_inside}
 use Rattle.expr_code.proofs.Branching.{adds_none, all_branches}
-use Rattle.expr_code.proofs.Checking.{checked_emits, fit_legal, spared_emits, unchecked_emits}
+use Rattle.expr_code.proofs.Checking.{as_needed, check_of, fit_legal, needed_emits, unchecked_emits}
 use Rattle.expr_code.proofs.Chains.{all_emitted, and_then_at, none_emitted, operand_at, or_else_at}
 use Rattle.expr_code.proofs.Emitted.{number_emits, parenthesized_emits, sign_emits, unary_at}
+use Rattle.types.specs.Bounds.{bounds_of}
 use Rattle.types.specs.Evaluating.{fixed_value}
 use Rattle.expr_code.proofs.Conversions.{conversion_emits}
 use Rattle.expr_code.proofs.Names.{fixed_emits}
@@ -249,19 +251,6 @@ elsifs-returns-clause-adds t c =
 
 -- ---- checks and conversions
 
-pub ranged-of_width-requires : goal.ranged-of_width-requires
-ranged-of_width-requires t c =
-    let s = c.args.visible.now.scope in (
-      search (rules, expressions.the_lemmas),
-      (
-        c.requires.sound,
-        (
-          c.requires.covered,
-          (fit_legal s c.args.subtype _ c.requires.fit, numbers_fit_width s c.requires.sound c.args.subtype _ c.requires.fit c.requires.numbers),
-        ),
-      ),
-    )
-
 pub checked-of_width-requires : goal.checked-of_width-requires
 checked-of_width-requires t c =
     let s = c.args.visible.now.scope in (
@@ -288,19 +277,21 @@ checked_as_needed-of_width-requires t c =
       ),
     )
 
-pub checked_as_needed-returns-then-is_inside-clause-emits : goal.checked_as_needed-returns-then-is_inside-clause-emits
-checked_as_needed-returns-then-is_inside-clause-emits t c =
-    on_ok_weaker _ (λ p. spared_emits c.quiet_stays.ensures c.expressions_are_typed.ensures c.values_have_words.ensures c.args.visible.now _ _
-    c.args.depth c.args.subtype _ c.requires.fit p c.checks_are_spared.ensures c.all_values_lie.ensures (search rules) c.requires.numbers)
-    c.of_width.ensures.emits
+pub checked_as_needed-returns-clause-needed : goal.checked_as_needed-returns-clause-needed
+checked_as_needed-returns-clause-needed t c =
+    let v = c.args.visible.now in
+    let e = expr_tree c.args.e.now in
+    on_ok_weaker _ (λ p. as_needed v c.args.self.now c.of_width.new.self c.check.new.self c.args.depth c.args.subtype e c.in_ok-of_width.ensures.emits
+    (check_of v c.args.subtype e c.of_width.new.self c.check.new.self c.args.depth _ _ c.in_ok-above.ensures.more c.bounds.ensures p)) c.check.ensures.checks
 
-pub ranged-returns-clause-emits : goal.ranged-returns-clause-emits
-ranged-returns-clause-emits t c =
-    on_ok_weaker _ (λ p. checked_emits c.quiet_stays.ensures c.expressions_are_typed.ensures c.values_have_words.ensures c.args.visible.now _ _
-    c.args.depth c.args.subtype _ c.requires.fit c.in_ok-of_width.ensures.emits
-    _ _ _ _ _ _ _ _ c.in_ok-one.ensures.more c.in_ok-two.ensures.more c.in_ok-above.ensures.more
-    (search rules) (search rules)
-    c.in_ok-emit.ensures.adds c.in_ok-emit-2.ensures.adds p c.requires.numbers) c.emit-3.ensures.adds
+pub checked_as_needed-returns-clause-emits : goal.checked_as_needed-returns-clause-emits
+checked_as_needed-returns-clause-emits t c =
+    let v = c.args.visible.now in
+    let e = expr_tree c.args.e.now in
+    on_ok_weaker _ (λ p. needed_emits c.quiet_stays.ensures c.expressions_are_typed.ensures c.values_have_words.ensures v c.args.self.now c.of_width.new.self
+    c.args.depth c.args.subtype e c.requires.fit c.in_ok-of_width.ensures.emits c.checks_are_spared.ensures c.all_values_lie.ensures c.check.new.self
+    (is_inside (bounds_of v.scope e) c.args.subtype) refl c.requires.numbers
+    (check_of v c.args.subtype e c.of_width.new.self c.check.new.self c.args.depth _ _ c.in_ok-above.ensures.more c.bounds.ensures p)) c.check.ensures.checks
 
 pub checked-returns-in-Some-Boolean-clause-emits : goal.checked-returns-in-Some-Boolean-clause-emits
 checked-returns-in-Some-Boolean-clause-emits t c =
@@ -533,11 +524,8 @@ short_circuit-returns-in-OrElse-clause-shallow = stack.short_circuit-returns-in-
 pub short_circuit-returns-in_default-clause-shallow : goal.short_circuit-returns-in_default-clause-shallow
 short_circuit-returns-in_default-clause-shallow = stack.short_circuit-returns-in_default-clause-shallow
 
-pub ranged-returns-clause-shallow : goal.ranged-returns-clause-shallow
-ranged-returns-clause-shallow = stack.ranged-returns-clause-shallow
-
-pub checked_as_needed-returns-then-is_inside-clause-shallow : goal.checked_as_needed-returns-then-is_inside-clause-shallow
-checked_as_needed-returns-then-is_inside-clause-shallow = stack.checked_as_needed-returns-then-is_inside-clause-shallow
+pub checked_as_needed-returns-clause-shallow : goal.checked_as_needed-returns-clause-shallow
+checked_as_needed-returns-clause-shallow = stack.checked_as_needed-returns-clause-shallow
 
 pub checked-returns-in-Some-Boolean-clause-shallow : goal.checked-returns-in-Some-Boolean-clause-shallow
 checked-returns-in-Some-Boolean-clause-shallow = stack.checked-returns-in-Some-Boolean-clause-shallow
@@ -679,29 +667,14 @@ elsifs-returns-in_err-raised-clause-kept = kept.elsifs-returns-in_err-raised-cla
 pub elsifs-returns-in_err-close-clause-kept : goal.elsifs-returns-in_err-close-clause-kept
 elsifs-returns-in_err-close-clause-kept = kept.elsifs-returns-in_err-close-clause-kept
 
-pub ranged-returns-in_err-of_width-clause-kept : goal.ranged-returns-in_err-of_width-clause-kept
-ranged-returns-in_err-of_width-clause-kept = kept.ranged-returns-in_err-of_width-clause-kept
+pub checked_as_needed-returns-in_err-of_width-clause-kept : goal.checked_as_needed-returns-in_err-of_width-clause-kept
+checked_as_needed-returns-in_err-of_width-clause-kept = kept.checked_as_needed-returns-in_err-of_width-clause-kept
 
-pub ranged-returns-in_err-one-clause-kept : goal.ranged-returns-in_err-one-clause-kept
-ranged-returns-in_err-one-clause-kept = kept.ranged-returns-in_err-one-clause-kept
+pub checked_as_needed-returns-in_err-above-clause-kept : goal.checked_as_needed-returns-in_err-above-clause-kept
+checked_as_needed-returns-in_err-above-clause-kept = kept.checked_as_needed-returns-in_err-above-clause-kept
 
-pub ranged-returns-in_err-two-clause-kept : goal.ranged-returns-in_err-two-clause-kept
-ranged-returns-in_err-two-clause-kept = kept.ranged-returns-in_err-two-clause-kept
-
-pub ranged-returns-in_err-emit-clause-kept : goal.ranged-returns-in_err-emit-clause-kept
-ranged-returns-in_err-emit-clause-kept = kept.ranged-returns-in_err-emit-clause-kept
-
-pub ranged-returns-in_err-emit-2-clause-kept : goal.ranged-returns-in_err-emit-2-clause-kept
-ranged-returns-in_err-emit-2-clause-kept = kept.ranged-returns-in_err-emit-2-clause-kept
-
-pub ranged-returns-in_err-above-clause-kept : goal.ranged-returns-in_err-above-clause-kept
-ranged-returns-in_err-above-clause-kept = kept.ranged-returns-in_err-above-clause-kept
-
-pub ranged-returns-clause-kept : goal.ranged-returns-clause-kept
-ranged-returns-clause-kept = kept.ranged-returns-clause-kept
-
-pub checked_as_needed-returns-then-is_inside-clause-kept : goal.checked_as_needed-returns-then-is_inside-clause-kept
-checked_as_needed-returns-then-is_inside-clause-kept = kept.checked_as_needed-returns-then-is_inside-clause-kept
+pub checked_as_needed-returns-clause-kept : goal.checked_as_needed-returns-clause-kept
+checked_as_needed-returns-clause-kept = kept.checked_as_needed-returns-clause-kept
 
 pub checked-returns-in-Some-Boolean-clause-kept : goal.checked-returns-in-Some-Boolean-clause-kept
 checked-returns-in-Some-Boolean-clause-kept = kept.checked-returns-in-Some-Boolean-clause-kept

@@ -1,4 +1,4 @@
-use Rattle.std.proofs.Common.{◌+◌, inl, rules, subst}
+use Rattle.std.proofs.Common.{inl, rules, subst}
 use Rattle.std.specs.Prelude.{pos}
 use Rattle.image.specs.declared.instruction.Operation.TheVariants as op
 use Rattle.expr_code.specs.Code.{Adds}

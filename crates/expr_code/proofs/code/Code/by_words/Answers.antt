@@ -1,4 +1,4 @@
-use Rattle.std.proofs.Common.{◌+◌, inl, rules, subst}
+use Rattle.std.proofs.Common.{inl, rules, subst}
 use Rattle.std.specs.Prelude.{pos}
 use Rattle.std.proofs.lemmas.Result.{IfErr-weaker, on_ok_weaker}
 use Rattle.image.specs.declared.instruction.Operation.TheVariants as op

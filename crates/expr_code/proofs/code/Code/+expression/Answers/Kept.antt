@@ -177,50 +177,22 @@ elsifs-returns-in_err-close-clause-kept t c =
 
 -- ---- checks
 
-pub ranged-returns-in_err-of_width-clause-kept : goal.ranged-returns-in_err-of_width-clause-kept
-ranged-returns-in_err-of_width-clause-kept t c =
+pub checked_as_needed-returns-in_err-of_width-clause-kept : goal.checked_as_needed-returns-in_err-of_width-clause-kept
+checked_as_needed-returns-in_err-of_width-clause-kept t c =
     let whole = as_before _ _ c.in_err-of_width.ensures.restored in
     search (rules, whole)
 
-pub ranged-returns-in_err-one-clause-kept : goal.ranged-returns-in_err-one-clause-kept
-ranged-returns-in_err-one-clause-kept t c =
+pub checked_as_needed-returns-in_err-above-clause-kept : goal.checked_as_needed-returns-in_err-above-clause-kept
+checked_as_needed-returns-in_err-above-clause-kept t c =
     let whole = c.in_ok-of_width.ensures.emits.extends in
     search (rules, whole)
 
-pub ranged-returns-in_err-two-clause-kept : goal.ranged-returns-in_err-two-clause-kept
-ranged-returns-in_err-two-clause-kept t c =
-    let whole = c.in_ok-of_width.ensures.emits.extends in
-    search (rules, whole)
-
-pub ranged-returns-in_err-emit-clause-kept : goal.ranged-returns-in_err-emit-clause-kept
-ranged-returns-in_err-emit-clause-kept t c =
-    let whole = then_kept c.in_ok-of_width.ensures.emits.extends c.in_err-emit.ensures.kept in
-    search (rules, whole)
-
-pub ranged-returns-in_err-emit-2-clause-kept : goal.ranged-returns-in_err-emit-2-clause-kept
-ranged-returns-in_err-emit-2-clause-kept t c =
-    let whole = then_kept c.in_ok-of_width.ensures.emits.extends (added_kept c.in_ok-emit.ensures.adds
-    c.in_err-emit-2.ensures.kept) in
-    search (rules, whole)
-
-pub ranged-returns-in_err-above-clause-kept : goal.ranged-returns-in_err-above-clause-kept
-ranged-returns-in_err-above-clause-kept t c =
-    let whole = then_kept c.in_ok-of_width.ensures.emits.extends (added_kept
-    c.in_ok-emit.ensures.adds (added_extends _ _ _ _ c.in_ok-emit-2.ensures.adds)) in
-    search (rules, whole)
-
-pub ranged-returns-clause-kept : goal.ranged-returns-clause-kept
-ranged-returns-clause-kept t c =
-    IfErr-weaker _ _ _ (λ why p. then_kept (then_kept c.in_ok-of_width.ensures.emits.extends (added_kept
-    c.in_ok-emit.ensures.adds (added_extends _ _ _ _ c.in_ok-emit-2.ensures.adds))) p)
-    c.emit-3.ensures.kept
+pub checked_as_needed-returns-clause-kept : goal.checked_as_needed-returns-clause-kept
+checked_as_needed-returns-clause-kept t c =
+    IfErr-weaker _ _ _ (λ why p. then_kept c.in_ok-of_width.ensures.emits.extends p) c.check.ensures.kept
 
 pub checked-returns-in-Some-Boolean-clause-kept : goal.checked-returns-in-Some-Boolean-clause-kept
 checked-returns-in-Some-Boolean-clause-kept t c =
-    IfErr-weaker _ _ _ (λ why p. as_before _ _ p) c.of_width.ensures.restored
-
-pub checked_as_needed-returns-then-is_inside-clause-kept : goal.checked_as_needed-returns-then-is_inside-clause-kept
-checked_as_needed-returns-then-is_inside-clause-kept t c =
     IfErr-weaker _ _ _ (λ why p. as_before _ _ p) c.of_width.ensures.restored
 
 -- ---- parts of objects

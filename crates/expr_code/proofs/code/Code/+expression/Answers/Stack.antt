@@ -4,12 +4,15 @@ use Rattle.std.specs.Prelude.{max}
 use Rattle.std.proofs.lemmas.Result.{on_ok_weaker}
 use Rattle.ada_tree.specs.ExpressionTree.{argument_trees, Arguments, expr_tree, MoreSelectors, Named, name_tree, NoSelectors, selector_tree, selector_trees}
 use Rattle.expr_code.specs.Branches.{branch_of}
+use Rattle.expr_code.proofs.Checking.{check_of}
 use Rattle.expr_code.proofs.Going.{one_argument}
 use Rattle.expr_code.proofs.CallsRefused.{counted_high}
 use Rattle.expr_code.specs.Widths.{width_of}
+use Rattle.types.specs.Bounds.{bounds_of}
+use Rattle.expr_soundness.specs.BoundsLaw.{is_inside}
 use Rattle.expr_code.specs.Code.{IsShallow}
 use Rattle.expr_code.specs.Refusing.{branches_peak, operands_peak, peak, selectors_peak}
-use Rattle.expr_code.proofs.Shallow.{argument_shallow, call_shallow, chain_shallow, check_shallow, closed_shallow, conditional_shallow, element_shallow, offset_shallow, operand_shallow, part_shallow, short_shallow, unchecked_shallow, word_deep, word_deeper}
+use Rattle.expr_code.proofs.Shallow.{argument_shallow, call_shallow, chain_shallow, closed_shallow, conditional_shallow, element_shallow, needed_shallow, offset_shallow, operand_shallow, part_shallow, short_shallow, unchecked_shallow, word_deep, word_deeper}
 use Rattle.expr_code.proofs.Selecting.{one_selector}
 use Rattle.expr_code.proofs.Widths.{conditional_words}
 use Rattle.expr_code.proofs.code.Code.+expression.Goals as goal
@@ -103,20 +106,16 @@ short_circuit-returns-in_default-clause-shallow t c =
     c.patch-in_default.new.self _ _ c.requires.short c.in_ok-one.ensures.more c.in_ok-above.ensures.more c.in_ok-emit.ensures.adds.shallow
     c.in_ok-emit-2.ensures.adds.shallow c.in_ok-emit-3.ensures.adds.shallow c.in_ok-of_width.ensures.shallow c.patch-in_default.ensures.patches.deepest
 
-pub ranged-returns-clause-shallow : goal.ranged-returns-clause-shallow
-ranged-returns-clause-shallow t c =
-    on_ok_weaker _ (λ p. check_shallow c.args.visible.now c.args.depth (expr_tree c.args.e.now) c.args.self.now c.of_width.new.self
-    c.emit.new.self c.emit-2.new.self c.emit-3.new.self _ _ _ c.in_ok-one.ensures.more
-    c.in_ok-two.ensures.more c.in_ok-above.ensures.more c.in_ok-of_width.ensures.shallow
-    c.in_ok-emit.ensures.adds.shallow c.in_ok-emit-2.ensures.adds.shallow p.shallow) c.emit-3.ensures.adds
+pub checked_as_needed-returns-clause-shallow : goal.checked_as_needed-returns-clause-shallow
+checked_as_needed-returns-clause-shallow t c =
+    let v = c.args.visible.now in
+    let e = expr_tree c.args.e.now in
+    on_ok_weaker _ (λ p. needed_shallow v c.args.depth e c.args.self.now c.of_width.new.self c.check.new.self
+    c.args.subtype (is_inside (bounds_of v.scope e) c.args.subtype) c.in_ok-of_width.ensures.shallow
+    (check_of v c.args.subtype e c.of_width.new.self c.check.new.self c.args.depth _ _ c.in_ok-above.ensures.more c.bounds.ensures p)) c.check.ensures.checks
 
 pub checked-returns-in-Some-Boolean-clause-shallow : goal.checked-returns-in-Some-Boolean-clause-shallow
 checked-returns-in-Some-Boolean-clause-shallow t c =
-    on_ok_weaker _ (λ p. unchecked_shallow c.args.visible.now c.args.depth (expr_tree c.args.e.now) c.args.self.now c.of_width.new.self p)
-    c.of_width.ensures.shallow
-
-pub checked_as_needed-returns-then-is_inside-clause-shallow : goal.checked_as_needed-returns-then-is_inside-clause-shallow
-checked_as_needed-returns-then-is_inside-clause-shallow t c =
     on_ok_weaker _ (λ p. unchecked_shallow c.args.visible.now c.args.depth (expr_tree c.args.e.now) c.args.self.now c.of_width.new.self p)
     c.of_width.ensures.shallow
 
