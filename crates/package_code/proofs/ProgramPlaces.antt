@@ -1,6 +1,7 @@
 -- The rows of places of a whole program tell of the statements of its bodies.
-use Rattle.std.proofs.Common.{◌≡◌, ℕ, zero, suc, ◌+◌, List, [], ◌∷◌, ◌++◌, length, ◌⊎◌, inl, inr, Option, None, Some, refl, sym, ap, ◌∙◌, subst, arith, append-nil, append_assoc}
-use Rattle.std.proofs.lemmas.Option.{slice_get_within}
+use Rattle.std.proofs.Common.{◌≡◌, ℕ, zero, suc, ◌+◌, List, [], ◌∷◌, ◌++◌, length, All, ◌≤◌, ◌⊎◌, inl, inr, Option, None, Some, refl, sym, ap, ◌∙◌, subst, arith, append-nil, append_assoc}
+use Rattle.std.proofs.lemmas.List.Elements.{All-get_or, All-weaker}
+use Rattle.std.proofs.lemmas.Option.{get_or_from_slice_get, slice_get_within}
 use Rattle.std.specs.Prelude.{slice_get}
 use Rattle.image_laws.specs.kernel.specs.Laws.{QuietStays, ViewsBack, ViewsOn}
 use Rattle.image_laws.specs.Laws.{ImagesHaveSize}
@@ -23,12 +24,12 @@ use Rattle.expr_code.specs.Seeing.{Package}
 use Rattle.step_simulation.specs.part_code.specs.Resting.{Framed}
 use Rattle.step_simulation.specs.part_code.specs.Statements.{Numbers, procedure_kind}
 use Rattle.stmt_code.specs.Emitting.{TellPlaces}
-use Rattle.stmt_code.specs.Placing.{AreInnermostFirst, sequence_within, stmt_place}
+use Rattle.stmt_code.specs.Placing.{AreInnermostFirst, StandsBetween, sequence_within, stmt_place}
 use Rattle.stmt_code.specs.declared.tables.PlaceRow.{PlaceRow}
-use Rattle.stmt_code.proofs.PlacesAdded.{row_told, told_row}
+use Rattle.stmt_code.proofs.PlacesAdded.{told_row}
 use Rattle.package_code.specs.Bodies.{Coded, bodies_of, coded_at, of_subprogram, of_task, operation_kind}
 use Rattle.package_code.specs.Package.{IsInFront, IsPackageOf}
-use Rattle.package_code.specs.Places.{HasPlaceRow, PlacesAreTold, TellsOfBody, TellsReturn, statements_of}
+use Rattle.package_code.specs.Places.{HasBodyRows, LiesInSubprogram, PlacesAreTold, TellsBody, TellsOfBody, TellsReturn, statements_of}
 use Rattle.package_code.specs.Program.{HasProgram}
 use Rattle.package_code.specs.Walking.{AddsValueFunction, HasBody, IsOfBody, first_statement_place, row_of}
 use Rattle.package_code.proofs.BodyFronts.{IsEntrance}
@@ -184,12 +185,40 @@ module _ (t : ProgramTree) (i : Sections) (h : HasProgram t i) (laws : LawsOfNam
           behind = sym (ap (λ z. here z.code) y.marked);
         }
 
+    -- the rows that were added with the code of a body lie within its subprogram
+    lie_there : (number : ℕ) (c : Coded) (body : HasBody t h.directory number c h.walk) → All (LiesInSubprogram i number) body.keeps.rows.placed
+    lie_there number c body =
+        let row : Subprogram = row_of c.kind body.words (here body.new.code) in
+        All-weaker (StandsBetween (here body.old.code) (here body.new.code)) (LiesInSubprogram i number)
+        (λ q b. record {
+          s = row;
+          there = called_front t i h number row body.there;
+          within = record { low = (let e = begins_there t i h number c body in let l = b.low in omega (arith, e, l)); runs = b.runs; high = b.high };
+        })
+        body.keeps.rows.placed body.keeps.rows.between
+
+    lies_at : (number : ℕ) (c : Coded) (body : HasBody t h.directory number c h.walk) (index : ℕ) (q : PlaceRow)
+        → slice_get body.keeps.rows.placed index ≡ Some q → LiesInSubprogram i number q
+    lies_at number c body index q is =
+        let rows = body.keeps.rows.placed in
+        subst (LiesInSubprogram i number) (get_or_from_slice_get rows index q q is)
+        (All-get_or (LiesInSubprogram i number) rows index q (slice_get_within rows index q is) (lie_there number c body))
+
     of_body : (q : PlaceRow) (x : IsOfBody t h.directory h.walk q) → (x.coded.head.result ≡ None) ⊎ ((r : Identifier) × (x.coded.head.result ≡ Some r))
         → TellsOfBody t i g numbers q
     of_body q x (inl none) =
         let told = body_places x.number x.coded x.there x.number x.body none in
         let r = told_row i program g numbers x.body.keeps.rows.placed (statements_of x.coded) told x.index q x.among in
-        record { number = x.number; body = x.coded; there = x.there; index = x.index; statement = r.0; among = r.1; tells = inl r.2 }
+        record {
+          number = x.number;
+          body = x.coded;
+          there = x.there;
+          lies = lies_at x.number x.coded x.body x.index q x.among;
+          index = x.index;
+          statement = r.0;
+          among = r.1;
+          tells = inl r.2;
+        }
     of_body q x (inr r) =
         let own_row = own x.number x.coded x.body r.0 r.1 in
         let same : own_row ≡ q =
@@ -199,6 +228,7 @@ module _ (t : ProgramTree) (i : Sections) (h : HasProgram t i) (laws : LawsOfNam
           number = x.number;
           body = x.coded;
           there = x.there;
+          lies = lies_at x.number x.coded x.body x.index q x.among;
           index = 0;
           statement = back.0;
           among = back.1;
@@ -210,37 +240,28 @@ module _ (t : ProgramTree) (i : Sections) (h : HasProgram t i) (laws : LawsOfNam
         let x = h.walked.places index q (ap (λ l. slice_get l index) (sym table_is) ∙ is) in
         of_body q x (either_result x.coded.head.result)
 
-    -- a row that came with a body stands in the table
-    in_table : (number : ℕ) (c : Coded) (body : HasBody t h.directory number c h.walk) (index : ℕ) (q : PlaceRow)
-        → slice_get body.keeps.rows.placed index ≡ Some q → slice_get table (length body.old.rows.places + index) ≡ Some q
-    in_table number c body index q is =
-        let whole = table_is ∙ body.kept.places ∙ ap (λ l. l ++ body.kept.placed) body.keeps.rows.located
-        ∙ append_assoc body.old.rows.places body.keeps.rows.placed body.kept.placed in
-        ap (λ l. slice_get l (length body.old.rows.places + index)) whole
-        ∙ get_behind body.old.rows.places (body.keeps.rows.placed ++ body.kept.placed) index
-        ∙ front_at body.keeps.rows.placed body.kept.placed index q is
+    told_by_result : (number : ℕ) (c : Coded) (there : slice_get (bodies_of t) number ≡ Some c) (body : HasBody t h.directory number c h.walk)
+        → (c.head.result ≡ None) ⊎ ((r : Identifier) × (c.head.result ≡ Some r))
+        → TellsBody i program g numbers number c.head.result body.keeps.rows.placed (statements_of c)
+    told_by_result number c there body (inl none) =
+        subst (λ r. TellsBody i program g numbers number r body.keeps.rows.placed (statements_of c)) (sym none) (body_places number c there number body none)
+    told_by_result number c there body (inr r) =
+        let back = is_returned number c body r.0 r.1 in
+        subst (λ o. TellsBody i program g numbers number o body.keeps.rows.placed (statements_of c)) (sym r.1)
+        (own number c body r.0 r.1, back.0, alone number c body r.0 r.1, back.1, own_tells number c body r.0 r.1)
 
-    pub all_told : (number : ℕ) (c : Coded) → slice_get (bodies_of t) number ≡ Some c → c.head.result ≡ None → (index : ℕ) (x : StmtTree)
-        → slice_get (statements_of c) index ≡ Some x → HasPlaceRow i program g numbers table number x
-    all_told number c there none index x among =
+    pub bodies_told : (number : ℕ) (c : Coded) → slice_get (bodies_of t) number ≡ Some c → HasBodyRows i program g numbers table number c
+    bodies_told number c there =
         let body = body_there t i h number c there in
-        let r = row_told i program g numbers body.keeps.rows.placed (statements_of c) (body_places number c there number body none) index x among in
-        record { index = length body.old.rows.places + index; row = r.0; there = in_table number c body index r.0 r.1; tells = inl r.2 }
-
-    pub returns_told : (number : ℕ) (c : Coded) (r : Identifier) → slice_get (bodies_of t) number ≡ Some c → c.head.result ≡ Some r
-        → (x : StmtTree) × (slice_get (statements_of c) 0 ≡ Some x) × HasPlaceRow i program g numbers table number x
-    returns_told number c r there some =
-        let body = body_there t i h number c there in
-        let back = is_returned number c body r some in (
-          back.0,
-          back.1,
-          record {
-            index = length body.old.rows.places + 0;
-            row = own number c body r some;
-            there = in_table number c body 0 (own number c body r some) (ap (λ l. slice_get l 0) (alone number c body r some));
-            tells = inr (own_tells number c body r some);
-          },
-        )
+        record {
+          before = body.old.rows.places;
+          rows = body.keeps.rows.placed;
+          after = body.kept.placed;
+          together = table_is ∙ body.kept.places ∙ ap (λ l. l ++ body.kept.placed) body.keeps.rows.located
+              ∙ append_assoc body.old.rows.places body.keeps.rows.placed body.kept.placed;
+          lie = lie_there number c body;
+          tell = told_by_result number c there body (either_result c.head.result);
+        }
 
     pub innermost_first : AreInnermostFirst table
     innermost_first =
@@ -255,7 +276,6 @@ places_are_told laws quiet views back shaped sizes t i table legal restricted we
       numbers = numbers_of (program_of t) h.directory;
       linked = sections_linked t i h laws quiet views back shaped legal restricted well_formed sizes;
       each = each_told t i h laws quiet views back shaped legal restricted well_formed table has.placed;
-      returns = returns_told t i h laws quiet views back shaped legal restricted well_formed table has.placed;
-      all = all_told t i h laws quiet views back shaped legal restricted well_formed table has.placed;
+      bodies = bodies_told t i h laws quiet views back shaped legal restricted well_formed table has.placed;
       innermost = innermost_first t i h laws quiet views back shaped legal restricted well_formed table has.placed;
     }

@@ -1,5 +1,6 @@
 -- What a table of places tells of an image that was put together from a program: which code is that of which statement (docs/CODEGEN.md).
-use Rattle.std.specs.Prelude.{◌≡◌, ◌⊎◌, ℕ, List, None, Some, slice_get}
+use Rattle.std.specs.List.{All}
+use Rattle.std.specs.Prelude.{◌≡◌, ◌⊎◌, ℕ, List, [], ◌∷◌, ◌++◌, None, Option, Some, slice_get}
 use Rattle.ada_tree.specs.declared.expression.Identifier.{Identifier}
 use Rattle.ada_tree.specs.ProgramTree.{ProgramTree}
 use Rattle.ada_tree.specs.StatementTree.{StmtTree}
@@ -12,8 +13,8 @@ use Rattle.ravenscar.specs.ProgramRules.{IsRestricted}
 use Rattle.expr_soundness.specs.meaning.specs.Programs.{Program, program_of}
 use Rattle.expr_code.specs.Seeing.{Package}
 use Rattle.step_simulation.specs.part_code.specs.Statements.{Numbers}
-use Rattle.stmt_code.specs.Emitting.{TellsPlace}
-use Rattle.stmt_code.specs.Placing.{AreInnermostFirst, sequence_within, stmt_place}
+use Rattle.stmt_code.specs.Emitting.{TellPlaces, TellsPlace}
+use Rattle.stmt_code.specs.Placing.{AreInnermostFirst, StandsBetween, sequence_within, stmt_place}
 use Rattle.stmt_code.specs.declared.tables.PlaceRow.{PlaceRow}
 use Rattle.package_code.specs.Bodies.{Coded, bodies_of}
 use Rattle.package_code.specs.Linked.{IsLinkedProgram}
@@ -35,35 +36,49 @@ pub record TellsReturn (i : Sections) (number : ℕ) (q : PlaceRow) (x : StmtTre
 abbrev pub TellsStatement : Sections → Program → Package → Numbers → ℕ → PlaceRow → StmtTree → Type 0
 TellsStatement i program g numbers number q x = TellsPlace i program g numbers q x ⊎ TellsReturn i number q x
 
--- the row is that of a statement in one of the program's bodies
+-- the instructions of the row are those of the subprogram with this number
+pub record LiesInSubprogram (i : Sections) (number : ℕ) (q : PlaceRow) : Type 0 where
+  pub s : Subprogram
+  pub there : called i number ≡ Some s
+  pub within : StandsBetween (first_place i number) s.end_ q
+
+-- the row is that of a statement in the program's body with this number, and lies within its subprogram
 pub record TellsOfBody (t : ProgramTree) (i : Sections) (g : Package) (numbers : Numbers) (q : PlaceRow) : Type 0 where
   pub number : ℕ
   pub body : Coded
   pub there : slice_get (bodies_of t) number ≡ Some body
+  pub lies : LiesInSubprogram i number q
   pub index : ℕ
   pub statement : StmtTree
   pub among : slice_get (statements_of body) index ≡ Some statement
   pub tells : TellsStatement i (program_of t) g numbers number q statement
 
--- a statement of the body with this number has a row in the table
-pub record HasPlaceRow (i : Sections) (program : Program) (g : Package) (numbers : Numbers) (table : List PlaceRow) (number : ℕ) (x : StmtTree) : Type 0 where
-  pub index : ℕ
-  pub row : PlaceRow
-  pub there : slice_get table index ≡ Some row
-  pub tells : TellsStatement i program g numbers number row x
+-- As many rows as statements, in the same order, each that of its statement; a function has the one row of its return.
+abbrev pub TellsBody : Sections → Program → Package → Numbers → ℕ → Option Identifier → List PlaceRow → List StmtTree → Type 0
+TellsBody i program g numbers number None rows all = TellPlaces i program g numbers rows all
+TellsBody i program g numbers number (Some result) rows all =
+    (q : PlaceRow) × (x : StmtTree) × (rows ≡ q ∷ []) × (slice_get all 0 ≡ Some x) × TellsReturn i number q x
 
--- The image has the code of the program, and each row of the table is that of a statement in one of its bodies: the instructions of the row are the code of
--- that statement, or those of the function that it returns from. Each statement of procedures, entries and tasks has one, and the return of each function; and
--- inner ones come first, so the first row that covers an instruction is that of the innermost statement whose code it is.
+-- the rows of the body with this number stand together in the table, lie within its subprogram, and are those of its statements in their order
+pub record HasBodyRows (i : Sections) (program : Program) (g : Package) (numbers : Numbers) (table : List PlaceRow) (number : ℕ) (c : Coded) : Type 0 where
+  pub before : List PlaceRow
+  pub rows : List PlaceRow
+  pub after : List PlaceRow
+  pub together : table ≡ before ++ (rows ++ after)
+  pub lie : All (LiesInSubprogram i number) rows
+  pub tell : TellsBody i program g numbers number c.head.result rows (statements_of c)
+
+-- The image has the code of the program. Each row of the table is that of a statement in one of its bodies: the instructions of the row are the code of that
+-- statement, or those of the function that it returns from. The rows of a body stand together, within its subprogram, one for each statement in their order,
+-- of a function one for its return. Inner ones come first, so the first row that covers an instruction is that of the innermost statement whose code it is; and
+-- two statements with the same code can't exchange their rows, since of two rows of which neither lies within the other the first in the table is the first in
+-- the code.
 pub record PlacesTell (t : ProgramTree) (i : Sections) (table : List PlaceRow) : Type 0 where
   pub g : Package
   pub numbers : Numbers
   pub linked : IsLinkedProgram t i g numbers
   pub each : (index : ℕ) (q : PlaceRow) → slice_get table index ≡ Some q → TellsOfBody t i g numbers q
-  pub all : (number : ℕ) (c : Coded) → slice_get (bodies_of t) number ≡ Some c → c.head.result ≡ None → (index : ℕ) (x : StmtTree)
-      → slice_get (statements_of c) index ≡ Some x → HasPlaceRow i (program_of t) g numbers table number x
-  pub returns : (number : ℕ) (c : Coded) (r : Identifier) → slice_get (bodies_of t) number ≡ Some c → c.head.result ≡ Some r
-      → (x : StmtTree) × (slice_get (statements_of c) 0 ≡ Some x) × HasPlaceRow i (program_of t) g numbers table number x
+  pub bodies : (number : ℕ) (c : Coded) → slice_get (bodies_of t) number ≡ Some c → HasBodyRows i (program_of t) g numbers table number c
   pub innermost : AreInnermostFirst table
 
 -- the sections have what the program needs, and these are the places of its statements
