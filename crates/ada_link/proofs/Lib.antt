@@ -16,3 +16,4 @@ mod Stopped
 mod TaskLines
 mod MemoryAlone
 mod Located
+mod Bounded

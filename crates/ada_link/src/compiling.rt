@@ -31,8 +31,8 @@ pub struct Compiled {
 /// The image of an accepted program, which means the same, with the same lines, times and outcome, and the places of its statements.
 ///
 /// # Errors
-/// Those of `compile_tree`.
-pub fn compile_with_places(alloc: Global, accepted: &Accepted) -> Result<Compiled, Refusal>
+/// `Memory` where memory was refused; `Limit` where the code of the program may pass a limit of images, which it tells (docs/LANGUAGE.md, "Limits").
+pub fn compile_tree(alloc: Global, accepted: &Accepted) -> Result<Compiled, Refusal>
     ensures means { IfOk result (λ made. SameMeaning (program_tree accepted.now) made.image) }
     ensures counted { IfOk result (λ made. KeepsCount (program_tree accepted.now) made.image (most_steps made.image)) }
     ensures bounded { IfOk result (λ made. IsBounded (program_tree accepted.now) made.image) }
@@ -56,24 +56,5 @@ pub fn compile_with_places(alloc: Global, accepted: &Accepted) -> Result<Compile
         }),
         Err(fault) if fault.number == MEMORY_REFUSED => Err(Refusal::Memory),
         Err(_) => unreachable!(),
-    }
-}
-
-/// The image of an accepted program: it means the same, with the same lines, times and outcome.
-///
-/// # Errors
-/// `Memory` where memory was refused; `Limit` where the code of the program may pass a limit of images, which it tells (docs/LANGUAGE.md, "Limits").
-pub fn compile_tree(alloc: Global, accepted: &Accepted) -> Result<Image, Refusal>
-    ensures means { IfOk result (λ image. SameMeaning (program_tree accepted.now) image) }
-    ensures counted { IfOk result (λ image. KeepsCount (program_tree accepted.now) image (most_steps image)) }
-    ensures bounded { IfOk result (λ image. IsBounded (program_tree accepted.now) image) }
-    ensures well_formed { IfOk result (λ image. IsWellFormed image) }
-    ensures refused { IfErr result (λ why. RefusesCompiling (program_tree accepted.now) why) }
-    ensures legal { IsLegal (program_tree accepted.now) }
-    ensures restricted { IsRestricted (program_tree accepted.now) }
-{
-    match compile_with_places(alloc, accepted) {
-        Ok(made) => Ok(made.image),
-        Err(why) => Err(why),
     }
 }

@@ -8,7 +8,7 @@ mod places;
 mod program;
 mod stopping;
 
-pub use compiling::{Compiled, compile_tree, compile_with_places};
+pub use compiling::{Compiled, compile_tree};
 pub use expr_code::{ImageLimit, Refusal};
 pub use package_code::Stop;
 pub use places::Places;

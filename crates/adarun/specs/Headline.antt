@@ -1,16 +1,15 @@
 -- What a run of a source text writes.
-use Rattle.std.specs.Prelude.{◌≡◌, ℕ, ◌≤◌, List, ◌++◌, Option, Some, None}
+use Rattle.std.specs.Prelude.{◌≡◌, ℕ, ◌≤◌, List, Option, Some}
 use Rattle.std.specs.Io.KnownBytes.{Appends}
 use Rattle.base.specs.declared.schedule.ScheduleLine.{ScheduleLine}
 use Rattle.clock.specs.Schedules.{IsScheduleText}
 use Rattle.image_laws.specs.kernel.specs.State.{Outcome}
-use Rattle.image_laws.specs.kernel.specs.Text.{last_line, lines_text}
 use Rattle.image.specs.Sections.{Sections}
 use Rattle.image.specs.Rules.{IsWellFormed}
 use Rattle.image.specs.Code.{code, code_text}
 use Rattle.ada_link.specs.ada_tree.specs.ProgramTree.{ProgramTree}
 use Rattle.ada_link.specs.meaning.specs.SameMeaning.{KeepsCount, SameMeaning}
-use Rattle.ada_link.specs.meaning.specs.Source.{source, source_names, source_text}
+use Rattle.ada_link.specs.meaning.specs.Source.{source, source_text}
 use Rattle.machine.specs.Outcomes.{ending_of, time_of}
 use Rattle.machine.specs.Stands.{EndsBy}
 use Rattle.machine.specs.Written.{AppendsBeginning}
@@ -18,35 +17,25 @@ use Rattle.machine.specs.declared.reports.Outcome as machine
 use Rattle.ada_link.specs.expr_code.specs.Coming.{most_steps}
 use Rattle.ada_link.specs.Compiled.{IsBounded}
 use Rattle.adarun.specs.Accepted.{Compiles, IsAccepted}
+use Rattle.adarun.specs.Progress.{enough_steps}
 
--- the text of a run that is cut: a beginning of the lines of the source, and the line that says so
-pub record IsCut (tree : ProgramTree) (schedule : List ScheduleLine) (outcome : machine.Outcome) (written : List ℕ) : Type 0 where
+-- What was written is what the source writes that has taken some number of steps: its lines, and its last line. The outcome is that of this world of the
+-- source, at its time; where it has none the run was cut, and the last line says so. Under a limit that is enough for a number of steps, by the text of the
+-- source alone, at least so many were taken.
+pub record WritesSource (tree : ProgramTree) (schedule : List ScheduleLine) (limit : ℕ) (outcome : machine.Outcome) (old new : Option (List ℕ)) : Type 0 where
   pub steps : ℕ
-  pub lines : List ℕ
-  pub more : List ℕ
-  pub begin_those_of_the_source : lines_text (source_names tree) (source tree schedule steps).kernel.lines ≡ lines ++ more
-  pub written_is : written ≡ lines ++ last_line (source_names tree) None (time_of outcome)
+  pub appends : Appends old new (source_text tree schedule steps)
+  pub ends : (source tree schedule steps).kernel.outcome ≡ ending_of outcome
+  pub time : (source tree schedule steps).kernel.now ≡ time_of outcome
+  pub comes_far : (count : ℕ) → enough_steps tree count ≤ limit → count ≤ steps
 
--- the source comes to this outcome, and the text is the source's up to there
-pub record IsWholeRun (tree : ProgramTree) (schedule : List ScheduleLine) (o : Outcome) (written : List ℕ) : Type 0 where
-  pub steps : ℕ
-  pub outcome : (source tree schedule steps).kernel.outcome ≡ Some o
-  pub written_is : written ≡ source_text tree schedule steps
-
-abbrev pub IsWrittenBy : ProgramTree → List ScheduleLine → machine.Outcome → Option Outcome → List ℕ → Type 0
-IsWrittenBy tree schedule outcome (Some o) written = IsWholeRun tree schedule o written
-IsWrittenBy tree schedule outcome None written = IsCut tree schedule outcome written
-
--- A run of an accepted text under the schedule that the input is has written what the text means: the source's whole text where the run came to an outcome,
--- which is the source's; else, cut at the limit, a beginning of the source's lines, and the line that says so.
-pub record WritesItsMeaning (text input : List ℕ) (outcome : machine.Outcome) (old new : Option (List ℕ)) : Type 0 where
+-- The run of an accepted text within a limit, under the schedule that the input is, has written what the text means.
+pub record WritesItsMeaning (text input : List ℕ) (limit : ℕ) (outcome : machine.Outcome) (old new : Option (List ℕ)) : Type 0 where
   pub schedule : List ScheduleLine
   pub is_schedule : IsScheduleText input schedule
   pub tree : ProgramTree
   pub accepted : IsAccepted tree text
-  pub written : List ℕ
-  pub appends : Appends old new written
-  pub is_written : IsWrittenBy tree schedule outcome (ending_of outcome) written
+  pub writes : WritesSource tree schedule limit outcome old new
 
 -- ---- the image that was run
 
@@ -72,7 +61,7 @@ pub record Runs (text input : List ℕ) (limit : ℕ) (outcome : machine.Outcome
   pub well_formed : IsWellFormed image
   pub appends : Appends old new (code_text image schedule limit)
   pub ends : EndsBy outcome (code image schedule limit)
-  pub is_written : IsWrittenBy tree schedule outcome (ending_of outcome) (code_text image schedule limit)
+  pub writes : WritesSource tree schedule limit outcome old new
   pub comes_to : ComesToTheSame tree schedule image
 
 -- the run of some image that means the same as the text's tree was begun, and what was written is a beginning of its text

@@ -1,9 +1,10 @@
 use Rattle.std.proofs.Common.{ap, rules, subst, sym}
 use Rattle.ada_tree.specs.ProgramTree.{program_tree}
 use Rattle.package_code.specs.Places.{PlacesTell}
+use Rattle.ada_link.proofs.Bounded.{bounded}
 use Rattle.ada_link.proofs.Refusals.{compiling_refused}
 use Rattle.ada_link.proofs.MemoryAlone.{memory_alone}
-use Rattle.ada_link.proofs.compiling.compile_with_places.Goals as goal
+use Rattle.ada_link.proofs.compiling.compile_tree.Goals as goal
 
 pub returns-in_err-parts-clause-refused : goal.returns-in_err-parts-clause-refused
 returns-in_err-parts-clause-refused c =
@@ -27,7 +28,7 @@ returns-in-Ok-clause-counted c =
     c.in_ok-parts.ensures.program).1
 
 pub returns-in-Ok-clause-bounded : goal.returns-in-Ok-clause-bounded
-returns-in-Ok-clause-bounded c = rw c.in-Ok.ensures.same (c.sections_are_bounded.ensures _ _ c.in_ok-parts.ensures.program)
+returns-in-Ok-clause-bounded c = rw c.in-Ok.ensures.same (bounded c.sections_are_bounded.ensures _ _ c.in_ok-parts.ensures.program)
 
 pub unreachable-requires : goal.unreachable-requires
 unreachable-requires c =
