@@ -2,7 +2,7 @@
 ghost use Rattle.std.specs.Prelude.{◌≡◌, None};
 
 use adarun::{FileStore, ReadError, WriteError, drive};
-use machine::{MemorySink, Plan};
+use machine::{MemorySink, Plan, Steps};
 use std::alloc::{AllocError, Global};
 use std::marker::Brand;
 use std::sync::ledger::{Blank, Ledger};
@@ -52,21 +52,30 @@ pub(crate) struct Left {
 
 /// Calls the program on the words, over the files, where standard output keeps to the plan.
 pub(crate) fn call(
-    alloc: Global,
+    rt: &HostRuntime,
     words: &[&str],
     entries: &[Entry<'_>],
     plan: Plan,
 ) -> Result<Left, AllocError> {
-    call_over::<Brand, Brand>(alloc, words, entries, plan, Blank::new(1), Blank::new(1))
+    call_over::<Brand, Brand, Brand>(
+        rt,
+        words,
+        entries,
+        plan,
+        Blank::new(1),
+        Blank::new(1),
+        Blank::new(1),
+    )
 }
 
-fn call_over<L: Ledger, M: Ledger>(
-    alloc: Global,
+fn call_over<L: Ledger, M: Ledger, N: Ledger>(
+    rt: &HostRuntime,
     words: &[&str],
     entries: &[Entry<'_>],
     plan: Plan,
     first: Blank,
     second: Blank,
+    third: Blank,
 ) -> Result<Left, AllocError>
     requires first_name { first.name ≡ L.name }
     requires first_parts { first.parts ≡ L.parts }
@@ -74,15 +83,20 @@ fn call_over<L: Ledger, M: Ledger>(
     requires second_name { second.name ≡ M.name }
     requires second_parts { second.parts ≡ M.parts }
     requires second_one { M.parts ≡ 1 }
+    requires third_name { third.name ≡ N.name }
+    requires third_parts { third.parts ≡ N.parts }
+    requires third_one { N.parts ≡ 1 }
 {
+    let alloc = rt.alloc();
     let mut out = MemorySink::<L>::new(alloc, 65_536, plan, first)?;
     let mut err = MemorySink::<M>::new(alloc, 4_096, Plan::TakesAll, second)?;
+    let mut steps = Steps::<N>::new(rt, third);
     let mut files = Files {
         alloc,
         entries,
         written: None,
     };
-    let status = drive(alloc, words, &mut files, &mut out, &mut err);
+    let status = drive(alloc, words, &mut files, &mut out, &mut err, &mut steps);
     Ok(Left {
         status,
         written: files.written.take(),

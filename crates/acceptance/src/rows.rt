@@ -163,9 +163,9 @@ fn is_left(left: &Left, status: u8, out: &[u8], err: &[u8]) -> bool {
 }
 
 // The first row whose call leaves something else, or writes a file.
-fn first_other(alloc: Global, rows: &[Row<'_>]) -> Result<Option<usize>, AllocError> {
+fn first_other(rt: &HostRuntime, rows: &[Row<'_>]) -> Result<Option<usize>, AllocError> {
     for (number, (words, status, out, err)) in rows.iter().enumerate() {
-        let left = call(alloc, words, &files(b""), Plan::TakesAll)?;
+        let left = call(rt, words, &files(b""), Plan::TakesAll)?;
         if !is_left(&left, *status, out, err) || left.written.is_some() {
             return Ok(Some(number));
         }
@@ -175,9 +175,9 @@ fn first_other(alloc: Global, rows: &[Row<'_>]) -> Result<Option<usize>, AllocEr
 
 #[test]
 fn calls_leave_their_status(rt: HostRuntime) -> Result<(), Fail> {
-    assert_eq!(rt; first_other(rt.alloc(), &DONE)?, None);
-    assert_eq!(rt; first_other(rt.alloc(), &REFUSED)?, None);
-    assert_eq!(rt; first_other(rt.alloc(), &WRONG)?, None);
+    assert_eq!(rt; first_other(&rt, &DONE)?, None);
+    assert_eq!(rt; first_other(&rt, &REFUSED)?, None);
+    assert_eq!(rt; first_other(&rt, &WRONG)?, None);
     Ok(())
 }
 
@@ -191,10 +191,10 @@ fn first_lines(alloc: Global, count: usize) -> Result<Vec<u8>, AllocError> {
 }
 
 // Whether the program main.adb leaves its first lines, so many of them, where standard output keeps to a plan.
-fn writes(alloc: Global, plan: Plan, count: usize) -> Result<bool, AllocError> {
+fn writes(rt: &HostRuntime, plan: Plan, count: usize) -> Result<bool, AllocError> {
     let words = ["go", "main.adb", "empty", "100000"];
-    let left = call(alloc, &words, &files(b""), plan)?;
-    let text = first_lines(alloc, count)?;
+    let left = call(rt, &words, &files(b""), plan)?;
+    let text = first_lines(rt.alloc(), count)?;
     Ok(if count < LINES.len() {
         is_left(&left, 1, &text, b"cannot write\n")
     } else {
@@ -207,29 +207,28 @@ fn writes(alloc: Global, plan: Plan, count: usize) -> Result<bool, AllocError> {
 fn each_write_may_fail(rt: HostRuntime) -> Result<(), Fail> {
     for at in 1..8u8 {
         let count = usize::from(at.saturating_sub(1));
-        assert!(rt; writes(rt.alloc(), Plan::FailsAt(u64::from(at)), count)?);
-        assert!(rt; writes(rt.alloc(), Plan::AnswersZeroAt(u64::from(at)), count)?);
+        assert!(rt; writes(&rt, Plan::FailsAt(u64::from(at)), count)?);
+        assert!(rt; writes(&rt, Plan::AnswersZeroAt(u64::from(at)), count)?);
     }
-    assert!(rt; writes(rt.alloc(), Plan::TakesOne, LINES.len())?);
+    assert!(rt; writes(&rt, Plan::TakesOne, LINES.len())?);
     let words = ["list", "return.img"];
-    let left = call(rt.alloc(), &words, &files(b""), Plan::FailsAt(1))?;
+    let left = call(&rt, &words, &files(b""), Plan::FailsAt(1))?;
     assert!(rt; is_left(&left, 1, b"", b"cannot write\n"));
     Ok(())
 }
 
 #[test]
 fn a_compiled_image_runs_as_its_source(rt: HostRuntime) -> Result<(), Fail> {
-    let alloc = rt.alloc();
     let words = ["compile", "main.adb", "new.img"];
-    let compiled = call(alloc, &words, &files(b""), Plan::TakesAll)?;
+    let compiled = call(&rt, &words, &files(b""), Plan::TakesAll)?;
     assert!(rt; is_left(&compiled, 0, b"", b""));
     let (name, bytes) = compiled.written.as_ref().expect(&rt, "an image");
     assert!(rt; name.as_str() == "new.img");
     for limit in ["0", "1", "4", "8", "12", "16", "100"] {
         let words = ["run", "compiled.img", "empty", limit];
-        let run = call(alloc, &words, &files(bytes), Plan::TakesAll)?;
+        let run = call(&rt, &words, &files(bytes), Plan::TakesAll)?;
         let words = ["go", "main.adb", "empty", limit];
-        let went = call(alloc, &words, &files(bytes), Plan::TakesAll)?;
+        let went = call(&rt, &words, &files(bytes), Plan::TakesAll)?;
         assert!(rt; is_left(&run, went.status, &went.out, b""));
     }
     Ok(())

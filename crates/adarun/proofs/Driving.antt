@@ -23,9 +23,10 @@ use Rattle.adarun.specs.declared.going.GoFault.TheVariants as faults
 use Rattle.adarun.specs.declared.program.Status.{Status}
 use Rattle.adarun.specs.declared.program.TraceForm.{TraceForm}
 use Rattle.adarun.specs.declared.program.Status.TheVariants.{Failed, SourceRefused, ScheduleRefused, NoMemory}
+use Rattle.adarun.proofs.Running.{meant}
 
-module _ (contents : Contents) (source schedule : List ℕ) (limit : ℕ) (old new : Option (List ℕ)) where
-  has_run : (outcome : Outcome) → HasRun contents source schedule limit (status_of outcome) old new → LeavesGo contents source schedule limit (status_of outcome) old new
+module _ (contents : Contents) (source : List ℕ) (known : Option (List ℕ)) (limit : ℕ) (old new : Option (List ℕ)) where
+  has_run : (outcome : Outcome) → HasRun contents source known limit (status_of outcome) old new → LeavesGo contents source known limit (status_of outcome) old new
   has_run (outcomes.Ended time) h = h
   has_run (outcomes.Unhandled exception task time) h = h
   has_run (outcomes.WaitsForever time) h = h
@@ -33,23 +34,24 @@ module _ (contents : Contents) (source schedule : List ℕ) (limit : ℕ) (old n
   has_run (outcomes.ImageFault time) h = h
 
   pub run_leaves : (status : Status) (outcome : Outcome) (text lent given input : List ℕ)
-      → status ≡ status_of outcome → IsContentRead (contents source) text → lent ≡ text → IsContentRead (contents schedule) given → input ≡ given → Runs lent input limit outcome old new
-      → LeavesGo contents source schedule limit status old new
+      → status ≡ status_of outcome → IsContentRead (contents source) text → lent ≡ text → IsContentRead known given → input ≡ given → Runs lent input limit outcome old new
+      → LeavesGo contents source known limit status old new
   run_leaves status outcome text lent given input e read same read_too same_too runs =
-      subst (λ s. LeavesGo contents source schedule limit s old new) (sym e)
+      subst (λ s. LeavesGo contents source known limit s old new) (sym e)
       (has_run outcome (record {
         text = lent;
         source_read = subst (IsContentRead (contents source)) (sym same) read;
         input = input;
-        input_read = subst (IsContentRead (contents schedule)) (sym same_too) read_too;
+        input_read = subst (IsContentRead known) (sym same_too) read_too;
         outcome = outcome;
         status_is = refl;
+        meaning = meant lent input limit outcome old new runs;
         runs = runs;
       }))
 
   refusal_leaves : (b : Bool) (fault : Fault) (text lent : List ℕ)
       → nat_eq fault.number MEMORY_REFUSED ≡ b → IsContentRead (contents source) text → lent ≡ text → RefusesText lent fault → new ≡ old
-      → LeavesGo contents source schedule limit (cond b NoMemory SourceRefused) old new
+      → LeavesGo contents source known limit (cond b NoMemory SourceRefused) old new
   refusal_leaves true fault text lent e read same refused unwritten = unwritten
   refusal_leaves false fault text lent e read same refused unwritten = record {
     text = lent;
@@ -62,19 +64,19 @@ module _ (contents : Contents) (source schedule : List ℕ) (limit : ℕ) (old n
 
   pub refused_leaves : (status : Status) (fault : Fault) (text lent : List ℕ)
       → status ≡ cond (nat_eq fault.number MEMORY_REFUSED) NoMemory SourceRefused → IsContentRead (contents source) text → lent ≡ text → RefusesText lent fault → new ≡ old
-      → LeavesGo contents source schedule limit status old new
+      → LeavesGo contents source known limit status old new
   refused_leaves status fault text lent e read same refused unwritten =
-      subst (λ s. LeavesGo contents source schedule limit s old new) (sym e) (refusal_leaves (nat_eq fault.number MEMORY_REFUSED) fault text lent refl read same refused unwritten)
+      subst (λ s. LeavesGo contents source known limit s old new) (sym e) (refusal_leaves (nat_eq fault.number MEMORY_REFUSED) fault text lent refl read same refused unwritten)
 
   unscheduled : (b : Bool) (x : GoFault) (fault : ScheduleFault) (text lent given input : List ℕ)
-      → nat_eq fault.number MEMORY_REFUSED ≡ b → IsContentRead (contents source) text → lent ≡ text → IsContentRead (contents schedule) given → input ≡ given → x ≡ faults.Schedule fault → RefusesRunning lent input x → new ≡ old
-      → LeavesGo contents source schedule limit (cond b NoMemory ScheduleRefused) old new
+      → nat_eq fault.number MEMORY_REFUSED ≡ b → IsContentRead (contents source) text → lent ≡ text → IsContentRead known given → input ≡ given → x ≡ faults.Schedule fault → RefusesRunning lent input x → new ≡ old
+      → LeavesGo contents source known limit (cond b NoMemory ScheduleRefused) old new
   unscheduled true x fault text lent given input e read same read_too same_too is refused unwritten = unwritten
   unscheduled false x fault text lent given input e read same read_too same_too is refused unwritten = record {
     text = lent;
     source_read = subst (IsContentRead (contents source)) (sym same) read;
     input = input;
-    input_read = subst (IsContentRead (contents schedule)) (sym same_too) read_too;
+    input_read = subst (IsContentRead known) (sym same_too) read_too;
     compiles = (subst (RefusesRunning lent input) is refused).0;
     fault = fault;
     refused = (subst (RefusesRunning lent input) is refused).1;
@@ -83,10 +85,10 @@ module _ (contents : Contents) (source schedule : List ℕ) (limit : ℕ) (old n
   }
 
   pub schedule_leaves : (status : Status) (x : GoFault) (fault : ScheduleFault) (text lent given input : List ℕ)
-      → status ≡ cond (nat_eq fault.number MEMORY_REFUSED) NoMemory ScheduleRefused → IsContentRead (contents source) text → lent ≡ text → IsContentRead (contents schedule) given → input ≡ given → x ≡ faults.Schedule fault → RefusesRunning lent input x → new ≡ old
-      → LeavesGo contents source schedule limit status old new
+      → status ≡ cond (nat_eq fault.number MEMORY_REFUSED) NoMemory ScheduleRefused → IsContentRead (contents source) text → lent ≡ text → IsContentRead known given → input ≡ given → x ≡ faults.Schedule fault → RefusesRunning lent input x → new ≡ old
+      → LeavesGo contents source known limit status old new
   schedule_leaves status x fault text lent given input e read same read_too same_too is refused unwritten =
-      subst (λ s. LeavesGo contents source schedule limit s old new) (sym e)
+      subst (λ s. LeavesGo contents source known limit s old new) (sym e)
       (unscheduled (nat_eq fault.number MEMORY_REFUSED) x fault text lent given input refl read same read_too same_too is refused unwritten)
 
 module _ (contents : Contents) (name schedule : List ℕ) (limit : ℕ) (old new : Option (List ℕ)) where
@@ -125,9 +127,9 @@ told_alike form W image places lines limit lent names shown text same_names same
 -- a schedule that is refused leaves what it leaves to `go`
 
 module _ (form : TraceForm) (contents : Contents) (source schedule : List ℕ) (limit : ℕ) (old new : Option (List ℕ)) where
-  pub unscheduled_trace : (b : Bool) (status : Status) → status ≡ cond b NoMemory ScheduleRefused → LeavesGo contents source schedule limit status old new → LeavesTrace form contents source schedule limit status old new
-  unscheduled_trace true status e h = subst (λ s. LeavesTrace form contents source schedule limit s old new) (sym e) (subst (λ s. LeavesGo contents source schedule limit s old new) e h)
-  unscheduled_trace false status e h = subst (λ s. LeavesTrace form contents source schedule limit s old new) (sym e) (subst (λ s. LeavesGo contents source schedule limit s old new) e h)
+  pub unscheduled_trace : (b : Bool) (status : Status) → status ≡ cond b NoMemory ScheduleRefused → LeavesGo contents source (contents schedule) limit status old new → LeavesTrace form contents source schedule limit status old new
+  unscheduled_trace true status e h = subst (λ s. LeavesTrace form contents source schedule limit s old new) (sym e) (subst (λ s. LeavesGo contents source (contents schedule) limit s old new) e h)
+  unscheduled_trace false status e h = subst (λ s. LeavesTrace form contents source schedule limit s old new) (sym e) (subst (λ s. LeavesGo contents source (contents schedule) limit s old new) e h)
 
   has_traced : (outcome : Outcome) → HasTraced form contents source schedule limit (status_of outcome) old new → LeavesTrace form contents source schedule limit (status_of outcome) old new
   has_traced (outcomes.Ended time) h = h

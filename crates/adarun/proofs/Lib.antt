@@ -1,6 +1,13 @@
+mod Onward
+mod Between
+mod Counting
+mod Calling
+mod Reaching
 mod Compiling
 mod CodeTold
 mod Named
+mod Reported
 mod Running
 mod Driving
+mod Refuted
 mod Explaining

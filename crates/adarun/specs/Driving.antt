@@ -1,5 +1,5 @@
 -- What the program's work over files leaves, by what is asked for and by its exit status.
-use Rattle.std.specs.Prelude.{◌≡◌, ◌≢◌, ◌<◌, ◌⊎◌, ◌++◌, ℕ, List, Option, Some, None, true, ⊤}
+use Rattle.std.specs.Prelude.{◌≡◌, ◌≢◌, ◌<◌, ◌⊎◌, ◌++◌, ℕ, List, [], Option, Some, None, true, ⊤}
 use Rattle.std.specs.Io.KnownBytes.{Appends}
 use Rattle.base.specs.declared.faults.TheConstants.{MEMORY_REFUSED}
 use Rattle.base.specs.declared.schedule.ScheduleLine.{ScheduleLine}
@@ -10,6 +10,7 @@ use Rattle.ada_link.specs.package_code.specs.Places.{PlacesTell}
 use Rattle.ada_link.specs.stmt_code.specs.declared.tables.PlaceRow.{PlaceRow}
 use Rattle.hints.specs.Told.{IsExplained}
 use Rattle.lexer.specs.declared.fault.Fault.{Fault}
+use Rattle.manual.specs.declared.TheConstants.{MANUAL, VERSION}
 use Rattle.image_format.specs.Bytes.{bytes_of}
 use Rattle.image.specs.Code.{code, code_text}
 use Rattle.image_format.specs.Listing.{listing_of}
@@ -24,10 +25,10 @@ use Rattle.machine.specs.declared.reports.Outcome.TheVariants as outcomes
 use Rattle.tracing.specs.Traces.{trace_text}
 use Rattle.tracing.specs.declared.origin.Origin.{Origin}
 use Rattle.waveforms.specs.Waves.{waves_text}
-use Rattle.command_line.specs.Words.{Command, CompileText, DumpText, ExplainFault, ExplainText, GoText, ListImage, Nothing, RunImage, TraceText, asked, is_told}
+use Rattle.command_line.specs.Words.{Command, CompileText, DumpText, ExplainFault, ExplainText, GoText, ListImage, Nothing, RunImage, ShowManual, ShowVersion, SimulateText, TraceText, asked, is_told}
 use Rattle.adarun.specs.Accepted.{Compiles, RefusesText}
 use Rattle.adarun.specs.CodeTold.{IsCodeTold}
-use Rattle.adarun.specs.Headline.{Runs, WritesBeginning}
+use Rattle.adarun.specs.Headline.{Runs, WritesBeginning, WritesItsMeaning}
 use Rattle.adarun.specs.Naming.{object_names}
 use Rattle.adarun.specs.Origins.{origin_in}
 use Rattle.adarun.specs.Stopping.{HasImage}
@@ -68,14 +69,17 @@ KeepsSink status Same before after =
     × ((status ≡ ScheduleRefused → Same)
     × ((status ≡ NoMemory → Same) × ((status ≡ Failed → Same ⊎ (before < after)) × (status ≢ Failed → after ≡ before))))
 
--- both files were read, and the run of the source under the schedule had an outcome of this status
-pub record HasRun (contents : Contents) (source schedule : List ℕ) (limit : ℕ) (status : Status) (old new : Option (List ℕ)) : Type 0 where
+-- Of `go` and `simulate`, where this is the content of the schedule, as far as it is known
+
+-- both texts were read, and the run of the source under the schedule has written what the source means, with an outcome of this status
+pub record HasRun (contents : Contents) (source : List ℕ) (given : Option (List ℕ)) (limit : ℕ) (status : Status) (old new : Option (List ℕ)) : Type 0 where
   pub text : List ℕ
   pub source_read : IsContentRead (contents source) text
   pub input : List ℕ
-  pub input_read : IsContentRead (contents schedule) input
+  pub input_read : IsContentRead given input
   pub outcome : Outcome
   pub status_is : status ≡ status_of outcome
+  pub meaning : WritesItsMeaning text input limit outcome old new
   pub runs : Runs text input limit outcome old new
 
 -- the source was read, and refused for its own sake
@@ -88,11 +92,11 @@ pub record HasRefusedSource (contents : Contents) (source : List ℕ) (old new :
   pub unwritten : new ≡ old
 
 -- both files were read, the source compiles, and the schedule was refused for its own sake
-pub record HasRefusedSchedule (contents : Contents) (source schedule : List ℕ) (old new : Option (List ℕ)) : Type 0 where
+pub record HasRefusedSchedule (contents : Contents) (source : List ℕ) (given : Option (List ℕ)) (old new : Option (List ℕ)) : Type 0 where
   pub text : List ℕ
   pub source_read : IsContentRead (contents source) text
   pub input : List ℕ
-  pub input_read : IsContentRead (contents schedule) input
+  pub input_read : IsContentRead given input
   pub compiles : HasImage text
   pub fault : ScheduleFault
   pub refused : schedules.RefusesSchedule input fault
@@ -100,20 +104,25 @@ pub record HasRefusedSchedule (contents : Contents) (source schedule : List ℕ)
   pub unwritten : new ≡ old
 
 -- both files were read, and the source's run was begun, of which a beginning was written
-pub record HasBegun (contents : Contents) (source schedule : List ℕ) (limit : ℕ) (old new : Option (List ℕ)) : Type 0 where
+pub record HasBegun (contents : Contents) (source : List ℕ) (given : Option (List ℕ)) (limit : ℕ) (old new : Option (List ℕ)) : Type 0 where
   pub text : List ℕ
   pub source_read : IsContentRead (contents source) text
   pub input : List ℕ
-  pub input_read : IsContentRead (contents schedule) input
+  pub input_read : IsContentRead given input
   pub begins : WritesBeginning text input limit old new
 
 -- what `go` wrote to standard output, by the exit status
-abbrev pub LeavesGo : Contents → List ℕ → List ℕ → ℕ → Status → Option (List ℕ) → Option (List ℕ) → Type 0
-LeavesGo contents source schedule limit SourceRefused old new = HasRefusedSource contents source old new
-LeavesGo contents source schedule limit ScheduleRefused old new = HasRefusedSchedule contents source schedule old new
-LeavesGo contents source schedule limit NoMemory old new = new ≡ old
-LeavesGo contents source schedule limit Failed old new = (new ≡ old) ⊎ HasBegun contents source schedule limit old new
-LeavesGo contents source schedule limit status old new = HasRun contents source schedule limit status old new
+abbrev pub LeavesGo : Contents → List ℕ → (given : Option (List ℕ)) → ℕ → Status → Option (List ℕ) → Option (List ℕ) → Type 0
+LeavesGo contents source given limit SourceRefused old new = HasRefusedSource contents source old new
+LeavesGo contents source given limit ScheduleRefused old new = HasRefusedSchedule contents source given old new
+LeavesGo contents source given limit NoMemory old new = new ≡ old
+LeavesGo contents source given limit Failed old new = (new ≡ old) ⊎ HasBegun contents source given limit old new
+LeavesGo contents source given limit status old new = HasRun contents source given limit status old new
+
+-- what the file of a schedule has, as far as it is known; without one the schedule is empty
+abbrev pub input_of : Contents → Option (List ℕ) → Option (List ℕ)
+input_of contents None = Some []
+input_of contents (Some name) = contents name
 
 -- ---- `trace`
 
@@ -160,7 +169,7 @@ pub record HasBegunTrace (form : TraceForm) (contents : Contents) (source schedu
 -- what `trace` wrote to standard output, by the exit status
 abbrev pub LeavesTrace : TraceForm → Contents → List ℕ → List ℕ → ℕ → Status → Option (List ℕ) → Option (List ℕ) → Type 0
 LeavesTrace form contents source schedule limit SourceRefused old new = HasRefusedSource contents source old new
-LeavesTrace form contents source schedule limit ScheduleRefused old new = HasRefusedSchedule contents source schedule old new
+LeavesTrace form contents source schedule limit ScheduleRefused old new = HasRefusedSchedule contents source (contents schedule) old new
 LeavesTrace form contents source schedule limit NoMemory old new = new ≡ old
 LeavesTrace form contents source schedule limit Failed old new = (new ≡ old) ⊎ HasBegunTrace form contents source schedule limit old new
 LeavesTrace form contents source schedule limit status old new = HasTraced form contents source schedule limit status old new
@@ -220,17 +229,28 @@ LeavesExplain number Done old new = HasExplained number old new
 LeavesExplain number Failed old new = ((explanation_of number ≡ None) × (new ≡ old)) ⊎ HasBegunExplaining number old new
 LeavesExplain number status old new = ⊥
 
--- the text is refused by this number at this place
+-- ---- `manual` and `version`
+
+abbrev pub LeavesShown : (text : List ℕ) → Status → Option (List ℕ) → Option (List ℕ) → Type 0
+LeavesShown text Done old new = Appends old new text
+LeavesShown text Failed old new = AppendsBeginning old new text
+LeavesShown text status old new = ⊥
+
+-- ---- `explain` of a text
+
+-- the text is refused for its own sake, by this number at this place
 pub record HasFaultAt (number place : ℕ) (text : List ℕ) : Type 0 where
   pub fault : Fault
   pub refused : RefusesText text fault
+  pub not_memory : fault.number ≢ MEMORY_REFUSED
   pub number_is : fault.number ≡ number
   pub place_is : fault.place ≡ place
 
--- the text is refused, but not by this number
+-- the text is refused for its own sake, but not by this number
 pub record HasAnotherFault (number : ℕ) (text : List ℕ) : Type 0 where
   pub fault : Fault
   pub refused : RefusesText text fault
+  pub not_memory : fault.number ≢ MEMORY_REFUSED
   pub another : fault.number ≢ number
 
 -- the place of the text's fault, where that has this number; None where the text compiles, or has another fault
@@ -357,7 +377,8 @@ abbrev pub LeavesWritten : Command → Contents → Contents → Status → Opti
 LeavesWritten (CompileText source image) before after status old new = LeavesCompile before after source image status old new
 LeavesWritten (ListImage image) before after status old new = AreFilesKept before after × LeavesList before image status old new
 LeavesWritten (RunImage image schedule limit) before after status old new = AreFilesKept before after × LeavesRun before image schedule limit status old new
-LeavesWritten (GoText source schedule limit) before after status old new = AreFilesKept before after × LeavesGo before source schedule limit status old new
+LeavesWritten (GoText source schedule limit) before after status old new = AreFilesKept before after
+    × LeavesGo before source (before schedule) limit status old new
 LeavesWritten (TraceText source schedule limit) before after status old new = AreFilesKept before after
     × LeavesTrace forms.Rows before source schedule limit status old new
 LeavesWritten (DumpText source schedule limit) before after status old new = AreFilesKept before after
@@ -365,6 +386,10 @@ LeavesWritten (DumpText source schedule limit) before after status old new = Are
 LeavesWritten (ExplainFault number) before after status old new = AreFilesKept before after × LeavesExplain number status old new
 LeavesWritten (ExplainText number source) before after status old new = AreFilesKept before after
     × LeavesExplainText before source number status old new
+LeavesWritten (SimulateText source schedule limit) before after status old new = AreFilesKept before after
+    × LeavesGo before source (input_of before schedule) limit status old new
+LeavesWritten ShowManual before after status old new = AreFilesKept before after × LeavesShown MANUAL.now status old new
+LeavesWritten ShowVersion before after status old new = AreFilesKept before after × LeavesShown VERSION.now status old new
 LeavesWritten Nothing before after status old new = AreFilesKept before after × ((new ≡ old) × ((status ≡ Failed) ⊎ (status ≡ NoMemory)))
 
 -- the number of an exit status

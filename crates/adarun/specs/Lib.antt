@@ -1,9 +1,11 @@
 pub mod Accepted
 pub mod Naming
 pub mod Origins
+pub mod Progress
 pub mod Headline
 pub mod Stopping
 pub mod Joined
 pub mod CodeTold
 pub mod Driving
 pub mod Explaining
+pub mod Reporting

@@ -12,7 +12,7 @@ ghost use Rattle.image.specs.Rules.{IsWellFormed};
 ghost use Rattle.ravenscar.specs.ProgramRules.{IsRestricted};
 
 use crate::naming::object_names;
-use ada_link::{Compiled, Places, Refusal, compile_with_places};
+use ada_link::{Compiled, Places, Refusal, compile_tree};
 use ada_tree::Parsed;
 use base::faults::LIMIT_PASSED;
 use checking::check;
@@ -44,7 +44,7 @@ fn compiled_of(alloc: Global, accepted: &Accepted) -> Result<Compiled, Fault>
     ensures restricted { IsRestricted (program_tree accepted.now) }
 {
     let program = accepted.program();
-    match compile_with_places(alloc, accepted) {
+    match compile_tree(alloc, accepted) {
         Ok(made) => Ok(made),
         Err(Refusal::Memory) => Err(Fault::memory()),
         Err(Refusal::Limit(_)) => Err(Fault {

@@ -4,7 +4,7 @@ ghost use Rattle.adarun.specs.Joined.{RunsAsItsSource};
 
 use fault_numbers::{grammar_numbers, legality_numbers, restriction_numbers, spelling_numbers};
 use image::Image;
-use image_laws::outcome_stays;
+use image_laws::{code_leads_on, outcome_stays, steps_whole};
 use image_loading::laws::comes_back;
 
 /// What is loaded from the bytes of an image that a source compiles to runs as the source does: what `run` writes of it under a schedule
@@ -12,7 +12,9 @@ use image_loading::laws::comes_back;
 pub fn loaded_image_runs_as_its_source(image: &Image)
     ensures { RunsAsItsSource image.now }
 {
+    code_leads_on();
     outcome_stays();
+    steps_whole();
     comes_back(image);
 }
 

@@ -9,6 +9,7 @@ pub mod laws;
 mod naming;
 mod origins;
 mod program;
+mod reporting;
 
 pub use compilation::compile;
 pub use files::{FileStore, ReadError, WriteError};

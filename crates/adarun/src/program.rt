@@ -2,7 +2,7 @@
 ghost use Rattle.std.specs.Prelude.{◌≡◌, ◌≢◌, ◌<◌, ◌⊎◌, ℕ, Err, IfOk, List, OnOk, Option, map, nat_eq, option_map, if◌then◌else◌};
 ghost use Rattle.base.specs.declared.faults.TheConstants.{MEMORY_REFUSED};
 ghost use Rattle.adarun.specs.Driving as driving;
-ghost use Rattle.adarun.specs.Driving.{AnswersStatus, IsFaultPlace, IsWholeTold, KeepsSink, LeavesCompile, LeavesExplain, LeavesExplainText, LeavesGo, LeavesList, LeavesRun, LeavesTrace, text_of};
+ghost use Rattle.adarun.specs.Driving.{AnswersStatus, IsContentRead, IsFaultPlace, IsWholeTold, KeepsSink, LeavesCompile, LeavesExplain, LeavesExplainText, LeavesGo, LeavesList, LeavesRun, LeavesShown, LeavesTrace, input_of, text_of};
 ghost use Rattle.image.specs.Code.{code};
 ghost use Rattle.machine.specs.Stands.{EndsBy};
 ghost use Rattle.machine.specs.Written.{AppendsBeginning};
@@ -13,6 +13,7 @@ use crate::compilation::{compile, compile_named};
 use crate::files::{FileStore, ReadError, WriteError};
 use crate::going::{GoFault, go};
 use crate::origins::{Statements, position};
+use crate::reporting::{Unhandled, raise_report, schedule_refusal, source_refusal};
 use base::faults::MEMORY_REFUSED;
 use clock::{Schedule, ScheduleFault};
 use command_line::{Request, WordsError, request_of};
@@ -23,8 +24,10 @@ use image_format::{encode, list};
 use image_loading::load;
 use itoa::Buffer;
 use lexer::{Fault, Text};
-use machine::{Outcome, RunFault, Sink, run, write_all};
+use machine::{Outcome, RunFault, Sink, Steps, run, write_all};
+use manual::{MANUAL, VERSION};
 use std::alloc::{AllocError, Global};
+use std::sync::ledger::Ledger;
 use tracing::{Origins, trace};
 use waveforms::waves;
 
@@ -51,18 +54,20 @@ pub(crate) enum TraceForm {
     Dump,
 }
 
-/// Does what the words, without the program's name, ask for: reads files, writes one of them or to `out`, and where it stops early one line to `err`. It
-/// answers the exit status. Where a run came to an outcome, `out` was given its text (`go`, `run`), or its trace in the form that was asked for (`trace`);
-/// where an image was listed, its listing; where a fault was explained, its explanation; and no write to `out` failed under any status but 1. Where a text,
-/// an image or a schedule was refused or memory was wanting, nothing was written; where a write to `out` failed, a beginning of what was to be written.
-/// `compile` writes the image's file, and nothing to `out`: that file stays as it was unless the bytes of the source's image were there to be written, and
-/// no other file changes.
-pub fn drive<F: FileStore, O: Sink, E: Sink>(
+/// Does what the words, without the program's name, ask for: reads files, writes one of them or to `out`, and where it stops early one line to `err`, or of
+/// `simulate` several. It answers the exit status. Where a run came to an outcome, `out` was given its text (`go`, `simulate`, `run`), or its trace in the form
+/// that was asked for (`trace`); where an image was listed, its listing; where a fault was explained, its explanation; where the manual or the version was
+/// asked for, this; and no write to `out` failed under any status but 1. Where a text, an image or a schedule was refused or memory was wanting, nothing was
+/// written; where a write to `out` failed, a beginning of what was to be written. `compile` writes the image's file, and nothing to `out`: that file stays as
+/// it was unless the bytes of the source's image were there to be written, and no other file changes. The steps of runs and traces are counted, among them
+/// those of a second run, by which `simulate` says where an exception came from.
+pub fn drive<F: FileStore, O: Sink, E: Sink, L: Ledger>(
     alloc: Global,
     words: &[&str],
     files: &mut F,
     out: &mut O,
     err: &mut E,
+    steps: &mut Steps<L>,
 ) -> u8
     ensures answers { AnswersStatus (map (λ w. w.now) words.now) (F.contents files.old) (F.contents files.new) result (O.bytes out.old) (O.bytes out.new) }
     ensures source { result ≡ 2 → out.new ≡ out.old }
@@ -80,14 +85,14 @@ pub fn drive<F: FileStore, O: Sink, E: Sink>(
                 schedule,
                 limit,
             },
-        ) => drive_run(alloc, files, image, schedule, limit, out, err),
+        ) => drive_run(alloc, files, image, schedule, limit, out, err, steps),
         Ok(
             Request::Go {
                 source,
                 schedule,
                 limit,
             },
-        ) => drive_go(alloc, files, source, schedule, limit, out, err),
+        ) => drive_go(alloc, files, source, schedule, limit, out, err, steps),
         Ok(
             Request::Trace {
                 source,
@@ -103,6 +108,7 @@ pub fn drive<F: FileStore, O: Sink, E: Sink>(
             limit,
             out,
             err,
+            steps,
         ),
         Ok(
             Request::Dump {
@@ -119,11 +125,21 @@ pub fn drive<F: FileStore, O: Sink, E: Sink>(
             limit,
             out,
             err,
+            steps,
         ),
         Ok(Request::Explain { number }) => drive_explain(number, out, err),
         Ok(Request::ExplainText { number, source }) => {
             drive_explain_text(alloc, files, number, source, out, err)
         }
+        Ok(
+            Request::Simulate {
+                source,
+                schedule,
+                limit,
+            },
+        ) => drive_simulate(alloc, files, source, schedule, limit, out, err, steps),
+        Ok(Request::Manual) => show(MANUAL, out, err),
+        Ok(Request::Version) => show(VERSION, out, err),
         Err(WordsError::Usage) => usage(err),
         Err(WordsError::Memory) => no_memory(err),
     };
@@ -203,7 +219,7 @@ fn drive_list<F: FileStore, O: Sink, E: Sink>(
     }
 }
 
-fn drive_run<F: FileStore, O: Sink, E: Sink>(
+fn drive_run<F: FileStore, O: Sink, E: Sink, L: Ledger>(
     alloc: Global,
     files: &F,
     name: &str,
@@ -211,6 +227,7 @@ fn drive_run<F: FileStore, O: Sink, E: Sink>(
     limit: u64,
     out: &mut O,
     err: &mut E,
+    steps: &mut Steps<L>,
 ) -> Status
     ensures leaves { LeavesRun (F.contents files.now) name.now schedule.now limit result (O.bytes out.old) (O.bytes out.new) }
     ensures sink { KeepsSink result (out.new ≡ out.old) (O.failures out.old) (O.failures out.new) }
@@ -231,14 +248,14 @@ fn drive_run<F: FileStore, O: Sink, E: Sink>(
         Ok(schedule) => schedule,
         Err(fault) => return refuse_schedule(err, &fault),
     };
-    match run(alloc, &image, &schedule, limit, out) {
+    match run(alloc, &image, &schedule, limit, out, steps) {
         Ok(outcome) => status_of(&outcome),
         Err(RunFault::Memory) => no_memory(err),
         Err(RunFault::Write) => cannot_write(err),
     }
 }
 
-fn drive_go<F: FileStore, O: Sink, E: Sink>(
+fn drive_go<F: FileStore, O: Sink, E: Sink, L: Ledger>(
     alloc: Global,
     files: &F,
     source: &str,
@@ -246,8 +263,9 @@ fn drive_go<F: FileStore, O: Sink, E: Sink>(
     limit: u64,
     out: &mut O,
     err: &mut E,
+    steps: &mut Steps<L>,
 ) -> Status
-    ensures leaves { LeavesGo (F.contents files.now) source.now schedule.now limit result (O.bytes out.old) (O.bytes out.new) }
+    ensures leaves { LeavesGo (F.contents files.now) source.now (F.contents files.now schedule.now) limit result (O.bytes out.old) (O.bytes out.new) }
     ensures sink { KeepsSink result (out.new ≡ out.old) (O.failures out.old) (O.failures out.new) }
 {
     let text = match files.read(alloc, source) {
@@ -258,7 +276,7 @@ fn drive_go<F: FileStore, O: Sink, E: Sink>(
         Ok(lines) => lines,
         Err(error) => return unread(err, error, schedule),
     };
-    match go(alloc, &text, &lines, limit, out) {
+    match go(alloc, &text, &lines, limit, out, steps) {
         Ok(outcome) => status_of(&outcome),
         Err(GoFault::Source(fault)) => refuse_source(err, &text, &fault),
         Err(GoFault::Schedule(fault)) => refuse_schedule(err, &fault),
@@ -267,7 +285,57 @@ fn drive_go<F: FileStore, O: Sink, E: Sink>(
     }
 }
 
-fn drive_trace<F: FileStore, O: Sink, E: Sink>(
+// The content of the schedule, which is empty where no file is named.
+fn read_schedule<F: FileStore>(
+    alloc: Global,
+    files: &F,
+    schedule: Option<&str>,
+) -> Result<Vec<u8>, ReadError>
+    ensures { IfOk result (λ bytes. IsContentRead (input_of (F.contents files.now) (option_map (λ name. name.now) schedule.entry)) bytes.items) }
+{
+    match schedule {
+        Some(name) => files.read(alloc, name),
+        None => Ok(Vec::new(alloc)),
+    }
+}
+
+// As `drive_go`; a refusal is told in words, with its line. Where standard output takes no more nothing is told.
+fn drive_simulate<F: FileStore, O: Sink, E: Sink, L: Ledger>(
+    alloc: Global,
+    files: &F,
+    source: &str,
+    schedule: Option<&str>,
+    limit: u64,
+    out: &mut O,
+    err: &mut E,
+    steps: &mut Steps<L>,
+) -> Status
+    ensures leaves { LeavesGo (F.contents files.now) source.now (input_of (F.contents files.now) (option_map (λ name. name.now) schedule.entry)) limit result
+        (O.bytes out.old) (O.bytes out.new) }
+    ensures sink { KeepsSink result (out.new ≡ out.old) (O.failures out.old) (O.failures out.new) }
+{
+    let named = schedule.unwrap_or("");
+    let text = match files.read(alloc, source) {
+        Ok(text) => text,
+        Err(error) => return unread(err, error, source),
+    };
+    let lines = match read_schedule(alloc, files, schedule) {
+        Ok(lines) => lines,
+        Err(error) => return unread(err, error, named),
+    };
+    match go(alloc, &text, &lines, limit, out, steps) {
+        Ok(outcome) => {
+            report_outcome(alloc, err, source, &text, &lines, limit, &outcome, steps);
+            status_of(&outcome)
+        }
+        Err(GoFault::Source(fault)) => report_source(alloc, err, source, &text, &fault),
+        Err(GoFault::Schedule(fault)) => report_schedule(alloc, err, named, &lines, &fault),
+        Err(GoFault::Run(RunFault::Memory)) => no_memory(err),
+        Err(GoFault::Run(RunFault::Write)) => Status::Failed,
+    }
+}
+
+fn drive_trace<F: FileStore, O: Sink, E: Sink, L: Ledger>(
     alloc: Global,
     files: &F,
     form: TraceForm,
@@ -276,6 +344,7 @@ fn drive_trace<F: FileStore, O: Sink, E: Sink>(
     limit: u64,
     out: &mut O,
     err: &mut E,
+    steps: &mut Steps<L>,
 ) -> Status
     ensures leaves { LeavesTrace form (F.contents files.now) source.now schedule.now limit result (O.bytes out.old) (O.bytes out.new) }
     ensures sink { KeepsSink result (out.new ≡ out.old) (O.failures out.old) (O.failures out.new) }
@@ -309,6 +378,7 @@ fn drive_trace<F: FileStore, O: Sink, E: Sink>(
         &schedule,
         limit,
         out,
+        steps,
     ) {
         Ok(outcome) => status_of(&outcome),
         Err(RunFault::Memory) => no_memory(err),
@@ -317,7 +387,7 @@ fn drive_trace<F: FileStore, O: Sink, E: Sink>(
 }
 
 // Writes a run in this form.
-fn write_trace<P: Origins, O: Sink>(
+fn write_trace<P: Origins, O: Sink, L: Ledger>(
     alloc: Global,
     form: TraceForm,
     image: &Image,
@@ -326,6 +396,7 @@ fn write_trace<P: Origins, O: Sink>(
     schedule: &Schedule,
     limit: u64,
     out: &mut O,
+    steps: &mut Steps<L>,
 ) -> Result<Outcome, RunFault>
     ensures text { OnOk result (Appends (O.bytes out.old) (O.bytes out.new) (text_of form image.now objects.now (P.origin origins.now) schedule.now limit)) }
     ensures ends { IfOk result (λ outcome. EndsBy outcome (code image.now schedule.now limit)) }
@@ -335,8 +406,8 @@ fn write_trace<P: Origins, O: Sink>(
     ensures beginning { AppendsBeginning (O.bytes out.old) (O.bytes out.new) (text_of form image.now objects.now (P.origin origins.now) schedule.now limit) }
 {
     match form {
-        TraceForm::Rows => trace(alloc, image, objects, origins, schedule, limit, out),
-        TraceForm::Dump => waves(alloc, image, objects, schedule, limit, out),
+        TraceForm::Rows => trace(alloc, image, objects, origins, schedule, limit, out, steps),
+        TraceForm::Dump => waves(alloc, image, objects, schedule, limit, out, steps),
     }
 }
 
@@ -348,6 +419,17 @@ fn drive_explain<O: Sink, E: Sink>(number: u64, out: &mut O, err: &mut E) -> Sta
     let Some(text) = explanation(number) else {
         return usage(err);
     };
+    match write_all(out, text.as_bytes()) {
+        Ok(()) => Status::Done,
+        Err(_) => cannot_write(err),
+    }
+}
+
+// Writes a text of the program's own.
+fn show<O: Sink, E: Sink>(text: &str, out: &mut O, err: &mut E) -> Status
+    ensures leaves { LeavesShown text.now result (O.bytes out.old) (O.bytes out.new) }
+    ensures sink { KeepsSink result (out.new ≡ out.old) (O.failures out.old) (O.failures out.new) }
+{
     match write_all(out, text.as_bytes()) {
         Ok(()) => Status::Done,
         Err(_) => cannot_write(err),
@@ -492,6 +574,57 @@ fn refuse_source<E: Sink>(err: &mut E, text: &[u8], fault: &Fault) -> Status
     tell(err, Status::SourceRefused, &pieces)
 }
 
+// The same in words, with the line, or as `refuse_source` where memory is wanting for them.
+fn report_source<E: Sink>(
+    alloc: Global,
+    err: &mut E,
+    file: &str,
+    text: &[u8],
+    fault: &Fault,
+) -> Status
+    ensures { result ≡ (if nat_eq fault.now.number MEMORY_REFUSED then Status.NoMemory else Status.SourceRefused) }
+{
+    if fault.number == MEMORY_REFUSED {
+        return no_memory(err);
+    }
+    match source_refusal(alloc, file, text, fault) {
+        Ok(Some(report)) => {
+            let _ = write_all(err, &report);
+            Status::SourceRefused
+        }
+        _ => refuse_source(err, text, fault),
+    }
+}
+
+// Tells where the exception came from that stopped a run, where that is known.
+fn report_outcome<E: Sink, L: Ledger>(
+    alloc: Global,
+    err: &mut E,
+    file: &str,
+    text: &[u8],
+    lines: &[u8],
+    limit: u64,
+    outcome: &Outcome,
+    steps: &mut Steps<L>,
+) {
+    let Outcome::Unhandled {
+        exception,
+        task,
+        ..
+    } = *outcome
+    else {
+        return;
+    };
+    let run = Unhandled {
+        limit,
+        task,
+        exception,
+    };
+    if let Ok(Some(report)) = raise_report(alloc, file, text, lines, &run, steps) {
+        let _ = write_all(err, &report);
+    }
+}
+
 fn refuse_image<E: Sink>(err: &mut E, fault: &ImageFault) -> Status
     ensures { result ≡ (if nat_eq fault.now.number MEMORY_REFUSED then Status.NoMemory else Status.ImageFault) }
 {
@@ -524,4 +657,26 @@ fn refuse_schedule<E: Sink>(err: &mut E, fault: &ScheduleFault) -> Status
         line.format(fault.line).as_bytes(),
     ];
     tell(err, Status::ScheduleRefused, &pieces)
+}
+
+// The same in words, with the line, or as `refuse_schedule` where memory is wanting for them.
+fn report_schedule<E: Sink>(
+    alloc: Global,
+    err: &mut E,
+    file: &str,
+    lines: &[u8],
+    fault: &ScheduleFault,
+) -> Status
+    ensures { result ≡ (if nat_eq fault.now.number MEMORY_REFUSED then Status.NoMemory else Status.ScheduleRefused) }
+{
+    if fault.number == MEMORY_REFUSED {
+        return no_memory(err);
+    }
+    match schedule_refusal(alloc, file, lines, fault) {
+        Ok(Some(report)) => {
+            let _ = write_all(err, &report);
+            Status::ScheduleRefused
+        }
+        _ => refuse_schedule(err, fault),
+    }
 }

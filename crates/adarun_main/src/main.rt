@@ -4,7 +4,7 @@
 ghost use Rattle.std.specs.Prelude.{◌≡◌, None};
 
 use adarun::{FileStore, ReadError, Status, WriteError, drive};
-use machine::WriterSink;
+use machine::{Steps, WriterSink};
 use std::alloc::Global;
 use std::env;
 use std::io::{self, ErrorKind};
@@ -40,11 +40,12 @@ impl<'a> FileStore for Files<'a> {
 }
 
 // The status of the program's work over its streams.
-fn status_over<L: Ledger, M: Ledger>(
+fn status_over<L: Ledger, M: Ledger, N: Ledger>(
     rt: &HostRuntime,
     words: &[&str],
     first: Blank,
     second: Blank,
+    third: Blank,
 ) -> u8
     requires first_name { first.name ≡ L.name }
     requires first_parts { first.parts ≡ L.parts }
@@ -52,11 +53,22 @@ fn status_over<L: Ledger, M: Ledger>(
     requires second_name { second.name ≡ M.name }
     requires second_parts { second.parts ≡ M.parts }
     requires second_one { M.parts ≡ 1 }
+    requires third_name { third.name ≡ N.name }
+    requires third_parts { third.parts ≡ N.parts }
+    requires third_one { N.parts ≡ 1 }
 {
     let mut out = WriterSink::<_, L>::new(rt.stdout(), first);
     let mut err = WriterSink::<_, M>::new(rt.stderr(), second);
     let system = SystemFiles::new(rt);
-    drive(rt.alloc(), words, &mut Files { system }, &mut out, &mut err)
+    let mut steps = Steps::<N>::new(rt, third);
+    drive(
+        rt.alloc(),
+        words,
+        &mut Files { system },
+        &mut out,
+        &mut err,
+        &mut steps,
+    )
 }
 
 fn status(rt: &HostRuntime) -> io::Result<u8> {
@@ -68,7 +80,13 @@ fn status(rt: &HostRuntime) -> io::Result<u8> {
     for text in &texts {
         words.push(text.as_str())?;
     }
-    Ok(status_over::<Brand, Brand>(rt, words.as_slice(), Blank::new(1), Blank::new(1)))
+    Ok(status_over::<Brand, Brand, Brand>(
+        rt,
+        words.as_slice(),
+        Blank::new(1),
+        Blank::new(1),
+        Blank::new(1),
+    ))
 }
 
 fn main(rt: HostRuntime) -> ExitCode {

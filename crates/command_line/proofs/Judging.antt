@@ -1,4 +1,4 @@
--- What clap makes of all words, none of which begins with `-`: the six commands, and every other row of words is refused.
+-- What clap makes of all words, none of which begins with `-`: the commands, and every other row of words is refused.
 use Rattle.std.proofs.Common.{◌≡◌, ◌∙◌, ap, ap₂, sym, subst, refl, inl, inr, Result, Err, Bool, true, false, List, [], ◌∷◌, ◌++◌, Option, Some, None, codes, bytes_eq}
 use Rattle.std.specs.Prelude.{◌&&◌, fold, is_some, option_map, ⊤}
 use Rattle.std.proofs.lemmas.Option.{none-some}
@@ -23,7 +23,7 @@ use Rattle.command_line.specs.declared.WordsError.{WordsError}
 use Rattle.command_line.specs.declared.WordsError.TheVariants as errors
 use Rattle.command_line.specs.Words.{AnswersWords, Nothing, asked_plainly, is_plain}
 use Rattle.command_line.specs.Finding.{asked_by, asked_in, program_app}
-use Rattle.command_line.proofs.Reading.{IsNoFlag, IsRefusal, Refuses, at, fault_plain, go_refused_more, go_refused_none, go_refused_one, go_refused_two, go_rows, go_taken, level_by, no_flag, number_refused_none, number_rows, number_taken, one_refused_more, one_refused_none, one_rows, one_taken, run_refused_more, run_refused_none, run_refused_one, run_refused_two, run_rows, run_taken, source_refused_more, source_rows, source_taken, two_refused_more, two_refused_none, two_refused_one, two_rows, two_taken}
+use Rattle.command_line.proofs.Reading.{IsNoFlag, IsRefusal, Refuses, alone_refused_more, alone_taken, at, fault_plain, go_refused_more, go_refused_none, go_refused_one, go_refused_two, go_rows, go_taken, input_rows, input_taken, level_by, limit_refused_more, limit_rows, limit_taken, no_flag, number_refused_none, number_rows, number_taken, one_refused_more, one_refused_none, one_rows, one_taken, run_refused_more, run_refused_none, run_refused_one, run_refused_two, run_rows, run_taken, source_refused_more, source_rows, source_taken, text_refused_none, text_rows, text_taken, two_refused_more, two_refused_none, two_refused_one, two_rows, two_taken}
 
 -- ---- the command that the first word names
 
@@ -193,6 +193,57 @@ explain_judged (a ∷ b ∷ c ∷ []) (na, (nb, (nc, none))) =
 explain_judged (a ∷ b ∷ c ∷ d ∷ more) (na, (nb, (nc, others))) =
     Refused (refused_whole (codes "explain") (a ∷ b ∷ c ∷ d ∷ more) refl refl refl (source_refused_more a b c (d ∷ more) na nb nc)) refl
 
+manual_judged : (rest : List Text) → AreNoFlags rest → Judged (codes "manual" ∷ rest)
+unfolding walked
+manual_judged [] none =
+    Taken (codes "manual") _
+    (taken_whole (codes "manual") [] refl refl refl (alone_taken (codes "manual")))
+    (found_is (codes "manual") [] refl refl _ refl)
+    refl
+manual_judged (a ∷ []) (na, none) = Refused (refused_whole (codes "manual") (a ∷ []) refl refl refl (alone_refused_more (codes "manual") a [] na)) refl
+manual_judged (a ∷ b ∷ []) (na, others) =
+    Refused (refused_whole (codes "manual") (a ∷ b ∷ []) refl refl refl (alone_refused_more (codes "manual") a (b ∷ []) na)) refl
+manual_judged (a ∷ b ∷ c ∷ []) (na, others) =
+    Refused (refused_whole (codes "manual") (a ∷ b ∷ c ∷ []) refl refl refl (alone_refused_more (codes "manual") a (b ∷ c ∷ []) na)) refl
+manual_judged (a ∷ b ∷ c ∷ d ∷ more) (na, others) =
+    Refused (refused_whole (codes "manual") (a ∷ b ∷ c ∷ d ∷ more) refl refl refl (alone_refused_more (codes "manual") a (b ∷ c ∷ d ∷ more) na)) refl
+
+version_judged : (rest : List Text) → AreNoFlags rest → Judged (codes "version" ∷ rest)
+unfolding walked
+version_judged [] none =
+    Taken (codes "version") _
+    (taken_whole (codes "version") [] refl refl refl (alone_taken (codes "version")))
+    (found_is (codes "version") [] refl refl _ refl)
+    refl
+version_judged (a ∷ []) (na, none) = Refused (refused_whole (codes "version") (a ∷ []) refl refl refl (alone_refused_more (codes "version") a [] na)) refl
+version_judged (a ∷ b ∷ []) (na, others) =
+    Refused (refused_whole (codes "version") (a ∷ b ∷ []) refl refl refl (alone_refused_more (codes "version") a (b ∷ []) na)) refl
+version_judged (a ∷ b ∷ c ∷ []) (na, others) =
+    Refused (refused_whole (codes "version") (a ∷ b ∷ c ∷ []) refl refl refl (alone_refused_more (codes "version") a (b ∷ c ∷ []) na)) refl
+version_judged (a ∷ b ∷ c ∷ d ∷ more) (na, others) =
+    Refused (refused_whole (codes "version") (a ∷ b ∷ c ∷ d ∷ more) refl refl refl (alone_refused_more (codes "version") a (b ∷ c ∷ d ∷ more) na)) refl
+
+simulate_judged : (rest : List Text) → AreNoFlags rest → Judged (codes "simulate" ∷ rest)
+unfolding walked
+simulate_judged [] none = Refused (refused_whole (codes "simulate") [] refl refl refl text_refused_none) refl
+simulate_judged (a ∷ []) (na, none) =
+    Taken (codes "simulate") _
+    (taken_whole (codes "simulate") (a ∷ []) refl refl refl (text_taken a na))
+    (found_is (codes "simulate") (a ∷ []) refl refl _ (ap (λ rows. Some (codes "simulate", rows)) (text_rows a na)))
+    refl
+simulate_judged (a ∷ b ∷ []) (na, (nb, none)) =
+    Taken (codes "simulate") _
+    (taken_whole (codes "simulate") (a ∷ b ∷ []) refl refl refl (input_taken a b na nb))
+    (found_is (codes "simulate") (a ∷ b ∷ []) refl refl _ (ap (λ rows. Some (codes "simulate", rows)) (input_rows a b na nb)))
+    refl
+simulate_judged (a ∷ b ∷ c ∷ []) (na, (nb, (nc, none))) =
+    Taken (codes "simulate") _
+    (taken_whole (codes "simulate") (a ∷ b ∷ c ∷ []) refl refl refl (limit_taken a b c na nb nc))
+    (found_is (codes "simulate") (a ∷ b ∷ c ∷ []) refl refl _ (ap (λ rows. Some (codes "simulate", rows)) (limit_rows a b c na nb nc)))
+    refl
+simulate_judged (a ∷ b ∷ c ∷ d ∷ more) (na, (nb, (nc, (nd, others)))) =
+    Refused (refused_whole (codes "simulate") (a ∷ b ∷ c ∷ d ∷ more) refl refl refl (limit_refused_more a b c d more na nb nc nd)) refl
+
 flip : (x y : Text) → bytes_eq x y ≡ false → bytes_eq y x ≡ false
 flip x y e = by (bytes_eq y x) refl
   where
@@ -209,9 +260,9 @@ help_judged (a ∷ b ∷ c ∷ []) = Refused Refuses refl
 help_judged (a ∷ b ∷ c ∷ d ∷ more) = Refused Refuses refl
 
 -- a word that names no command
-module _ (name : Text) (plain : IsNoFlag name) (compile : bytes_eq (codes "compile") name ≡ false) (list : bytes_eq (codes "list") name ≡ false) (run_too : bytes_eq (codes "run") name ≡ false) (go_too : bytes_eq (codes "go") name ≡ false) (trace : bytes_eq (codes "trace") name ≡ false) (explain : bytes_eq (codes "explain") name ≡ false) (help : bytes_eq (codes "help") name ≡ false) where
+module _ (name : Text) (plain : IsNoFlag name) (is_compile : bytes_eq (codes "compile") name ≡ false) (is_list : bytes_eq (codes "list") name ≡ false) (is_run : bytes_eq (codes "run") name ≡ false) (is_go : bytes_eq (codes "go") name ≡ false) (is_trace : bytes_eq (codes "trace") name ≡ false) (is_explain : bytes_eq (codes "explain") name ≡ false) (is_simulate : bytes_eq (codes "simulate") name ≡ false) (is_manual : bytes_eq (codes "manual") name ≡ false) (is_version : bytes_eq (codes "version") name ≡ false) (is_help : bytes_eq (codes "help") name ≡ false) where
   unmet : subcommand_met names idle name ≡ None
-  unmet = rw (compile, list, run_too, go_too, trace, explain, help) refl
+  unmet = rw (is_compile, is_list, is_run, is_go, is_trace, is_explain, is_simulate, is_manual, is_version, is_help) refl
 
   stray : (rest : List Text) → IsRefusal (fault_of program_app (name ∷ rest))
   stray rest =
@@ -219,10 +270,11 @@ module _ (name : Text) (plain : IsNoFlag name) (compile : bytes_eq (codes "compi
       subst IsRefusal (sym (level_by whole.top names (name ∷ rest) (is_some (entered whole stop)) (entered_fault whole stop) _ _ (fault_plain whole.top names 1 name nothing_held rest plain unmet) refl)) Refuses
 
   stray_asked : (rest : List Text) → asked_plainly (name ∷ rest) ≡ Nothing
-  stray_asked [] = refl
-  stray_asked (a ∷ []) = rw (flip (codes "list") name list, flip (codes "explain") name explain) refl
-  stray_asked (a ∷ b ∷ []) = rw (flip (codes "compile") name compile, flip (codes "explain") name explain) refl
-  stray_asked (a ∷ b ∷ c ∷ []) = rw (flip (codes "run") name run_too, flip (codes "go") name go_too, flip (codes "trace") name trace) refl
+  stray_asked [] = rw (flip (codes "manual") name is_manual, flip (codes "version") name is_version) refl
+  stray_asked (a ∷ []) = rw (flip (codes "list") name is_list, flip (codes "explain") name is_explain, flip (codes "simulate") name is_simulate) refl
+  stray_asked (a ∷ b ∷ []) = rw (flip (codes "compile") name is_compile, flip (codes "explain") name is_explain, flip (codes "simulate") name is_simulate) refl
+  stray_asked (a ∷ b ∷ c ∷ []) =
+      rw (flip (codes "run") name is_run, flip (codes "go") name is_go, flip (codes "trace") name is_trace, flip (codes "simulate") name is_simulate) refl
   stray_asked (a ∷ b ∷ c ∷ d ∷ more) = refl
 
 named : (name : Text) (rest : List Text) (n : Text) → bytes_eq n name ≡ true → Judged (n ∷ rest) → Judged (name ∷ rest)
@@ -231,23 +283,27 @@ named name rest n e j = subst (λ w. Judged (w ∷ rest)) ((bytes_eq-Decides n n
 pub judged : (words : List Text) → ArePlain words → Judged words
 unfolding clap_on_literals
 judged [] h = Refused Refuses refl
-judged (name ∷ rest) h = by _ _ _ _ _ _ _ refl refl refl refl refl refl refl
+judged (name ∷ rest) h = by _ _ _ _ _ _ _ _ _ _ refl refl refl refl refl refl refl refl refl refl
   where
     plain : AreNoFlags (name ∷ rest)
     plain = no_flags (name ∷ rest) h
 
-    by : (c l r g t x q : Bool)
+    by : (c l r g t x s m v q : Bool)
         → bytes_eq (codes "compile") name ≡ c → bytes_eq (codes "list") name ≡ l → bytes_eq (codes "run") name ≡ r → bytes_eq (codes "go") name ≡ g
-        → bytes_eq (codes "trace") name ≡ t → bytes_eq (codes "explain") name ≡ x → bytes_eq (codes "help") name ≡ q → Judged (name ∷ rest)
-    by true l r g t x q ec el er eg et ex eq = named name rest _ ec (compile_judged rest plain.1)
-    by false true r g t x q ec el er eg et ex eq = named name rest _ el (list_judged rest plain.1)
-    by false false true g t x q ec el er eg et ex eq = named name rest _ er (run_judged rest plain.1)
-    by false false false true t x q ec el er eg et ex eq = named name rest _ eg (go_judged rest plain.1)
-    by false false false false true x q ec el er eg et ex eq = named name rest _ et (trace_judged rest plain.1)
-    by false false false false false true q ec el er eg et ex eq = named name rest _ ex (explain_judged rest plain.1)
-    by false false false false false false true ec el er eg et ex eq = named name rest _ eq (help_judged rest)
-    by false false false false false false false ec el er eg et ex eq =
-        Refused (stray name plain.0 ec el er eg et ex eq rest) (stray_asked name plain.0 ec el er eg et ex eq rest)
+        → bytes_eq (codes "trace") name ≡ t → bytes_eq (codes "explain") name ≡ x → bytes_eq (codes "simulate") name ≡ s → bytes_eq (codes "manual") name ≡ m
+        → bytes_eq (codes "version") name ≡ v → bytes_eq (codes "help") name ≡ q → Judged (name ∷ rest)
+    by true l r g t x s m v q ec el er eg et ex es em ev eq = named name rest _ ec (compile_judged rest plain.1)
+    by false true r g t x s m v q ec el er eg et ex es em ev eq = named name rest _ el (list_judged rest plain.1)
+    by false false true g t x s m v q ec el er eg et ex es em ev eq = named name rest _ er (run_judged rest plain.1)
+    by false false false true t x s m v q ec el er eg et ex es em ev eq = named name rest _ eg (go_judged rest plain.1)
+    by false false false false true x s m v q ec el er eg et ex es em ev eq = named name rest _ et (trace_judged rest plain.1)
+    by false false false false false true s m v q ec el er eg et ex es em ev eq = named name rest _ ex (explain_judged rest plain.1)
+    by false false false false false false true m v q ec el er eg et ex es em ev eq = named name rest _ es (simulate_judged rest plain.1)
+    by false false false false false false false true v q ec el er eg et ex es em ev eq = named name rest _ em (manual_judged rest plain.1)
+    by false false false false false false false false true q ec el er eg et ex es em ev eq = named name rest _ ev (version_judged rest plain.1)
+    by false false false false false false false false false true ec el er eg et ex es em ev eq = named name rest _ eq (help_judged rest)
+    by false false false false false false false false false false ec el er eg et ex es em ev eq =
+        Refused (stray name plain.0 ec el er eg et ex es em ev eq rest) (stray_asked name plain.0 ec el er eg et ex es em ev eq rest)
 
 -- ---- what clap answers
 

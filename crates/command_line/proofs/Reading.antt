@@ -1,4 +1,4 @@
--- What clap makes of words of which none begins with `-`, for the six commands.
+-- What clap makes of words of which none begins with `-`, for the commands.
 use Rattle.std.proofs.Common.{◌≡◌, ◌∙◌, ap, sym, subst, refl, ℕ, Bool, true, false, not, List, [], ◌∷◌, Some, None, if◌then◌else◌, nat_eq, codes, bytes_eq}
 use Rattle.std.specs.Option.{option_map_or}
 use Rattle.clap.specs.Lexer.{long_of, short_of}
@@ -9,7 +9,7 @@ use Rattle.clap.specs.Faults.{bundle_fault, check_fault, defaults_fault, flag_wo
 use Rattle.clap.specs.declared.error.kind.ErrorKind.{ErrorKind}
 use Rattle.clap.proofs.OnLiterals.{clap_on_literals}
 use Rattle.command_line.specs.Words.{CompileText, is_plain}
-use Rattle.command_line.specs.Finding.{asked_in, command_app, explain_app, program_shape}
+use Rattle.command_line.specs.Finding.{asked_in, command_app, explain_app, program_shape, simulate_app}
 
 -- ---- one word
 
@@ -92,6 +92,9 @@ leaf name ids = built_leaf (inherited (with_leaf_noted (marked_built program_sha
 
 abbrev pub one_id : List Text
 one_id = codes "IMG" ∷ []
+
+abbrev pub no_ids : List Text
+no_ids = []
 
 abbrev pub two_ids : List Text
 two_ids = codes "SRC" ∷ codes "IMG" ∷ []
@@ -341,3 +344,84 @@ module _ (name : Text) where
   pub go_rows : (a b c : Text) → IsNoFlag a → IsNoFlag b → IsNoFlag c
       → rows_after go.rules [] (a ∷ b ∷ c ∷ []) ≡ finished go.rules (go_third a b c)
   go_rows a b c na nb nc = ap (λ w. finished go.rules w.held) (end_go a b c na nb nc)
+
+-- a command without arguments
+module _ (name : Text) where
+  abbrev pub n : Shape
+  n = leaf name no_ids
+
+  pub alone_taken : level_fault n [] nothing_held [] false [] ≡ []
+  unfolding clap_on_literals
+  alone_taken = refl
+
+  pub alone_refused_more : (a : Text) (more : List Text) → IsNoFlag a → IsRefusal (level_fault n [] nothing_held (a ∷ more) false [])
+  alone_refused_more a more na =
+      subst IsRefusal (sym (level_by n [] (a ∷ more) false [] _ _ (fault_plain n [] 1 a nothing_held more na refl) refl)) Refuses
+
+-- the command that simulates, as clap builds it
+abbrev pub y : Shape
+y = built_leaf (inherited (with_leaf_noted (marked_built program_shape)) simulate_app.top)
+
+abbrev pub text_held : Text → Held
+text_held a = reading [] (codes "SRC") a
+
+abbrev pub input_held : Text → Text → Held
+input_held a b = reading (settled y.rules (text_held a)).rows (codes "SCHED") b
+
+abbrev pub limit_held : Text → Text → Text → Held
+limit_held a b c = reading (settled y.rules (input_held a b)).rows (codes "LIMIT") c
+
+pub end_text : (a : Text) → IsNoFlag a → walk y.rules [] nothing_held (a ∷ []) ≡ at (text_held a) 2
+end_text a na = walked_plain y.rules [] 1 a nothing_held na refl
+
+pub end_input : (a b : Text) → IsNoFlag a → IsNoFlag b → walk y.rules [] nothing_held (a ∷ b ∷ []) ≡ at (input_held a b) 3
+end_input a b na nb = ap (λ w. walked y.rules [] w b) (end_text a na) ∙ walked_plain y.rules [] 2 b (text_held a) nb refl
+
+pub end_limit : (a b c : Text) → IsNoFlag a → IsNoFlag b → IsNoFlag c → walk y.rules [] nothing_held (a ∷ b ∷ c ∷ []) ≡ at (limit_held a b c) 4
+end_limit a b c na nb nc = ap (λ w. walked y.rules [] w c) (end_input a b na nb) ∙ walked_plain y.rules [] 3 c (input_held a b) nc refl
+
+pub wrong_text : (a : Text) (more : List Text) → IsNoFlag a
+    → walk_fault y [] (at nothing_held 1) (a ∷ more) ≡ walk_fault y [] (at (text_held a) 2) more
+wrong_text a more na = fault_plain y [] 1 a nothing_held more na refl
+
+pub wrong_input : (a b : Text) (more : List Text) → IsNoFlag a → IsNoFlag b
+    → walk_fault y [] (at nothing_held 1) (a ∷ b ∷ more) ≡ walk_fault y [] (at (input_held a b) 3) more
+wrong_input a b more na nb = wrong_text a (b ∷ more) na ∙ fault_plain y [] 2 b (text_held a) more nb refl
+
+pub wrong_limit : (a b c : Text) (more : List Text) → IsNoFlag a → IsNoFlag b → IsNoFlag c
+    → walk_fault y [] (at nothing_held 1) (a ∷ b ∷ c ∷ more) ≡ walk_fault y [] (at (limit_held a b c) 4) more
+wrong_limit a b c more na nb nc = wrong_input a b (c ∷ more) na nb ∙ fault_plain y [] 3 c (input_held a b) more nc refl
+
+pub text_refused_none : IsRefusal (level_fault y [] nothing_held [] false [])
+unfolding clap_on_literals
+text_refused_none = Refuses
+
+pub text_taken : (a : Text) → IsNoFlag a → level_fault y [] nothing_held (a ∷ []) false [] ≡ []
+unfolding clap_on_literals
+text_taken a na = level_by y [] (a ∷ []) false [] [] _ (wrong_text a [] na) (ap (λ w. w.held) (end_text a na))
+
+pub input_taken : (a b : Text) → IsNoFlag a → IsNoFlag b → level_fault y [] nothing_held (a ∷ b ∷ []) false [] ≡ []
+unfolding clap_on_literals
+input_taken a b na nb = level_by y [] (a ∷ b ∷ []) false [] [] _ (wrong_input a b [] na nb) (ap (λ w. w.held) (end_input a b na nb))
+
+pub limit_taken : (a b c : Text) → IsNoFlag a → IsNoFlag b → IsNoFlag c → level_fault y [] nothing_held (a ∷ b ∷ c ∷ []) false [] ≡ []
+unfolding clap_on_literals
+limit_taken a b c na nb nc =
+    level_by y [] (a ∷ b ∷ c ∷ []) false [] [] _ (wrong_limit a b c [] na nb nc) (ap (λ w. w.held) (end_limit a b c na nb nc))
+
+pub limit_refused_more : (a b c d : Text) (more : List Text) → IsNoFlag a → IsNoFlag b → IsNoFlag c → IsNoFlag d
+    → IsRefusal (level_fault y [] nothing_held (a ∷ b ∷ c ∷ d ∷ more) false [])
+limit_refused_more a b c d more na nb nc nd =
+    subst IsRefusal
+    (sym (level_by y [] (a ∷ b ∷ c ∷ d ∷ more) false [] _ _ (wrong_limit a b c (d ∷ more) na nb nc ∙ fault_plain y [] 4 d _ more nd refl) refl))
+    Refuses
+
+pub text_rows : (a : Text) → IsNoFlag a → rows_after y.rules [] (a ∷ []) ≡ finished y.rules (text_held a)
+text_rows a na = ap (λ w. finished y.rules w.held) (end_text a na)
+
+pub input_rows : (a b : Text) → IsNoFlag a → IsNoFlag b → rows_after y.rules [] (a ∷ b ∷ []) ≡ finished y.rules (input_held a b)
+input_rows a b na nb = ap (λ w. finished y.rules w.held) (end_input a b na nb)
+
+pub limit_rows : (a b c : Text) → IsNoFlag a → IsNoFlag b → IsNoFlag c
+    → rows_after y.rules [] (a ∷ b ∷ c ∷ []) ≡ finished y.rules (limit_held a b c)
+limit_rows a b c na nb nc = ap (λ w. finished y.rules w.held) (end_limit a b c na nb nc)

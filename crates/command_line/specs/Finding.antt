@@ -2,7 +2,8 @@
 use Rattle.std.specs.Prelude.{ℕ, true, false, List, [], ◌∷◌, map, Option, Some, None, if◌then◌else◌, bytes_eq, codes}
 use Rattle.clap.specs.Words.{App, Row, Rule, Shape, Text, first_of, new_rule}
 use Rattle.clap.specs.Simple.{new_shape}
-use Rattle.command_line.specs.Words.{Command, CompileText, ExplainFault, ExplainText, GoText, ListImage, Nothing, RunImage, TraceText, numeral_of, within}
+use Rattle.command_line.specs.declared.TheConstants.{SIMULATED_STEPS}
+use Rattle.command_line.specs.Words.{Command, CompileText, ExplainFault, ExplainText, GoText, ListImage, Nothing, RunImage, ShowManual, ShowVersion, SimulateText, TraceText, numeral_of, within}
 
 -- an argument that has to be given
 abbrev pub required_rule : Text → Rule
@@ -17,6 +18,15 @@ abbrev pub explain_app : App
 explain_app =
     record { top = record (new_shape (codes "explain")) { rules = required_rule (codes "NUMBER") ∷ new_rule (codes "SRC") ∷ [] }; subs = [] }
 
+-- the command that simulates: a schedule may stand behind the source, and a limit behind that
+abbrev pub simulate_app : App
+simulate_app = record {
+  top = record (new_shape (codes "simulate")) {
+    rules = required_rule (codes "SRC") ∷ new_rule (codes "SCHED") ∷ new_rule (codes "LIMIT") ∷ [];
+  };
+  subs = [];
+}
+
 -- the program before it has any command
 abbrev pub bare_app : App
 bare_app = record { top = record (new_shape (codes "adarun")) { no_binary_name = true; subcommand_required = true }; subs = [] }
@@ -24,7 +34,7 @@ bare_app = record { top = record (new_shape (codes "adarun")) { no_binary_name =
 abbrev pub program_shape : Shape
 program_shape = record (new_shape (codes "adarun")) { no_binary_name = true; subcommand_required = true; is_leaf = false }
 
--- the six commands
+-- the nine commands
 abbrev pub program_app : App
 program_app = record {
   top = program_shape;
@@ -34,6 +44,9 @@ program_app = record {
       ∷ (command_app (codes "go") (codes "SRC" ∷ codes "SCHED" ∷ codes "LIMIT" ∷ [])).top
       ∷ (command_app (codes "trace") (codes "SRC" ∷ codes "SCHED" ∷ codes "LIMIT" ∷ [])).top
       ∷ explain_app.top
+      ∷ simulate_app.top
+      ∷ (command_app (codes "manual") []).top
+      ∷ (command_app (codes "version") []).top
       ∷ [];
 }
 
@@ -58,6 +71,12 @@ abbrev pub of_explain : Option Text → Option Text → Command
 of_explain number (Some source) = by_numeral (λ n. ExplainText n source) number
 of_explain number None = by_numeral ExplainFault number
 
+-- a source, a schedule or none, and a limit or none
+abbrev pub of_simulate : Option Text → Option Text → Option Text → Command
+of_simulate (Some source) schedule (Some digits) = within (SimulateText source schedule) (numeral_of digits)
+of_simulate (Some source) schedule None = SimulateText source schedule SIMULATED_STEPS
+of_simulate None schedule limit = Nothing
+
 -- what the command of this name asks for, where these are the words for its arguments
 abbrev pub asked_in : Text → (Text → Option Text) → Command
 asked_in name value =
@@ -67,7 +86,10 @@ asked_in name value =
     else (if bytes_eq name (codes "go") then of_three GoText (value (codes "SRC")) (value (codes "SCHED")) (value (codes "LIMIT"))
     else (if bytes_eq name (codes "trace") then of_three TraceText (value (codes "SRC")) (value (codes "SCHED")) (value (codes "LIMIT"))
     else (if bytes_eq name (codes "explain") then of_explain (value (codes "NUMBER")) (value (codes "SRC"))
-    else Nothing)))))
+    else (if bytes_eq name (codes "simulate") then of_simulate (value (codes "SRC")) (value (codes "SCHED")) (value (codes "LIMIT"))
+    else (if bytes_eq name (codes "manual") then ShowManual
+    else (if bytes_eq name (codes "version") then ShowVersion
+    else Nothing))))))))
 
 -- what the command that clap found asks for, by its name and its matches
 abbrev pub asked_by : Option (Text × List Row) → Command

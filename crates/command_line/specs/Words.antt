@@ -1,7 +1,8 @@
 -- Which words ask for what (docs/FORMATS.md, "Commands").
-use Rattle.std.specs.Prelude.{◌≡◌, ◌&&◌, ◌||◌, ◌^◌, ℕ, Bool, true, not, List, [], ◌∷◌, length, Option, Some, None, Result, Ok, Err, if◌then◌else◌, bytes_eq, codes, is_some, nat_eq, nat_le, nat_lt, ⊤}
+use Rattle.std.specs.Prelude.{◌≡◌, ◌&&◌, ◌||◌, ◌^◌, ℕ, Bool, true, not, List, [], ◌∷◌, length, Option, Some, None, Result, Ok, Err, if◌then◌else◌, bytes_eq, codes, is_some, nat_eq, nat_le, nat_lt, option_map, ⊤}
 use Rattle.std.specs.List.{list_all}
 use Rattle.std.specs.Str.Parse.{digits_value}
+use Rattle.command_line.specs.declared.TheConstants.{SIMULATED_STEPS}
 use Rattle.command_line.specs.declared.Request.{Request}
 use Rattle.command_line.specs.declared.Request.TheVariants as requests
 use Rattle.command_line.specs.declared.WordsError.{WordsError}
@@ -15,7 +16,9 @@ pub data Command : Type 0 where
   GoText TraceText DumpText : (source schedule : List ℕ) (limit : ℕ) → Command
   ExplainFault : (number : ℕ) → Command
   ExplainText : (number : ℕ) (source : List ℕ) → Command
-  Nothing : Command
+  -- the schedule is empty where none is named
+  SimulateText : (source : List ℕ) (schedule : Option (List ℕ)) (limit : ℕ) → Command
+  ShowManual ShowVersion Nothing : Command
 
 abbrev pub is_digit : ℕ → Bool
 is_digit c = nat_le 48 c && nat_le c 57
@@ -30,18 +33,28 @@ abbrev pub within : (ℕ → Command) → Option ℕ → Command
 within command (Some value) = command value
 within command None = Nothing
 
+-- the commands without a file
+abbrev pub asked_alone : List ℕ → Command
+asked_alone name =
+    if bytes_eq name (codes "manual") then ShowManual
+    else (if bytes_eq name (codes "version") then ShowVersion else Nothing)
+
 -- the commands
 abbrev pub asked_plainly : List (List ℕ) → Command
+asked_plainly (name ∷ []) = asked_alone name
 asked_plainly (name ∷ word ∷ []) =
     if bytes_eq name (codes "list") then ListImage word
-    else (if bytes_eq name (codes "explain") then within ExplainFault (numeral_of word) else Nothing)
+    else (if bytes_eq name (codes "explain") then within ExplainFault (numeral_of word)
+    else (if bytes_eq name (codes "simulate") then SimulateText word None SIMULATED_STEPS else Nothing))
 asked_plainly (name ∷ first ∷ second ∷ []) =
     if bytes_eq name (codes "compile") then CompileText first second
-    else (if bytes_eq name (codes "explain") then within (λ number. ExplainText number second) (numeral_of first) else Nothing)
+    else (if bytes_eq name (codes "explain") then within (λ number. ExplainText number second) (numeral_of first)
+    else (if bytes_eq name (codes "simulate") then SimulateText first (Some second) SIMULATED_STEPS else Nothing))
 asked_plainly (name ∷ file ∷ schedule ∷ limit ∷ []) =
     if bytes_eq name (codes "run") then within (RunImage file schedule) (numeral_of limit)
     else (if bytes_eq name (codes "go") then within (GoText file schedule) (numeral_of limit)
-    else (if bytes_eq name (codes "trace") then within (TraceText file schedule) (numeral_of limit) else Nothing))
+    else (if bytes_eq name (codes "trace") then within (TraceText file schedule) (numeral_of limit)
+    else (if bytes_eq name (codes "simulate") then within (SimulateText file (Some schedule)) (numeral_of limit) else Nothing)))
 asked_plainly words = Nothing
 
 -- a word that can be no option: it doesn't begin with `-`
@@ -82,6 +95,9 @@ command_of (requests.Trace source schedule limit) = TraceText source.now schedul
 command_of (requests.Dump source schedule limit) = DumpText source.now schedule.now limit
 command_of (requests.Explain number) = ExplainFault number
 command_of (requests.ExplainText number source) = ExplainText number source.now
+command_of (requests.Simulate source schedule limit) = SimulateText source.now (option_map (λ name. name.now) schedule) limit
+command_of requests.Manual = ShowManual
+command_of requests.Version = ShowVersion
 
 -- the request is that for the command; the words are refused where there is none; or memory was refused
 abbrev pub AnswersWords : Command → Result Request WordsError → Type 0

@@ -1,17 +1,20 @@
 //! The words of a command line: what they ask the program for (docs/FORMATS.md, "Exit statuses").
 #![tactic(auto)]
 
-ghost use Rattle.std.specs.Prelude.{◌≡◌, true, false, map, Some, None, IfOk, IfErr, IfSome, option_map};
+ghost use Rattle.std.specs.Prelude.{◌≡◌, ◌&&◌, if◌then◌else◌, true, false, map, Some, None, IfOk, IfErr, IfSome, option_map};
 ghost use Rattle.std.specs.List.{list_all};
 ghost use Rattle.clap.specs.Words.{App, app_of, first_value, found_of, kind_of, subcommand_rows_of};
 ghost use Rattle.clap.specs.declared.builder.command.Command.TheViews.{out-Command};
-ghost use Rattle.command_line.specs.Words.{AnswersWords, DumpText, asked, asked_plainly, dump_asked, is_digit, is_told, within};
-ghost use Rattle.command_line.specs.Finding.{asked_by, asked_in, bare_app, command_app, explain_app, program_app};
+ghost use Rattle.command_line.specs.Words.{AnswersWords, DumpText, Nothing, asked, asked_plainly, dump_asked, is_digit, is_told, within};
+ghost use Rattle.command_line.specs.Finding.{asked_by, asked_in, bare_app, command_app, explain_app, of_simulate, program_app, simulate_app};
 ghost use Rattle.command_line.specs.Words as words_of;
 
 use clap::error::ErrorKind;
 use clap::{Arg, ArgMatches, Command, Error};
 use std::alloc::{AllocError, Global};
+
+/// How many steps `simulate` takes at most where no limit is given.
+pub const SIMULATED_STEPS: u64 = 1_000_000;
 
 /// What a command line asks for. Names are those of files.
 #[derive(Clone, Copy, PartialEq, Eq, Debug)]
@@ -58,6 +61,16 @@ pub enum Request<'a> {
         number: u64,
         source: &'a str,
     },
+    /// Compile a source and run it on a schedule, or on the empty one, for at most this many steps, and say in words what goes wrong, and where.
+    Simulate {
+        source: &'a str,
+        schedule: Option<&'a str>,
+        limit: u64,
+    },
+    /// Show the manual.
+    Manual,
+    /// Show the number of this version.
+    Version,
 }
 
 /// Why a command line was not understood.
@@ -100,20 +113,26 @@ fn dump_request<'a>(words: &'a [&'a str]) -> Result<Request<'a>, WordsError>
 {
     match words {
         [source, schedule, limit] => {
-            if is_plain(source) && is_plain(schedule) {
-                dump_of(source, schedule, limit)
-            } else {
-                Err(WordsError::Usage)
-            }
+            dump_if(are_plain(source, schedule), source, schedule, limit)
         }
-        [mark, source, schedule, limit] => {
-            if *mark == "--" {
-                dump_of(source, schedule, limit)
-            } else {
-                Err(WordsError::Usage)
-            }
-        }
+        [mark, source, schedule, limit] => dump_if(*mark == "--", source, schedule, limit),
         _ => Err(WordsError::Usage),
+    }
+}
+
+// The request for the dump of this source and schedule, where they may be read as such and the limit is one.
+fn dump_if<'a>(
+    is_right: bool,
+    source: &'a str,
+    schedule: &'a str,
+    limit: &str,
+) -> Result<Request<'a>, WordsError>
+    ensures { AnswersWords (if is_right then within (DumpText source.now schedule.now) (words_of.numeral_of limit.now) else Nothing) result }
+{
+    if is_right {
+        dump_of(source, schedule, limit)
+    } else {
+        Err(WordsError::Usage)
     }
 }
 
@@ -136,6 +155,12 @@ fn is_plain(word: &str) -> bool
         [] => true,
         [first, ..] => *first != b'-',
     }
+}
+
+fn are_plain(first: &str, second: &str) -> bool
+    ensures { result ≡ (words_of.is_plain first.now && words_of.is_plain second.now) }
+{
+    is_plain(first) && is_plain(second)
 }
 
 // What words without that option ask for.
@@ -195,8 +220,38 @@ fn request_in<'a>(name: &str, found: &ArgMatches<'a>) -> Result<Request<'a>, Wor
                 None => Ok(Request::Explain { number }),
             }
         }
+        "simulate" => simulate_request(
+            found.get_str("SRC"),
+            found.get_str("SCHED"),
+            found.get_str("LIMIT"),
+        ),
+        "manual" => Ok(Request::Manual),
+        "version" => Ok(Request::Version),
         _ => Err(WordsError::Usage),
     }
+}
+
+// What these words ask `simulate` for.
+fn simulate_request<'a>(
+    source: Option<&'a str>,
+    schedule: Option<&'a str>,
+    limit: Option<&'a str>,
+) -> Result<Request<'a>, WordsError>
+    ensures { AnswersWords (of_simulate (option_map (λ w. w.now) source.entry) (option_map (λ w. w.now) schedule.entry)
+        (option_map (λ w. w.now) limit.entry)) result }
+{
+    let Some(source) = source else {
+        return Err(WordsError::Usage);
+    };
+    let limit = match limit {
+        Some(digits) => numeral_of(digits).ok_or(WordsError::Usage)?,
+        None => SIMULATED_STEPS,
+    };
+    Ok(Request::Simulate {
+        source,
+        schedule,
+        limit,
+    })
 }
 
 // The word that stands for this argument.
@@ -231,6 +286,16 @@ fn explain_command<'a>(alloc: Global) -> Result<Command<'a>, AllocError>
     command_with(alloc, "explain", &["NUMBER"])?.arg(Arg::new(alloc, "SRC"))
 }
 
+// The command that simulates: a schedule may stand behind the source, and a limit behind that.
+fn simulate_command<'a>(alloc: Global) -> Result<Command<'a>, AllocError>
+    ensures app { IfOk result (λ command. app_of command ≡ simulate_app) }
+    ensures local { IfOk result (λ command. (out-Command command).has_globals ≡ false) }
+{
+    command_with(alloc, "simulate", &["SRC"])?
+        .arg(Arg::new(alloc, "SCHED"))?
+        .arg(Arg::new(alloc, "LIMIT"))
+}
+
 // The program before it has any command.
 fn program<'a>(alloc: Global) -> Command<'a>
     ensures { app_of result ≡ bare_app }
@@ -249,7 +314,10 @@ fn command<'a>(alloc: Global) -> Result<Command<'a>, AllocError>
         .subcommand(command_with(alloc, "run", &["IMG", "SCHED", "LIMIT"])?)?
         .subcommand(command_with(alloc, "go", &["SRC", "SCHED", "LIMIT"])?)?
         .subcommand(command_with(alloc, "trace", &["SRC", "SCHED", "LIMIT"])?)?
-        .subcommand(explain_command(alloc)?)
+        .subcommand(explain_command(alloc)?)?
+        .subcommand(simulate_command(alloc)?)?
+        .subcommand(command_with(alloc, "manual", &[])?)?
+        .subcommand(command_with(alloc, "version", &[])?)
 }
 
 fn error_of(error: &Error) -> WordsError

@@ -60,8 +60,12 @@ fn told_of(alloc: Global, number: u64, place: u32, text: &[u8]) -> Result<Vec<u8
     }
 }
 
-// Without a place the text has another fault, or none.
-fn told_at(
+/// What is told of the text where its fault has the number and this place, as `explained` has it behind the explanation; without a place, by which the text has
+/// another fault or none, nothing.
+///
+/// # Errors
+/// Where memory was refused.
+pub fn told_at(
     alloc: Global,
     number: u64,
     place: Option<u32>,

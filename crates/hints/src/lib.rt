@@ -6,6 +6,7 @@ mod others;
 mod places;
 mod stopped;
 
-pub use hints::explained;
+pub use hints::{explained, told_at};
+pub use others::put_place;
 pub use places::{column_behind, line_behind};
 pub use stopped::{frame_line, instructions_line, rows_line};

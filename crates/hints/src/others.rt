@@ -41,7 +41,10 @@ fn other_place(pair: Pair, program: &Program, list: &[Token], place: u32) -> Opt
 }
 
 /// Adds the line and the column of a place of the text.
-pub(crate) fn put_place(out: &mut Vec<u8>, text: &[u8], place: u32) -> Result<(), AllocError>
+///
+/// # Errors
+/// Where memory was refused.
+pub fn put_place(out: &mut Vec<u8>, text: &[u8], place: u32) -> Result<(), AllocError>
     ensures { OnOk result (out.new.items ≡ out.old.items ++ place_text text.now place) }
 {
     let front = &text[..(place as usize).min(text.len())];

@@ -5,3 +5,6 @@ ghosts-call_over-L-Ledger a = record { name = a.first.name; parts = a.first.part
 
 abbrev pub ghosts-call_over-M-Ledger : goal.ghosts-call_over-M-Ledger
 ghosts-call_over-M-Ledger a = record { name = a.second.name; parts = a.second.parts }
+
+abbrev pub ghosts-call_over-N-Ledger : goal.ghosts-call_over-N-Ledger
+ghosts-call_over-N-Ledger a = record { name = a.third.name; parts = a.third.parts }

@@ -1,5 +1,6 @@
 use Rattle.std.proofs.Common.{inl, inr, refl, rules}
-use Rattle.command_line.specs.Words.{CompileText, DumpText, ExplainFault, ExplainText, GoText, ListImage, Nothing, RunImage, TraceText}
+use Rattle.std.specs.Prelude.{option_map}
+use Rattle.command_line.specs.Words.{CompileText, DumpText, ExplainFault, ExplainText, GoText, ListImage, Nothing, RunImage, ShowManual, ShowVersion, SimulateText, TraceText}
 use Rattle.adarun.specs.declared.program.Status.TheVariants.{Failed, NoMemory}
 use Rattle.adarun.proofs.Driving.{asked_as, asked_nothing}
 use Rattle.adarun.proofs.program.drive.Goals as goal
@@ -78,6 +79,33 @@ returns-in-Ok-ExplainText-clause-answers g c = record {
   answer_is = search rules;
   asked_for = λ plain. inl (asked_as _ _ _ c.in-Ok-ExplainText.field-0-is (c.in-Ok-ExplainText.ensures plain));
   leaves = (λ name. refl, c.drive_explain_text-status.ensures.leaves);
+}
+
+pub returns-in-Ok-Simulate-clause-answers : goal.returns-in-Ok-Simulate-clause-answers
+returns-in-Ok-Simulate-clause-answers g c = record {
+  work = SimulateText c.in-Ok-Simulate.source.now (option_map (λ name. name.now) c.in-Ok-Simulate.schedule) c.in-Ok-Simulate.limit;
+  status = c.drive_simulate-status.result;
+  answer_is = search rules;
+  asked_for = λ plain. inl (asked_as _ _ _ c.in-Ok-Simulate.field-0-is (c.in-Ok-Simulate.ensures plain));
+  leaves = (λ name. refl, c.drive_simulate-status.ensures.leaves);
+}
+
+pub returns-in-Ok-Manual-clause-answers : goal.returns-in-Ok-Manual-clause-answers
+returns-in-Ok-Manual-clause-answers g c = record {
+  work = ShowManual;
+  status = c.show-status.result;
+  answer_is = search rules;
+  asked_for = λ plain. inl (asked_as _ _ _ c.in-Ok-Manual.field-0-is (c.in-Ok-Manual.ensures plain));
+  leaves = (λ name. refl, c.show-status.ensures.leaves);
+}
+
+pub returns-in-Ok-Version-clause-answers : goal.returns-in-Ok-Version-clause-answers
+returns-in-Ok-Version-clause-answers g c = record {
+  work = ShowVersion;
+  status = c.show-status-in-Ok-Version.result;
+  answer_is = search rules;
+  asked_for = λ plain. inl (asked_as _ _ _ c.in-Ok-Version.field-0-is (c.in-Ok-Version.ensures plain));
+  leaves = (λ name. refl, c.show-status-in-Ok-Version.ensures.leaves);
 }
 
 pub returns-in-Err-Usage-clause-answers : goal.returns-in-Err-Usage-clause-answers

@@ -1,0 +1,178 @@
+//! What is said in words of a source or a schedule that is refused, and of an exception that stops a run.
+ghost use Rattle.std.specs.Prelude.{◌≡◌, ◌++◌, drop, IfOk, OnOk, option_map};
+ghost use Rattle.adarun.specs.Reporting.{IsRaiseReport, IsScheduleRefusal, IsSourceRefusal, raise_place, raise_report};
+ghost use Rattle.endings.specs.Sources.{raised_from};
+ghost use Rattle.image.specs.Texts.{text_from_one};
+
+use crate::code_told::told_of_limit;
+use crate::compilation::{Named, compile_named};
+use clock::{Schedule, ScheduleFault};
+use endings::raised_from;
+use explanations::explanation;
+use hints::told_at;
+use lexer::Fault;
+use machine::{Steps, exception_name};
+use source_report::{put_place_report, put_schedule_report, put_source_report};
+use std::alloc::{AllocError, Global};
+use std::sync::ledger::Ledger;
+
+// Adds the lines of what is told, which begins with an empty one.
+fn put_told(out: &mut Vec<u8>, told: &[u8]) -> Result<(), AllocError>
+    ensures { OnOk result (out.new.items ≡ out.old.items ++ drop 1 told.now) }
+{
+    match told {
+        [] => Ok(()),
+        [_, rest @ ..] => out.extend_from_slice(rest),
+    }
+}
+
+/// What is said of a source that is refused: the place, the rule and the line, and what is told of the text beside; None where the number is that of no fault.
+///
+/// # Errors
+/// Where memory was refused.
+pub(crate) fn source_refusal(
+    alloc: Global,
+    file: &str,
+    text: &[u8],
+    fault: &Fault,
+) -> Result<Option<Vec<u8>>, AllocError>
+    ensures { IfOk result (λ report. IsSourceRefusal file.now text.now fault.now (option_map (λ bytes. bytes.items) report)) }
+{
+    let number = u64::from(fault.number);
+    let Some(rule) = explanation(number) else {
+        return Ok(None);
+    };
+    let mut report = Vec::new(alloc);
+    let rule = rule.as_bytes();
+    put_source_report(
+        &mut report,
+        file.as_bytes(),
+        text,
+        rule,
+        fault.number,
+        fault.place,
+    )?;
+    let told = told_at(alloc, number, Some(fault.place), text)?;
+    put_told(&mut report, &told)?;
+    let code = told_of_limit(alloc, number, Some(fault.place), text)?;
+    put_told(&mut report, &code)?;
+    Ok(Some(report))
+}
+
+/// What is said of a schedule that is refused: the line and the rule; None where the number is that of no fault.
+///
+/// # Errors
+/// Where memory was refused.
+pub(crate) fn schedule_refusal(
+    alloc: Global,
+    file: &str,
+    lines: &[u8],
+    fault: &ScheduleFault,
+) -> Result<Option<Vec<u8>>, AllocError>
+    ensures { IfOk result (λ report. IsScheduleRefusal file.now lines.now fault.now (option_map (λ bytes. bytes.items) report)) }
+{
+    let Some(rule) = explanation(u64::from(fault.number)) else {
+        return Ok(None);
+    };
+    let mut report = Vec::new(alloc);
+    let rule = rule.as_bytes();
+    put_schedule_report(
+        &mut report,
+        file.as_bytes(),
+        lines,
+        rule,
+        fault.number,
+        fault.line,
+    )?;
+    Ok(Some(report))
+}
+
+// The place of the statement from which the last exception came that the task had in a run, if it had one, and that is known. Two machines stand on its frame,
+// which is no part of those below (docs/PROOF.md, "Only tested": 192 KiB of stack).
+#[inline(never)]
+fn raise_place<L: Ledger>(
+    alloc: Global,
+    named: &Named,
+    schedule: &Schedule,
+    limit: u64,
+    task: u8,
+    steps: &mut Steps<L>,
+) -> Result<Option<u32>, AllocError>
+    ensures { IfOk result (λ place. place ≡ raise_place named.now.places (raised_from named.now.image schedule.now limit task)) }
+{
+    match raised_from(alloc, &named.image, schedule, limit, task, steps)? {
+        Some(address) => Ok(named.places.place_of(usize::from(address))),
+        None => Ok(None),
+    }
+}
+
+// What is said of a place from which an exception of this name came.
+fn raised_here(
+    alloc: Global,
+    file: &str,
+    text: &[u8],
+    name: &[u8],
+    place: Option<u32>,
+) -> Result<Option<Vec<u8>>, AllocError>
+    ensures { IfOk result (λ report. option_map (λ bytes. bytes.items) report ≡ raise_report file.now text.now name.now place) }
+{
+    let Some(place) = place else {
+        return Ok(None);
+    };
+    let mut words = Vec::new(alloc);
+    words.extend_from_slice(name)?;
+    words.extend_from_slice(b" was raised here")?;
+    let mut report = Vec::new(alloc);
+    put_place_report(&mut report, file.as_bytes(), text, place, &words)?;
+    Ok(Some(report))
+}
+
+// The same of a program that is compiled.
+fn raised_in<L: Ledger>(
+    alloc: Global,
+    file: &str,
+    text: &[u8],
+    named: &Named,
+    schedule: &Schedule,
+    run: &Unhandled,
+    steps: &mut Steps<L>,
+) -> Result<Option<Vec<u8>>, AllocError>
+    ensures { IfOk result (λ report. option_map (λ bytes. bytes.items) report ≡ raise_report file.now text.now
+        (text_from_one named.now.image.exceptions run.now.exception)
+        (raise_place named.now.places (raised_from named.now.image schedule.now run.now.limit run.now.task))) }
+{
+    let place = raise_place(alloc, named, schedule, run.limit, run.task, steps)?;
+    let name = exception_name(named.image.exceptions(), run.exception);
+    raised_here(alloc, file, text, name, place)
+}
+
+/// A run that an exception stopped which nothing handled: its limit on steps, the task that it left, and which it was.
+#[derive(Clone, Copy, PartialEq, Eq, Debug)]
+pub(crate) struct Unhandled {
+    pub(crate) limit: u64,
+    pub(crate) task: u8,
+    pub(crate) exception: u16,
+}
+
+/// What is said of the exception that stopped a run of the text: the statement from which it came; None where that isn't known.
+///
+/// # Errors
+/// Where memory was refused, or the text isn't compiled or the schedule isn't one.
+pub(crate) fn raise_report<L: Ledger>(
+    alloc: Global,
+    file: &str,
+    text: &[u8],
+    lines: &[u8],
+    run: &Unhandled,
+    steps: &mut Steps<L>,
+) -> Result<Option<Vec<u8>>, AllocError>
+    ensures { IfOk result (λ report. IsRaiseReport file.now text.now lines.now run.now (option_map (λ bytes. bytes.items) report)) }
+{
+    let Ok(named) = compile_named(alloc, text) else {
+        return Err(AllocError);
+    };
+    let Ok(schedule) = Schedule::read(alloc, lines) else {
+        return Err(AllocError);
+    };
+    raised_in(alloc, file, text, &named, &schedule, run, steps)
+}

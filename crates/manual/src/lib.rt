@@ -1,0 +1,71 @@
+//! The manual of the program, and the number of its version.
+#![tactic(auto)]
+
+/// What `adarun version` writes.
+pub const VERSION: &str = "adarun 1.0\n";
+
+/// What `adarun manual` writes: the commands, what their words are, the formats in short, and the exit statuses.
+pub const MANUAL: &str = "\
+NAME
+
+    adarun - compiles Ravenscar programs in a subset of Ada 2012 and runs them in virtual time
+
+COMMANDS
+
+    adarun simulate SRC [SCHED [LIMIT]]
+        compiles a source and runs it; what is wrong is told with its line, its rule and a hint
+    adarun go SRC SCHED LIMIT
+        the same, and what is wrong is told by its number and its place alone, for scripts
+    adarun trace SRC SCHED LIMIT
+        tells the run row by row: who runs, waits, is preempted, enters and leaves objects,
+        queues and is served, what is raised and where, and what is refused
+    adarun trace --vcd SRC SCHED LIMIT
+        writes the run as a value change dump, for viewers of waveforms
+    adarun compile SRC IMG
+        compiles a source to the file of an image
+    adarun list IMG
+        lists an image
+    adarun run IMG SCHED LIMIT
+        runs an image
+    adarun explain NUMBER [SRC]
+        explains the fault of this number, and what is told of a source that has it
+    adarun manual
+        shows this text
+    adarun version
+        shows the number of this version
+
+WORDS
+
+    SRC     the file of a source, at most 65536 bytes: one package and a main procedure
+    IMG     the file of an image
+    SCHED   the file of a schedule; /dev/null is the empty one, and so is none for simulate
+    LIMIT   the most steps of the run, in decimal digits alone, without underlines or an
+            exponent: 0 to 18446744073709551615; simulate takes 1000000 where it is left out
+    NUMBER  the number of a fault
+
+    A name that begins with a hyphen stands behind the word --, as in
+    adarun go -- -main.adb /dev/null 1000000. There are no options but --vcd.
+
+FORMATS
+
+    A schedule has a line `TIME CHANNEL VALUE` for each change of an input: the microsecond, a
+    channel from 1 to 8, and the value from then on, with single spaces, in the order of times.
+        8000 1 72
+    A run writes a line `TIME TASK LABEL VALUE` for each call of Put, with the virtual time in
+    microseconds, and last how it came to its end: `ended at T`, `waits forever at T`,
+    `unhandled NAME in TASK at T`, `step limit at T` or `image fault at T`.
+        20000 WATCH alarm 91
+    A place is LINE:COLUMN, both counted from 1, columns in bytes.
+
+STATUSES
+
+    0   the run ended; what was asked for is done
+    1   wrong words, or a file that can't be read or written
+    2   the source is refused
+    3   an exception that nothing handles stopped the run
+    4   the run waits forever
+    5   the limit on steps was reached
+    6   the image is refused, or its run was at fault
+    7   the schedule is refused
+    8   there was not enough memory
+";

@@ -1,0 +1,88 @@
+//! Pieces of texts: what stands on a line, in front of a byte, behind one.
+ghost use Rattle.std.specs.Prelude.{◌≡◌, ◌≤◌, length};
+ghost use Rattle.source_report.specs.Marked.{behind, count_to, first_line, last_line, line_start, up_to};
+ghost use Rattle.source_report.specs.Reports.{behind_lines, numbered_line};
+
+// How many bytes stand in front of the first of this value, or all where there is none.
+fn count_to(value: u8, text: &[u8]) -> usize
+    ensures count { result ≡ count_to value text.now }
+    ensures most { result ≤ length text.now }
+{
+    for (index, c) in text.iter().enumerate() {
+        if *c == value {
+            return index;
+        }
+    }
+    text.len()
+}
+
+/// What stands in front of the first byte of this value, or all where there is none.
+pub(crate) fn up_to(value: u8, text: &[u8]) -> &[u8]
+    ensures { result.now ≡ up_to value text.now }
+{
+    &text[..count_to(value, text)]
+}
+
+/// What stands behind the first byte of this value; nothing where there is none.
+pub(crate) fn behind(value: u8, text: &[u8]) -> &[u8]
+    ensures { result.now ≡ behind value text.now }
+{
+    for (index, c) in text.iter().enumerate() {
+        if *c == value {
+            return &text[index + 1..];
+        }
+    }
+    &[]
+}
+
+// The place behind the last line feed, or the beginning where there is none.
+fn line_start(text: &[u8]) -> usize
+    ensures start { result ≡ line_start 0 0 text.now }
+    ensures most { result ≤ length text.now }
+{
+    let mut start = 0;
+    for (index, c) in text.iter().enumerate() {
+        if *c == b'\n' {
+            start = index + 1;
+        }
+    }
+    start
+}
+
+/// What stands on the line behind which the text ends.
+pub(crate) fn last_line(text: &[u8]) -> &[u8]
+    ensures { result.now ≡ last_line text.now }
+{
+    &text[line_start(text)..]
+}
+
+/// What stands on the line with which the text begins.
+pub(crate) fn first_line(text: &[u8]) -> &[u8]
+    ensures { result.now ≡ first_line text.now }
+{
+    up_to(b'\r', up_to(b'\n', text))
+}
+
+// The place behind so many line feeds, or the end where there are fewer.
+fn behind_lines(lines: usize, text: &[u8]) -> usize
+    ensures place { result ≡ behind_lines lines 0 text.now }
+    ensures most { result ≤ length text.now }
+{
+    let mut left = lines;
+    for (index, c) in text.iter().enumerate() {
+        if left == 0 {
+            return index;
+        }
+        if *c == b'\n' {
+            left -= 1;
+        }
+    }
+    text.len()
+}
+
+/// What stands on the line of this number, the first being 1.
+pub(crate) fn numbered_line(number: usize, text: &[u8]) -> &[u8]
+    ensures { result.now ≡ numbered_line number text.now }
+{
+    first_line(&text[behind_lines(number.saturating_sub(1), text)..])
+}

@@ -1,0 +1,11 @@
+# Completions of adarun for bash: its commands, and names of files behind them.
+_adarun() {
+    local word=${COMP_WORDS[COMP_CWORD]}
+    COMPREPLY=()
+    if [ "$COMP_CWORD" = 1 ]; then
+        mapfile -t COMPREPLY < <(compgen -W "simulate go trace compile list run explain manual version" -- "$word")
+    elif [ "${COMP_WORDS[1]}" = trace ] && [ "$COMP_CWORD" = 2 ] && [[ $word == -* ]]; then
+        COMPREPLY=(--vcd)
+    fi
+}
+complete -o bashdefault -o default -F _adarun adarun
