@@ -49,14 +49,17 @@ def rows_of(lines):
 
 
 def shown(source, text, told):
-    """What ./run says of the raise that ended the run, the last one that isn't one at a call."""
+    """What is said of the raise that ended the run, the last one that isn't one at a call; of a long line what is near the place."""
     name, place = [(words, place) for words, place in told if not words.endswith(" at its call")][-1]
     if place is None:
         return ""
     line, column = map(int, place.split(":"))
     here = text.split("\n")[line - 1]
-    mark = re.sub(r"[^\t]", " ", here[: column - 1]) + "^"
-    return f"{source}:{place}: {name} was raised here\n{here}\n{mark}\n"
+    front, back = here[: column - 1], here[column - 1 :]
+    if len(here) > 160:
+        front, back = front[-80:], back[:80]
+    mark = re.sub(r"[^\t]", " ", front) + "^"
+    return f"{source}:{place}: {name} was raised here\n{front}{back}\n{mark}\n"
 
 
 def main():

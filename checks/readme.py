@@ -3,7 +3,7 @@
 
     readme.py PROGRAM SCRATCH
 
-`./build` finds what the gate has just proved, so it takes about a minute here. `./test`, which is named there too, is what calls this.
+`./build` finds the program that the gate has just proved, so it takes a second here. `./test`, which is named there too, is what calls this.
 """
 import os
 import re
@@ -72,11 +72,11 @@ class Checker:
     def commands(self, lines, written):
         """Each command of the program, with names in the place of the words in capitals."""
         image = os.path.join(self.scratch, "tank.img")
-        names = {"SRC": SOURCE, "SCHED": SCHEDULE, "LIMIT": "1000000", "IMG": image, "NUMBER": "6", "[SRC]": SOURCE}
+        names = {"SRC": SOURCE, "SCHED": SCHEDULE, "LIMIT": "1000000", "IMG": image, "NUMBER": "6"}
         for line in lines:
             words = re.split(r"  +", line)[0].split()
-            status, out, err = self.called([self.program, *(names.get(word, word) for word in words[1:])])
-            self.is_so(" ".join(words), status == 0 and err == "" and (out == written or words[1] not in ("go", "run")) and (out == "") == (words[1] == "compile"), (status, out, err))
+            status, out, err = self.called([self.program, *(names.get(word.strip("[]"), word) for word in words[1:])])
+            self.is_so(" ".join(words), status == 0 and err == "" and (out == written or words[1] not in ("go", "run", "simulate")) and (out == "") == (words[1] == "compile"), (status, out, err))
 
     def build(self):
         """`./build`, which gives the program that stands there already."""
@@ -85,6 +85,18 @@ class Checker:
         status, out, err = self.called(["./build"])
         with open(self.program, "rb") as file:
             self.is_so("./build", (status, out) == (0, "") and file.read() == before, err[-1000:])
+
+    def install(self):
+        """`./build --install`: the program, its manual page and the completions below a prefix."""
+        prefix = os.path.join(self.scratch, "prefix")
+        status, out, err = self.called(["./build", "--install", prefix])
+        manual = self.called([f"{prefix}/bin/adarun", "manual"])[1]
+        with open(f"{prefix}/share/man/man1/adarun.1", encoding="utf-8") as page:
+            shown = re.sub(r"\\([-e])", lambda part: {"-": "-", "e": "\\"}[part[1]], page.read())
+        words = [line.strip() for line in manual.splitlines() if line.strip()]
+        has_all = words == [re.sub(r"^\.SH ", "", line).strip() for line in shown.splitlines() if line.strip() and not re.match(r"\.(TH|nf|fi)", line)]
+        completed = self.called(["bash", "-c", f". {prefix}/share/bash-completion/completions/adarun; COMP_WORDS=(adarun s); COMP_CWORD=1; _adarun; echo ${{COMPREPLY[@]}}"])
+        self.is_so("./build --install", (status, out) == (0, "") and manual != "" and has_all and completed == (0, "simulate\n", ""), (err[-1000:], completed))
 
     def run_of(self, words):
         """`./run` with as few words as it takes, and with all."""
@@ -117,7 +129,7 @@ class Checker:
 
     def paths(self, text):
         """The files and folders that it names."""
-        for path in sorted(set(re.findall(r"\b(?:docs|examples|crates)/[\w./]*\w", text))):
+        for path in sorted(set(re.findall(r"\b(?:docs|examples|crates|bin)/[\w./]*\w", text))):
             self.is_so(path, os.path.exists(path), "isn't there")
 
 
@@ -132,7 +144,9 @@ def main():
         if lines[0].startswith("adarun "):
             checker.commands(lines, written)
         for line in lines:
-            if line.startswith("./build"):
+            if line.startswith("./build --install "):
+                checker.install()
+            elif line.startswith("./build "):
                 checker.build()
             if line.startswith("./run "):
                 checker.run_of(re.split(r"  +", line)[0])
