@@ -1,6 +1,6 @@
 //! The predefined exceptions of the language (RM 11.1) and their numbers.
 ghost use Rattle.std.specs.Prelude.{◌≡◌};
-ghost use Rattle.base.specs.Exceptions.{name_of, number_of, predefined_of};
+ghost use Rattle.base.specs.Exceptions.{name_of, number_of};
 
 /// An exception that the language declares (RM 11.1).
 #[derive(Clone, Copy, PartialEq, Eq, Debug)]
@@ -21,19 +21,6 @@ impl PredefinedException {
             PredefinedException::ProgramError => 2,
             PredefinedException::StorageError => 3,
             PredefinedException::TaskingError => 4,
-        }
-    }
-
-    /// The predefined exception of a number; `None` for every other number.
-    pub fn from_number(number: u16) -> Option<PredefinedException>
-        ensures { result ≡ predefined_of number }
-    {
-        match number {
-            1 => Some(PredefinedException::ConstraintError),
-            2 => Some(PredefinedException::ProgramError),
-            3 => Some(PredefinedException::StorageError),
-            4 => Some(PredefinedException::TaskingError),
-            _ => None,
         }
     }
 

@@ -1,5 +1,5 @@
 //! The least fault in an expression, in one walk (docs/LANGUAGE.md, "Rules of expressions").
-ghost use Rattle.std.specs.Prelude.{◌≡◌, [], IfErr, OnOk};
+ghost use Rattle.std.specs.Prelude.{◌≡◌, [], IfErr, OnOk, Some};
 ghost use Rattle.ada_tree.specs.ExpressionTree.{expr_tree, elsif_value_tree, elsif_value_trees, selector_tree, selector_trees, argument_tree, argument_trees, name_tree};
 ghost use Rattle.expr_rules.specs.Faults.{IsLeast, least, rule, sooner};
 ghost use Rattle.expr_rules.specs.Typing.{elsif_own_of, own_of, typed_wanted};
@@ -380,6 +380,7 @@ fn wanted_of(expected: Option<u16>) -> Wanted
 pub fn check_expr(scope: &Scope, e: &Expr, expected: Option<u16>) -> Result<(), Fault>
     ensures accepted { OnOk result (faults_of scope.now (wanted_of expected) (expr_tree e.now) ≡ []) }
     ensures refused { IfErr result (λ f. IsLeast (faults_of scope.now (wanted_of expected) (expr_tree e.now)) f) }
+    ensures least { IfErr result (λ f. Some f ≡ least (faults_of scope.now (wanted_of expected) (expr_tree e.now))) }
 {
     match expression_fault(scope, wanted_of(expected), e) {
         None => Ok(()),

@@ -13,8 +13,8 @@ use ada_tree::{Expr, Identifier, NameExpr, Stmt};
 use base::faults::{MISPLACED_STATEMENT, NAME_NOT_VISIBLE, NO_MEANING};
 use expr_rules::laws::least_by_parts;
 use expr_rules::{
-    Own, Wanted, call_fault, expression_fault, is_time, own_of, own_of_standing, rule, sooner,
-    target_fault, typed_wanted,
+    Own, Wanted, call_fault, check_expr, expression_fault, is_time, own_of, own_of_standing, rule,
+    sooner, target_fault, typed_wanted,
 };
 use lexer::{Fault, Text};
 use type_rules::named_entity;
@@ -23,7 +23,11 @@ use types::{Entity, Scope, Subtype, start_of};
 pub(crate) fn condition_fault(scope: &Scope, e: &Expr) -> Option<Fault>
     ensures { result ≡ least (condition_faults scope.now (expr_tree e.now)) }
 {
-    expression_fault(scope, Wanted::BOOLEAN, e)
+    let boolean = Subtype::BOOLEAN.type_number as u16;
+    match check_expr(scope, e, Some(boolean)) {
+        Ok(()) => None,
+        Err(fault) => Some(fault),
+    }
 }
 
 fn optional_condition_fault(scope: &Scope, e: &Option<Expr>) -> Option<Fault>

@@ -1,10 +1,9 @@
 -- Static expressions (RM 4.9): literals, True, False, scalar constants of the package, attributes, and operators and parentheses over static expressions.
-use Rattle.std.specs.Prelude.{◌≡◌, ℕ, [], pos, Option, Some, None, if◌then◌else◌}
+use Rattle.std.specs.Prelude.{◌≡◌, ℕ, [], pos, Option, Some, None}
 use Rattle.base.specs.declared.faults.TheConstants.{NO_MEANING, NOT_STATIC, WRONG_STATIC_VALUE}
 use Rattle.ada_tree.specs.declared.expression.Identifier.{Identifier}
 use Rattle.ada_tree.specs.ExpressionTree as tree
 use Rattle.ada_tree.specs.ExpressionTree.{ExprTree, Named, Parenthesized, Conditional, Unary, Binary, SelectorTrees}
-use Rattle.types.specs.declared.entity.Subtype.{Subtype}
 use Rattle.types.specs.declared.entity.Value.{Value as Scalar}
 use Rattle.types.specs.declared.standing.Standing.{Standing}
 use Rattle.types.specs.declared.standing.Standing.TheVariants as standing
@@ -12,7 +11,7 @@ use Rattle.types.specs.declared.statics.StaticForm.{StaticForm}
 use Rattle.types.specs.declared.statics.StaticForm.TheVariants.{Static, NotStatic, Doubtful}
 use Rattle.types.specs.Scopes.{Scope}
 use Rattle.types.specs.Standings.{standing_of}
-use Rattle.types.specs.Values.{Value, fits}
+use Rattle.types.specs.Values.{Value}
 use Rattle.types.specs.Evaluations.{Val, Gives, Raises, Meaningless}
 use Rattle.types.specs.Places.{Place}
 use Rattle.types.specs.Evaluating.{Calls, fixed_value, fixed_name, value_with}
@@ -83,14 +82,6 @@ fault_of form v = Some NOT_STATIC
 
 abbrev pub static_fault : Scope → ExprTree → Option ℕ
 static_fault s e = fault_of (static_form s e) (static_value s e)
-
--- why it has none in this subtype
-abbrev pub fault_within : Subtype → StaticForm → Val Value → Option ℕ
-fault_within t Static (Gives v) = if fits t v then None else Some WRONG_STATIC_VALUE
-fault_within t form v = fault_of form v
-
-abbrev pub static_fault_within : Scope → Subtype → ExprTree → Option ℕ
-static_fault_within s t e = fault_within t (static_form s e) (static_value s e)
 
 -- ---- the law
 

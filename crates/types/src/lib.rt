@@ -23,4 +23,4 @@ pub use parts::{Components, Operations};
 pub use scope::{MORE_WORDS, Scope};
 pub use seen::{NamePlaces, SeenNames};
 pub use standing::{Callee, Standing};
-pub use statics::{StaticForm, start_of, static_value, static_value_within};
+pub use statics::{StaticForm, start_of, static_value};

@@ -1,13 +1,13 @@
 //! Static expressions (RM 4.9): which are, and their values.
-ghost use Rattle.std.specs.Prelude.{◌≡◌, Some, IfOk, IfErr, OnOk, true};
+ghost use Rattle.std.specs.Prelude.{◌≡◌, Some, IfOk, IfErr, OnOk};
 ghost use Rattle.ada_tree.specs.ExpressionTree.{expr_tree};
 ghost use Rattle.types.specs.Evaluations.{Gives, and_then};
 ghost use Rattle.types.specs.Knowing.{combined, evaluation_value, finding, found, found_after, mapped, name_found};
 ghost use Rattle.types.specs.Operators.{unary_value};
-ghost use Rattle.types.specs.Statics.{start_of, static_fault, static_fault_within, static_form, static_value};
-ghost use Rattle.types.specs.Values.{fits, value_of};
+ghost use Rattle.types.specs.Statics.{start_of, static_fault, static_form, static_value};
+ghost use Rattle.types.specs.Values.{value_of};
 
-use crate::entity::{Subtype, Value};
+use crate::entity::Value;
 use crate::evaluation::Evaluation;
 use crate::scope::Scope;
 use crate::standing::Standing;
@@ -146,23 +146,4 @@ pub fn static_value(scope: &Scope, e: &Expr) -> Result<Value, Fault>
         number,
         place: start_of(e),
     })
-}
-
-/// The value of a static expression that must lie in this subtype (RM 4.9). It is refused as by `static_value`, and by fault 15 where it lies outside.
-pub fn static_value_within(scope: &Scope, subtype: Subtype, e: &Expr) -> Result<Value, Fault>
-    ensures form { OnOk result (static_form scope.now (expr_tree e.now) ≡ StaticForm.Static) }
-    ensures value { IfOk result (λ v. static_value scope.now (expr_tree e.now) ≡ Gives (value_of v)) }
-    ensures within { IfOk result (λ v. fits subtype (value_of v) ≡ true) }
-    ensures fault { IfErr result (λ f. static_fault_within scope.now subtype (expr_tree e.now) ≡ Some f.number) }
-    ensures place { IfErr result (λ f. f.place ≡ start_of (expr_tree e.now)) }
-{
-    let value = static_value(scope, e)?;
-    if subtype.fits(value) {
-        Ok(value)
-    } else {
-        Err(Fault {
-            number: WRONG_STATIC_VALUE,
-            place: start_of(e),
-        })
-    }
 }
