@@ -1,25 +1,26 @@
 -- What bodies break has numbers from 10 to 23.
-use Rattle.std.proofs.Common.{ℕ, refl, Bool, true, false, List, [], ◌∷◌, Option, Some, None}
-use Rattle.base.specs.declared.faults.TheConstants.{DECLARED_TWICE, UNMATCHED_BODY, WRONG_FUNCTION}
+use Rattle.std.proofs.Common.{◌≡◌, ℕ, refl, Bool, true, false, List, [], ◌∷◌, Option, Some, None}
+use Rattle.base.specs.declared.faults.TheConstants.{DECLARED_TWICE, LIMIT_PASSED, NAME_NOT_VISIBLE, UNMATCHED_BODY, WRONG_FUNCTION}
 use Rattle.ada_tree.specs.declared.expression.Identifier.{Identifier}
 use Rattle.ada_tree.specs.declared.declaration.Formal.{Formal}
 use Rattle.ada_tree.specs.ExpressionTree.{ExprTree}
 use Rattle.ada_tree.specs.StatementTree.{EntryTree, SubprogramTree}
 use Rattle.ada_tree.specs.ProgramTree.{BodyItemTree, OfItem, SubprogramBody, TaskBody, ProtectedBody, BodyTree, ProtectedItemTree, OperationBody, EntryBody}
 use Rattle.types.specs.declared.entity.RecordComponent.{RecordComponent}
+use Rattle.types.specs.Entities.{Entity, Entry}
 use Rattle.types.specs.Scopes.{Scope, number_of}
 use Rattle.declaring.specs.BodyNames.{components_scope, formals_scope, object_body_scope}
 use Rattle.declaring.specs.LocalRules.{locals_scope}
 use Rattle.type_rules.specs.ProfileRules.{subprogram_scope}
-use Rattle.type_rules.specs.SubtypeNames.{declared_twice, named_entity}
+use Rattle.type_rules.specs.SubtypeNames.{named_entity}
 use Rattle.stmt_rules.specs.declared.around.BodyKind.{BodyKind}
 use Rattle.stmt_rules.specs.declared.around.BodyKind.TheVariants as kind
 use Rattle.stmt_rules.specs.StatementRules.{in_body}
-use Rattle.legality.specs.BodyRules.{body_faults, body_name_faults, function_body_faults, head_faults, is_subprogram, kind_of, own_name_faults, subprogram_body_faults, task_body_faults, task_rule}
+use Rattle.legality.specs.BodyRules.{body_faults, body_name_faults, body_name_number, body_name_rule, function_body_faults, head_faults, is_subprogram, kind_of, own_name_faults, subprogram_body_faults, task_body_faults, task_rule}
 use Rattle.legality.specs.ProtectedBodyRules.{components_at, entry_body_faults, entry_rule, known_body_faults, object_items_faults, object_rule, operation_sees, outer_name_rule, outer_names_faults, protected_body_faults, protected_item_faults, protected_item_scope, protected_items_faults}
 use Rattle.declaring.specs.PackageNames.{body_item_scope}
 use Rattle.legality.specs.PackageBodyRules.{body_item_faults, body_items_faults}
-use Rattle.fault_numbers.proofs.Ranges.{Legality, ◌⊕◌, asked, none}
+use Rattle.fault_numbers.proofs.Ranges.{Legality, ◌⊕◌, asked, is_between, none}
 use Rattle.fault_numbers.proofs.Declarations.{of_end_name, of_fixed_locals, of_formals, of_item, of_locals, of_new_name, of_profile}
 use Rattle.fault_numbers.proofs.Statements.{of_condition, of_sequence}
 
@@ -43,9 +44,13 @@ of_task_body s name b =
 of_function_body : (d : SubprogramTree) (b : BodyTree) → Legality (function_body_faults d b)
 of_function_body d b = asked WRONG_FUNCTION d.name.place _ refl
 
-of_body_name_if : (s : Scope) (name : Identifier) (is_declared : Bool) → Legality (elim is_declared [ true ↦ [] | false ↦ declared_twice s name ])
+body_name_number_within : (e : Option Entity) → is_between NAME_NOT_VISIBLE LIMIT_PASSED (body_name_number e) ≡ true
+body_name_number_within (Some (Entry p)) = refl
+body_name_number_within e = refl
+
+of_body_name_if : (s : Scope) (name : Identifier) (is_declared : Bool) → Legality (elim is_declared [ true ↦ [] | false ↦ body_name_rule s name ])
 of_body_name_if s name true = none
-of_body_name_if s name false = of_new_name s name
+of_body_name_if s name false = asked (body_name_number (named_entity s name)) name.place _ (body_name_number_within (named_entity s name))
 
 of_body_name : (s : Scope) (name : Identifier) → Legality (body_name_faults s name)
 of_body_name s name = of_body_name_if s name (is_subprogram (named_entity s name))

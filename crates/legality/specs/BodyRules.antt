@@ -6,10 +6,10 @@ use Rattle.ada_tree.specs.declared.declaration.Formal.{Formal}
 use Rattle.ada_tree.specs.StatementTree.{DeclarationTree, SubprogramTree, StmtTree, StmtTrees, NoStmts, MoreStmts, Return, HandlerTrees, NoHandlers}
 use Rattle.ada_tree.specs.ProgramTree.{BodyTree}
 use Rattle.types.specs.declared.entity.Subtype.{Subtype}
-use Rattle.types.specs.Entities.{Entity, Subprogram, Task, Doubtful}
-use Rattle.types.specs.Scopes.{Scope}
+use Rattle.types.specs.Entities.{Entity, Entry, Subprogram, Task, Doubtful}
+use Rattle.types.specs.Scopes.{Scope, is_visible}
 use Rattle.expr_rules.specs.Faults.{Faults, rule}
-use Rattle.type_rules.specs.SubtypeNames.{declared_twice, end_rule, named_entity, subtype_of}
+use Rattle.type_rules.specs.SubtypeNames.{end_rule, named_entity, subtype_of}
 use Rattle.type_rules.specs.ProfileRules.{profile_faults, subprogram_scope}
 use Rattle.declaring.specs.LocalRules.{fixed_locals_faults, locals_faults, locals_scope}
 use Rattle.declaring.specs.BodyNames.{formals_scope}
@@ -80,9 +80,17 @@ is_subprogram (Some (Subprogram p)) = true
 is_subprogram (Some Doubtful) = true
 is_subprogram e = false
 
--- 11: a body without a declaration declares its name
+-- in the body of a protected object a body may have the name of one of its entries: it is not like its declaration, and else it declares the name
+abbrev pub body_name_number : Option Entity → ℕ
+body_name_number (Some (Entry p)) = UNMATCHED_BODY
+body_name_number e = DECLARED_TWICE
+
+-- 18 or 11: the name of a body that belongs to no declaration of a subprogram is visible
+abbrev pub body_name_rule : Scope → Identifier → Faults
+body_name_rule s name = rule (body_name_number (named_entity s name)) name.place (is_visible s name.name)
+
 abbrev pub body_name_faults : Scope → Identifier → Faults
-body_name_faults s name = elim (is_subprogram (named_entity s name)) [ true ↦ [] | false ↦ declared_twice s name ]
+body_name_faults s name = elim (is_subprogram (named_entity s name)) [ true ↦ [] | false ↦ body_name_rule s name ]
 
 -- 11, at a formal: it is like the subprogram, which is visible in its body
 abbrev pub own_name_faults : (name : Identifier) → List Formal → Faults

@@ -7,7 +7,7 @@ ghost use Rattle.expr_rules.specs.Faults.{least};
 ghost use Rattle.declaring.specs.BodyNames.{formals_scope};
 ghost use Rattle.type_rules.specs.ProfileRules.{subprogram_scope};
 ghost use Rattle.type_rules.specs.SubtypeNames.{named_entity};
-ghost use Rattle.legality.specs.BodyRules.{body_faults, body_name_faults, function_body_faults, has_no_declarations, has_no_handlers, head_faults, is_function_body, is_return_of_value, is_single_return, is_subprogram, is_task, kind_of, own_name_faults, subprogram_body_faults, task_body_faults, task_rule, type_number};
+ghost use Rattle.legality.specs.BodyRules.{body_faults, body_name_faults, body_name_number, body_name_rule, function_body_faults, has_no_declarations, has_no_handlers, head_faults, is_function_body, is_return_of_value, is_single_return, is_subprogram, is_task, kind_of, own_name_faults, subprogram_body_faults, task_body_faults, task_rule, type_number};
 
 use ada_tree::laws::statements_by_parts;
 use ada_tree::{Body, Declaration, Formal, Handler, Identifier, Stmt, Subprogram};
@@ -19,9 +19,7 @@ use expr_rules::{rule, sooner};
 use lexer::Fault;
 use std::alloc::{AllocError, Global};
 use stmt_rules::{Around, BodyKind, sequence_fault};
-use type_rules::{
-    declare_subprogram, declared_twice, end_rule, named_entity, profile_fault, subtype_of,
-};
+use type_rules::{declare_subprogram, end_rule, named_entity, profile_fault, subtype_of};
 use types::{Entity, Scope, Subtype};
 
 /// The least fault in the declarations, statements and handlers of a body of this kind, which sees the names of the scope. The scope stays as it was.
@@ -164,13 +162,29 @@ fn is_subprogram(scope: &Scope, name: &Identifier) -> bool
     }
 }
 
+fn body_name_number(scope: &Scope, name: &Identifier) -> u8
+    ensures { result ≡ body_name_number (named_entity scope.now name.now) }
+{
+    match named_entity(scope, name) {
+        Some(Entity::Entry(_)) => UNMATCHED_BODY,
+        _ => DECLARED_TWICE,
+    }
+}
+
+fn body_name_rule(scope: &Scope, name: &Identifier) -> Option<Fault>
+    ensures { result ≡ least (body_name_rule scope.now name.now) }
+{
+    let is_visible = scope.number_of(&name.name).is_some();
+    rule(body_name_number(scope, name), name.place, is_visible)
+}
+
 fn body_name_fault(scope: &Scope, name: &Identifier) -> Option<Fault>
     ensures { result ≡ least (body_name_faults scope.now name.now) }
 {
     if is_subprogram(scope, name) {
         None
     } else {
-        declared_twice(scope, name)
+        body_name_rule(scope, name)
     }
 }
 

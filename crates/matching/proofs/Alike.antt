@@ -12,13 +12,13 @@ use Rattle.ada_tree.specs.StatementTree.{SubprogramTree, OperationTree, OfSubpro
 use Rattle.ada_tree.specs.ProgramTree.{BodyItemTree, ItemTree, OfItem, OfType, OfObject, OfException, OfTask, OfProtected, ProtectedItemTree, OperationBody, EntryBody, SubprogramBody, TaskBody, ProtectedBody}
 use Rattle.ada_tree.specs.ProgramTree.{OfSubprogram as OfDeclared}
 use Rattle.types.proofs.Seeing.{either_way}
-use Rattle.matching.specs.MatchingRules.{any_declared, conforms, has_unlike_operation, is_unlike_operation, is_unlike_subprogram, operation_is_entry, operation_name, passes_declared, same_formal, same_formals, same_mode, same_name, same_result}
+use Rattle.matching.specs.MatchingRules.{any_declared, conforms, has_unlike_operation, is_unlike_operation, is_unlike_subprogram, operation_name, passes_declared, same_formal, same_formals, same_mode, same_name, same_result}
 use Rattle.matching.specs.declared.declared.Declared.{Declared}
 use Rattle.matching.specs.declared.keys.Key.{Key}
 use Rattle.matching.specs.declared.keys.Kind.{Kind}
 use Rattle.matching.specs.declared.keys.Kind.TheVariants as kind
 use Rattle.matching.specs.contracts.keys.Kind.{the_type}
-use Rattle.matching.specs.Tables.{Declares, IsKeyOf, ProfileTree, are_alike, body_profile, declared_at, declares_unlike, declares_unlike_operation, entry_profile, is_key, is_same_key, is_unlike, operation_kind, subprogram_profile}
+use Rattle.matching.specs.Tables.{Declares, IsKeyOf, ProfileTree, are_alike, body_profile, declared_at, declares_unlike, declares_unlike_operation, entry_profile, is_key, is_same_key, is_unlike, same_kind, subprogram_profile}
 use Rattle.matching.proofs.Tabled.{and-false, and_any, and_first, and_second, any_next, key_at, none_any, same_any, same_found}
 
 -- ---- profiles
@@ -88,14 +88,25 @@ result_back None (Some b) = refl
 result_back (Some a) None = refl
 result_back (Some a) (Some b) = either_way a.name b.name
 
+kind_both : (a b d : Bool) → same_kind a b ≡ true → same_kind a d ≡ same_kind d b
+kind_both true true true h = refl
+kind_both true true false h = refl
+kind_both true false d h = absurd (true≢false (sym h))
+kind_both false true d h = absurd (true≢false (sym h))
+kind_both false false true h = refl
+kind_both false false false h = refl
+
 -- what is like one of two that are alike is like the other
 like_both : (a b d : ProfileTree) → are_alike a b ≡ true → are_alike a d ≡ are_alike d b
 like_both a b d h =
+    let kinds = same_kind a.is_entry b.is_entry in
     let formals = same_formals a.formals b.formals in
     let results = same_result a.result b.result in
-    let first = formals_same a.formals b.formals d.formals (and_first formals results h) ∙ formals_back b.formals d.formals in
-    let second = result_same a.result b.result d.result (and_second formals results h) ∙ result_back b.result d.result in
-    λ j. first j && second j
+    let rest = and_second kinds (formals && results) h in
+    let kind_ = kind_both a.is_entry b.is_entry d.is_entry (and_first kinds (formals && results) h) in
+    let first = formals_same a.formals b.formals d.formals (and_first formals results rest) ∙ formals_back b.formals d.formals in
+    let second = result_same a.result b.result d.result (and_second formals results rest) ∙ result_back b.result d.result in
+    λ j. kind_ j && (first j && second j)
 
 -- one more declaration: one is unlike p where one was before, or this one is
 pub unlike_again : (alike : Bool) (first more p : ProfileTree)
@@ -163,7 +174,7 @@ unlike_found k body is = any_as (declares_unlike k (subprogram_profile body)) (i
 
     none : (object : Identifier) (o : OperationTree) → declares_unlike_operation k (subprogram_profile body) object o ≡ false
     none object (OfSubprogram o aspect) = ap (λ b. b && not (are_alike (subprogram_profile o) (subprogram_profile body))) (at kind.Operation object.name o.name.name)
-    none object (OfEntry o) = ap (λ b. b && not (are_alike (entry_profile o) (subprogram_profile body))) (at kind.Entry object.name o.name.name)
+    none object (OfEntry o) = ap (λ b. b && not (are_alike (entry_profile o) (subprogram_profile body))) (at kind.Operation object.name o.name.name)
 
     each : (d : ItemTree) → declares_unlike k (subprogram_profile body) d ≡ is_unlike_subprogram body d
     each (OfDeclared d) = ap (λ b. b && not (conforms d body)) (at kind.Subprogram d.name.name d.name.name ∙ and_self (bytes_eq d.name.name body.name.name))
@@ -173,36 +184,30 @@ unlike_found k body is = any_as (declares_unlike k (subprogram_profile body)) (i
     each (OfException d) = refl
     each (OfTask d) = refl
 
-module _ (k : Key) (object : Identifier) (i : ProtectedItemTree) (is : IsKeyOf k (operation_kind (operation_is_entry i)) object.name (operation_name i).name) where
-  at : (own : Kind) (o n : List ℕ) → is_key k own o n ≡ (sameb the_type own (operation_kind (operation_is_entry i)) && (bytes_eq o object.name && bytes_eq n (operation_name i).name))
-  at = key_at k (operation_kind (operation_is_entry i)) object.name (operation_name i).name is
+module _ (k : Key) (object : Identifier) (i : ProtectedItemTree) (is : IsKeyOf k kind.Operation object.name (operation_name i).name) where
+  at : (own : Kind) (o n : List ℕ) → is_key k own o n ≡ (sameb the_type own kind.Operation && (bytes_eq o object.name && bytes_eq n (operation_name i).name))
+  at = key_at k kind.Operation object.name (operation_name i).name is
 
-pub operation_unlike : (k : Key) (object own : Identifier) (i : ProtectedItemTree) → IsKeyOf k (operation_kind (operation_is_entry i)) object.name (operation_name i).name
+pub operation_unlike : (k : Key) (object own : Identifier) (i : ProtectedItemTree) → IsKeyOf k kind.Operation object.name (operation_name i).name
     → (o : OperationTree) → declares_unlike_operation k (body_profile i) own o ≡ (same_name own object && is_unlike_operation i o)
 operation_unlike k object own (OperationBody d b) is (OfSubprogram o aspect) =
     ap (λ c. c && not (conforms o d)) (at k object (OperationBody d b) is kind.Operation own.name o.name.name) ∙ and_assoc (same_name own object) (same_name o.name d.name) (not (conforms o d))
 operation_unlike k object own (OperationBody d b) is (OfEntry o) =
-    ap (λ c. c && not (are_alike (entry_profile o) (subprogram_profile d))) (at k object (OperationBody d b) is kind.Entry own.name o.name.name) ∙ sym (and-false (same_name own object))
+    and-true (is_key k kind.Operation own.name o.name.name) ∙ at k object (OperationBody d b) is kind.Operation own.name o.name.name
 operation_unlike k object own (EntryBody d barrier b) is (OfSubprogram o aspect) =
-    ap (λ c. c && not (are_alike (subprogram_profile o) (entry_profile d))) (at k object (EntryBody d barrier b) is kind.Operation own.name o.name.name) ∙ sym (and-false (same_name own object))
+    and-true (is_key k kind.Operation own.name o.name.name) ∙ at k object (EntryBody d barrier b) is kind.Operation own.name o.name.name
 operation_unlike k object own (EntryBody d barrier b) is (OfEntry o) =
-    (λ j. at k object (EntryBody d barrier b) is kind.Entry own.name o.name.name j && not (and-true (same_formals o.formals d.formals) j))
+    (λ j. at k object (EntryBody d barrier b) is kind.Operation own.name o.name.name j && not (and-true (same_formals o.formals d.formals) j))
     ∙ and_assoc (same_name own object) (same_name o.name d.name) (not (same_formals o.formals d.formals))
 
-not_subprogram : (e : Bool) → sameb the_type kind.Subprogram (operation_kind e) ≡ false
-not_subprogram true = refl
-not_subprogram false = refl
-
-pub operations_unlike : (k : Key) (object : Identifier) (i : ProtectedItemTree) → IsKeyOf k (operation_kind (operation_is_entry i)) object.name (operation_name i).name
+pub operations_unlike : (k : Key) (object : Identifier) (i : ProtectedItemTree) → IsKeyOf k kind.Operation object.name (operation_name i).name
     → (specified : List ItemTree) (before : List BodyItemTree)
     → any_declared (declares_unlike k (body_profile i)) specified before ≡ any_declared (has_unlike_operation object i) specified before
 operations_unlike k object i is = any_as (declares_unlike k (body_profile i)) (has_unlike_operation object i) each
   where
     each : (d : ItemTree) → declares_unlike k (body_profile i) d ≡ has_unlike_operation object i d
     each (OfDeclared d) =
-        ap (λ b. b && not (are_alike (subprogram_profile d) (body_profile i)))
-        (at k object i is kind.Subprogram d.name.name d.name.name
-        ∙ ap (λ c. c && (bytes_eq d.name.name object.name && bytes_eq d.name.name (operation_name i).name)) (not_subprogram (operation_is_entry i)))
+        ap (λ b. b && not (are_alike (subprogram_profile d) (body_profile i))) (at k object i is kind.Subprogram d.name.name d.name.name)
     each (OfProtected d) =
         same_any (declares_unlike_operation k (body_profile i) d.name) (λ o. same_name d.name object && is_unlike_operation i o) (operation_unlike k object d.name i is) d.operations
         ∙ and_any (same_name d.name object) (is_unlike_operation i) d.operations

@@ -340,7 +340,7 @@ procedure_for_an_entry : least (matching_faults (OfProtected (record {
     NoSelectors))) NoStmts) NoHandlers (identifier 309 (codes "GET"))) ∷ OperationBody (subprogram_of 314 (identifier 324 (codes "TAKE")) (formal_of
     (identifier 330 (codes "X")) mode.Out (identifier 338 (codes "INTEGER")) ∷ []) None) (body_of ([]) (MoreStmts (Assignment (name_of (identifier 356
     (codes "X")) NoSelectors) (Named (identifier 361 (codes "V")) NoSelectors)) NoStmts) NoHandlers (identifier 368 (codes "TAKE"))) ∷ []) (identifier
-    378 (codes "P")) ∷ [])) ≡ broken 18 80
+    378 (codes "P")) ∷ [])) ≡ broken 18 324
 procedure_for_an_entry = refl
 
 -- `protected P is procedure Give (X : Integer); function Get return Integer; entry Take (X : out Integer); private V : Integer; Full : Boolean; end P;

@@ -11,16 +11,16 @@ use Rattle.std.proofs.lemmas.List.{length-take-le, map-append, length-map}
 use Rattle.std.proofs.lemmas.List.Folds.{list_any-append}
 use Rattle.std.proofs.lemmas.Slice.Eq.{bytes_eq-Decides}
 use Rattle.ada_tree.specs.declared.expression.Identifier.{Identifier}
-use Rattle.ada_tree.specs.ProgramTree.{BodyItemTree, OfItem, ProtectedItemTree, OperationBody, EntryBody, SubprogramBody, TaskBody, ProtectedBody}
+use Rattle.ada_tree.specs.ProgramTree.{BodyItemTree, OfItem, ProtectedItemTree, SubprogramBody, TaskBody, ProtectedBody}
 use Rattle.types.proofs.Seeing.{either_way}
-use Rattle.matching.specs.MatchingRules.{has_operation, is_body_of, is_operation_body, is_second_operation, operation_is_entry, operation_name, same_name}
+use Rattle.matching.specs.MatchingRules.{has_operation, is_body_of, is_operation_body, is_second_operation, operation_name, same_name}
 use Rattle.matching.specs.declared.bodies.BodyOf.{BodyOf}
 use Rattle.matching.specs.declared.bodies.BodyOf.TheVariants as body_of
 use Rattle.matching.specs.declared.keys.Key.{Key}
 use Rattle.matching.specs.declared.keys.Kind.{Kind}
 use Rattle.matching.specs.declared.keys.Kind.TheVariants as kind
 use Rattle.matching.specs.contracts.keys.Kind.{the_type}
-use Rattle.matching.specs.Tables.{AreLastPlaces, IsKeyOf, PutsPlace, SeesKeys, has_body_key, has_inner_key, has_key, has_operation_key, is_from, is_key, is_same_key, is_seen, kind_of, last_or, last_place, operation_kind, place_at}
+use Rattle.matching.specs.Tables.{AreLastPlaces, IsKeyOf, PutsPlace, SeesKeys, has_body_key, has_inner_key, has_key, has_operation_key, is_from, is_key, is_same_key, is_seen, kind_of, last_or, last_place, place_at}
 
 -- ---- tests of lists
 
@@ -181,16 +181,14 @@ seen_next tree test all n x old new less at are sees k =
 -- ---- the body of what
 
 inner_none : (k : Key) (own : Kind) (object name : List ℕ) → IsKeyOf k own object name
-    → sameb the_type kind.Operation own ≡ false → sameb the_type kind.Entry own ≡ false
-    → (i : BodyItemTree) → has_inner_key k i ≡ false
-inner_none k own object name is other none (ProtectedBody o items e) = none_any (has_operation_key k o) each items
+    → sameb the_type kind.Operation own ≡ false → (i : BodyItemTree) → has_inner_key k i ≡ false
+inner_none k own object name is other (ProtectedBody o items e) = none_any (has_operation_key k o) each items
   where
     each : (i : ProtectedItemTree) → has_operation_key k o i ≡ false
-    each (OperationBody d b) = key_at k own object name is kind.Operation o.name d.name.name ∙ ap (λ c. c && (bytes_eq o.name object && bytes_eq d.name.name name)) other
-    each (EntryBody d barrier b) = key_at k own object name is kind.Entry o.name d.name.name ∙ ap (λ c. c && (bytes_eq o.name object && bytes_eq d.name.name name)) none
-inner_none k own object name is other none (OfItem d) = refl
-inner_none k own object name is other none (SubprogramBody d b) = refl
-inner_none k own object name is other none (TaskBody o b) = refl
+    each i = key_at k own object name is kind.Operation o.name (operation_name i).name ∙ ap (λ c. c && (bytes_eq o.name object && bytes_eq (operation_name i).name name)) other
+inner_none k own object name is other (OfItem d) = refl
+inner_none k own object name is other (SubprogramBody d b) = refl
+inner_none k own object name is other (TaskBody o b) = refl
 
 twice : (m n : List ℕ) → (bytes_eq m n && bytes_eq m n) ≡ bytes_eq n m
 twice m n = and_self (bytes_eq m n) ∙ either_way m n
@@ -211,60 +209,51 @@ body_found k body_of.Object name is (ProtectedBody o items e) = key_at k kind.Ob
 body_found k body_of.Object name is (OfItem d) = refl
 
 no_inner : (k : Key) (of : BodyOf) (name : Identifier) → IsKeyOf k (kind_of of) name.name name.name → (i : BodyItemTree) → has_inner_key k i ≡ false
-no_inner k body_of.Subprogram name is i = inner_none k kind.Subprogram name.name name.name is refl refl i
-no_inner k body_of.Task name is i = inner_none k kind.Task name.name name.name is refl refl i
-no_inner k body_of.Object name is i = inner_none k kind.Object name.name name.name is refl refl i
+no_inner k body_of.Subprogram name is i = inner_none k kind.Subprogram name.name name.name is refl i
+no_inner k body_of.Task name is i = inner_none k kind.Task name.name name.name is refl i
+no_inner k body_of.Object name is i = inner_none k kind.Object name.name name.name is refl i
 
 pub found : (k : Key) (of : BodyOf) (name : Identifier) → IsKeyOf k (kind_of of) name.name name.name → (i : BodyItemTree) → has_key k i ≡ is_body_of of name i
 found k of name is i = (λ j. body_found k of name is i j || no_inner k of name is i j) ∙ or-false (is_body_of of name i)
 
 -- the same of an operation
-no_body : (k : Key) (is_entry : Bool) (object name : List ℕ) → IsKeyOf k (operation_kind is_entry) object name → (i : BodyItemTree) → has_body_key k i ≡ false
-no_body k true object name is (SubprogramBody d b) = key_at k kind.Entry object name is kind.Subprogram d.name.name d.name.name
-no_body k true object name is (TaskBody o b) = key_at k kind.Entry object name is kind.Task o.name o.name
-no_body k true object name is (ProtectedBody o items e) = key_at k kind.Entry object name is kind.Object o.name o.name
-no_body k true object name is (OfItem d) = refl
-no_body k false object name is (SubprogramBody d b) = key_at k kind.Operation object name is kind.Subprogram d.name.name d.name.name
-no_body k false object name is (TaskBody o b) = key_at k kind.Operation object name is kind.Task o.name o.name
-no_body k false object name is (ProtectedBody o items e) = key_at k kind.Operation object name is kind.Object o.name o.name
-no_body k false object name is (OfItem d) = refl
+no_body : (k : Key) (object name : List ℕ) → IsKeyOf k kind.Operation object name → (i : BodyItemTree) → has_body_key k i ≡ false
+no_body k object name is (SubprogramBody d b) = key_at k kind.Operation object name is kind.Subprogram d.name.name d.name.name
+no_body k object name is (TaskBody o b) = key_at k kind.Operation object name is kind.Task o.name o.name
+no_body k object name is (ProtectedBody o items e) = key_at k kind.Operation object name is kind.Object o.name o.name
+no_body k object name is (OfItem d) = refl
 
-operation_at : (k : Key) (is_entry : Bool) (object own name : Identifier) → IsKeyOf k (operation_kind is_entry) object.name name.name
-    → (i : ProtectedItemTree) → has_operation_key k own i ≡ (same_name object own && is_operation_body is_entry name i)
-operation_at k false object own name is (OperationBody d b) =
-    key_at k kind.Operation object.name name.name is kind.Operation own.name d.name.name ∙ (λ j. either_way own.name object.name j && either_way d.name.name name.name j)
-operation_at k true object own name is (OperationBody d b) = key_at k kind.Entry object.name name.name is kind.Operation own.name d.name.name ∙ sym (and-false (same_name object own))
-operation_at k false object own name is (EntryBody d barrier b) = key_at k kind.Operation object.name name.name is kind.Entry own.name d.name.name ∙ sym (and-false (same_name object own))
-operation_at k true object own name is (EntryBody d barrier b) =
-    key_at k kind.Entry object.name name.name is kind.Entry own.name d.name.name ∙ (λ j. either_way own.name object.name j && either_way d.name.name name.name j)
+operation_at : (k : Key) (object own name : Identifier) → IsKeyOf k kind.Operation object.name name.name
+    → (i : ProtectedItemTree) → has_operation_key k own i ≡ (same_name object own && is_operation_body name i)
+operation_at k object own name is i =
+    key_at k kind.Operation object.name name.name is kind.Operation own.name (operation_name i).name
+    ∙ (λ j. either_way own.name object.name j && either_way (operation_name i).name name.name j)
 
-inner_found : (k : Key) (is_entry : Bool) (object name : Identifier) → IsKeyOf k (operation_kind is_entry) object.name name.name
-    → (i : BodyItemTree) → has_inner_key k i ≡ has_operation object is_entry name i
-inner_found k is_entry object name is (ProtectedBody own items e) =
-    same_any (has_operation_key k own) (λ i. same_name object own && is_operation_body is_entry name i) (operation_at k is_entry object own name is) items
-    ∙ and_any (same_name object own) (is_operation_body is_entry name) items
-inner_found k is_entry object name is (OfItem d) = refl
-inner_found k is_entry object name is (SubprogramBody d b) = refl
-inner_found k is_entry object name is (TaskBody o b) = refl
+inner_found : (k : Key) (object name : Identifier) → IsKeyOf k kind.Operation object.name name.name
+    → (i : BodyItemTree) → has_inner_key k i ≡ has_operation object name i
+inner_found k object name is (ProtectedBody own items e) =
+    same_any (has_operation_key k own) (λ i. same_name object own && is_operation_body name i) (operation_at k object own name is) items
+    ∙ and_any (same_name object own) (is_operation_body name) items
+inner_found k object name is (OfItem d) = refl
+inner_found k object name is (SubprogramBody d b) = refl
+inner_found k object name is (TaskBody o b) = refl
 
-pub operation_found : (k : Key) (is_entry : Bool) (object name : Identifier) → IsKeyOf k (operation_kind is_entry) object.name name.name
-    → (i : BodyItemTree) → has_key k i ≡ has_operation object is_entry name i
-operation_found k is_entry object name is i = λ j. no_body k is_entry object.name name.name is i j || inner_found k is_entry object name is i j
+pub operation_found : (k : Key) (object name : Identifier) → IsKeyOf k kind.Operation object.name name.name
+    → (i : BodyItemTree) → has_key k i ≡ has_operation object name i
+operation_found k object name is i = λ j. no_body k object.name name.name is i j || inner_found k object name is i j
 
 pub same_self : (n : List ℕ) → bytes_eq n n ≡ true
 same_self n = (bytes_eq-Decides n n).1 refl
 
 -- the key of the body of an operation
-pub own_operation : (q : Key) (object : Identifier) (i : ProtectedItemTree) → IsKeyOf q (operation_kind (operation_is_entry i)) object.name (operation_name i).name
+pub own_operation : (q : Key) (object : Identifier) (i : ProtectedItemTree) → IsKeyOf q kind.Operation object.name (operation_name i).name
     → (k : Key) → is_same_key q k ≡ has_operation_key k object i
-own_operation q object (OperationBody d b) is k = same_as_key q kind.Operation object.name d.name.name is k
-own_operation q object (EntryBody d barrier b) is k = same_as_key q kind.Entry object.name d.name.name is k
+own_operation q object i is k = same_as_key q kind.Operation object.name (operation_name i).name is k
 
 -- an earlier body in the same object has this key where this body is a second one
-pub second_found : (q : Key) (object : Identifier) (i : ProtectedItemTree) → IsKeyOf q (operation_kind (operation_is_entry i)) object.name (operation_name i).name
+pub second_found : (q : Key) (object : Identifier) (i : ProtectedItemTree) → IsKeyOf q kind.Operation object.name (operation_name i).name
     → (earlier : List ProtectedItemTree) → list_any (has_operation_key q object) earlier ≡ is_second_operation earlier i
-second_found q object i is earlier = same_any (has_operation_key q object) (is_operation_body (operation_is_entry i) (operation_name i)) each earlier
+second_found q object i is earlier = same_any (has_operation_key q object) (is_operation_body (operation_name i)) each earlier
   where
-    each : (x : ProtectedItemTree) → has_operation_key q object x ≡ is_operation_body (operation_is_entry i) (operation_name i) x
-    each x = operation_at q (operation_is_entry i) object object (operation_name i) is x
-        ∙ ap (λ b. b && is_operation_body (operation_is_entry i) (operation_name i) x) (same_self object.name)
+    each : (x : ProtectedItemTree) → has_operation_key q object x ≡ is_operation_body (operation_name i) x
+    each x = operation_at q object object (operation_name i) is x ∙ ap (λ b. b && is_operation_body (operation_name i) x) (same_self object.name)

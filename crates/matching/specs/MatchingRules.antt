@@ -50,15 +50,18 @@ is_body_of body_of.Task name (TaskBody own b) = same_name name own
 is_body_of body_of.Object name (ProtectedBody own items end_name) = same_name name own
 is_body_of kind name i = false
 
--- the body of an operation of this name in the body of an object
-abbrev pub is_operation_body : (is_entry : Bool) → Identifier → ProtectedItemTree → Bool
-is_operation_body is_entry name (OperationBody d b) = not is_entry && same_name name d.name
-is_operation_body is_entry name (EntryBody d barrier b) = is_entry && same_name name d.name
+abbrev pub operation_name : ProtectedItemTree → Identifier
+operation_name (OperationBody d b) = d.name
+operation_name (EntryBody d barrier b) = d.name
+
+-- the body of an operation of this name in the body of an object, of whatever kind: that of another kind is not like its declaration
+abbrev pub is_operation_body : Identifier → ProtectedItemTree → Bool
+is_operation_body name i = same_name name (operation_name i)
 
 -- it stands in a body of this object
-abbrev pub has_operation : (object : Identifier) → (is_entry : Bool) → Identifier → BodyItemTree → Bool
-has_operation object is_entry name (ProtectedBody own items end_name) = same_name object own && list_any (is_operation_body is_entry name) items
-has_operation object is_entry name i = false
+abbrev pub has_operation : (object : Identifier) → Identifier → BodyItemTree → Bool
+has_operation object name (ProtectedBody own items end_name) = same_name object own && list_any (is_operation_body name) items
+has_operation object name i = false
 
 -- ---- 18, at a declaration: no body stands behind it
 
@@ -66,8 +69,8 @@ abbrev pub missing_body_rule : (behind : List BodyItemTree) → BodyOf → Ident
 missing_body_rule behind kind name = rule UNMATCHED_BODY name.place (not (list_any (is_body_of kind name) behind))
 
 abbrev pub missing_operation_rule : (behind : List BodyItemTree) → (object : Identifier) → OperationTree → Faults
-missing_operation_rule behind object (OfSubprogram d a) = rule UNMATCHED_BODY d.name.place (not (list_any (has_operation object false d.name) behind))
-missing_operation_rule behind object (OfEntry d) = rule UNMATCHED_BODY d.name.place (not (list_any (has_operation object true d.name) behind))
+missing_operation_rule behind object (OfSubprogram d a) = rule UNMATCHED_BODY d.name.place (not (list_any (has_operation object d.name) behind))
+missing_operation_rule behind object (OfEntry d) = rule UNMATCHED_BODY d.name.place (not (list_any (has_operation object d.name) behind))
 
 abbrev pub missing_operations_faults : (behind : List BodyItemTree) → (object : Identifier) → List OperationTree → Faults
 missing_operations_faults behind object [] = []
@@ -105,11 +108,12 @@ body_rule specified before d =
 abbrev pub second_rule : (before : List BodyItemTree) → BodyOf → Identifier → Faults
 second_rule before kind name = rule UNMATCHED_BODY name.place (list_any (is_body_of kind name) before)
 
--- the same of the operations of an object
+-- an operation of an object: its body is of another kind (a procedure or function, or an entry), or doesn't conform to it
 abbrev pub is_unlike_operation : (body : ProtectedItemTree) → OperationTree → Bool
 is_unlike_operation (OperationBody d b) (OfSubprogram o a) = same_name o.name d.name && not (conforms o d)
 is_unlike_operation (EntryBody d barrier b) (OfEntry o) = same_name o.name d.name && not (same_formals o.formals d.formals)
-is_unlike_operation body o = false
+is_unlike_operation (OperationBody d b) (OfEntry o) = same_name o.name d.name
+is_unlike_operation (EntryBody d barrier b) (OfSubprogram o a) = same_name o.name d.name
 
 abbrev pub has_unlike_operation : (object : Identifier) → (body : ProtectedItemTree) → ItemTree → Bool
 has_unlike_operation object body (OfProtected d) = same_name d.name object && list_any (is_unlike_operation body) d.operations
@@ -119,12 +123,8 @@ abbrev pub operation_is_entry : ProtectedItemTree → Bool
 operation_is_entry (OperationBody d b) = false
 operation_is_entry (EntryBody d barrier b) = true
 
-abbrev pub operation_name : ProtectedItemTree → Identifier
-operation_name (OperationBody d b) = d.name
-operation_name (EntryBody d barrier b) = d.name
-
 abbrev pub is_second_operation : (before : List ProtectedItemTree) → ProtectedItemTree → Bool
-is_second_operation before i = list_any (is_operation_body (operation_is_entry i) (operation_name i)) before
+is_second_operation before i = list_any (is_operation_body (operation_name i)) before
 
 abbrev pub operation_body_rule : (specified : List ItemTree) → (before : List BodyItemTree) → (object : Identifier) → (earlier : List ProtectedItemTree)
     → ProtectedItemTree → Faults

@@ -42,16 +42,11 @@ kind_of body_of.Subprogram = kind.Subprogram
 kind_of body_of.Task = kind.Task
 kind_of body_of.Object = kind.Object
 
-abbrev pub operation_kind : (is_entry : Bool) → Kind
-operation_kind false = kind.Operation
-operation_kind true = kind.Entry
-
 -- ---- bodies
 
 -- what stands in an object's body is the body of the operation with this key
 abbrev pub has_operation_key : Key → (object : Identifier) → ProtectedItemTree → Bool
-has_operation_key k object (OperationBody d b) = is_key k kind.Operation object.name d.name.name
-has_operation_key k object (EntryBody d barrier b) = is_key k kind.Entry object.name d.name.name
+has_operation_key k object i = is_key k kind.Operation object.name (operation_name i).name
 
 abbrev pub has_body_key : Key → BodyItemTree → Bool
 has_body_key k (SubprogramBody d b) = is_key k kind.Subprogram d.name.name d.name.name
@@ -105,25 +100,31 @@ SeesKeys old new test = (k : Key) → is_seen new k ≡ (is_seen old k || test k
 
 -- ---- profiles
 
+-- an entry's profile is never like that of a subprogram
 pub record ProfileTree : Type 0 where
+  pub is_entry : Bool
   pub formals : List Formal
   pub result : Option Identifier
 
 abbrev pub profile_tree : Profile → ProfileTree
-profile_tree p = record { formals = p.formals.now; result = option_map (λ n. n.now) p.result }
+profile_tree p = record { is_entry = p.is_entry; formals = p.formals.now; result = option_map (λ n. n.now) p.result }
 
 abbrev pub subprogram_profile : SubprogramTree → ProfileTree
-subprogram_profile d = record { formals = d.formals; result = d.result }
+subprogram_profile d = record { is_entry = false; formals = d.formals; result = d.result }
 
 abbrev pub entry_profile : EntryTree → ProfileTree
-entry_profile d = record { formals = d.formals; result = None }
+entry_profile d = record { is_entry = true; formals = d.formals; result = None }
 
 abbrev pub body_profile : ProtectedItemTree → ProfileTree
 body_profile (OperationBody d b) = subprogram_profile d
 body_profile (EntryBody d barrier b) = entry_profile d
 
+abbrev pub same_kind : (is_entry other : Bool) → Bool
+same_kind true other = other
+same_kind false other = not other
+
 abbrev pub are_alike : ProfileTree → ProfileTree → Bool
-are_alike a b = same_formals a.formals b.formals && same_result a.result b.result
+are_alike a b = same_kind a.is_entry b.is_entry && (same_formals a.formals b.formals && same_result a.result b.result)
 
 abbrev pub declared_at : List (Key × Declared) → Key → Option Declared
 declared_at table k = lookup (is_same_key k) table
@@ -136,7 +137,7 @@ is_unlike (Some d) p = not (d.is_alike && are_alike (profile_tree d.profile) p)
 -- what this key has is declared here with another profile
 abbrev pub declares_unlike_operation : Key → ProfileTree → (object : Identifier) → OperationTree → Bool
 declares_unlike_operation k p object (OfSubprogram d a) = is_key k kind.Operation object.name d.name.name && not (are_alike (subprogram_profile d) p)
-declares_unlike_operation k p object (OfEntry d) = is_key k kind.Entry object.name d.name.name && not (are_alike (entry_profile d) p)
+declares_unlike_operation k p object (OfEntry d) = is_key k kind.Operation object.name d.name.name && not (are_alike (entry_profile d) p)
 
 abbrev pub declares_unlike : Key → ProfileTree → ItemTree → Bool
 declares_unlike k p (OfDeclared d) = is_key k kind.Subprogram d.name.name d.name.name && not (are_alike (subprogram_profile d) p)

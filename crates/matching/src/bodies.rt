@@ -50,12 +50,12 @@ fn missing_operation_rule<'a>(
     match operation {
         Operation::Subprogram(subprogram, _) => {
             let name = &subprogram.name;
-            let is_there = bodies.has_operation(start, object, false, name);
+            let is_there = bodies.has_operation(start, object, name);
             rule(UNMATCHED_BODY, name.place, !is_there)
         }
         Operation::Entry(entry) => {
             let name = &entry.name;
-            let is_there = bodies.has_operation(start, object, true, name);
+            let is_there = bodies.has_operation(start, object, name);
             rule(UNMATCHED_BODY, name.place, !is_there)
         }
     }

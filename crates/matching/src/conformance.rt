@@ -3,7 +3,7 @@ ghost use Rattle.std.specs.Prelude.{◌≡◌, option_map};
 ghost use Rattle.ada_tree.specs.StatementTree.{entry_tree, subprogram_tree};
 ghost use Rattle.ada_tree.specs.ProgramTree.{protected_item_tree};
 ghost use Rattle.matching.specs.MatchingRules.{same_formal, same_formals, same_mode, same_name, same_result};
-ghost use Rattle.matching.specs.Tables.{are_alike, body_profile, entry_profile, profile_tree, subprogram_profile};
+ghost use Rattle.matching.specs.Tables.{are_alike, body_profile, entry_profile, profile_tree, same_kind, subprogram_profile};
 
 use ada_tree::{EntryDeclaration, Formal, Identifier, Mode, ProtectedBodyItem, Subprogram};
 
@@ -60,9 +60,16 @@ fn same_result(left: Option<&Identifier>, right: Option<&Identifier>) -> bool
     }
 }
 
+fn same_kind(is_entry: bool, other: bool) -> bool
+    ensures { result ≡ same_kind is_entry other }
+{
+    is_entry == other
+}
+
 /// The formals of a subprogram or an entry, and the subtype of a function's result.
 #[derive(Clone, Copy)]
 pub(crate) struct Profile<'a> {
+    pub is_entry: bool,
     pub formals: &'a [Formal],
     pub result: Option<&'a Identifier>,
 }
@@ -72,6 +79,7 @@ impl<'a> Profile<'a> {
         ensures { profile_tree result ≡ subprogram_profile (subprogram_tree subprogram.now) }
     {
         Profile {
+            is_entry: false,
             formals: &subprogram.formals,
             result: subprogram.result.as_ref(),
         }
@@ -81,6 +89,7 @@ impl<'a> Profile<'a> {
         ensures { profile_tree result ≡ entry_profile (entry_tree entry.now) }
     {
         Profile {
+            is_entry: true,
             formals: &entry.formals,
             result: None,
         }
@@ -95,10 +104,11 @@ impl<'a> Profile<'a> {
         }
     }
 
-    /// Whether two profiles conform to one another (RM 6.3.1).
+    /// Whether two profiles are of one kind and conform to one another (RM 6.3.1).
     pub(crate) fn is_like(self, other: Profile<'a>) -> bool
         ensures { result ≡ are_alike (profile_tree self.entry) (profile_tree other.entry) }
     {
-        same_formals(self.formals, other.formals) && same_result(self.result, other.result)
+        same_kind(self.is_entry, other.is_entry)
+            && (same_formals(self.formals, other.formals) && same_result(self.result, other.result))
     }
 }

@@ -94,11 +94,11 @@ impl<'a> Profiles<'a> {
     {
         match operation {
             Operation::Subprogram(subprogram, _) => {
-                let key = Key::of_operation(object, false, &subprogram.name);
+                let key = Key::of_operation(object, &subprogram.name);
                 self.declare(key, Profile::of_subprogram(subprogram))
             }
             Operation::Entry(entry) => {
-                let key = Key::of_operation(object, true, &entry.name);
+                let key = Key::of_operation(object, &entry.name);
                 self.declare(key, Profile::of_entry(entry))
             }
         }

@@ -1,8 +1,9 @@
 //! What a declaration and its bodies have in common, as the key of a table.
 ghost use Rattle.std.specs.Prelude.{◌≡◌, [], OnOk, IfOk};
 ghost use Rattle.ada_tree.specs.ProgramTree.{body_item_tree, protected_item_tree};
-ghost use Rattle.matching.specs.MatchingRules.{operation_is_entry, operation_name};
-ghost use Rattle.matching.specs.Tables.{IsKeyOf, SeesKeys, has_body_key, is_same_key, is_seen, kind_of, operation_kind, optional_has};
+ghost use Rattle.matching.specs.MatchingRules.{operation_name};
+ghost use Rattle.matching.specs.declared.keys.Kind.TheVariants as kind;
+ghost use Rattle.matching.specs.Tables.{IsKeyOf, SeesKeys, has_body_key, is_same_key, is_seen, kind_of, optional_has};
 
 use crate::bodies::BodyOf;
 use ada_tree::{BodyItem, Identifier, ProtectedBodyItem};
@@ -16,10 +17,8 @@ pub(crate) enum Kind {
     Subprogram,
     Task,
     Object,
-    /// A procedure or function of a protected object.
+    /// A procedure, function or entry of a protected object.
     Operation,
-    /// An entry of a protected object.
-    Entry,
 }
 
 /// A name with a body: what it stands for, and the object that it is an operation of, or its own name where it is none.
@@ -40,13 +39,13 @@ fn kind_of(kind: BodyOf) -> Kind
     }
 }
 
-fn operation_kind(is_entry: bool) -> Kind
-    ensures { result ≡ operation_kind is_entry }
+/// The name of the operation that this is the body of.
+pub(crate) fn operation_name(body: &ProtectedBodyItem) -> &Identifier
+    ensures { result.now ≡ operation_name (protected_item_tree body.now) }
 {
-    if is_entry {
-        Kind::Entry
-    } else {
-        Kind::Operation
+    match body {
+        ProtectedBodyItem::Subprogram(subprogram, _) => &subprogram.name,
+        ProtectedBodyItem::Entry(entry, _, _) => &entry.name,
     }
 }
 
@@ -63,15 +62,11 @@ impl<'a> Key<'a> {
     }
 
     /// The key of an operation of this object.
-    pub(crate) fn of_operation(
-        object: &'a Identifier,
-        is_entry: bool,
-        name: &'a Identifier,
-    ) -> Key<'a>
-        ensures { IsKeyOf result (operation_kind is_entry) object.now.name name.now.name }
+    pub(crate) fn of_operation(object: &'a Identifier, name: &'a Identifier) -> Key<'a>
+        ensures { IsKeyOf result kind.Operation object.now.name name.now.name }
     {
         Key {
-            kind: operation_kind(is_entry),
+            kind: Kind::Operation,
             object: &object.name,
             name: &name.name,
         }
@@ -79,15 +74,9 @@ impl<'a> Key<'a> {
 
     /// The key of what this is the body of.
     pub(crate) fn of_operation_body(object: &'a Identifier, body: &'a ProtectedBodyItem) -> Key<'a>
-        ensures { IsKeyOf result (operation_kind (operation_is_entry (protected_item_tree body.now))) object.now.name
-            (operation_name (protected_item_tree body.now)).name }
+        ensures { IsKeyOf result kind.Operation object.now.name (operation_name (protected_item_tree body.now)).name }
     {
-        match body {
-            ProtectedBodyItem::Subprogram(subprogram, _) => {
-                Key::of_operation(object, false, &subprogram.name)
-            }
-            ProtectedBodyItem::Entry(entry, _, _) => Key::of_operation(object, true, &entry.name),
-        }
+        Key::of_operation(object, operation_name(body))
     }
 
     /// The key of what this item is the body of, if it is one.

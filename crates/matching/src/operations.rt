@@ -2,12 +2,12 @@
 ghost use Rattle.std.specs.Prelude.{◌≡◌, [], drop, map, IfOk};
 ghost use Rattle.ada_tree.specs.ProgramTree.{body_item_tree, item_tree, protected_item_tree};
 ghost use Rattle.expr_rules.specs.Faults.{least};
-ghost use Rattle.matching.specs.MatchingRules.{item_matching, items_matching, matching_faults, operation_bodies_faults, operation_name};
+ghost use Rattle.matching.specs.MatchingRules.{item_matching, items_matching, matching_faults, operation_bodies_faults};
 ghost use Rattle.matching.specs.Tables.{front_before, front_specified, known_operation_rule};
 
 use crate::bodies::{BodyOf, all_missing_fault, body_rule, missing_fault, second_rule};
 use crate::front::Front;
-use crate::keys::{Key, Keys};
+use crate::keys::{Key, Keys, operation_name};
 use crate::places::Bodies;
 use ada_tree::{BodyItem, Identifier, Item, ProtectedBodyItem};
 use base::faults::UNMATCHED_BODY;
@@ -15,15 +15,6 @@ use expr_rules::laws::{least_by_parts, sooner_associates};
 use expr_rules::{rule, sooner};
 use lexer::Fault;
 use std::alloc::{AllocError, Global};
-
-fn operation_name(body: &ProtectedBodyItem) -> &Identifier
-    ensures { result.now ≡ operation_name (protected_item_tree body.now) }
-{
-    match body {
-        ProtectedBodyItem::Subprogram(subprogram, _) => &subprogram.name,
-        ProtectedBodyItem::Entry(entry, _, _) => &entry.name,
-    }
-}
 
 fn operation_body_rule<'a>(
     front: &Front<'a>,

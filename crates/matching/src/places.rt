@@ -159,11 +159,10 @@ impl<'a> Bodies<'a> {
         &self,
         start: usize,
         object: &'a Identifier,
-        is_entry: bool,
         name: &'a Identifier,
     ) -> bool
-        ensures { result ≡ list_any (has_operation object.now is_entry name.now) (map body_item_tree (drop start self.now)) }
+        ensures { result ≡ list_any (has_operation object.now name.now) (map body_item_tree (drop start self.now)) }
     {
-        self.has_from(start, Key::of_operation(object, is_entry, name))
+        self.has_from(start, Key::of_operation(object, name))
     }
 }

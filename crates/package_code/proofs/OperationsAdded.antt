@@ -132,9 +132,9 @@ module _ (scopes : ScopesAreSound) (known : NamesAreKnown) (premises : PremisesH
         second z there = (bodies.item_matched program start all w k nm items end_name at n z there).0
 
         unlike : (u z : ProtectedItemTree) → slice_get items j ≡ Some u → slice_get items n ≡ Some z
-            → matching.is_operation_body (matching.operation_is_entry z) (matching.operation_name z) u ≡ false
+            → matching.is_operation_body (matching.operation_name z) u ≡ false
         unlike u z first last =
-            none_passes (matching.is_operation_body (matching.operation_is_entry z) (matching.operation_name z)) (take n items) j u (second z last)
+            none_passes (matching.is_operation_body (matching.operation_name z)) (take n items) j u (second z last)
             (taken_at items n j u less first)
 
         by_kinds : (u z : ProtectedItemTree) → slice_get items j ≡ Some u → slice_get items n ≡ Some z

@@ -12,10 +12,10 @@ use Rattle.types.specs.Scopes.{Named, Scope, is_visible, protected_of}
 use Rattle.types.specs.Evaluating.{formal_subtype}
 use Rattle.types.specs.Places.{Function, function_of, is_of}
 use Rattle.expr_soundness.specs.expr_rules.proofs.TypedLaw.{back_empty, front_empty, judged, unbroken}
-use Rattle.expr_soundness.specs.type_rules.specs.SubtypeNames.{declared_twice, end_rule, named_entity}
+use Rattle.expr_soundness.specs.type_rules.specs.SubtypeNames.{end_rule, named_entity}
 use Rattle.expr_soundness.specs.type_rules.specs.ProfileRules.{formal_parameters, profile_entity, profile_with}
 use Rattle.matching.specs.MatchingRules.{any_declared, conforms, is_unlike_subprogram, passes_declared, same_formals, same_name, same_result}
-use Rattle.legality.specs.BodyRules.{body_name_faults, function_body_faults, head_faults, is_function_body, is_subprogram, subprogram_body_faults}
+use Rattle.legality.specs.BodyRules.{body_name_faults, body_name_rule, function_body_faults, head_faults, is_function_body, is_subprogram, subprogram_body_faults}
 use Rattle.declaring.specs.PackageNames.{body_items_scope}
 use Rattle.legality.specs.ProtectedBodyRules.{is_object, object_rule}
 use Rattle.expr_soundness.specs.Agreeing.{HasProfile}
@@ -140,9 +140,9 @@ module _ (program : Program) (s : Scope) (all : List BodyItemTree) (w : IsPackag
         by_test : (e : Entity) → stands here d.name.name ≡ Some e → (t : Bool) → is_subprogram (Some e) ≡ t → HasEntity d
         by_test e i true x = by_kind e i (subprogram_is e x)
         by_test e i false x =
-            let faults : elim (is_subprogram (named_entity here d.name)) [ true ↦ [] | false ↦ declared_twice here d.name ] ≡ [] = name_legal in
-            let here_ : declared_twice here d.name ≡ [] =
-            subst (λ t. elim t [ true ↦ [] | false ↦ declared_twice here d.name ] ≡ []) (ap is_subprogram i ∙ x) faults in
+            let faults : elim (is_subprogram (named_entity here d.name)) [ true ↦ [] | false ↦ body_name_rule here d.name ] ≡ [] = name_legal in
+            let here_ : body_name_rule here d.name ≡ [] =
+            subst (λ t. elim t [ true ↦ [] | false ↦ body_name_rule here d.name ] ≡ []) (ap is_subprogram i ∙ x) faults in
             absurd (not_both (is_visible here d.name.name) (some_seen here d.name.name e i) (unbroken _ _ _ here_))
 
         by_stands : (o : Option Entity) → stands here d.name.name ≡ o → HasEntity d

@@ -4,7 +4,7 @@ use Rattle.std.specs.Prelude.{bytes_eq, cond, is_some, option_map}
 use Rattle.std.specs.List.{list_any}
 use Rattle.std.proofs.lemmas.Bool.{and_parts}
 use Rattle.std.proofs.lemmas.List.{append_assoc}
-use Rattle.expr_soundness.specs.base.specs.declared.faults.TheConstants.{DECLARED_TWICE, UNMATCHED_BODY, WRONG_FUNCTION}
+use Rattle.expr_soundness.specs.base.specs.declared.faults.TheConstants.{UNMATCHED_BODY, WRONG_FUNCTION}
 use Rattle.expr_soundness.specs.ada_tree.specs.declared.expression.Identifier.{Identifier}
 use Rattle.expr_soundness.specs.ada_tree.specs.ExpressionTree.{ExprTree}
 use Rattle.expr_soundness.specs.ada_tree.specs.StatementTree.{SubprogramTree, StmtTree, StmtTrees, NoStmts, MoreStmts, Return}
@@ -17,9 +17,9 @@ use Rattle.types.specs.Places as places
 use Rattle.types.specs.Places.{function_of as found}
 use Rattle.expr_soundness.specs.expr_rules.proofs.TypedLaw.{front_empty, unbroken}
 use Rattle.expr_soundness.specs.type_rules.specs.ProfileRules.{profile_entity}
-use Rattle.expr_soundness.specs.type_rules.specs.SubtypeNames.{declared_twice, end_rule, entity_at_or_none, named_entity}
+use Rattle.expr_soundness.specs.type_rules.specs.SubtypeNames.{end_rule, entity_at_or_none, named_entity}
 use Rattle.matching.specs.MatchingRules.{conforms, is_unlike_subprogram, passes_declared, same_name}
-use Rattle.legality.specs.BodyRules.{function_body_faults, has_no_declarations, has_no_handlers, is_function_body, is_return_of_value, is_single_return, is_subprogram}
+use Rattle.legality.specs.BodyRules.{body_name_rule, function_body_faults, has_no_declarations, has_no_handlers, is_function_body, is_return_of_value, is_single_return, is_subprogram}
 use Rattle.legality.specs.MainRules.{item_name}
 use Rattle.legality.specs.PackageBodyRules.{body_item_faults}
 use Rattle.legality.specs.ProtectedBodyRules.{is_object as is_protected_name, known_body_faults, object_rule}
@@ -171,8 +171,8 @@ module _ (t : ProgramTree) (p : PackageTree) (legal : IsLegal t) (is : t.package
       named_faults : (b : Bool) → is_subprogram (named_entity s d.name) ≡ b → is_visible s d.name.name ≡ true → is_subprogram (named_entity s d.name) ≡ true
       named_faults true h v = h
       named_faults false h v =
-          let name = sym (ap (λ x. elim x [ true ↦ [] | false ↦ declared_twice s d.name ]) h) ∙ (legal_body s d b faults).name in
-          let never = sym v ∙ unbroken DECLARED_TWICE d.name.place (is_visible s d.name.name) name in cc
+          let name = sym (ap (λ x. elim x [ true ↦ [] | false ↦ body_name_rule s d.name ]) h) ∙ (legal_body s d b faults).name in
+          let never = sym v ∙ unbroken _ d.name.place (is_visible s d.name.name) name in cc
 
       by_visible : (v : Bool) → is_visible s d.name.name ≡ v → HasEntity d
       by_visible true v =

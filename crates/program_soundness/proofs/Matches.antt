@@ -282,10 +282,10 @@ module _ (t : ProgramTree) (p : PackageTree) (legal : IsLegal t) (is : t.package
 
   pub operation_body : (front : List BodyItemTree) (object : ProtectedTree) (behind : List BodyItemTree) → all_items p ≡ front ++ OfItem (OfProtected object) ∷ behind
       → (earlier : List OperationTree) (d : SubprogramTree) (a : Option AspectTree) (later : List OperationTree) → object.operations ≡ earlier ++ OfOperation d a ∷ later
-      → HasAt (all_items p) (has_operation object.name false d.name)
+      → HasAt (all_items p) (has_operation object.name d.name)
   operation_body front object behind split earlier d a later at =
       let x = has_behind front (OfProtected object) behind split in
-      let test = has_operation object.name false d.name in
+      let test = has_operation object.name d.name in
       let all = operations_complete x.behind object x.complete in
       let one = operations_at x.behind object.name earlier (OfOperation d a) later (ap (missing_operations_faults x.behind object.name) (sym at) ∙ all) in
       any_found test (all_items p) (wide test x.before x.behind x.split (asked test x.behind d.name.place one))

@@ -17,7 +17,7 @@ use Rattle.types.specs.Scopes.{Named, Scope, entity_at, is_visible, number_of, o
 use Rattle.types.specs.Places.{or_else}
 use Rattle.expr_soundness.specs.expr_rules.specs.Faults.{Faults, rule}
 use Rattle.expr_soundness.specs.expr_rules.proofs.TypedLaw.{back_empty, front_empty, judged, unbroken}
-use Rattle.expr_soundness.specs.type_rules.specs.SubtypeNames.{declared_twice, end_rule, named_entity, subtype_in, subtype_of}
+use Rattle.expr_soundness.specs.type_rules.specs.SubtypeNames.{end_rule, named_entity, subtype_in, subtype_of}
 use Rattle.expr_soundness.specs.type_rules.specs.ProfileRules.{formal_parameters, profile_entity, profile_with, subprogram_scope}
 use Rattle.declaring.specs.BodyNames.{components_scope, object_body_scope, component_role, operation_entity, operations_scope}
 use Rattle.declaring.specs.ProtectedRules.{is_operation_in, object_components, object_operations, operation_name, operation_profile, protected_entity, protected_faults}
@@ -27,7 +27,7 @@ use Rattle.matching.specs.MatchingRules as matching
 use Rattle.expr_soundness.specs.base.specs.declared.faults.TheConstants.{UNMATCHED_BODY}
 use Rattle.legality.specs.MainRules.{item_name}
 use Rattle.declaring.specs.PackageNames.{body_items_scope}
-use Rattle.legality.specs.BodyRules.{body_name_faults, function_body_faults, head_faults, is_subprogram, subprogram_body_faults}
+use Rattle.legality.specs.BodyRules.{body_name_faults, body_name_rule, function_body_faults, head_faults, is_subprogram, subprogram_body_faults}
 use Rattle.legality.specs.ProtectedBodyRules.{components_at, entry_rule, is_entry, known_body_faults, object_items_faults, object_rule, outer_names_faults, protected_item_faults, protected_items_faults}
 use Rattle.checking.specs.LikeNames.{is_its_body, item_like_faults}
 use Rattle.expr_soundness.specs.SoundScopes.{SoundScope}
@@ -737,7 +737,7 @@ module _ (program : Program) (s : Scope) (all : List BodyItemTree) (w : IsPackag
             (same_some (record { name = one.0.name.name; entity = profile_entity (own_profile (scope_at begun (take j inner) x.place) one.0) }) (record { name = e.name.name; entity = Subprogram p })
             (ap (declares (scope_at begun (take j inner) x.place)) (sym one.3) ∙ x.declared)) in
             let second =
-            none_passes (matching.is_operation_body false e.name) (take j items) x.place (OperationBody one.0 one.1) (item_matched j own_unit h).0
+            none_passes (matching.is_operation_body e.name) (take j items) x.place (OperationBody one.0 one.1) (item_matched j own_unit h).0
             (taken_at items j x.place (OperationBody one.0 one.1) place.0 one.2) in
             absurd (not_both (same_name e.name one.0.name) (equal_bytes e.name.name one.0.name.name (sym named)) second)
 
@@ -760,10 +760,10 @@ module _ (program : Program) (s : Scope) (all : List BodyItemTree) (w : IsPackag
             by_test : (x : Entity) → stands own_seen e.name.name ≡ Some x → (t : Bool) → is_subprogram (Some x) ≡ t → HasOwn own_unit
             by_test x i true y = by_kind x i (subprogram_is x y)
             by_test x i false y =
-                let faults : ◌≡◌ {A = Faults} (elim (is_subprogram (named_entity own_seen e.name)) [ true ↦ [] | false ↦ declared_twice own_seen e.name ]) [] =
+                let faults : ◌≡◌ {A = Faults} (elim (is_subprogram (named_entity own_seen e.name)) [ true ↦ [] | false ↦ body_name_rule own_seen e.name ]) [] =
                 name_rule in
-                let twice : declared_twice own_seen e.name ≡ [] =
-                subst (λ t. ◌≡◌ {A = Faults} (elim t [ true ↦ [] | false ↦ declared_twice own_seen e.name ]) []) (ap is_subprogram i ∙ y) faults in
+                let twice : body_name_rule own_seen e.name ≡ [] =
+                subst (λ t. ◌≡◌ {A = Faults} (elim t [ true ↦ [] | false ↦ body_name_rule own_seen e.name ]) []) (ap is_subprogram i ∙ y) faults in
                 absurd (not_both (is_visible own_seen e.name.name) (some_seen own_seen e.name.name x i) (unbroken _ _ _ twice))
 
             by_stands : (x : Option Entity) → stands own_seen e.name.name ≡ x → HasOwn own_unit

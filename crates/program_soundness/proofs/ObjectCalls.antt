@@ -104,7 +104,7 @@ module _ (items : List ProtectedItemTree)
       → slice_get items l ≡ Some (EntryBody f g a) → e.name.name ≡ f.name.name → ⊥
   entries_before j l e f c g b a less at there same =
       let none =
-      none_passes (matching.is_operation_body true f.name) (take l items) j (EntryBody e c b) (single l (EntryBody f g a) there)
+      none_passes (matching.is_operation_body f.name) (take l items) j (EntryBody e c b) (single l (EntryBody f g a) there)
       (taken_at items l j (EntryBody e c b) less at) in
       not_both (same_name f.name e.name) (equal_bytes f.name.name e.name.name (sym same)) none
 

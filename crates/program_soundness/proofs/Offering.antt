@@ -72,19 +72,19 @@ object_passes name (OfItem d) h = cc
 object_passes name (SubprogramBody d b) h = cc
 object_passes name (TaskBody own b) h = cc
 
-operation_passes : (object : Identifier) (is_entry : Bool) (name : Identifier) (i : BodyItemTree) → has_operation object is_entry name i ≡ true
+operation_passes : (object name : Identifier) (i : BodyItemTree) → has_operation object name i ≡ true
     → (own : Identifier) × (items : List ProtectedItemTree) × (end_name : Identifier) × (i ≡ ProtectedBody own items end_name) × (own.name ≡ object.name)
-    × (list_any (matching.is_operation_body is_entry name) items ≡ true)
-operation_passes object is_entry name (ProtectedBody own items end_name) h =
-    let two = both_true (same_name object own) (list_any (matching.is_operation_body is_entry name) items) h in
+    × (list_any (matching.is_operation_body name) items ≡ true)
+operation_passes object name (ProtectedBody own items end_name) h =
+    let two = both_true (same_name object own) (list_any (matching.is_operation_body name) items) h in
     (own, items, end_name, refl, sym (same_bytes object.name own.name two.0), two.1)
-operation_passes object is_entry name (OfItem d) h = cc
-operation_passes object is_entry name (SubprogramBody d b) h = cc
-operation_passes object is_entry name (TaskBody own b) h = cc
+operation_passes object name (OfItem d) h = cc
+operation_passes object name (SubprogramBody d b) h = cc
+operation_passes object name (TaskBody own b) h = cc
 
-body_passes : (is_entry : Bool) (name : Identifier) (i : ProtectedItemTree) → matching.is_operation_body is_entry name i ≡ true → unit_name i ≡ name.name
-body_passes is_entry name (OperationBody d b) h = sym (same_bytes name.name d.name.name (both_true (not is_entry) (same_name name d.name) h).1)
-body_passes is_entry name (EntryBody d c b) h = sym (same_bytes name.name d.name.name (both_true is_entry (same_name name d.name) h).1)
+body_passes : (name : Identifier) (i : ProtectedItemTree) → matching.is_operation_body name i ≡ true → unit_name i ≡ name.name
+body_passes name (OperationBody d b) h = sym (same_bytes name.name d.name.name h)
+body_passes name (EntryBody d c b) h = sym (same_bytes name.name d.name.name h)
 
 missing_at : (behind : List BodyItemTree) (object : Identifier) (os : List OperationTree) (k : ℕ) (t : OperationTree)
     → missing_operations_faults behind object os ≡ [] → slice_get os k ≡ Some t
@@ -97,9 +97,9 @@ missing_at behind object (x ∷ xs) (suc k) t h at =
     missing_at behind object xs k t (back_empty (missing_operation_rule behind object x) (missing_operations_faults behind object xs) h) at
 
 operation_behind : (behind : List BodyItemTree) (object : Identifier) (t : OperationTree) → missing_operation_rule behind object t ≡ []
-    → list_any (has_operation object (declared.is_entry t) (declared.operation_name t)) behind ≡ true
-operation_behind behind object (operation.OfSubprogram d a) h = not_true (list_any (has_operation object false d.name) behind) (unbroken _ d.name.place _ h)
-operation_behind behind object (operation.OfEntry d) h = not_true (list_any (has_operation object true d.name) behind) (unbroken _ d.name.place _ h)
+    → list_any (has_operation object (declared.operation_name t)) behind ≡ true
+operation_behind behind object (operation.OfSubprogram d a) h = not_true (list_any (has_operation object d.name) behind) (unbroken _ d.name.place _ h)
+operation_behind behind object (operation.OfEntry d) h = not_true (list_any (has_operation object d.name) behind) (unbroken _ d.name.place _ h)
 
 entry_no_result : (s : Scope) (t : OperationTree) (p : Profile) → declared.is_entry t ≡ true → declared.operation_profile s t ≡ Some p → p.result ≡ None
 entry_no_result s (operation.OfEntry d) p h own = profile_none s (formal_parameters s d.formals) p own
@@ -138,17 +138,17 @@ module _ (program : Program) (s : Scope) (all : List BodyItemTree) (w : IsPackag
           let any =
           operation_behind behind declaration.tree.name tree.tree
           (missing_at behind declaration.tree.name declaration.tree.operations n tree.tree missing tree.at) in
-          let one = one_passes (has_operation declaration.tree.name (declared.is_entry tree.tree) (declared.operation_name tree.tree)) behind any in
-          let body = operation_passes declaration.tree.name (declared.is_entry tree.tree) (declared.operation_name tree.tree) one.1 one.3 in
+          let one = one_passes (has_operation declaration.tree.name (declared.operation_name tree.tree)) behind any in
+          let body = operation_passes declaration.tree.name (declared.operation_name tree.tree) one.1 one.3 in
           let there_ : slice_get all (suc declaration.place + one.0) ≡ Some (ProtectedBody body.0 body.1 body.2) =
           sym (dropped_at all (suc declaration.place) one.0) ∙ one.2 ∙ ap Some body.3 in
           let same =
           same_place program s all w k nm items end_name at (suc declaration.place + one.0) body.0 body.1 body.2 there_ (body.4 ∙ declaration.named) in
-          let item = one_passes (matching.is_operation_body (declared.is_entry tree.tree) (declared.operation_name tree.tree)) body.1 body.5 in (
+          let item = one_passes (matching.is_operation_body (declared.operation_name tree.tree)) body.1 body.5 in (
             item.0,
             item.1,
             ap (λ l. slice_get l item.0) same ∙ item.2,
-            body_passes (declared.is_entry tree.tree) (declared.operation_name tree.tree) item.1 item.3 ∙ sym tree.named ∙ named,
+            body_passes (declared.operation_name tree.tree) item.1 item.3 ∙ sym tree.named ∙ named,
           )
 
     module _ (name : List ℕ) (n : ℕ) (x : Operation) (pos : position (λ y. bytes_eq y.name name) obj.operations ≡ Some n)

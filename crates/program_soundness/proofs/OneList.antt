@@ -83,10 +83,10 @@ operations_behind : (ds : List ItemTree) (body : List BodyItemTree) (object : Id
     → missing_operations_faults (map OfItem ds ++ body) object os ≡ missing_operations_faults body object os
 operations_behind ds body object [] = refl
 operations_behind ds body object (operation.OfSubprogram d a ∷ os) =
-    let same = any_behind (has_operation object false d.name) ds body (λ i. refl) in
+    let same = any_behind (has_operation object d.name) ds body (λ i. refl) in
     let rest = operations_behind ds body object os in λ j. rule UNMATCHED_BODY d.name.place (not (same j)) ++ rest j
 operations_behind ds body object (operation.OfEntry d ∷ os) =
-    let same = any_behind (has_operation object true d.name) ds body (λ i. refl) in
+    let same = any_behind (has_operation object d.name) ds body (λ i. refl) in
     let rest = operations_behind ds body object os in λ j. rule UNMATCHED_BODY d.name.place (not (same j)) ++ rest j
 
 missing_behind : (ds : List ItemTree) (body : List BodyItemTree) (d : ItemTree) → missing_faults (map OfItem ds ++ body) d ≡ missing_faults body d

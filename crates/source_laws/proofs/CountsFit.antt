@@ -6,7 +6,6 @@ use Rattle.std.specs.Prelude.{bytes_eq, slice_get}
 use Rattle.std.proofs.lemmas.Bool.{or_parts}
 use Rattle.std.proofs.lemmas.List.{take-append-drop}
 use Rattle.base.specs.Names.{predefined}
-use Rattle.base.specs.declared.faults.TheConstants.{DECLARED_TWICE}
 use Rattle.base.specs.declared.limits.TheConstants.{EXCEPTIONS, PROCEDURES}
 use Rattle.ada_tree.specs.declared.expression.Identifier.{Identifier}
 use Rattle.ada_tree.specs.StatementTree.{SubprogramTree}
@@ -16,8 +15,8 @@ use Rattle.types.specs.Entities.{Doubtful, Entity, Profile, Subprogram}
 use Rattle.types.specs.Scopes.{Scope, is_visible, standard}
 use Rattle.meaning.specs.expr_rules.proofs.TypedLaw.{back_empty, front_empty, unbroken}
 use Rattle.declaring.specs.ItemRules.{item_scope, items_scope}
-use Rattle.meaning.specs.type_rules.specs.SubtypeNames.{declared_twice, named_entity}
-use Rattle.program_soundness.specs.legality.specs.BodyRules.{body_name_faults, function_body_faults, is_subprogram}
+use Rattle.meaning.specs.type_rules.specs.SubtypeNames.{named_entity}
+use Rattle.program_soundness.specs.legality.specs.BodyRules.{body_name_faults, body_name_rule, function_body_faults, is_subprogram}
 use Rattle.declaring.specs.PackageNames.{body_item_scope, inside_scope, specified_scope}
 use Rattle.program_soundness.specs.size_rules.specs.declared.thing.Kind.TheVariants as kind
 use Rattle.program_soundness.specs.size_rules.specs.Limits.{Things, place_of_kind, places_of, words_faults}
@@ -300,10 +299,10 @@ module _ (program : Program) (s : Scope) (all : List BodyItemTree) (w : IsPackag
     by_subprogram : (e : Entity) → stands here d.name.name ≡ Some e → (t : Bool) → is_subprogram (Some e) ≡ t → Counted_
     by_subprogram e i true x = by_kind e i (subprogram_is e x)
     by_subprogram e i false x =
-        let faults : elim (is_subprogram (named_entity here d.name)) [ true ↦ [] | false ↦ declared_twice here d.name ] ≡ [] = name_legal in
-        let here_ : declared_twice here d.name ≡ [] =
-        subst (λ t. elim t [ true ↦ [] | false ↦ declared_twice here d.name ] ≡ []) (ap is_subprogram i ∙ x) faults in
-        absurd (never (sym (some_seen here d.name.name e i) ∙ unbroken DECLARED_TWICE d.name.place (is_visible here d.name.name) here_))
+        let faults : elim (is_subprogram (named_entity here d.name)) [ true ↦ [] | false ↦ body_name_rule here d.name ] ≡ [] = name_legal in
+        let here_ : body_name_rule here d.name ≡ [] =
+        subst (λ t. elim t [ true ↦ [] | false ↦ body_name_rule here d.name ] ≡ []) (ap is_subprogram i ∙ x) faults in
+        absurd (never (sym (some_seen here d.name.name e i) ∙ unbroken _ d.name.place (is_visible here d.name.name) here_))
 
     by_visible : (v : Bool) → is_visible here d.name.name ≡ v → Counted_
     by_visible true e = let x = seen_some here d.name.name e in by_subprogram x.0 x.1 (is_subprogram (Some x.0)) refl

@@ -11,5 +11,5 @@ returns c =
     let object = c.args.object.now in
     let name = c.args.name.now in
     c.has_from.ensures
-    ∙ same_any (has_key k) (has_operation object c.args.is_entry name) (operation_found k c.args.is_entry object name c.of_operation.ensures)
+    ∙ same_any (has_key k) (has_operation object name) (operation_found k object name c.of_operation.ensures)
     (map body_item_tree (drop c.args.start c.args.self.now))
