@@ -167,41 +167,7 @@ pub record Step : Type 1 where
   pub d : Tasks Words TaskState
 
 module _ (this : Step) where
-  abbrev unmoved : LeftUnmoved
-  unmoved = this.unmoved
-
-  abbrev effects : EffectsAreMet
-  effects = this.effects
-
-  abbrev i : Sections
-  i = this.i
-
-  abbrev program : Program
-  program = this.program
-
-  abbrev g : Package
-  g = this.g
-
-  abbrev numbers : Numbers
-  numbers = this.numbers
-
-  abbrev schedule : List ScheduleLine
-  schedule = this.schedule
-
-  abbrev note : Note
-  note = this.note
-
-  abbrev k : Kernel
-  k = this.k
-
-  abbrev t : ℕ
-  t = this.t
-
-  abbrev c : Tasks Store TaskWork
-  c = this.c
-
-  abbrev d : Tasks Words TaskState
-  d = this.d
+  open this use {unmoved, effects, i, program, g, numbers, schedule, note, k, t, c, d}
 
   abbrev rel : Relation Note Store TaskWork GivenToCaller Words TaskState steps.Given
   rel = image_relation i program g numbers

@@ -113,47 +113,7 @@ through_kind None object barrier kind is none own = tt
 through_kind (Some o) object barrier kind is none own = is ∙ ap (λ b. procedure_kind object b) none ∙ ap (λ x. procedure_kind x None) (own o refl)
 
 module _ (this : Scene) where
-  abbrev quiet : QuietStays
-  quiet = this.quiet
-
-  abbrev i : Sections
-  i = this.i
-
-  abbrev program : Program
-  program = this.program
-
-  abbrev g : Package
-  g = this.g
-
-  abbrev numbers : Numbers
-  numbers = this.numbers
-
-  abbrev has : HasCode i program g numbers
-  has = this.has
-
-  abbrev schedule : List ScheduleLine
-  schedule = this.schedule
-
-  abbrev k : Kernel
-  k = this.k
-
-  abbrev t : ℕ
-  t = this.t
-
-  abbrev calm : Calm k t
-  calm = this.calm
-
-  abbrev store : Store
-  store = this.store
-
-  abbrev m : Words
-  m = this.m
-
-  abbrev shares : StandsFor program g store m
-  shares = this.shares
-
-  abbrev w : TaskWork
-  w = this.w
+  open this use {quiet, i, program, g, numbers, has, schedule, k, t, calm, store, m, shares, w}
 
   abbrev now : source.Here
   now = scene.now this

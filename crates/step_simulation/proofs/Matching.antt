@@ -43,47 +43,7 @@ use Rattle.step_simulation.proofs.Raising as raising
 use Rattle.step_simulation.proofs.Sequences as sequences
 
 module _ (this : Scene) where
-  abbrev quiet : QuietStays
-  quiet = this.quiet
-
-  abbrev i : Sections
-  i = this.i
-
-  abbrev program : Program
-  program = this.program
-
-  abbrev g : Package
-  g = this.g
-
-  abbrev numbers : Numbers
-  numbers = this.numbers
-
-  abbrev has : HasCode i program g numbers
-  has = this.has
-
-  abbrev schedule : List ScheduleLine
-  schedule = this.schedule
-
-  abbrev k : Kernel
-  k = this.k
-
-  abbrev t : ℕ
-  t = this.t
-
-  abbrev calm : Calm k t
-  calm = this.calm
-
-  abbrev store : Store
-  store = this.store
-
-  abbrev m : Words
-  m = this.m
-
-  abbrev shares : StandsFor program g store m
-  shares = this.shares
-
-  abbrev w : TaskWork
-  w = this.w
+  open this use {quiet, i, program, g, numbers, has, schedule, k, t, calm, store, m, shares, w}
 
   abbrev now : source.Here
   now = scene.now this

@@ -19,20 +19,7 @@ use Rattle.step_simulation.proofs.Scenes as scene
 use Rattle.step_simulation.proofs.Sizes.{before_size, declares_size}
 
 module _ (this : Scene) where
-  abbrev i : Sections
-  i = this.i
-
-  abbrev program : Program
-  program = this.program
-
-  abbrev g : Package
-  g = this.g
-
-  abbrev numbers : Numbers
-  numbers = this.numbers
-
-  abbrev w : TaskWork
-  w = this.w
+  open this use {i, program, g, numbers, w}
 
   abbrev now : source.Here
   now = scene.now this

@@ -52,44 +52,7 @@ use Rattle.step_simulation.proofs.Scenes.{Scene}
 use Rattle.step_simulation.proofs.Scenes as scene
 
 module _ (this : Scene) where
-  abbrev quiet : QuietStays
-  quiet = this.quiet
-
-  abbrev i : Sections
-  i = this.i
-
-  abbrev program : Program
-  program = this.program
-
-  abbrev g : Package
-  g = this.g
-
-  abbrev numbers : Numbers
-  numbers = this.numbers
-
-  abbrev schedule : List ScheduleLine
-  schedule = this.schedule
-
-  abbrev k : Kernel
-  k = this.k
-
-  abbrev t : ℕ
-  t = this.t
-
-  abbrev calm : Calm k t
-  calm = this.calm
-
-  abbrev store : Store
-  store = this.store
-
-  abbrev m : Words
-  m = this.m
-
-  abbrev shares : StandsFor program g store m
-  shares = this.shares
-
-  abbrev w : TaskWork
-  w = this.w
+  open this use {quiet, i, program, g, numbers, schedule, k, t, calm, store, m, shares, w}
 
   abbrev now : source.Here
   now = scene.now this
