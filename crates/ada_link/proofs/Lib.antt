@@ -17,3 +17,6 @@ mod TaskLines
 mod MemoryAlone
 mod Located
 mod Bounded
+mod WiderCounts
+mod OwnRows
+mod TokenCounts

@@ -6,11 +6,12 @@ ghost use Rattle.checking.specs.ProgramRules.{IsLegal};
 ghost use Rattle.ravenscar.specs.ProgramRules.{IsRestricted};
 ghost use Rattle.expr_code.specs.Coming.{most_steps};
 ghost use Rattle.meaning.specs.SameMeaning.{KeepsCount, SameMeaning};
-ghost use Rattle.ada_link.specs.Compiled.{IsBounded, RefusesCompiling};
+ghost use Rattle.ada_link.specs.Compiled.{IsBounded, KeepsTokenCounts, RefusesCompiling};
 ghost use Rattle.package_code.specs.Places.{PlacesTell};
 
 use crate::laws::{
-    places_are_told, sections_are_bounded, sections_are_well_formed, sections_mean_the_same,
+    places_are_told, sections_are_bounded, sections_are_well_formed, sections_keep_token_counts,
+    sections_mean_the_same,
 };
 use crate::places::Places;
 use crate::program::{Linked, sections};
@@ -36,6 +37,7 @@ pub fn compile_tree(alloc: Global, accepted: &Accepted) -> Result<Compiled, Refu
     ensures means { IfOk result (λ made. SameMeaning (program_tree accepted.now) made.image) }
     ensures counted { IfOk result (λ made. KeepsCount (program_tree accepted.now) made.image (most_steps made.image)) }
     ensures bounded { IfOk result (λ made. IsBounded (program_tree accepted.now) made.image) }
+    ensures within { IfOk result (λ made. KeepsTokenCounts (program_tree accepted.now) made.image) }
     ensures places { IfOk result (λ made. PlacesTell (program_tree accepted.now) made.image made.places) }
     ensures well_formed { IfOk result (λ made. IsWellFormed made.image) }
     ensures refused { IfErr result (λ why. RefusesCompiling (program_tree accepted.now) why) }
@@ -46,6 +48,7 @@ pub fn compile_tree(alloc: Global, accepted: &Accepted) -> Result<Compiled, Refu
     places_are_told();
     sections_are_bounded();
     sections_are_well_formed();
+    sections_keep_token_counts();
     sections_mean_the_same();
     let _program = accepted.program();
     let Linked { parts, places } = sections(alloc, accepted)?;

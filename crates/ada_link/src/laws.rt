@@ -1,6 +1,7 @@
 //! The laws of code that is put together from a program, each what a function without work ensures.
 ghost use Rattle.package_code.specs.Laws.{NamesAreSound, SectionsAreBounded, SectionsAreWellFormed, SectionsMeanTheSame, VariablesArePlaced};
 ghost use Rattle.package_code.specs.Places.{PlacesAreTold};
+ghost use Rattle.ada_link.specs.Compiled.{SectionsKeepTokenCounts};
 ghost use Rattle.ada_link.specs.Located.{PlacesAreInnermost};
 
 use crate::link_laws::{linked_keeps_count, linked_means_the_same};
@@ -9,6 +10,7 @@ use image_laws::code_leads_on;
 use kernel::laws::{quiet_stays, views_back, views_on};
 use program_soundness::body_laws::{fronts_fit, names_are_known, premises_hold};
 use program_soundness::program_laws::starts_are_sound;
+use source_laws::count_laws::subprograms_within_tokens;
 use stmt_code::laws::kept_code_passes;
 use types::laws::{initial_values_have_shape, shapes_stay, values_have_words};
 
@@ -74,6 +76,17 @@ pub fn places_are_innermost()
 pub fn sections_are_bounded()
     ensures { SectionsAreBounded }
 {}
+
+/// Each subprogram of a well-formed image that was put together from an accepted program has at most 20 instructions for each of its own tokens, and two for
+/// each word of its formals and objects, and at most one row of handlers for each token; and of the steps of code for one step of the program, or for one call
+/// of a function within it, each of its frames takes at most 40 for each token, and 16 for each word.
+pub fn sections_keep_token_counts()
+    ensures { SectionsKeepTokenCounts }
+{
+    sections_are_bounded();
+    sections_mean_the_same();
+    subprograms_within_tokens();
+}
 
 /// What `sections` puts together from an accepted program is well-formed (docs/FORMATS.md, 43 to 47).
 pub fn sections_are_well_formed()

@@ -21,7 +21,7 @@ use Rattle.fault_numbers.specs.Numbers.{AreNumberedWithin, GrammarNumbers, IsNum
 use Rattle.ada_link.specs.meaning.specs.SameMeaning.{KeepsCount, SameMeaning}
 use Rattle.ada_link.specs.package_code.specs.Places.{PlacesTell}
 use Rattle.ada_link.specs.expr_code.specs.Coming.{most_steps}
-use Rattle.ada_link.specs.Compiled.{IsBounded}
+use Rattle.ada_link.specs.Compiled.{IsBounded, KeepsTokenCounts}
 use Rattle.source_laws.specs.Limits.{SmallIsUnlimited}
 use Rattle.adarun.specs.Naming.{CompilesNamed, object_names}
 use Rattle.adarun.specs.declared.compilation.Named.{Named}
@@ -34,11 +34,12 @@ pub compiles : {E : Type 0} (r : Result Named E) (text : List ℕ) (tokens list 
     → IfOk r (λ n. SameMeaning (program_tree checked) n.image)
     → IfOk r (λ n. KeepsCount (program_tree checked) n.image (most_steps n.image))
     → IfOk r (λ n. IsBounded (program_tree checked) n.image)
+    → IfOk r (λ n. KeepsTokenCounts (program_tree checked) n.image)
     → IfOk r (λ n. IsWellFormed n.image)
     → IfOk r (λ n. n.objects.items ≡ object_names (program_tree checked))
     → IfOk r (λ n. PlacesTell (program_tree checked) n.image n.places)
     → IfOk r (λ n. CompilesNamed text n.image n.objects.items n.places)
-compiles (Ok n) text tokens list read spells same derives checked is legal restricted means counted bounded well_formed names placed =
+compiles (Ok n) text tokens list read spells same derives checked is legal restricted means counted bounded within well_formed names placed =
     let derived = subst (λ p. Derives (program_tree p) tokens) (sym is) (subst (Derives (program_tree read)) same derives) in
     record {
       compiles = record {
@@ -47,12 +48,13 @@ compiles (Ok n) text tokens list read spells same derives checked is legal restr
         means = means;
         counted = counted;
         bounded = bounded;
+        within = within tokens derived.derives;
         well_formed = well_formed;
       };
       names = names;
       placed = placed;
     }
-compiles (Err e) text tokens list read spells same derives checked is legal restricted means counted bounded well_formed names placed = tt
+compiles (Err e) text tokens list read spells same derives checked is legal restricted means counted bounded within well_formed names placed = tt
 
 -- what is told of an accepted text where its tree is refused, by the laws of source texts
 abbrev Tells : List ℕ → ProgramTree → Type 0

@@ -15,7 +15,7 @@ use Rattle.checking.specs.ProgramRules.{IsLegal, program_faults}
 use Rattle.ravenscar.specs.ProgramRules.{IsRestricted, restriction_faults}
 use Rattle.ada_link.specs.meaning.specs.SameMeaning.{KeepsCount, SameMeaning}
 use Rattle.ada_link.specs.expr_code.specs.Coming.{most_steps}
-use Rattle.ada_link.specs.Compiled.{IsBounded}
+use Rattle.ada_link.specs.Compiled.{IsBounded, IsWithinTokens}
 use Rattle.source_laws.specs.Limits.{MayPassLimits}
 use Rattle.source_laws.specs.Small.{IsSmall}
 
@@ -49,13 +49,15 @@ RefusesTree tree fault = (fault ≡ memory_fault) ⊎ ((fault ≡ too_large tree
 abbrev pub RefusesAccepted : List ℕ → ProgramTree → Fault → Type 0
 RefusesAccepted text tree fault = (fault ≡ memory_fault) ⊎ ((fault ≡ too_large tree) × (MayPassLimits tree × (IsSmallText tree text → ⊥)))
 
--- a well-formed image that means the same as the text's tree, keeps the count of steps, and has no more instructions than the text tells
+-- A well-formed image that means the same as the text's tree, keeps the count of steps, and has no more instructions than the text tells. By the tokens of each
+-- body it is counted too: how many instructions, rows of handlers and steps for one step of the source each has at most.
 pub record Compiles (text : List ℕ) (image : Sections) : Type 0 where
   pub tree : ProgramTree
   pub accepted : IsAccepted tree text
   pub means : SameMeaning tree image
   pub counted : KeepsCount tree image (most_steps image)
   pub bounded : IsBounded tree image
+  pub within : IsWithinTokens tree accepted.is_tree.tokens image
   pub well_formed : IsWellFormed image
 
 -- the text breaks this rule from 1 to 5, and no other one at this place or in front of it: so no tokens spell it

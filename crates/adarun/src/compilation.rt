@@ -1,6 +1,6 @@
 //! From a source text to an image.
 ghost use Rattle.std.specs.Prelude.{◌≡◌, IfErr, IfOk};
-ghost use Rattle.ada_link.specs.Compiled.{IsBounded};
+ghost use Rattle.ada_link.specs.Compiled.{IsBounded, KeepsTokenCounts};
 ghost use Rattle.ada_link.specs.ada_tree.specs.ProgramTree.{ProgramTree, program_tree};
 ghost use Rattle.ada_link.specs.expr_code.specs.Coming.{most_steps};
 ghost use Rattle.ada_link.specs.meaning.specs.SameMeaning.{KeepsCount, SameMeaning};
@@ -37,6 +37,7 @@ fn compiled_of(alloc: Global, accepted: &Accepted) -> Result<Compiled, Fault>
     ensures means { IfOk result (λ made. SameMeaning (program_tree accepted.now) made.image) }
     ensures counted { IfOk result (λ made. KeepsCount (program_tree accepted.now) made.image (most_steps made.image)) }
     ensures bounded { IfOk result (λ made. IsBounded (program_tree accepted.now) made.image) }
+    ensures within { IfOk result (λ made. KeepsTokenCounts (program_tree accepted.now) made.image) }
     ensures places { IfOk result (λ made. PlacesTell (program_tree accepted.now) made.image made.places) }
     ensures well_formed { IfOk result (λ made. IsWellFormed made.image) }
     ensures refused { IfErr result (λ fault. RefusesTree (program_tree accepted.now) fault) }
@@ -59,6 +60,7 @@ fn named_of(alloc: Global, accepted: &Accepted) -> Result<Named, Fault>
     ensures means { IfOk result (λ named. SameMeaning (program_tree accepted.now) named.image) }
     ensures counted { IfOk result (λ named. KeepsCount (program_tree accepted.now) named.image (most_steps named.image)) }
     ensures bounded { IfOk result (λ named. IsBounded (program_tree accepted.now) named.image) }
+    ensures within { IfOk result (λ named. KeepsTokenCounts (program_tree accepted.now) named.image) }
     ensures well_formed { IfOk result (λ named. IsWellFormed named.image) }
     ensures names { IfOk result (λ named. named.objects.items ≡ object_names (program_tree accepted.now)) }
     ensures places { IfOk result (λ named. PlacesTell (program_tree accepted.now) named.image named.places) }

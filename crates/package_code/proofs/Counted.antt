@@ -38,10 +38,15 @@ use Rattle.package_code.proofs.Linking.{called_front, called_main, first_is, fir
 -- ---- bodies by their numbers
 
 -- there is a body of each number
-there_is : {X : Type 0} (xs : List X) (n : ℕ) → n < length xs → (x : X) × (slice_get xs n ≡ Some x)
+pub there_is : {X : Type 0} (xs : List X) (n : ℕ) → n < length xs → (x : X) × (slice_get xs n ≡ Some x)
 there_is [] n less = absurd (omega (arith, less))
 there_is (x ∷ xs) zero less = (x, refl)
 there_is (x ∷ xs) (suc n) less = there_is xs n (omega (arith, less))
+
+pub past : {X : Type 0} (xs : List X) (n : ℕ) → length xs ≤ n → slice_get xs n ≡ None
+past [] n h = refl
+past (x ∷ xs) zero h = absurd (omega (arith, h))
+past (x ∷ xs) (suc n) h = past xs n (omega (arith, h))
 
 module _ (t : ProgramTree) where
   abbrev items : List BodyItemTree
@@ -54,12 +59,12 @@ module _ (t : ProgramTree) where
   bounds_many = ap length (bounds_are t 0 items) ∙ length-map (bodies_of t) bound_of ∙ from_many t 0 items
 
   -- the bound of a body stands at its number
-  bound_of_body : (number : ℕ) (c : Coded) → slice_get (bodies_of t) number ≡ Some c → instructions_bound t number ≡ bound_of c
+  pub bound_of_body : (number : ℕ) (c : Coded) → slice_get (bodies_of t) number ≡ Some c → instructions_bound t number ≡ bound_of c
   bound_of_body number c there =
       ap or_zero (front_at bounds (main_bound t.main.statements ∷ []) number (bound_of c)
       (ap (λ l. slice_get l number) (bounds_are t 0 items) ∙ at_map bound_of (bodies_of t) number c there))
 
-  bound_of_main : instructions_bound t (bodies_among items) ≡ main_bound t.main.statements
+  pub bound_of_main : instructions_bound t (bodies_among items) ≡ main_bound t.main.statements
   bound_of_main =
       ap (λ n. or_zero (slice_get (bounds ++ main_bound t.main.statements ∷ []) n)) (sym bounds_many)
       ∙ ap or_zero (get_last bounds (main_bound t.main.statements))
@@ -147,19 +152,21 @@ module _ (t : ProgramTree) (i : Sections) (h : HasProgram t i) where
       under : (size last first mid bound : ℕ) → size ≡ last - first → last ≤ first + mid → mid ≡ bound → size ≤ bound
       under size last first mid bound is few same = omega (arith, is, few, same)
 
+  -- as many as bodies with code
+  pub bodies_many : length rows ≡ length (bodies_of t)
+  bodies_many = many ∙ sym (from_many t 0 all)
+
   -- there is none with a greater number
-  size_none : (number : ℕ) → length rows < number → size_of i number ≤ instructions_bound t number
-  size_none number more =
+  pub size_past : (number : ℕ) → length rows < number → size_of i number ≡ 0
+  size_past number more =
       let none : called i number ≡ None = past i.subprograms number (let long = ap length h.subprograms ∙ length-append rows (main_row h.words (here h.draft.code) ∷ []) in omega (arith, long, more)) in
-      (let e : size_of i number ≡ 0 = (λ j. end_of (none j) - first_place i number) ∙ nothing (first_place i number) in omega (arith, e))
+      (λ j. end_of (none j) - first_place i number) ∙ nothing (first_place i number)
     where
       nothing : (n : ℕ) → 0 - n ≡ 0
       nothing n = omega arith
 
-      past : (xs : List Subprogram) (n : ℕ) → length xs ≤ n → slice_get xs n ≡ None
-      past [] n h = refl
-      past (x ∷ xs) zero h = absurd (omega (arith, h))
-      past (x ∷ xs) (suc n) h = past xs n (omega (arith, h))
+  size_none : (number : ℕ) → length rows < number → size_of i number ≤ instructions_bound t number
+  size_none number more = (let e = size_past number more in omega (arith, e))
 
 pub sections_are_bounded : SectionsAreBounded
 sections_are_bounded t i h number = by_order (order number (length h.walk.subprograms.items))

@@ -30,6 +30,7 @@ use Rattle.stmt_code.proofs.RowsAdded.{rows_kept, rows_then}
 use Rattle.package_code.specs.Bodies.{Coded, bodies_among, bodies_before, bodies_of, coded_at, of_subprogram, of_task}
 use Rattle.package_code.specs.Directory.{AreTold, TellsNext, operations_told}
 use Rattle.package_code.specs.Providing.{MayBeAdded}
+use Rattle.package_code.specs.Refusing.{subprogram_rows}
 use Rattle.package_code.specs.Walking.{AddsBody, AddsSubprogram, BeginsWalk, HasBody, HasRows, IsDraftKept, IsOfBody, IsWalked, LieInFront, LiesInOne, begins_at, row_of}
 use Rattle.package_code.specs.declared.directory.Directory.{Directory}
 use Rattle.package_code.specs.declared.walk.Walk.{Walk}
@@ -205,6 +206,7 @@ module _ (t : ProgramTree) (directory : Directory) where
         adds = has.adds;
         called = has.called;
         keeps = has.keeps;
+        rows = has.rows;
         before = has.before;
         numbered = has.numbered;
         there = ap (λ l. slice_get l number) subprograms
@@ -292,6 +294,7 @@ module _ (t : ProgramTree) (directory : Directory) where
       adds = added;
       called = adds.called;
       keeps = keeps;
+      rows = subst (λ z. length after.draft.rows.items ≡ subprogram_rows (length z.rows.items) c.head c.body) draft adds.told.rows;
       before = rows_in_front old.subprograms.items old.draft has.rows;
       numbered = adds.numbered ∙ ap (λ l. Some (length l.items)) subprograms;
       there = ap (λ l. slice_get l (length old.subprograms.items)) rows ∙ get_last old.subprograms.items row;

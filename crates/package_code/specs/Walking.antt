@@ -73,6 +73,11 @@ abbrev pub AddsSubprogram : ProgramTree → SubprogramTree → BodyTree → Visi
 AddsSubprogram t d b v old words new =
     elim d.result [ None ↦ AddsProcedure v old d.formals b words new | Some r ↦ AddsValueFunction t d b r v old words new ]
 
+-- The code of a body was added with the labels of its lines, and with as many rows as its handlers have choices.
+pub record AddsAsTold (old : Draft) (d : SubprogramTree) (b : BodyTree) (new : Draft) : Type 0 where
+  pub labels : new.labels ≡ subprogram_labels old.labels d b
+  pub rows : length new.rows.items ≡ subprogram_rows (length old.rows.items) d b
+
 -- the words that are passed to its code and come back are those of its calls
 abbrev pub IsCalledSubprogram : ProgramTree → SubprogramTree → Scope → SubprogramWords → Type 0
 IsCalledSubprogram t d s words =
@@ -95,15 +100,11 @@ pub record AddsBody (t : ProgramTree) (directory : Directory) (c : Coded) (old n
   pub adds : AddsSubprogram t c.head c.body old.visible old.draft words new.draft
   pub called : IsCalledSubprogram t c.head old.visible.scope words
   pub keeps : KeepsRules (is_none c.head.result) old.visible old.draft words new.draft
+  pub told : AddsAsTold old.draft c.head c.body new.draft
   pub numbered : number_told (program_of t).scope directory c.owner c.head.name.name ≡ Some (length old.subprograms.items)
   pub row : new.subprograms.items ≡ old.subprograms.items ++ row_of c.kind words (here new.draft.code) ∷ []
   pub visible : new.visible ≡ old.visible
   pub place : new.place ≡ old.place
-
--- ... with the labels of its lines, and as many rows as its handlers have choices
-pub record AddsAsTold (old : Draft) (d : SubprogramTree) (b : BodyTree) (new : Draft) : Type 0 where
-  pub labels : new.labels ≡ subprogram_labels old.labels d b
-  pub rows : length new.rows.items ≡ subprogram_rows (length old.rows.items) d b
 
 -- why the code of a body isn't made, where the names in front of its parameters are visible
 abbrev pub RefusesBody : Visible → (old : Draft) → SubprogramTree → BodyTree → Refusal → Type 0
@@ -190,6 +191,7 @@ pub record HasBody (t : ProgramTree) (directory : Directory) (number : ℕ) (c :
   pub adds : AddsSubprogram t c.head c.body seen old words new
   pub called : IsCalledSubprogram t c.head seen.scope words
   pub keeps : KeepsRules (is_none c.head.result) seen old words new
+  pub rows : length new.rows.items ≡ subprogram_rows (length old.rows.items) c.head c.body
   pub before : LieInFront (here old.code) old.rows.items
   pub numbered : number_told (program_of t).scope directory c.owner c.head.name.name ≡ Some number
   pub there : slice_get w.subprograms.items number ≡ Some (row_of c.kind words (here new.code))

@@ -68,7 +68,7 @@ one_bounded : (formals size words loops more : ℕ) (rest bodies all : ℕ) → 
 one_bounded formals size words loops more rest bodies all h up = omega (arith, h, up)
 
 -- the size of a body, with its head
-abbrev coded_size : Coded → ℕ
+abbrev pub coded_size : Coded → ℕ
 coded_size c = subprogram_size c.head + body_size c.body
 
 bodies_counted : (cs : List Coded) → TakeFewWords cs → layouts.total (map bound_of cs) ≤ 20 * total coded_size cs + 128 * length cs

@@ -35,6 +35,8 @@ mod WholeBodies
 mod SmallFronts
 mod CoveredTexts
 mod PartsCounted
+pub mod SubprogramsCounted
+mod EvaluationsCounted
 mod MeantStatements
 mod MeantTexts
 mod MeantBarriers

@@ -6,11 +6,13 @@ use Rattle.lexer.specs.declared.token.Token.{Token}
 use Rattle.ada_tree.specs.declared.expression.Identifier.{Identifier}
 use Rattle.ada_tree.specs.Language.{Limit, Tokens, each, optional}
 use Rattle.ada_tree.specs.ProgramGrammar.{body_item, package_body, package_part, program, protected_item}
-use Rattle.ada_tree.specs.ProgramTree.{BodyItemTree, EntryBody, ItemTree, OfItem, OperationBody, PackageTree, ProgramTree, ProtectedBody, ProtectedItemTree, SubprogramBody, TaskBody}
-use Rattle.ada_tree.specs.Size.{body_size, protected_item_size}
+use Rattle.ada_tree.specs.StatementTree.{SubprogramTree}
+use Rattle.ada_tree.specs.ProgramTree.{BodyItemTree, BodyTree, EntryBody, ItemTree, OfItem, OperationBody, PackageTree, ProgramTree, ProtectedBody, ProtectedItemTree, SubprogramBody, TaskBody}
+use Rattle.ada_tree.specs.Size.{body_size, protected_item_size, subprogram_size}
+use Rattle.ada_tree.proofs.Counts.{AtLeast, fewer, joins, later, one}
 use Rattle.ada_tree.proofs.ExpressionCounts.{expression_counts}
 use Rattle.ada_tree.proofs.ProgramCounts.{body_counts, body_item_counts}
-use Rattle.ada_tree.proofs.StatementCounts.{entry_counts, stmt_counts}
+use Rattle.ada_tree.proofs.StatementCounts.{entry_counts, stmt_counts, subprogram_counts}
 use Rattle.types.specs.declared.entity.RecordComponent.{RecordComponent}
 use Rattle.types.specs.Scopes.{Scope, number_of}
 use Rattle.program_soundness.specs.declaring.specs.BodyNames.{object_body_scope}
@@ -18,11 +20,12 @@ use Rattle.program_soundness.specs.legality.specs.ProtectedBodyRules.{components
 use Rattle.expr_soundness.specs.meaning.specs.Programs.{program_of}
 use Rattle.program_soundness.specs.Fronts.{declared_in, front}
 use Rattle.program_soundness.proofs.Listing.{same_some}
-use Rattle.package_code.specs.Bodies.{Coded, coded_at, components_or_none, object_bodies, object_number, of_operation, of_subprogram, of_task}
+use Rattle.package_code.specs.Bodies.{Coded, IsBodyOf, coded_at, components_or_none, object_bodies, object_number, of_operation, of_subprogram, of_task, own_body, own_head}
 use Rattle.package_code.specs.Counts.{bound_of}
 use Rattle.package_code.proofs.Coded.{coded_by}
 use Rattle.package_code.proofs.OperationsAdded.{operation_coded}
 use Rattle.source_laws.specs.Counted.{CodeWithinTokens, HasBodyTokens, PartsWithinTokens, words_in}
+use Rattle.source_laws.proofs.CodeCounted.{coded_size}
 
 pub parts_within_tokens : PartsWithinTokens
 parts_within_tokens =
@@ -144,21 +147,28 @@ object_coded o s (Some n) items k c is =
     let x = operation_coded o (object_body_scope s n) cs items k c is in (x.0, x.1, protected_items_scope (object_body_scope s n) (take k items), cs, x.2)
 object_coded o s None items k c is = let x = operation_coded o s [] items k c is in (x.0, x.1, protected_items_scope s (take k items), [], x.2)
 
-within : (formals size words tokens : ℕ) → (1 + formals) + size ≤ tokens → 20 * (suc formals + size) + 2 * words ≤ 20 * tokens + 2 * words
-within formals size words tokens h = omega (arith, h)
+-- a body's parts, with those of its head, are fewer than the tokens that spell it, since none of them counts by the word `is`
+subprogram_spelled : (limit : Limit) (d : SubprogramTree) (b : BodyTree)
+    → AtLeast (suc (subprogram_size d + body_size b)) (body_item limit (SubprogramBody d b))
+subprogram_spelled limit d b = fewer (joins (subprogram_counts limit d) (joins one (body_counts limit b))) (omega arith)
 
-operation_within : (o : ℕ) (s : Scope) (cs : List RecordComponent) (i : ProtectedItemTree) (n : ℕ) → protected_item_size i ≤ n
-    → bound_of (of_operation o s cs i) ≤ 20 * n + 2 * words_in (of_operation o s cs i)
-operation_within o s cs (OperationBody d b) n h = within (length d.formals) (body_size b) (words_in (of_operation o s cs (OperationBody d b))) n h
-operation_within o s cs (EntryBody d barrier b) n h =
-    within (length d.formals) (body_size b) (words_in (of_operation o s cs (EntryBody d barrier b))) n (omega (arith, h))
+task_spelled : (limit : Limit) (name : Identifier) (b : BodyTree) → AtLeast (suc (1 + body_size b)) (body_item limit (TaskBody name b))
+task_spelled limit name b = fewer (joins one (joins one (later (later (body_counts limit b))))) (omega arith)
+
+operation_spelled : (limit : Limit) (i : ProtectedItemTree)
+    → AtLeast (suc (subprogram_size (own_head i) + body_size (own_body i))) (protected_item limit i)
+operation_spelled limit (OperationBody d b) = fewer (joins (subprogram_counts limit d) (joins one (body_counts limit b))) (omega arith)
+operation_spelled limit (EntryBody d barrier b) =
+    fewer (joins (entry_counts limit d) (joins one (later (later (body_counts limit b))))) (omega arith)
 
 -- an item, or a part of it, is spelled among the tokens
 abbrev HasBound : Limit → Tokens → BodyItemTree → ℕ → Coded → Type 0
-HasBound limit tokens x k c = IsAmong (body_item limit) x tokens → (y : HasBodyTokens limit x k tokens) × (bound_of c ≤ 20 * length y.part + 2 * words_in c)
+HasBound limit tokens x k c = IsAmong (body_item limit) x tokens → (y : HasBodyTokens limit x k tokens) × (suc (coded_size c) ≤ length y.part)
 
-pub code_within_tokens : CodeWithinTokens
-code_within_tokens limit t tokens spelled c b =
+-- the tokens of a body with code
+pub body_tokens : (limit : Limit) (t : ProgramTree) (tokens : Tokens) → program limit t tokens → (c : Coded) (b : IsBodyOf t c)
+    → (y : HasBodyTokens limit b.item b.index tokens) × (suc (coded_size c) ≤ length y.part)
+body_tokens limit t tokens spelled c b =
     coded_by t b.place (HasBound limit tokens) subprogram_bound task_bound object_bound b.item b.index c b.coded
     (item_among limit t tokens spelled b.place b.item b.at
     (λ d is. none d (subst (λ x. slice_get (coded_at t b.place x) b.index ≡ Some c) is b.coded)))
@@ -166,19 +176,21 @@ code_within_tokens limit t tokens spelled c b =
     none : (d : ItemTree) → slice_get (coded_at t b.place (OfItem d)) b.index ≡ Some c → ⊥
     none d h = cc
 
+    -- a task's has no formals
+    bare_head : (size tokens : ℕ) → suc (1 + size) ≤ tokens → suc ((1 + 0) + size) ≤ tokens
+    bare_head size tokens h = omega (arith, h)
+
     subprogram_bound : (d : _) (own : _) → HasBound limit tokens (SubprogramBody d own) 0 (of_subprogram (front t (suc b.place)) d own)
     subprogram_bound d own a =
         let y : HasBodyTokens limit (SubprogramBody d own) 0 tokens =
         record { front = a.front; part = a.part; behind = a.behind; split = a.split; spelled = a.spelled } in
-        let few = (body_item_counts limit (SubprogramBody d own)).within a.part a.spelled in
-        (y, within (length d.formals) (body_size own) (words_in (of_subprogram (front t (suc b.place)) d own)) (length a.part) few)
+        (y, (subprogram_spelled limit d own).within a.part a.spelled)
 
     task_bound : (name : Identifier) (own : _) → HasBound limit tokens (TaskBody name own) 0 (of_task (front t (suc b.place)) name own)
     task_bound name own a =
         let y : HasBodyTokens limit (TaskBody name own) 0 tokens =
         record { front = a.front; part = a.part; behind = a.behind; split = a.split; spelled = a.spelled } in
-        let few = (body_item_counts limit (TaskBody name own)).within a.part a.spelled in
-        (y, within 0 (body_size own) (words_in (of_task (front t (suc b.place)) name own)) (length a.part) few)
+        (y, bare_head (body_size own) (length a.part) ((task_spelled limit name own).within a.part a.spelled))
 
     object_bound : (name : Identifier) (items : List ProtectedItemTree) (end_name : Identifier) (k : ℕ) (e : Coded)
         → slice_get (coded_at t b.place (ProtectedBody name items end_name)) k ≡ Some e → HasBound limit tokens (ProtectedBody name items end_name) k e
@@ -196,7 +208,22 @@ code_within_tokens limit t tokens spelled c b =
         let all = further x.0 (a.part ++ a.behind) a.front tokens a.split six in
         let y : HasBodyTokens limit (ProtectedBody name items end_name) k tokens =
         record { front = all.front; part = all.part; behind = all.behind; split = all.split; spelled = (x.0, x.1, all.spelled) } in
-        let few = parts_within_tokens.operations limit x.0 all.part all.spelled in (
+        let few = (operation_spelled limit x.0).within all.part all.spelled in (
           y,
-          subst (λ f. bound_of f ≤ 20 * length all.part + 2 * words_in f) (sym x.4) (operation_within o x.2 x.3 x.0 (length all.part) few),
+          subst (λ f. suc (coded_size f) ≤ length all.part) (sym x.4) few,
         )
+
+-- 20 instructions for each part of a body, and two for each word, are 20 fewer than 20 for each token with these
+pub bounded_by : (c : Coded) (tokens : ℕ) → suc (coded_size c) ≤ tokens → 20 + bound_of c ≤ 20 * tokens + 2 * words_in c
+bounded_by c tokens h = within (length c.head.formals) (body_size c.body) (words_in c) h
+  where
+    within : (formals size words : ℕ) → suc ((1 + formals) + size) ≤ tokens → 20 + (20 * (suc formals + size) + 2 * words) ≤ 20 * tokens + 2 * words
+    within formals size words few = omega (arith, few)
+
+pub code_within_tokens : CodeWithinTokens
+code_within_tokens limit t tokens spelled c b =
+    let x = body_tokens limit t tokens spelled c b in
+    (x.0, fewer_still (bound_of c) (20 * length x.0.part + 2 * words_in c) (bounded_by c (length x.0.part) x.1))
+  where
+    fewer_still : (bound most : ℕ) → 20 + bound ≤ most → bound ≤ most
+    fewer_still bound most h = omega (arith, h)

@@ -71,7 +71,7 @@ body_counted b before =
     two before c (handlers_rows c b.handlers) (stmts_size b.statements) (handlers_size b.handlers) (body_size b) (stmts_counted b.statements before)
     (handlers_counted b.handlers c) (omega arith)
 
-subprogram_counted : (d : SubprogramTree) (b : BodyTree) (before : ℕ) → subprogram_rows before d b ≤ before + (subprogram_size d + body_size b)
+pub subprogram_counted : (d : SubprogramTree) (b : BodyTree) (before : ℕ) → subprogram_rows before d b ≤ before + (subprogram_size d + body_size b)
 subprogram_counted d b before = by_result d.result
   where
     by_result : (r : Option Identifier) → elim r [ None ↦ body_rows before b | Some x ↦ before ] ≤ before + (subprogram_size d + body_size b)

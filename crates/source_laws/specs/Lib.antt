@@ -7,3 +7,4 @@ pub mod Covered
 pub mod Meant
 pub mod MeantRuns
 pub mod Counted
+pub mod Evaluated

@@ -30,6 +30,12 @@ returns-in-Ok-clause-counted c =
 pub returns-in-Ok-clause-bounded : goal.returns-in-Ok-clause-bounded
 returns-in-Ok-clause-bounded c = rw c.in-Ok.ensures.same (bounded c.sections_are_bounded.ensures _ _ c.in_ok-parts.ensures.program)
 
+pub returns-in-Ok-clause-within : goal.returns-in-Ok-clause-within
+returns-in-Ok-clause-within c =
+    rw c.in-Ok.ensures.same
+    (c.sections_keep_token_counts.ensures _ _ c.program-program.ensures.legal c.program-program.ensures.restricted c.in-Ok.ensures.well_formed
+    c.in_ok-parts.ensures.program)
+
 pub unreachable-requires : goal.unreachable-requires
 unreachable-requires c =
     let alone =

@@ -64,6 +64,7 @@ returns-clause-means c =
     c.named_of.ensures.means
     c.named_of.ensures.counted
     c.named_of.ensures.bounded
+    c.named_of.ensures.within
     c.named_of.ensures.well_formed
     c.named_of.ensures.names
     c.named_of.ensures.places
