@@ -1,0 +1,6 @@
+pub mod Openings
+pub mod Names
+pub mod Remedies
+pub mod Recognition
+pub mod Closings
+pub mod Strays

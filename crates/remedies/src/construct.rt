@@ -1,0 +1,713 @@
+//! What a fault may be about, and what to write instead.
+ghost use Rattle.std.specs.Prelude.{◌≡◌};
+ghost use Rattle.remedies.specs.Remedies.{text_of};
+
+/// What stands at the place of a fault: what Ada has and this language doesn't, or a first mistake.
+#[derive(Clone, Copy, Debug, PartialEq, Eq)]
+pub enum Construct {
+    /// An enumeration type (RM 3.5.1).
+    Enumeration,
+    /// The bounds of an integer type in parentheses (RM 3.5.4).
+    RangeWithoutWord,
+    /// A modular type (RM 3.5.4).
+    ModularType,
+    /// A derived type (RM 3.4).
+    DerivedType,
+    /// A floating point or fixed point type (RM 3.5.7, 3.5.9).
+    RealType,
+    /// An access type (RM 3.10).
+    AccessType,
+    /// A private, limited, tagged or abstract type, or an interface (RM 3.9, 7.3).
+    PrivateType,
+    /// A null record (RM 3.8).
+    NullRecord,
+    /// A variant part of a record (RM 3.8.1).
+    VariantPart,
+    /// A default value of a component (RM 3.8).
+    ComponentDefault,
+    /// An object of an anonymous array type (RM 3.3.1, 3.6).
+    AnonymousArray,
+    /// One bound for the index of an array (RM 3.6).
+    ArrayBound,
+    /// A subtype with a range as the index of an array (RM 3.6).
+    ArrayIndexRange,
+    /// An array of several dimensions (RM 3.6).
+    SecondDimension,
+    /// A named number (RM 3.3.2).
+    NamedNumber,
+    /// A range behind the subtype of an object or a formal parameter (RM 3.2.2).
+    ObjectRange,
+    /// Several names in one declaration (RM 3.3.1).
+    SeveralNames,
+    /// Several names of formal parameters (RM 6.1).
+    SeveralFormals,
+    /// A default value of a formal parameter (RM 6.1).
+    FormalDefault,
+    /// Several variables in front of an assignment.
+    SeveralTargets,
+    /// An aggregate (RM 4.3).
+    Aggregate,
+    /// An actual parameter by name (RM 6.4).
+    NamedActual,
+    /// Parentheses with nothing in them.
+    EmptyParentheses,
+    /// A qualified expression (RM 4.7).
+    QualifiedExpression,
+    /// A character literal, or a text between apostrophes (RM 2.5).
+    CharacterLiteral,
+    /// A real literal (RM 2.4.1).
+    RealLiteral,
+    /// Three dots in a range.
+    ThreeDots,
+    /// The attribute Range (RM 3.6.2).
+    RangeAttribute,
+    /// An attribute that the language leaves out (RM 3.5, 3.5.5).
+    OtherAttribute,
+    /// A membership test (RM 4.5.2).
+    Membership,
+    /// A loop over a subtype by its name (RM 5.5).
+    ForOverType,
+    /// A loop over a subtype with a range (RM 5.5).
+    ForSubtypeRange,
+    /// A loop over the elements of an array (RM 5.5.2).
+    ForOverArray,
+    /// A loop with downto.
+    DownwardLoop,
+    /// A loop as in C.
+    LoopInC,
+    /// The name of a loop behind exit (RM 5.7).
+    LoopName,
+    /// A loop or a block with a name (RM 5.5, 5.6).
+    NamedStatement,
+    /// A goto (RM 5.8).
+    Goto,
+    /// A quantified expression (RM 4.5.8).
+    QuantifiedExpression,
+    /// A case expression (RM 4.5.7).
+    CaseExpression,
+    /// Different logical operators in one chain (RM 4.4).
+    MixedOperators,
+    /// An equals sign in an assignment.
+    EqualsForAssignment,
+    /// Two equals signs.
+    DoubleEquals,
+    /// An assignment by an operator of C.
+    OperatorInC,
+    /// A comment of C.
+    CommentInC,
+    /// The pragma Assert (RM 11.4.2).
+    AssertPragma,
+    /// The pragma Priority or Interrupt_Priority (RM D.1, J.15.11).
+    PriorityPragma,
+    /// The pragma Attach_Handler or Interrupt_Handler (RM J.15.7).
+    AttachingPragma,
+    /// Another pragma than those of a text's beginning (RM 2.8).
+    OtherPragma,
+    /// Another profile (RM 13.12, D.13).
+    OtherProfile,
+    /// A text without the pragma of its profile (RM D.13).
+    NoProfile,
+    /// Several aspects of one declaration (RM 13.1.1).
+    SeveralAspects,
+    /// An aspect of something that has none here (RM 13.1.1).
+    OtherAspect,
+    /// Something in parentheses behind the name of a task.
+    PriorityInParentheses,
+    /// A task type (RM 9.1).
+    TaskType,
+    /// A protected type (RM 9.4).
+    ProtectedType,
+    /// A generic unit (RM 12.1).
+    GenericUnit,
+    /// A body stub (RM 10.1.3).
+    SeparateBody,
+    /// A null procedure (RM 6.7).
+    NullProcedure,
+    /// An expression function (RM 6.8).
+    ExpressionFunction,
+    /// A function with declarations, statements or handlers (RM 6.3).
+    FunctionStatements,
+    /// A renaming (RM 8.5).
+    Renaming,
+    /// A subprogram in a body (RM 3.11, 6.3).
+    NestedSubprogram,
+    /// The private part of a package (RM 7.3).
+    PrivatePart,
+    /// Statements of a package body (RM 7.2).
+    PackageStatements,
+    /// A second package (RM 7.1).
+    SeveralPackages,
+    /// A main procedure without a package (RM 7.1, 10.1).
+    PackageMissing,
+    /// A main procedure without the clause for its package (RM 10.1.2).
+    MainWithoutClause,
+    /// Further clauses in front of main (RM 10.1.2).
+    MainClauses,
+    /// Declarations of main (RM 6.3).
+    MainDeclarations,
+    /// Statements of main other than calls (RM 6.3).
+    MainStatements,
+    /// A declaration among statements (RM 3.11).
+    DeclarationAmongStatements,
+    /// A statement among declarations (RM 6.3).
+    BeginMissing,
+    /// A semicolon behind is (RM 6.3).
+    SemicolonBehindIs,
+    /// A missing semicolon.
+    SemicolonMissing,
+    /// An end without the name of what it closes (RM 6.3, 7.1).
+    NameBehindEnd,
+    /// The name of an exception occurrence (RM 11.2).
+    HandlerOccurrence,
+    /// A with clause without its use clause (RM 10.1.2, 8.4).
+    ClauseWithoutUse,
+    /// The unit System (RM 13.7).
+    SystemUnit,
+    /// Output by Ada.Text_IO (RM A.10).
+    TextIo,
+    /// A timing event (RM D.15).
+    TimingEvent,
+    /// A suspension object (RM D.10).
+    SuspensionObject,
+    /// The unit Ada.Interrupts (RM C.3.2).
+    InterruptUnit,
+    /// The unit Ada.Execution_Time (RM D.14).
+    ExecutionTimeUnit,
+    /// Another predefined unit (RM A.2).
+    OtherUnit,
+    /// Seconds, Minutes or Nanoseconds (RM D.8).
+    Seconds,
+    /// A conversion to or from Duration, or a constant of Time_Span (RM D.8).
+    DurationConversion,
+    /// Arithmetic of time spans (RM D.8).
+    TimeSpanArithmetic,
+    /// A first value that is reckoned from Clock.
+    FirstValueFromClock,
+    /// A number behind delay until.
+    NumberForTime,
+    /// A relative delay (RM 9.6).
+    RelativeDelay,
+    /// The operator not in front of a relation (RM 4.5).
+    NotOfRelation,
+    /// A predefined type that the language leaves out (RM A.1).
+    OtherType,
+    /// Put or Read without the unit Control_IO.
+    OutputUnit,
+    /// A name of Ada.Real_Time without the unit (RM D.8).
+    TimeUnit,
+    /// Nothing where statements are wanted (RM 5.1).
+    StatementMissing,
+    /// A text without a main procedure (RM 10.2).
+    MainMissing,
+    /// Put with another number of parameters than two.
+    PutArguments,
+    /// A new value for what is no variable (RM 3.3).
+    ChangedConstant,
+    /// A return with a value in a procedure (RM 6.5).
+    ReturnedValue,
+    /// A task or a protected object in a body (RM D.7).
+    LocalTask,
+    /// A second entry of a protected object (RM D.7).
+    SecondEntry,
+    /// An entry of a task, or an accept (RM D.7).
+    TaskEntry,
+    /// A barrier that is no component (RM D.7).
+    BarrierExpression,
+    /// A select statement (RM D.7).
+    Select,
+    /// An abort statement (RM D.7).
+    Abort,
+    /// A requeue statement (RM D.7).
+    Requeue,
+    /// A case without others (RM 5.4).
+    CaseWithoutOthers,
+}
+
+impl Construct {
+    /// What to write instead, as one line without its line feed; code stands between two marks (96).
+    pub fn text(self) -> &'static str
+        ensures { result.now ≡ text_of self }
+    {
+        match self {
+            Construct::Enumeration => ENUMERATION,
+            Construct::RangeWithoutWord => RANGE_WITHOUT_WORD,
+            Construct::ModularType => MODULAR_TYPE,
+            Construct::DerivedType => DERIVED_TYPE,
+            Construct::RealType => REAL_TYPE,
+            Construct::AccessType => ACCESS_TYPE,
+            Construct::PrivateType => PRIVATE_TYPE,
+            Construct::NullRecord => NULL_RECORD,
+            Construct::VariantPart => VARIANT_PART,
+            Construct::ComponentDefault => COMPONENT_DEFAULT,
+            Construct::AnonymousArray => ANONYMOUS_ARRAY,
+            Construct::ArrayBound => ARRAY_BOUND,
+            Construct::ArrayIndexRange => ARRAY_INDEX_RANGE,
+            Construct::SecondDimension => SECOND_DIMENSION,
+            Construct::NamedNumber => NAMED_NUMBER,
+            Construct::ObjectRange => OBJECT_RANGE,
+            Construct::SeveralNames => SEVERAL_NAMES,
+            Construct::SeveralFormals => SEVERAL_FORMALS,
+            Construct::FormalDefault => FORMAL_DEFAULT,
+            Construct::SeveralTargets => SEVERAL_TARGETS,
+            Construct::Aggregate => AGGREGATE,
+            Construct::NamedActual => NAMED_ACTUAL,
+            Construct::EmptyParentheses => EMPTY_PARENTHESES,
+            Construct::QualifiedExpression => QUALIFIED_EXPRESSION,
+            Construct::CharacterLiteral => CHARACTER_LITERAL,
+            Construct::RealLiteral => REAL_LITERAL,
+            Construct::ThreeDots => THREE_DOTS,
+            Construct::RangeAttribute => RANGE_ATTRIBUTE,
+            Construct::OtherAttribute => OTHER_ATTRIBUTE,
+            Construct::Membership => MEMBERSHIP,
+            Construct::ForOverType => FOR_OVER_TYPE,
+            Construct::ForSubtypeRange => FOR_SUBTYPE_RANGE,
+            Construct::ForOverArray => FOR_OVER_ARRAY,
+            Construct::DownwardLoop => DOWNWARD_LOOP,
+            Construct::LoopInC => LOOP_IN_C,
+            Construct::LoopName => LOOP_NAME,
+            Construct::NamedStatement => NAMED_STATEMENT,
+            Construct::Goto => GOTO,
+            Construct::QuantifiedExpression => QUANTIFIED_EXPRESSION,
+            Construct::CaseExpression => CASE_EXPRESSION,
+            Construct::MixedOperators => MIXED_OPERATORS,
+            Construct::EqualsForAssignment => EQUALS_FOR_ASSIGNMENT,
+            Construct::DoubleEquals => DOUBLE_EQUALS,
+            Construct::OperatorInC => OPERATOR_IN_C,
+            Construct::CommentInC => COMMENT_IN_C,
+            Construct::AssertPragma => ASSERT_PRAGMA,
+            Construct::PriorityPragma => PRIORITY_PRAGMA,
+            Construct::AttachingPragma => ATTACHING_PRAGMA,
+            Construct::OtherPragma => OTHER_PRAGMA,
+            Construct::OtherProfile => OTHER_PROFILE,
+            Construct::NoProfile => NO_PROFILE,
+            Construct::SeveralAspects => SEVERAL_ASPECTS,
+            Construct::OtherAspect => OTHER_ASPECT,
+            Construct::PriorityInParentheses => PRIORITY_IN_PARENTHESES,
+            Construct::TaskType => TASK_TYPE,
+            Construct::ProtectedType => PROTECTED_TYPE,
+            Construct::GenericUnit => GENERIC_UNIT,
+            Construct::SeparateBody => SEPARATE_BODY,
+            Construct::NullProcedure => NULL_PROCEDURE,
+            Construct::ExpressionFunction => EXPRESSION_FUNCTION,
+            Construct::FunctionStatements => FUNCTION_STATEMENTS,
+            Construct::Renaming => RENAMING,
+            Construct::NestedSubprogram => NESTED_SUBPROGRAM,
+            Construct::PrivatePart => PRIVATE_PART,
+            Construct::PackageStatements => PACKAGE_STATEMENTS,
+            Construct::SeveralPackages => SEVERAL_PACKAGES,
+            Construct::PackageMissing => PACKAGE_MISSING,
+            Construct::MainWithoutClause => MAIN_WITHOUT_CLAUSE,
+            Construct::MainClauses => MAIN_CLAUSES,
+            Construct::MainDeclarations => MAIN_DECLARATIONS,
+            Construct::MainStatements => MAIN_STATEMENTS,
+            Construct::DeclarationAmongStatements => DECLARATION_AMONG_STATEMENTS,
+            Construct::BeginMissing => BEGIN_MISSING,
+            Construct::SemicolonBehindIs => SEMICOLON_BEHIND_IS,
+            Construct::SemicolonMissing => SEMICOLON_MISSING,
+            Construct::NameBehindEnd => NAME_BEHIND_END,
+            Construct::HandlerOccurrence => HANDLER_OCCURRENCE,
+            Construct::ClauseWithoutUse => CLAUSE_WITHOUT_USE,
+            Construct::SystemUnit => SYSTEM_UNIT,
+            Construct::TextIo => TEXT_IO,
+            Construct::TimingEvent => TIMING_EVENT,
+            Construct::SuspensionObject => SUSPENSION_OBJECT,
+            Construct::InterruptUnit => INTERRUPT_UNIT,
+            Construct::ExecutionTimeUnit => EXECUTION_TIME_UNIT,
+            Construct::OtherUnit => OTHER_UNIT,
+            Construct::Seconds => SECONDS,
+            Construct::DurationConversion => DURATION_CONVERSION,
+            Construct::TimeSpanArithmetic => TIME_SPAN_ARITHMETIC,
+            Construct::FirstValueFromClock => FIRST_VALUE_FROM_CLOCK,
+            Construct::NumberForTime => NUMBER_FOR_TIME,
+            Construct::RelativeDelay => RELATIVE_DELAY,
+            Construct::NotOfRelation => NOT_OF_RELATION,
+            Construct::OtherType => OTHER_TYPE,
+            Construct::OutputUnit => OUTPUT_UNIT,
+            Construct::TimeUnit => TIME_UNIT,
+            Construct::StatementMissing => STATEMENT_MISSING,
+            Construct::MainMissing => MAIN_MISSING,
+            Construct::PutArguments => PUT_ARGUMENTS,
+            Construct::ChangedConstant => CHANGED_CONSTANT,
+            Construct::ReturnedValue => RETURNED_VALUE,
+            Construct::LocalTask => LOCAL_TASK,
+            Construct::SecondEntry => SECOND_ENTRY,
+            Construct::TaskEntry => TASK_ENTRY,
+            Construct::BarrierExpression => BARRIER_EXPRESSION,
+            Construct::Select => SELECT,
+            Construct::Abort => ABORT,
+            Construct::Requeue => REQUEUE,
+            Construct::CaseWithoutOthers => CASE_WITHOUT_OTHERS,
+        }
+    }
+}
+
+const ENUMERATION: &str = "\
+Boolean is the only enumeration: write `type Colour is range 0 .. 1;` and a constant for each \
+value, `Red : constant Colour := 0;`.";
+
+const RANGE_WITHOUT_WORD: &str = "\
+The bounds of an integer type follow `range`: write `type Count is range 0 .. 250;`.";
+
+const MODULAR_TYPE: &str = "\
+There are no modular types: write `type Byte is range 0 .. 255;`, and `(A + B) mod 256` where a \
+value may pass the end.";
+
+const DERIVED_TYPE: &str = "\
+There are no derived types: write `type Speed is range 0 .. 100;`, or `subtype Speed is Integer \
+range 0 .. 100;` where no conversion is wanted.";
+
+const REAL_TYPE: &str = "\
+There are no real types: count in a smaller unit, as `type Millivolts is range 0 .. 5_000;`.";
+
+const ACCESS_TYPE: &str = "\
+There are no access types: declare the objects in the package, and keep an index into an array \
+of them.";
+
+const PRIVATE_TYPE: &str = "\
+There are no private and no tagged types: declare the whole type in the specification, `type \
+Pair is record Low : Integer; High : Integer; end record;`.";
+
+const NULL_RECORD: &str = "\
+A record has one component at least: write `type Empty is record Unused : Boolean; end record;`.";
+
+const VARIANT_PART: &str = "\
+There are no variants: declare the components of all variants, and a Boolean that says which of \
+them count.";
+
+const COMPONENT_DEFAULT: &str = "\
+A component has no default value: leave `:= ..` out, and assign the component in the first \
+statements.";
+
+const ANONYMOUS_ARRAY: &str = "\
+An array has a named type: write `type Row is array (1 .. 3) of Integer;` and `A : Row;`.";
+
+const ARRAY_BOUND: &str = "\
+The index of an array has two bounds: write `array (1 .. 4) of Integer`.";
+
+const ARRAY_INDEX_RANGE: &str = "\
+The index of an array is a range or a subtype alone: write `array (1 .. 4) of Integer`.";
+
+const SECOND_DIMENSION: &str = "\
+An array has one index: write an array of arrays, `type Grid is array (1 .. 3) of Row;`.";
+
+const NAMED_NUMBER: &str = "\
+A constant has a type: write `Size : constant Integer := 4;`.";
+
+const OBJECT_RANGE: &str = "\
+No range stands here: declare a subtype, `subtype Percent is Integer range 0 .. 100;`, and write \
+its name.";
+
+const SEVERAL_NAMES: &str = "\
+A declaration has one name: write `A : Integer; B : Integer;`.";
+
+const SEVERAL_FORMALS: &str = "\
+A formal parameter has its own subtype: write `(A : Integer; B : Integer)`.";
+
+const FORMAL_DEFAULT: &str = "\
+A formal parameter has no default value: leave `:= ..` out, and write the value in each call.";
+
+const SEVERAL_TARGETS: &str = "\
+One variable is assigned at a time: write `A := 1; B := 1;`.";
+
+const AGGREGATE: &str = "\
+There are no aggregates: assign part by part, `V (1) := 1; V (2) := 2;` or `P.Low := 1;`, all \
+parts in a loop `for I in V'First .. V'Last loop V (I) := 0; end loop;`.";
+
+const NAMED_ACTUAL: &str = "\
+Actual parameters have no names here: write them in the order of the formal ones, `Set (1, 2);`.";
+
+const EMPTY_PARENTHESES: &str = "\
+A call without parameters has no parentheses: write `Run;`.";
+
+const QUALIFIED_EXPRESSION: &str = "\
+There are no qualified expressions: leave the name and the apostrophe out, or convert, `Integer \
+(N)`.";
+
+const CHARACTER_LITERAL: &str = "\
+There are no characters: write a number, as `97`. A label of Put stands between quotation marks, \
+`Put (\"level\", 1);`.";
+
+const REAL_LITERAL: &str = "\
+There are no real numbers: count in a smaller unit, as `1_500` thousandths.";
+
+const THREE_DOTS: &str = "\
+A range has two dots: write `1 .. 4`.";
+
+const RANGE_ATTRIBUTE: &str = "\
+There is no attribute Range: write `V'First .. V'Last`.";
+
+const OTHER_ATTRIBUTE: &str = "\
+The attributes are First, Last and, of arrays, Length: write `N + 1` for Succ, `N - 1` for Pred, \
+`Integer (N)` for Pos, and `(if A < B then A else B)` for Min.";
+
+const MEMBERSHIP: &str = "\
+There is no membership test: write `X >= 0 and X <= 9`, or `X < 0 or X > 9` for `not in`.";
+
+const FOR_OVER_TYPE: &str = "\
+A loop names both bounds: write `for I in Index'First .. Index'Last loop`.";
+
+const FOR_SUBTYPE_RANGE: &str = "\
+A loop names its bounds alone: write `for I in 1 .. 4 loop`.";
+
+const FOR_OVER_ARRAY: &str = "\
+A loop goes over indexes: write `for I in V'First .. V'Last loop`, and `V (I)` for the element.";
+
+const DOWNWARD_LOOP: &str = "\
+Write `for I in reverse 1 .. 4 loop`.";
+
+const LOOP_IN_C: &str = "\
+Write `for I in 1 .. 4 loop .. end loop;`.";
+
+const LOOP_NAME: &str = "\
+Loops have no names, and `exit` leaves the innermost one: to leave several, set a Boolean that \
+each loop asks, or `return;` from a procedure.";
+
+const NAMED_STATEMENT: &str = "\
+Loops and blocks have no names: leave the name and the colon out, and the name behind its `end`.";
+
+const GOTO: &str = "\
+There is no goto: write a loop with `exit when`.";
+
+const QUANTIFIED_EXPRESSION: &str = "\
+There are no quantified expressions: set a Boolean in a loop.";
+
+const CASE_EXPRESSION: &str = "\
+There are no case expressions: write `(if N = 1 then A elsif N = 2 then B else C)`.";
+
+const MIXED_OPERATORS: &str = "\
+One chain has one logical operator: write parentheses, `(A and B) or C`.";
+
+const EQUALS_FOR_ASSIGNMENT: &str = "\
+`=` compares: write `:=` to assign.";
+
+const DOUBLE_EQUALS: &str = "\
+Write one `=`.";
+
+const OPERATOR_IN_C: &str = "\
+Write `N := N + 1;`.";
+
+const COMMENT_IN_C: &str = "\
+A comment runs from `--` to the end of its line.";
+
+const ASSERT_PRAGMA: &str = "\
+There is no pragma Assert: write `if not Fits then raise Program_Error; end if;`.";
+
+const PRIORITY_PRAGMA: &str = "\
+A priority is given by an aspect: write `task Watch with Priority => 10;`, `protected Store with \
+Priority => 20 is` or `procedure Main with Priority => 5 is`.";
+
+const ATTACHING_PRAGMA: &str = "\
+A handler of an interrupt is attached by an aspect: write `procedure Handle with Attach_Handler \
+=> 1;`.";
+
+const OTHER_PRAGMA: &str = "\
+Leave this pragma out: the only ones are `pragma Profile (Ravenscar);`, first, and `pragma \
+Partition_Elaboration_Policy (Sequential);` behind it.";
+
+const OTHER_PROFILE: &str = "\
+The profile is Ravenscar: write `pragma Profile (Ravenscar);`.";
+
+const NO_PROFILE: &str = "\
+Write `pragma Profile (Ravenscar);` in front of everything else.";
+
+const SEVERAL_ASPECTS: &str = "\
+A declaration has one aspect: keep `Priority` or `Attach_Handler` alone.";
+
+const OTHER_ASPECT: &str = "\
+Aspects are Priority, of a task, a protected object and main, and Attach_Handler, of a protected \
+procedure: leave this one out.";
+
+const PRIORITY_IN_PARENTHESES: &str = "\
+A task has no discriminant, and its priority is an aspect: write `task Watch with Priority => \
+10;`.";
+
+const TASK_TYPE: &str = "\
+There are no task types: declare each task, `task First; task Second;`, and let the body of each \
+call one procedure with parameters, `Work (1);`.";
+
+const PROTECTED_TYPE: &str = "\
+There are no protected types: declare each object, `protected First is .. end First;`.";
+
+const GENERIC_UNIT: &str = "\
+There are no generic units: write the package or the procedure for its one type.";
+
+const SEPARATE_BODY: &str = "\
+There are no subunits: write the body here.";
+
+const NULL_PROCEDURE: &str = "\
+Write `procedure Run is begin null; end Run;`.";
+
+const EXPRESSION_FUNCTION: &str = "\
+Write the expression in a body: `function Twice (N : Integer) return Integer is begin return 2 * \
+N; end Twice;`.";
+
+const FUNCTION_STATEMENTS: &str = "\
+A function is one `return` with an expression, as `return (if A > B then A else B);`: where more \
+is wanted write a procedure with an `out` parameter, `procedure Larger (A : Integer; B : \
+Integer; Most : out Integer) is`.";
+
+const RENAMING: &str = "\
+There are no renamings: write the name itself.";
+
+const NESTED_SUBPROGRAM: &str = "\
+Subprograms stand in the package, not in a body: move this one in front of the body that it is \
+in.";
+
+const PRIVATE_PART: &str = "\
+The specification of a package has no private part: move these declarations into the package \
+body.";
+
+const PACKAGE_STATEMENTS: &str = "\
+A package body has no statements: give variables a first value, or call a procedure in main.";
+
+const SEVERAL_PACKAGES: &str = "\
+A text has one package: move these declarations into it, with a prefix to their names where two \
+are alike.";
+
+const PACKAGE_MISSING: &str = "\
+What main is to do stands in a package: write `package App is procedure Run; end App;`, its \
+body, `with App;`, and `App.Run;` in main.";
+
+const MAIN_WITHOUT_CLAUSE: &str = "\
+Main names the package: write `with App;` in front of it.";
+
+const MAIN_CLAUSES: &str = "\
+In front of main stands `with App;`, for the package alone: its statements are `null;` and \
+`App.Run;`.";
+
+const MAIN_DECLARATIONS: &str = "\
+Main has no declarations: declare this in the package, or in the procedure of the package that \
+main calls.";
+
+const MAIN_STATEMENTS: &str = "\
+Main's statements are `null;` and `App.Run;`: move these into a procedure of the package.";
+
+const DECLARATION_AMONG_STATEMENTS: &str = "\
+Declarations stand in front of `begin`: move this one there, or write a block, `declare M : \
+Integer; begin .. end;`.";
+
+const BEGIN_MISSING: &str = "\
+A `begin` is missing in front of the first statement.";
+
+const SEMICOLON_BEHIND_IS: &str = "\
+Leave out the `;` behind `is`: declarations and `begin` follow.";
+
+const SEMICOLON_MISSING: &str = "\
+A `;` is missing in front of this, unless what ends there was cut by `--`, which begins a \
+comment.";
+
+const NAME_BEHIND_END: &str = "\
+The `end` of a body, a package, a task or a protected object has its name: write `end Main;`.";
+
+const HANDLER_OCCURRENCE: &str = "\
+A handler has no name for the occurrence: write `when others =>`.";
+
+const CLAUSE_WITHOUT_USE: &str = "\
+Behind each `with` stands the `use` of the same unit: write `with Control_IO; use Control_IO;`. \
+The units are Ada.Real_Time and Control_IO.";
+
+const SYSTEM_UNIT: &str = "\
+Leave out the unit System: priorities are numbers, 0 to 30 of tasks and main, and up to 31 of \
+protected objects.";
+
+const TEXT_IO: &str = "\
+Lines are written by Put with a label and a value: write `with Control_IO; use Control_IO;` and \
+`Put (\"done\", 1);`.";
+
+const TIMING_EVENT: &str = "\
+There are no timing events: write a task that waits by `delay until At_Time;` and then does what \
+the event's handler did.";
+
+const SUSPENSION_OBJECT: &str = "\
+There are no suspension objects: write a protected object with an entry, `entry Wait when \
+Is_Open`, whose body sets `Is_Open := False;`, and a procedure that sets it to True.";
+
+const INTERRUPT_UNIT: &str = "\
+An interrupt is the number of its channel, 1 to 8: leave both clauses out, and write `procedure \
+Handle with Attach_Handler => 1;`.";
+
+const EXECUTION_TIME_UNIT: &str = "\
+There is no execution time: computing takes none here. Measure times between `delay until`s by \
+Clock of Ada.Real_Time.";
+
+const OTHER_UNIT: &str = "\
+Leave this unit out: the units are Ada.Real_Time and Control_IO.";
+
+const SECONDS: &str = "\
+Time spans are made by Milliseconds and Microseconds: write `Milliseconds (1_000)` for a second.";
+
+const DURATION_CONVERSION: &str = "\
+A time span has no other form: keep an Integer of milliseconds beside it, `Period : constant \
+Integer := 10;`, and write `Milliseconds (Period)`.";
+
+const TIME_SPAN_ARITHMETIC: &str = "\
+Time spans are not added, compared or divided: reckon with Integers, `Milliseconds (2 * \
+Period)`, and add one to a Time.";
+
+const FIRST_VALUE_FROM_CLOCK: &str = "\
+The first value is `Clock` alone: write `Next : Time := Clock;`, and `Next := Next + \
+Milliseconds (10);` as the first statement.";
+
+const NUMBER_FOR_TIME: &str = "\
+A Time is wanted: write `delay until Clock + Milliseconds (10);`.";
+
+const RELATIVE_DELAY: &str = "\
+A task waits by `delay until`: write `delay until Clock + Milliseconds (500);`.";
+
+const NOT_OF_RELATION: &str = "\
+`not` takes one operand: write `not (X > 80)`, or `X <= 80`.";
+
+const OTHER_TYPE: &str = "\
+The types are Integer, Boolean, Time, Time_Span and those that the package declares: count in \
+Integers.";
+
+const OUTPUT_UNIT: &str = "\
+Put and Read are of a unit: write `with Control_IO; use Control_IO;` in front of the package.";
+
+const TIME_UNIT: &str = "\
+Time and its operations are of a unit: write `with Ada.Real_Time; use Ada.Real_Time;` in front \
+of the package.";
+
+const STATEMENT_MISSING: &str = "\
+A statement is wanted here: write `null;` where there is nothing to do.";
+
+const MAIN_MISSING: &str = "\
+A text ends with its main procedure: write `with App;` and `procedure Main is begin App.Run; end \
+Main;` behind the package body.";
+
+const PUT_ARGUMENTS: &str = "\
+Put has a label and a value: write `Put (\"level\", Level);`.";
+
+const CHANGED_CONSTANT: &str = "\
+Only variables change, and `out` and `in out` parameters: take a variable of its own, and a \
+`while` loop for steps of another size.";
+
+const RETURNED_VALUE: &str = "\
+A procedure returns no value: assign it to an `out` parameter, and write `return;`.";
+
+const LOCAL_TASK: &str = "\
+Declare it in the package, and its body there.";
+
+const SECOND_ENTRY: &str = "\
+A protected object has one entry: use two objects, or a procedure for one of the two.";
+
+const TASK_ENTRY: &str = "\
+A task has no entries: let the tasks meet at the entry of a protected object.";
+
+const BARRIER_EXPRESSION: &str = "\
+A barrier is a Boolean component alone: keep `Is_Open : Boolean := False;`, set it where what \
+the barrier asks for changes, and write `entry Pass when Is_Open is`.";
+
+const SELECT: &str = "\
+There is no select: a call of an entry waits until it is served, and what a task is to do \
+meanwhile is done by a task of its own.";
+
+const ABORT: &str = "\
+There is no abort: let the task ask a protected object whether it is to end.";
+
+const REQUEUE: &str = "\
+There is no requeue: let the caller call again.";
+
+const CASE_WITHOUT_OTHERS: &str = "\
+A `case` ends with `when others =>`, also where the other choices have all values: write `when \
+others => null;`.";

@@ -1,0 +1,18 @@
+//! What to write for what Ada has and this language doesn't: what a fault's place is about, by the tokens around it, and the remedy.
+#![tactic(auto)]
+
+mod closing;
+mod construct;
+mod name;
+mod opening;
+mod openings;
+mod recognition;
+mod row;
+mod rows;
+mod stray;
+
+pub use closing::{closing_of, part_of};
+pub use construct::Construct;
+pub use opening::{Opened, Opening};
+pub use recognition::{construct_at, unclosed_at};
+pub use stray::of_byte;

@@ -1,0 +1,151 @@
+//! Recognizing what a fault is about, by the tokens around its place.
+ghost use Rattle.std.specs.Prelude.{◌≡◌, ◌≤◌, IfOk, length, option_map};
+ghost use Rattle.remedies.specs.Recognition.{begins_unit, construct_at, construct_between, count_before, first_fitting, is_end, is_missing, open_at, unclosed_at, unclosed_between, wants_end, without_end};
+
+use crate::construct::Construct;
+use crate::opening::Opening;
+use crate::openings::open_behind;
+use crate::row::{Region, Row, fits, is_in, kind_at, kind_from_end};
+use crate::rows::ROWS;
+use lexer::{Token, TokenKind, Word};
+use std::alloc::{AllocError, Global};
+
+fn first_fitting(
+    rows: &[Row],
+    fault: u64,
+    front: &[Token],
+    back: &[Token],
+    opening: Option<Opening>,
+) -> Option<Construct>
+    ensures { result ≡ first_fitting rows.now fault front.now back.now opening }
+{
+    for row in rows {
+        if fits(row, fault, front, back, opening) {
+            return Some(row.construct);
+        }
+    }
+    None
+}
+
+fn count_before(place: u32, tokens: &[Token]) -> usize
+    ensures count { result ≡ count_before place tokens.now }
+    ensures most { result ≤ length tokens.now }
+{
+    for (number, token) in tokens.iter().enumerate() {
+        if token.start >= place {
+            return number;
+        }
+    }
+    tokens.len()
+}
+
+fn is_end(kind: Option<&TokenKind>) -> bool
+    ensures { result ≡ is_end (option_map (λ k. k.now) kind.entry) }
+{
+    matches!(kind, Some(TokenKind::Word(Word::End)))
+}
+
+fn without_end(tokens: &[Token]) -> &[Token]
+    ensures { result.now ≡ without_end tokens.now }
+{
+    if is_end(kind_from_end(0, tokens)) {
+        &tokens[..tokens.len().saturating_sub(1)]
+    } else {
+        tokens
+    }
+}
+
+fn open_at(alloc: Global, front: &[Token]) -> Result<Option<Opening>, AllocError>
+    ensures { IfOk result (λ opening. opening ≡ open_at front.now) }
+{
+    open_behind(alloc, without_end(front))
+}
+
+fn construct_between(
+    alloc: Global,
+    fault: u64,
+    front: &[Token],
+    back: &[Token],
+) -> Result<Option<Construct>, AllocError>
+    ensures { IfOk result (λ construct. construct ≡ construct_between fault front.now back.now) }
+{
+    let opening = open_at(alloc, front)?;
+    Ok(first_fitting(&ROWS, fault, front, back, opening))
+}
+
+/// The construct at the place of a fault of this number, in a text of these tokens; None where none is recognized.
+///
+/// # Errors
+/// Where memory was refused.
+pub fn construct_at(
+    alloc: Global,
+    fault: u64,
+    place: u32,
+    tokens: &[Token],
+) -> Result<Option<Construct>, AllocError>
+    ensures { IfOk result (λ construct. construct ≡ construct_at fault place tokens.now) }
+{
+    let (front, back) = tokens.split_at(count_before(place, tokens));
+    construct_between(alloc, fault, front, back)
+}
+
+fn begins_unit(kind: Option<&TokenKind>) -> bool
+    ensures { result ≡ begins_unit (option_map (λ k. k.now) kind.entry) }
+{
+    matches!(
+        kind,
+        Some(TokenKind::Word(
+            Word::Procedure
+                | Word::Function
+                | Word::Task
+                | Word::Protected
+                | Word::Package
+                | Word::With
+        ))
+    )
+}
+
+fn is_missing(kind: Option<&TokenKind>) -> bool
+    ensures { result ≡ is_missing (option_map (λ k. k.now) kind.entry) }
+{
+    kind.is_none()
+}
+
+fn wants_end(front: &[Token], back: &[Token], opening: Option<Opening>) -> bool
+    ensures { result ≡ wants_end front.now back.now opening }
+{
+    is_end(kind_from_end(0, front))
+        || is_missing(kind_at(0, back))
+        || (is_in(Region::AmongStatements, opening) && begins_unit(kind_at(0, back)))
+}
+
+fn unclosed_between(
+    alloc: Global,
+    front: &[Token],
+    back: &[Token],
+) -> Result<Option<Opening>, AllocError>
+    ensures { IfOk result (λ opening. opening ≡ unclosed_between front.now back.now) }
+{
+    let opening = open_at(alloc, front)?;
+    Ok(if wants_end(front, back, opening) {
+        opening
+    } else {
+        None
+    })
+}
+
+/// What is open at the place, in a text of these tokens, where an `end` of it is wrong or missing there: an `end` is the token in front of the place, the text
+/// ends there, or what stands there can't be among statements. None where nothing is open, or none of this is so.
+///
+/// # Errors
+/// Where memory was refused.
+pub fn unclosed_at(
+    alloc: Global,
+    place: u32,
+    tokens: &[Token],
+) -> Result<Option<Opening>, AllocError>
+    ensures { IfOk result (λ opening. opening ≡ unclosed_at place tokens.now) }
+{
+    let (front, back) = tokens.split_at(count_before(place, tokens));
+    unclosed_between(alloc, front, back)
+}
