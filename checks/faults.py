@@ -1,6 +1,6 @@
 """Writes the texts of docs/FAULTS.md to a folder, each as N.text, or N.image, with the line that it is refused with as N.fault. Those of first mistakes are K.mistake,
-counted from 1, with K.wrong, and the sentence that ./run shows as K.hint. What `adarun explain N` says of a number is N.explained: the lines of its section.
-What it tells besides of a text with a fault 6, K.mistake or 6.text, is K.mistake.told or 6.text.told.
+counted from 1, with K.wrong. What `adarun explain N` says of a number is N.explained: the lines of its section. What `adarun simulate` says of a first mistake
+below the line of its place is K.shown, and what `adarun explain 6` tells besides of a text with a fault 6, K.mistake or 6.text, is K.mistake.told or 6.text.told.
 
     faults.py FAULTS.md FOLDER
 
@@ -13,8 +13,8 @@ import sys
 
 
 def examples(lines):
-    """The number, the text and the fault of each section that has a text; the image's bytes have no number and no fault. The number of a first mistake is its sentence."""
-    number, text, mistakes, title = None, [], False, None
+    """The number, the text and the fault of each section that has a text; the image's bytes have no number and no fault. The number of a first mistake is its title."""
+    number, text, mistakes = None, [], False
     for line in lines:
         heading = re.match(r"##(?:# (\d+))? ", line)
         fault = re.match(r"`((?:schedule |image )?fault \d+ at .*)`$", line)
@@ -22,10 +22,7 @@ def examples(lines):
             if text and number is None:
                 yield None, "\n".join(text), None
             mistakes = line == "## First mistakes" or mistakes and line.startswith("### ")
-            number, text = heading and heading[1], []
-            title = line[4:] if mistakes and line.startswith("### ") else None
-        elif title and line and number is None:
-            number = f"{title}: {line}"
+            number, text = line[4:] if mistakes and line.startswith("### ") else heading and heading[1], []
         elif line.startswith("    "):
             text.append(line[4:])
         elif text and not line and not text[-1] == "":
@@ -47,13 +44,15 @@ def explanations(lines):
 
 
 def told(lines):
-    """What is told of each text with a fault 6, in the order of these texts."""
+    """What is told of each text of a source, in the order of these texts: hints and what is open, and what could stand at the place."""
     found = []
     for line in lines:
-        if re.match(r"`fault 6 at .*`$", line):
-            found.append("")
+        if re.match(r"`fault \d+ at .*`$", line):
+            found.append(("", ""))
+        elif re.match(r"hint: |open here: ", line):
+            found[-1] = (found[-1][0] + line + "\n", found[-1][1])
         elif re.match(r"could stand here: |`[a-z]+` is a reserved word, and no identifier$", line):
-            found[-1] += line + "\n"
+            found[-1] = (found[-1][0], found[-1][1] + line + "\n")
     return found
 
 
@@ -91,9 +90,13 @@ for number, text, fault in found:
         files = {f"{number}.{kind}": content, f"{number}.fault": (fault + "\n").encode()}
     else:
         mistakes += 1
-        files = {f"{mistakes}.mistake": text.encode(), f"{mistakes}.wrong": (fault + "\n").encode(), f"{mistakes}.hint": (number + "\n").encode()}
-    if fault.startswith("fault 6 "):
-        files[f"{number}.text.told" if number.isdigit() else f"{mistakes}.mistake.told"] = next(lines_told).encode()
+        files = {f"{mistakes}.mistake": text.encode(), f"{mistakes}.wrong": (fault + "\n").encode()}
+    if fault.startswith("fault "):
+        hints, could = next(lines_told)
+        if not number.isdigit():
+            files[f"{mistakes}.shown"] = (hints + could).encode()
+        if fault.startswith("fault 6 "):
+            files[f"{number}.text.told" if number.isdigit() else f"{mistakes}.mistake.told"] = "\n".join(filter(None, (hints, could))).encode()
     for name, content in files.items():
         with open(os.path.join(folder, name), "wb") as file:
             file.write(content)

@@ -8,7 +8,7 @@ use Rattle.clock.specs.declared.schedule.ScheduleFault.{ScheduleFault}
 use Rattle.explanations.specs.Explained.{explanation_of}
 use Rattle.ada_link.specs.package_code.specs.Places.{PlacesTell}
 use Rattle.ada_link.specs.stmt_code.specs.declared.tables.PlaceRow.{PlaceRow}
-use Rattle.hints.specs.Told.{IsExplained}
+use Rattle.hints.specs.Explained.{IsExplained}
 use Rattle.lexer.specs.declared.fault.Fault.{Fault}
 use Rattle.manual.specs.declared.TheConstants.{MANUAL, VERSION}
 use Rattle.image_format.specs.Bytes.{bytes_of}

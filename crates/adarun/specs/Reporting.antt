@@ -7,7 +7,7 @@ use Rattle.clock.specs.Schedules.{IsScheduleText}
 use Rattle.clock.specs.declared.schedule.ScheduleFault.{ScheduleFault}
 use Rattle.endings.specs.Sources.{raised_from}
 use Rattle.explanations.specs.Explained.{explanation_of}
-use Rattle.hints.specs.Told.{IsToldAt}
+use Rattle.hints.specs.Hinted.{AreRemarksAt}
 use Rattle.image.specs.Sections.{Sections}
 use Rattle.image.specs.Texts.{text_from_one}
 use Rattle.lexer.specs.declared.fault.Fault.{Fault}
@@ -16,15 +16,16 @@ use Rattle.adarun.specs.CodeTold.{IsCodeTold}
 use Rattle.adarun.specs.Naming.{CompilesNamed}
 use Rattle.adarun.specs.declared.reporting.Unhandled.{Unhandled}
 
--- The report of the fault, and behind it the lines of what is told of the text and of its code beside. (What is told begins with an empty line.)
+-- The report of the fault, and behind it the lines of what to write instead, and of what is told of the text and of its code beside. (What is told of the code
+-- begins with an empty line.)
 pub record HasSourceRefusal (file text : List ℕ) (fault : Fault) (report : List ℕ) : Type 0 where
   pub explanation : List ℕ
   pub explained : explanation_of fault.number ≡ Some explanation
-  pub told : List ℕ
-  pub is_told : IsToldAt fault.number (Some fault.place) text told
+  pub remarks : List ℕ
+  pub are_remarks : AreRemarksAt fault.number (Some fault.place) text remarks
   pub code : List ℕ
   pub is_code : IsCodeTold fault.number (Some fault.place) text code
-  pub report_is : report ≡ source_report file text explanation fault.number fault.place ++ drop 1 told ++ drop 1 code
+  pub report_is : report ≡ source_report file text explanation fault.number fault.place ++ remarks ++ drop 1 code
 
 -- None where the number is that of no fault
 abbrev pub IsSourceRefusal : (file text : List ℕ) → Fault → Option (List ℕ) → Type 0

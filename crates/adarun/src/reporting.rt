@@ -9,14 +9,14 @@ use crate::compilation::{Named, compile_named};
 use clock::{Schedule, ScheduleFault};
 use endings::raised_from;
 use explanations::explanation;
-use hints::told_at;
+use hints::remarks_at;
 use lexer::Fault;
 use machine::{Steps, exception_name};
 use source_report::{put_place_report, put_schedule_report, put_source_report};
 use std::alloc::{AllocError, Global};
 use std::sync::ledger::Ledger;
 
-// Adds the lines of what is told, which begins with an empty one.
+// Adds the lines of what is told of the code, which begins with an empty one.
 fn put_told(out: &mut Vec<u8>, told: &[u8]) -> Result<(), AllocError>
     ensures { OnOk result (out.new.items ≡ out.old.items ++ drop 1 told.now) }
 {
@@ -26,7 +26,8 @@ fn put_told(out: &mut Vec<u8>, told: &[u8]) -> Result<(), AllocError>
     }
 }
 
-/// What is said of a source that is refused: the place, the rule and the line, and what is told of the text beside; None where the number is that of no fault.
+/// What is said of a source that is refused: the place, the rule and the line, what to write instead, and what is told of the text beside; None where the
+/// number is that of no fault.
 ///
 /// # Errors
 /// Where memory was refused.
@@ -52,8 +53,8 @@ pub(crate) fn source_refusal(
         fault.number,
         fault.place,
     )?;
-    let told = told_at(alloc, number, Some(fault.place), text)?;
-    put_told(&mut report, &told)?;
+    let remarks = remarks_at(alloc, number, Some(fault.place), text)?;
+    report.extend_from_slice(&remarks)?;
     let code = told_of_limit(alloc, number, Some(fault.place), text)?;
     put_told(&mut report, &code)?;
     Ok(Some(report))

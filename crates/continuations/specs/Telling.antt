@@ -1,11 +1,13 @@
 -- What is told of a place where a token cannot stand.
-use Rattle.std.specs.Prelude.{◌≡◌, ℕ, Bool, true, false, List, [], ◌∷◌, ◌++◌, flat_map, codes}
+use Rattle.std.specs.Prelude.{◌≡◌, ◌&&◌, ◌||◌, ℕ, Bool, true, false, List, [], ◌∷◌, ◌++◌, flat_map, codes, length, nat_eq}
 use Rattle.std.specs.List.{list_any}
 use Rattle.std.specs.Str.{str_to_ascii_lowercase}
 use Rattle.lexer.specs.Delimiters.{delimiter_text}
 use Rattle.lexer.specs.Words.{spelling}
 use Rattle.lexer.specs.declared.token.TokenKind.{TokenKind}
 use Rattle.lexer.specs.declared.token.TokenKind.TheVariants as kinds
+use Rattle.lexer.specs.declared.delimiter.Delimiter.TheVariants as delimiters
+use Rattle.lexer.specs.declared.word.Word.TheVariants as words
 use Rattle.ada_tree.specs.Language.{Tokens}
 use Rattle.continuations.specs.Following.{AreTheAllowed}
 use Rattle.continuations.specs.declared.continuation.Continuation.{Continuation}
@@ -42,10 +44,25 @@ abbrev pub line_of_kind : TokenKind → Bool → List ℕ
 line_of_kind (kinds.Word w) true = in_quotes (str_to_ascii_lowercase (spelling w)) ++ codes " is a reserved word, and no identifier" ++ 10 ∷ []
 line_of_kind kind could = []
 
--- of a reserved word that stands where an identifier could
+-- what stands behind a name that is declared, or is a statement
+abbrev pub is_behind_name : TokenKind → Bool
+is_behind_name (kinds.Delimiter delimiters.Colon) = true
+is_behind_name (kinds.Delimiter delimiters.Semicolon) = true
+is_behind_name (kinds.Word words.Is) = true
+is_behind_name kind = false
+
+abbrev pub begins_behind_name : Tokens → Bool
+begins_behind_name [] = false
+begins_behind_name (t ∷ back) = is_behind_name t.kind
+
+-- An identifier could stand in the place of a word, and nothing else could, or what follows the word is what follows a name.
+abbrev pub is_meant_as_name : (behind : Tokens) → List Continuation → Bool
+is_meant_as_name behind cs = list_any is_identifier cs && (nat_eq (length cs) 1 || begins_behind_name behind)
+
+-- of a reserved word that is meant as a name
 abbrev pub reserved_line : Tokens → List Continuation → List ℕ
 reserved_line [] cs = []
-reserved_line (t ∷ back) cs = line_of_kind t.kind (list_any is_identifier cs)
+reserved_line (t ∷ back) cs = line_of_kind t.kind (is_meant_as_name back cs)
 
 abbrev pub told_text : Tokens → List Continuation → List ℕ
 told_text back cs = 10 ∷ (could_line cs ++ reserved_line back cs)

@@ -4,7 +4,7 @@ ghost use Rattle.std.specs.List.{list_any};
 ghost use Rattle.std.specs.Str.{str_to_ascii_lowercase};
 ghost use Rattle.lexer.specs.Delimiters.{delimiter_text};
 ghost use Rattle.lexer.specs.Words.{spelling};
-ghost use Rattle.continuations.specs.Telling.{IsToldOfPlace, could_line, in_quotes, is_identifier, more_of, name_of, reserved_line};
+ghost use Rattle.continuations.specs.Telling.{IsToldOfPlace, begins_behind_name, could_line, in_quotes, is_identifier, is_meant_as_name, more_of, name_of, reserved_line};
 
 use crate::continuation::Continuation;
 use crate::following::allowed;
@@ -105,7 +105,30 @@ fn has_identifier(continuations: &[Continuation]) -> bool
     continuations.iter().any(|continuation| matches!(continuation, Continuation::Identifier))
 }
 
-// Of a reserved word that stands where an identifier could.
+fn begins_behind_name(behind: &[Token]) -> bool
+    ensures { result ≡ begins_behind_name behind.now }
+{
+    matches!(
+        behind,
+        [
+            Token {
+                kind: TokenKind::Delimiter(Delimiter::Colon | Delimiter::Semicolon)
+                    | TokenKind::Word(Word::Is),
+                ..
+            },
+            ..
+        ]
+    )
+}
+
+// Whether a word is meant as a name that has this behind it, where these could stand in its place.
+fn is_meant_as_name(behind: &[Token], continuations: &[Continuation]) -> bool
+    ensures { result ≡ is_meant_as_name behind.now continuations.now }
+{
+    has_identifier(continuations) && (continuations.len() == 1 || begins_behind_name(behind))
+}
+
+// Of a reserved word that is meant as a name.
 fn put_reserved_line(
     alloc: Global,
     out: &mut Vec<u8>,
@@ -120,8 +143,8 @@ fn put_reserved_line(
                 kind: TokenKind::Word(word),
                 ..
             },
-            ..
-        ] if has_identifier(continuations) => {
+            behind @ ..,
+        ] if is_meant_as_name(behind, continuations) => {
             put_word(alloc, out, *word)?;
             out.extend_from_slice(b" is a reserved word, and no identifier\n")
         }
@@ -130,7 +153,7 @@ fn put_reserved_line(
 }
 
 /// What is told of the place between two parts of the tokens of a text: a line with all that could stand there, and another one where a
-/// reserved word does and an identifier could.
+/// reserved word stands there that is meant as a name: an identifier could, and nothing else, or `:`, `;` or `is` follows.
 ///
 /// # Errors
 /// Where memory was refused.

@@ -104,13 +104,14 @@ fault 6 at 2:25
 The place is the token, or the end of the last token where the text ends too early. Here a \
 statement is missing: write `begin null; end Main;`.
 
-`adarun explain 6 SRC` tells what could stand at the place in the text SRC, as `./run` does once the \
-program is built: each token that some text of the grammar has there, with at most 40 levels open \
-at once. A reserved word where an identifier could stand is told too. Of the text above:
+`adarun explain 6 SRC` tells what to write instead in the text SRC, where that is known, what is \
+open where an `end` is wrong or missing, and what could stand at the place: each token that some \
+text of the grammar has there, with at most 40 levels open at once. A reserved word that is meant \
+as a name is told too. `adarun simulate SRC` and `./run SRC` show the same. Of the text above:
+
+hint: A statement is wanted here: write `null;` where there is nothing to do.
 
 could stand here: an identifier, `null`
-
-`end` is a reserved word, and no identifier
 ";
 
 const TOO_MANY_LEVELS: &str = "\

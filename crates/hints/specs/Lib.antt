@@ -1,3 +1,5 @@
 pub mod Places
 pub mod Told
 pub mod Stopped
+pub mod Hinted
+pub mod Explained

@@ -9,7 +9,6 @@ use Rattle.parser.specs.Parsing.{Derives, IsFaulty, NoneGoesOn, SomeBegins}
 use Rattle.continuations.specs.Telling.{IsToldOfPlace}
 use Rattle.counterparts.specs.Twice.{twice_other}
 use Rattle.counterparts.specs.Unmatched.{unmatched_other}
-use Rattle.explanations.specs.Explained.{explanation_of}
 use Rattle.hints.specs.Places.{name_at, other_line}
 use Rattle.hints.specs.declared.others.Pair.{Pair}
 use Rattle.hints.specs.declared.others.Pair.TheVariants.{Bodies, Declarations}
@@ -102,16 +101,3 @@ IsToldOf number place text told =
 abbrev pub IsToldAt : ℕ → Option ℕ → List ℕ → List ℕ → Type 0
 IsToldAt number (Some place) text told = IsToldOf number place text told
 IsToldAt number None text told = told ≡ []
-
--- the explanation of the number, and what is told of the text
-pub record HasWhole (number : ℕ) (place : Option ℕ) (text whole : List ℕ) : Type 0 where
-  pub explanation : List ℕ
-  pub explained : explanation_of number ≡ Some explanation
-  pub told : List ℕ
-  pub is_told : IsToldAt number place text told
-  pub whole_is : whole ≡ explanation ++ told
-
--- None where no fault has the number
-abbrev pub IsExplained : ℕ → Option ℕ → List ℕ → Option (List ℕ) → Type 0
-IsExplained number place text None = explanation_of number ≡ None
-IsExplained number place text (Some whole) = HasWhole number place text whole

@@ -1,7 +1,9 @@
 //! What is told of one text.
 ghost use Rattle.std.specs.Prelude.{option_map, IfOk};
-ghost use Rattle.hints.specs.Told.{IsExplained, IsToldAt, IsToldOf, TellsAt, TellsOrNot};
+ghost use Rattle.hints.specs.Explained.{IsExplained};
+ghost use Rattle.hints.specs.Told.{IsToldAt, IsToldOf, TellsAt, TellsOrNot};
 
+use crate::hinted::hints_at;
 use crate::others::{Pair, told_of_other};
 use base::faults::{DECLARED_TWICE, MEMORY_REFUSED, UNEXPECTED_TOKEN, UNMATCHED_BODY};
 use continuations::told;
@@ -79,9 +81,9 @@ pub fn told_at(
     }
 }
 
-/// The explanation of the fault of this number, and behind it what is told of the text where its fault has the number and this place: of a
-/// token that cannot stand where it does, what could stand there; of a name that is declared twice, and of a body that doesn't belong to its declaration, where
-/// the other one is. None where no fault has the number.
+/// The explanation of the fault of this number, and behind it, where the text's fault has the number and this place, what to write instead, what is open there
+/// where an `end` is wrong or missing, and what is told of the text: of a token that cannot stand where it does, what could stand there; of a name that is
+/// declared twice, and of a body that doesn't belong to its declaration, where the other one is. None where no fault has the number.
 ///
 /// # Errors
 /// Where memory was refused.
@@ -97,6 +99,8 @@ pub fn explained(
         return Ok(None);
     };
     let mut whole = explanation.as_bytes().to_vec(alloc)?;
+    let hints = hints_at(alloc, number, place, text)?;
+    whole.extend_from_slice(&hints)?;
     let told = told_at(alloc, number, place, text)?;
     whole.extend_from_slice(&told)?;
     Ok(Some(whole))

@@ -94,7 +94,7 @@ without_end ts = if is_end (kind_from_end 0 ts) then take (length ts - 1) ts els
 abbrev pub open_at : (front : List Token) → Option Opening
 open_at front = open_behind (without_end front)
 
-abbrev pub construct_between : (fault : ℕ) → (front back : List Token) → Option Construct
+unfoldable pub construct_between : (fault : ℕ) → (front back : List Token) → Option Construct
 construct_between fault front back = first_fitting ROWS fault front back (open_at front)
 
 -- at the place of a fault of this number in a text of these tokens

@@ -29,27 +29,27 @@ pub fn part_of(opened: Opened) -> &'static str
     }
 }
 
-/// What closes it, code between two marks (96).
+/// By what it is closed, in words; code stands between two marks (96).
 pub fn closing_of(opened: Opened) -> &'static str
     ensures { result.now ≡ closing_of opened }
 {
     match opened {
-        Opened::Parenthesis => "`)`",
-        Opened::Package => "`end` and its name",
-        Opened::PackageBody => "`end` and its name",
-        Opened::Task => "`end` and its name",
-        Opened::Protected => "`end` and its name",
-        Opened::ProtectedBody => "`end` and its name",
-        Opened::Declarations => "`end` and its name",
-        Opened::Statements => "`end` and its name",
-        Opened::Main => "`end` and its name",
-        Opened::MainStatements => "`end` and its name",
-        Opened::Declare => "`end;`",
-        Opened::Block => "`end;`",
-        Opened::If => "`end if;`",
-        Opened::Case => "`end case;`",
-        Opened::Loop => "`end loop;`",
-        Opened::Record => "`end record;`",
-        Opened::Select => "`end select;`",
+        Opened::Parenthesis => "closed by `)`",
+        Opened::Package => "closed by `end` and its name",
+        Opened::PackageBody => "closed by `end` and its name",
+        Opened::Task => "closed by `end` and its name",
+        Opened::Protected => "closed by `end` and its name",
+        Opened::ProtectedBody => "closed by `end` and its name",
+        Opened::Declarations => "closed by `end` and its name",
+        Opened::Statements => "closed by `end` and its name",
+        Opened::Main => "closed by `end` and its name",
+        Opened::MainStatements => "closed by `end` and its name",
+        Opened::Declare => "closed by `end;`",
+        Opened::Block => "closed by `end;`",
+        Opened::If => "closed by `end if;`",
+        Opened::Case => "closed by `end case;`",
+        Opened::Loop => "closed by `end loop;`",
+        Opened::Record => "closed by `end record;`",
+        Opened::Select => "closed by `end select;`",
     }
 }

@@ -61,6 +61,7 @@ fn open_at(alloc: Global, front: &[Token]) -> Result<Option<Opening>, AllocError
     open_behind(alloc, without_end(front))
 }
 
+#[tactic(auto, unfolding(crate::specs::Recognition::construct_between))]
 fn construct_between(
     alloc: Global,
     fault: u64,

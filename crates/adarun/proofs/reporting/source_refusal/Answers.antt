@@ -1,6 +1,6 @@
 use Rattle.std.proofs.Common.{Some, ap, rules, subst, sym, ◌∙◌}
 use Rattle.explanations.specs.Explained.{explanation_of}
-use Rattle.hints.specs.Told.{IsToldAt}
+use Rattle.hints.specs.Hinted.{AreRemarksAt}
 use Rattle.adarun.specs.CodeTold.{IsCodeTold}
 use Rattle.adarun.proofs.Reported.{whole_report}
 use Rattle.adarun.proofs.reporting.source_refusal.Goals as goal
@@ -10,10 +10,11 @@ returns c =
     record {
       explanation = c.in-Some.rule.now;
       explained = sym (c.in-Some.ensures.explained ∙ ap explanation_of c.from-number.ensures);
-      told = c.in_ok-told.told.items;
-      is_told = subst (λ n. IsToldAt n (Some c.args.fault.now.place) c.args.text.now c.in_ok-told.told.items) c.from-number.ensures c.in_ok-told.ensures;
+      remarks = c.in_ok-remarks.remarks.items;
+      are_remarks = subst (λ n. AreRemarksAt n (Some c.args.fault.now.place) c.args.text.now c.in_ok-remarks.remarks.items) c.from-number.ensures
+          c.in_ok-remarks.ensures;
       code = c.in_ok-code.code.items;
       is_code = subst (λ n. IsCodeTold n (Some c.args.fault.now.place) c.args.text.now c.in_ok-code.code.items) c.from-number.ensures c.in_ok-code.ensures;
       report_is = whole_report _ _ _ c.args.text.now _ _ _ _ _ _ _ _ _ c.args.fault.now.number c.args.fault.now.place c.new-report.ensures.items c.as_bytes.ensures.value c.as_bytes-rule.ensures.value
-          c.deref.ensures.value c.deref-2.ensures.value c.in_ok-put_source_report.ensures c.in_ok-put_told.ensures c.in_ok-put_told-2.ensures;
+          c.deref.ensures.value c.deref-2.ensures.value c.in_ok-put_source_report.ensures c.in_ok-extend_from_slice.ensures.items c.in_ok-put_told.ensures;
     }

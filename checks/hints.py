@@ -1,0 +1,57 @@
+#!/usr/bin/env python3
+"""Gives the program what the tables of docs/FAULTS.md, "What to write instead", have in their first columns, and compares what it says with the second ones.
+
+    hints.py PROGRAM FAULTS.md SCRATCH
+
+Each is put into a text by the heading of its table. `simulate` refuses the text, and of the lines that it writes the only one that begins with `hint: ` goes on
+with what the second column says.
+"""
+import os
+import re
+import subprocess
+import sys
+
+SPECIFICATION = "pragma Profile (Ravenscar);\nwith Control_IO; use Control_IO;\npackage App is\n%s\nprocedure Run;\nend App;\n"
+BODY = "package body App is\n%s\nprocedure Run is N : Integer; B : Boolean; begin\n%s\nend Run;\nend App;\nwith App;\nprocedure Main is begin App.Run; end Main;\n"
+FRAMES = {
+    "declaration": (SPECIFICATION % "{}") + BODY % ("", "null;"),
+    "body": (SPECIFICATION % "") + BODY % ("{}", "null;"),
+    "statement": (SPECIFICATION % "") + BODY % ("", "{}"),
+    "text": "{}\n",
+}
+
+
+def rows_of(lines):
+    """What each row of the tables has written in its text, and what is to be said of it."""
+    frame = None
+    for line in lines:
+        heading = re.match(r"\| (\w+) \| what to write \|$", line)
+        row = re.match(r"\| `(.*?)` \| (.*) \|$", line)
+        if heading:
+            frame = FRAMES[heading[1]]
+        elif not line.startswith("|"):
+            frame = None
+        elif row and frame:
+            yield frame.replace("{}", row[1]), row[2]
+
+
+def main():
+    program, faults, scratch = sys.argv[1:]
+    source = os.path.join(scratch, "hinted.adb")
+    with open(faults, encoding="utf-8") as file:
+        rows = list(rows_of(file.read().split("\n")))
+    wrong = 0
+    for text, expected in rows:
+        with open(source, "w", encoding="utf-8") as file:
+            file.write(text)
+        run = subprocess.run([program, "simulate", source], capture_output=True, text=True, check=False)
+        hints = [line.removeprefix("hint: ") for line in run.stderr.split("\n") if line.startswith("hint: ")]
+        if run.returncode != 2 or hints != [expected]:
+            wrong += 1
+            print(f"hints: {expected!r} was expected, {run.stderr.strip()} was told of\n{text}", file=sys.stderr)
+    print(f"hints: of {len(rows) - wrong} of {len(rows)} texts it is told what to write instead")
+    return 1 if wrong or not rows else 0
+
+
+if __name__ == "__main__":
+    sys.exit(main())
