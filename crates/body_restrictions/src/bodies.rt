@@ -4,7 +4,7 @@ ghost use Rattle.std.specs.List.{list_any};
 ghost use Rattle.ada_tree.specs.ExpressionTree.{expr_tree};
 ghost use Rattle.ada_tree.specs.ProgramTree.{body_tree, protected_item_tree};
 ghost use Rattle.ada_tree.specs.StatementTree.{alternative_trees, declaration_tree, elsif_trees, handler_trees, stmt_tree, stmt_trees};
-ghost use Rattle.expr_rules.specs.Faults.{least};
+ghost use Rattle.expr_rules.specs.Findings.{noted};
 ghost use Rattle.body_restrictions.specs.BodyRules.{alternatives_faults, barrier_rule, body_faults, elsifs_faults, handlers_faults, is_component, is_simple_name, is_truth_value, local_faults, locals_faults, operation_faults, operations_faults, simple_faults, stmt_faults, stmts_faults};
 
 use ada_tree::laws::statements_by_parts;
@@ -15,130 +15,115 @@ use base::faults::{
     ABORT_STATEMENT, LOCAL_TASKING, RELATIVE_DELAY, REQUEUE_STATEMENT, SELECT_STATEMENT,
     TASK_ENTRY, WRONG_BARRIER,
 };
-use expr_rules::laws::{least_by_parts, sooner_associates};
-use expr_rules::{rule, sooner};
-use lexer::{Fault, Text};
+use expr_rules::Findings;
+use expr_rules::laws::noted_by_parts;
+use lexer::Text;
 use types::{RecordComponent, start_of};
 
-fn local_fault(declaration: &Declaration) -> Option<Fault>
-    ensures { result ≡ least (local_faults (declaration_tree declaration.now)) }
+fn local_faults(declaration: &Declaration, found: &mut Findings)
+    ensures { found.new ≡ noted found.old (local_faults (declaration_tree declaration.now)) }
 {
     match declaration {
-        Declaration::Object(_) => None,
-        Declaration::Task(task) => rule(LOCAL_TASKING, task.place, true),
-        Declaration::Protected(object) => rule(LOCAL_TASKING, object.place, true),
+        Declaration::Object(_) => {}
+        Declaration::Task(task) => found.note_rule(LOCAL_TASKING, task.place, true),
+        Declaration::Protected(object) => found.note_rule(LOCAL_TASKING, object.place, true),
     }
 }
 
-fn locals_fault(declarations: &[Declaration]) -> Option<Fault>
-    ensures { result ≡ least (locals_faults (map declaration_tree declarations.now)) }
+fn locals_faults(declarations: &[Declaration], found: &mut Findings)
+    ensures { found.new ≡ noted found.old (locals_faults (map declaration_tree declarations.now)) }
 {
-    least_by_parts();
-    sooner_associates();
-    let mut fault = None;
+    noted_by_parts();
     for declaration in declarations {
-        fault = sooner(fault, local_fault(declaration));
+        local_faults(declaration, found);
     }
-    fault
 }
 
-fn simple_fault(statement: &Stmt) -> Option<Fault>
-    ensures { result ≡ least (simple_faults (stmt_tree statement.now)) }
+fn simple_faults(statement: &Stmt, found: &mut Findings)
+    ensures { found.new ≡ noted found.old (simple_faults (stmt_tree statement.now)) }
 {
     statements_by_parts();
     match statement {
-        Stmt::Accept(place, _) => rule(TASK_ENTRY, *place, true),
-        Stmt::Delay(place, _) => rule(RELATIVE_DELAY, *place, true),
-        Stmt::Select(place) => rule(SELECT_STATEMENT, *place, true),
-        Stmt::Abort(place, _) => rule(ABORT_STATEMENT, *place, true),
-        Stmt::Requeue(place, _, _) => rule(REQUEUE_STATEMENT, *place, true),
-        _ => None,
+        Stmt::Accept(place, _) => found.note_rule(TASK_ENTRY, *place, true),
+        Stmt::Delay(place, _) => found.note_rule(RELATIVE_DELAY, *place, true),
+        Stmt::Select(place) => found.note_rule(SELECT_STATEMENT, *place, true),
+        Stmt::Abort(place, _) => found.note_rule(ABORT_STATEMENT, *place, true),
+        Stmt::Requeue(place, _, _) => found.note_rule(REQUEUE_STATEMENT, *place, true),
+        _ => {}
     }
 }
 
 #[cycle(statement)]
-fn elsifs_fault(all: &[ElsifPart]) -> Option<Fault>
-    ensures { result ≡ least (elsifs_faults (elsif_trees all.now)) }
+fn elsifs_faults(all: &[ElsifPart], found: &mut Findings)
+    ensures { found.new ≡ noted found.old (elsifs_faults (elsif_trees all.now)) }
 {
-    least_by_parts();
-    sooner_associates();
-    let mut fault = None;
+    noted_by_parts();
     for part in all {
-        fault = sooner(fault, statements_fault(&part.statements));
+        statements_faults(&part.statements, found);
     }
-    fault
 }
 
 #[cycle(statement)]
-fn alternatives_fault(all: &[Alternative]) -> Option<Fault>
-    ensures { result ≡ least (alternatives_faults (alternative_trees all.now)) }
+fn alternatives_faults(all: &[Alternative], found: &mut Findings)
+    ensures { found.new ≡ noted found.old (alternatives_faults (alternative_trees all.now)) }
 {
-    least_by_parts();
-    sooner_associates();
-    let mut fault = None;
+    noted_by_parts();
     for one in all {
-        fault = sooner(fault, statements_fault(&one.statements));
+        statements_faults(&one.statements, found);
     }
-    fault
 }
 
 #[cycle(statement)]
-fn handlers_fault(all: &[Handler]) -> Option<Fault>
-    ensures { result ≡ least (handlers_faults (handler_trees all.now)) }
+fn handlers_faults(all: &[Handler], found: &mut Findings)
+    ensures { found.new ≡ noted found.old (handlers_faults (handler_trees all.now)) }
 {
-    least_by_parts();
-    sooner_associates();
-    let mut fault = None;
+    noted_by_parts();
     for one in all {
-        fault = sooner(fault, statements_fault(&one.statements));
+        statements_faults(&one.statements, found);
     }
-    fault
 }
 
 #[cycle(statement)]
-fn statement_fault(one: &Stmt) -> Option<Fault>
-    ensures { result ≡ least (stmt_faults (stmt_tree one.now)) }
+fn statement_faults(one: &Stmt, found: &mut Findings)
+    ensures { found.new ≡ noted found.old (stmt_faults (stmt_tree one.now)) }
 {
-    least_by_parts();
+    noted_by_parts();
     statements_by_parts();
     match one {
         Stmt::If(_, _, body, elsifs, others) => {
-            let first = sooner(statements_fault(body), elsifs_fault(elsifs));
-            sooner(first, statements_fault(others))
+            statements_faults(body, found);
+            elsifs_faults(elsifs, found);
+            statements_faults(others, found);
         }
-        Stmt::Case(_, _, all) => alternatives_fault(all),
-        Stmt::Loop(_, _, body) => statements_fault(body),
+        Stmt::Case(_, _, all) => alternatives_faults(all, found),
+        Stmt::Loop(_, _, body) => statements_faults(body, found),
         Stmt::Block(_, declarations, body, all) => {
-            let first = sooner(locals_fault(declarations), statements_fault(body));
-            sooner(first, handlers_fault(all))
+            locals_faults(declarations, found);
+            statements_faults(body, found);
+            handlers_faults(all, found);
         }
-        _ => simple_fault(one),
+        _ => simple_faults(one, found),
     }
 }
 
 #[cycle(statement)]
-fn statements_fault(all: &[Stmt]) -> Option<Fault>
-    ensures { result ≡ least (stmts_faults (stmt_trees all.now)) }
+fn statements_faults(all: &[Stmt], found: &mut Findings)
+    ensures { found.new ≡ noted found.old (stmts_faults (stmt_trees all.now)) }
 {
-    least_by_parts();
-    sooner_associates();
-    let mut fault = None;
+    noted_by_parts();
     for one in all {
-        fault = sooner(fault, statement_fault(one));
+        statement_faults(one, found);
     }
-    fault
 }
 
-/// The least restriction that the declarations, statements and handlers of a body break.
-pub fn body_fault(body: &Body) -> Option<Fault>
-    ensures { result ≡ least (body_faults (body_tree body.now)) }
+/// Notes each restriction that the declarations, statements and handlers of a body break.
+pub fn body_faults(body: &Body, found: &mut Findings)
+    ensures { found.new ≡ noted found.old (body_faults (body_tree body.now)) }
 {
-    least_by_parts();
-    let first = sooner(
-        locals_fault(&body.declarations),
-        statements_fault(&body.statements),
-    );
-    sooner(first, handlers_fault(&body.handlers))
+    noted_by_parts();
+    locals_faults(&body.declarations, found);
+    statements_faults(&body.statements, found);
+    handlers_faults(&body.handlers, found);
 }
 
 fn is_truth_value(name: &Text) -> bool
@@ -164,37 +149,36 @@ fn is_simple_name(components: &[RecordComponent], name: Option<&Identifier>) -> 
     }
 }
 
-fn barrier_rule(components: &[RecordComponent], barrier: &Expr) -> Option<Fault>
-    ensures { result ≡ least (barrier_rule components.now (expr_tree barrier.now)) }
+fn barrier_rule(components: &[RecordComponent], barrier: &Expr, found: &mut Findings)
+    ensures { found.new ≡ noted found.old (barrier_rule components.now (expr_tree barrier.now)) }
 {
     let is_simple = is_simple_name(components, barrier.bare_name());
-    rule(WRONG_BARRIER, start_of(barrier), !is_simple)
+    found.note_rule(WRONG_BARRIER, start_of(barrier), !is_simple);
 }
 
-fn operation_fault(components: &[RecordComponent], item: &ProtectedBodyItem) -> Option<Fault>
-    ensures { result ≡ least (operation_faults components.now (protected_item_tree item.now)) }
+fn operation_faults(components: &[RecordComponent], item: &ProtectedBodyItem, found: &mut Findings)
+    ensures { found.new ≡ noted found.old (operation_faults components.now (protected_item_tree item.now)) }
 {
-    least_by_parts();
+    noted_by_parts();
     match item {
-        ProtectedBodyItem::Subprogram(_, body) => body_fault(body),
+        ProtectedBodyItem::Subprogram(_, body) => body_faults(body, found),
         ProtectedBodyItem::Entry(_, barrier, body) => {
-            sooner(barrier_rule(components, barrier), body_fault(body))
+            barrier_rule(components, barrier, found);
+            body_faults(body, found);
         }
     }
 }
 
-/// The least restriction that the operations in the body of a protected object with these components break.
-pub fn operations_fault(
+/// Notes each restriction that the operations in the body of a protected object with these components break.
+pub fn operations_faults(
     components: &[RecordComponent],
     items: &[ProtectedBodyItem],
-) -> Option<Fault>
-    ensures { result ≡ least (operations_faults components.now (map protected_item_tree items.now)) }
+    found: &mut Findings,
+)
+    ensures { found.new ≡ noted found.old (operations_faults components.now (map protected_item_tree items.now)) }
 {
-    least_by_parts();
-    sooner_associates();
-    let mut fault = None;
+    noted_by_parts();
     for item in items {
-        fault = sooner(fault, operation_fault(components, item));
+        operation_faults(components, item, found);
     }
-    fault
 }

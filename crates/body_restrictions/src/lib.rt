@@ -3,4 +3,4 @@
 
 mod bodies;
 
-pub use bodies::{body_fault, operations_fault};
+pub use bodies::{body_faults, operations_faults};

@@ -7,3 +7,4 @@ mod Numbers
 mod Placing
 mod Room
 mod OneWalk
+pub mod SameFaults

@@ -4,4 +4,5 @@ pub mod LikeNames
 pub mod OpenParts
 pub mod ProgramLayouts
 pub mod ProgramRules
+pub mod FoundFaults
 pub mod Placing

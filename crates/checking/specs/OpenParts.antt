@@ -1,11 +1,11 @@
--- The faults of LikeNames in one walk, as the check takes them: each name of a part of an object has the place up to which it is open, that of the object's
+-- The faults of LikeNames in one walk, as the check finds them: each name of a part of an object has the place up to which it is open, that of the object's
 -- body. The declarations of the specification stand at place 0, and what is in the package's body at 1, 2 and so on.
-use Rattle.std.specs.Prelude.{ℕ, suc, Bool, false, not, List, [], ◌∷◌, ◌++◌, Option, Some, None, bytes_eq, nat_lt, unwrap_or, if◌then◌else◌}
+use Rattle.std.specs.Prelude.{ℕ, suc, ◌+◌, length, Bool, false, not, List, [], ◌∷◌, ◌++◌, Option, Some, None, bytes_eq, nat_lt, unwrap_or, if◌then◌else◌}
 use Rattle.indexmap.specs.IndexMap.{insert_entry}
 use Rattle.base.specs.declared.faults.TheConstants.{DECLARED_TWICE}
 use Rattle.ada_tree.specs.declared.expression.Identifier.{Identifier}
 use Rattle.ada_tree.specs.StatementTree.{ProtectedComponentTree, ProtectedTree}
-use Rattle.ada_tree.specs.ProgramTree.{ItemTree, OfProtected, BodyItemTree, OfItem, SubprogramBody, ProtectedBody}
+use Rattle.ada_tree.specs.ProgramTree.{ItemTree, OfProtected, BodyItemTree, OfItem, SubprogramBody, ProtectedBody, PackageTree}
 use Rattle.types.specs.Seen.{place_of}
 use Rattle.expr_rules.specs.Faults.{Faults, rule}
 use Rattle.declaring.specs.ProtectedRules.{operation_bytes}
@@ -101,3 +101,10 @@ abbrev pub open_body_faults : (whole : ℕ) → NamePlaces → ℕ → List Body
 open_body_faults whole ends place [] = []
 open_body_faults whole ends place (i ∷ is) =
     open_item_faults ends place i ++ open_body_faults whole (with_body_item (bodies_from (suc place) is) whole ends i) (suc place) is
+
+-- what the walk finds: the faults of LikeNames in another order, a name that is like parts of several objects once
+abbrev pub open_parts_faults : PackageTree → Faults
+open_parts_faults p =
+    let whole = length p.body.items + 1 in
+    let bodies = bodies_from 1 p.body.items in
+    open_items_faults bodies whole [] p.declaration.items ++ open_body_faults whole (with_items bodies whole [] p.declaration.items) 1 p.body.items

@@ -2,20 +2,21 @@
 ghost use Rattle.std.specs.Prelude.{◌≡◌, IfErr, IfOk, OnOk, option_map, slice_get};
 ghost use Rattle.ada_tree.specs.Parsed.{IsParsed};
 ghost use Rattle.ada_tree.specs.ProgramTree.{package_tree, program_tree};
-ghost use Rattle.expr_rules.specs.Faults.{least};
+ghost use Rattle.expr_rules.specs.Findings.{noted};
 ghost use Rattle.declaring.specs.PackageNames.{optional_scope, program_scope};
+ghost use Rattle.checking.specs.FoundFaults.{found_faults, found_in_package};
 ghost use Rattle.checking.specs.ProgramLayouts.{HaveRoom, object_layouts, variables_layout};
-ghost use Rattle.checking.specs.ProgramRules.{IsLegal, RefusesProgram, package_part_faults, program_faults};
+ghost use Rattle.checking.specs.ProgramRules.{IsLegal, RefusesProgram};
 
-use crate::laws::words_have_room;
+use crate::laws::{check_finds_what_is_broken, words_have_room};
 use crate::layouts::{object_layouts, variables_layout};
-use crate::like_names::like_name_fault;
+use crate::like_names::like_name_faults;
 use ada_tree::{Package, Parsed, Program};
-use expr_rules::laws::{least_by_parts, least_is_least};
-use expr_rules::sooner;
-use legality::{main_fault, package_fault};
+use expr_rules::Findings;
+use expr_rules::laws::{found_is_all, least_is_least, noted_by_parts};
+use legality::{main_faults, package_faults};
 use lexer::Fault;
-use size_rules::size_fault;
+use size_rules::size_faults;
 use std::alloc::{AllocError, Global};
 use std::marker::Model;
 use types::{Layout, Scope};
@@ -84,44 +85,51 @@ impl Checked {
     }
 }
 
-// The least fault of a package, its sizes aside. What it declares becomes visible.
-fn package_part_fault(
+// The faults of a package, its sizes aside. What it declares becomes visible.
+fn package_part_faults(
     alloc: Global,
     scope: &mut Scope,
     package_: Option<&Package>,
-) -> Result<Option<Fault>, AllocError>
-    ensures fault { IfOk result (λ f. f ≡ least (package_part_faults scope.old (option_map (λ p. package_tree p.now) package_.entry))) }
+    found: &mut Findings,
+) -> Result<(), AllocError>
+    ensures found { OnOk result (found.new ≡ noted found.old (found_in_package scope.old (option_map (λ p. package_tree p.now) package_.entry))) }
     ensures scope { OnOk result (scope.new ≡ optional_scope scope.old (option_map (λ p. package_tree p.now) package_.entry)) }
 {
-    least_by_parts();
+    noted_by_parts();
     match package_ {
         Some(package_) => {
-            let fault = package_fault(alloc, scope, package_)?;
-            Ok(sooner(fault, like_name_fault(alloc, package_)?))
+            package_faults(alloc, scope, package_, found)?;
+            like_name_faults(alloc, package_, found)
         }
-        None => Ok(None),
+        None => Ok(()),
     }
 }
 
-// What is found in a program: its least fault, if it has one, and the names that are visible behind its package.
-#[derive(Drop)]
-struct Found {
-    fault: Option<Fault>,
-    scope: Scope,
-}
-
-fn judge(alloc: Global, program: &Program) -> Result<Found, AllocError>
-    ensures fault { IfOk result (λ f. f.fault ≡ least (program_faults (program_tree program.now))) }
-    ensures scope { IfOk result (λ f. f.scope ≡ program_scope (program_tree program.now)) }
+// Notes what is found in a program. The result has the names that are visible behind its package.
+fn judge(alloc: Global, program: &Program, found: &mut Findings) -> Result<Scope, AllocError>
+    ensures found { OnOk result (found.new ≡ noted found.old (found_faults (program_tree program.now))) }
+    ensures scope { IfOk result (λ scope. scope ≡ program_scope (program_tree program.now)) }
 {
-    least_by_parts();
+    noted_by_parts();
     let mut scope = Scope::standard(alloc)?;
     let package_ = program.package_.as_ref();
-    let inside = package_part_fault(alloc, &mut scope, package_)?;
-    let main = main_fault(alloc, package_, &program.main)?;
-    let size = size_fault(alloc, program)?;
-    let fault = sooner(sooner(inside, main), size);
-    Ok(Found { fault, scope })
+    package_part_faults(alloc, &mut scope, package_, found)?;
+    main_faults(alloc, package_, &program.main, found)?;
+    size_faults(alloc, program, found)?;
+    Ok(scope)
+}
+
+/// Notes each broken rule from 10 to 23 of a program, in the order of the check, some more than once (`laws::check_finds_what_is_broken`). Memory is the only
+/// refusal, and may leave some of them noted.
+pub fn program_faults(
+    alloc: Global,
+    program: &Program,
+    found: &mut Findings,
+) -> Result<(), AllocError>
+    ensures { OnOk result (found.new ≡ noted found.old (found_faults (program_tree program.now))) }
+{
+    judge(alloc, program, found)?;
+    Ok(())
 }
 
 // A legal program, of which these names are visible behind the package.
@@ -151,10 +159,13 @@ pub fn check(alloc: Global, parsed: Parsed) -> Result<Checked, Fault>
     ensures legal { OnOk result (IsLegal (program_tree parsed)) }
     ensures refused { IfErr result (λ fault. RefusesProgram (program_tree parsed) fault) }
 {
+    found_is_all();
     least_is_least();
+    check_finds_what_is_broken();
     words_have_room();
-    let Found { fault, scope } = judge(alloc, parsed.program())?;
-    match fault {
+    let mut found = Findings::new();
+    let scope = judge(alloc, parsed.program(), &mut found)?;
+    match found.least() {
         Some(fault) => Err(fault),
         None => Ok(laid_out(alloc, parsed, scope)?),
     }

@@ -1,4 +1,5 @@
-//! The order in which faults are told, and the words of packages, each what a function without work ensures.
+//! The order in which faults are told, what the check finds, and the words of packages, each what a function without work ensures.
+ghost use Rattle.checking.specs.FoundFaults.{FindsWhatIsBroken};
 ghost use Rattle.checking.specs.ProgramLayouts.{ObjectsStandAtTheirNumbers, VariablesStandInOrder, WordsHaveRoom};
 ghost use Rattle.checking.specs.ProgramRules.{OrderIsByPlaceAndNumber};
 
@@ -9,6 +10,11 @@ use types::laws::shapes_stay;
 /// Of two faults the one at the lesser place is told first, and at one place the one with the lesser number.
 pub fn order_is_by_place_and_number()
     ensures { OrderIsByPlaceAndNumber }
+{}
+
+/// What the check finds of a program is what is broken in it.
+pub fn check_finds_what_is_broken()
+    ensures { FindsWhatIsBroken }
 {}
 
 /// A program that passes no limit has room for the words of its variables and of the components of its protected objects.

@@ -7,4 +7,4 @@ mod layouts;
 mod like_names;
 mod name_ends;
 
-pub use checked::{Checked, check};
+pub use checked::{Checked, check, program_faults};

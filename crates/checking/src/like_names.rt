@@ -2,10 +2,9 @@
 ghost use Rattle.std.specs.Prelude.{◌≡◌, ◌+◌, ◌++◌, ℕ, List, [], IfOk, OnOk, length, map};
 ghost use Rattle.ada_tree.specs.StatementTree.{operation_tree, protected_component_tree, protected_tree};
 ghost use Rattle.ada_tree.specs.ProgramTree.{body_item_tree, item_tree, package_tree};
-ghost use Rattle.expr_rules.specs.Faults.{least};
+ghost use Rattle.expr_rules.specs.Findings.{noted};
 ghost use Rattle.declaring.specs.ProtectedRules.{operation_bytes};
-ghost use Rattle.checking.specs.LikeNames.{like_name_faults};
-ghost use Rattle.checking.specs.OpenParts.{bodies_from, component_bytes, end_of, extended_by, object_ends, open_body_faults, open_item_faults, open_items_faults, open_rule, own_end, with_body, with_body_item, with_item, with_items, with_object};
+ghost use Rattle.checking.specs.OpenParts.{bodies_from, component_bytes, end_of, extended_by, object_ends, open_body_faults, open_item_faults, open_items_faults, open_parts_faults, open_rule, own_end, with_body, with_body_item, with_item, with_items, with_object};
 
 use crate::name_ends::NameEnds;
 use ada_tree::{
@@ -13,10 +12,9 @@ use ada_tree::{
 };
 use base::faults::DECLARED_TWICE;
 use declaring::operation_name;
-use expr_rules::laws::{least_by_parts, sooner_associates};
-use expr_rules::{rule, sooner};
+use expr_rules::Findings;
+use expr_rules::laws::noted_by_parts;
 use legality::item_name;
-use lexer::Fault;
 use std::alloc::{AllocError, Global};
 
 // ---- where the bodies of objects stand
@@ -118,10 +116,10 @@ fn open_object(
     open_components(names, &object.components, end)
 }
 
-fn open_rule(names: &NameEnds, place: usize, name: &Identifier) -> Option<Fault>
-    ensures { result ≡ least (open_rule names.now place name.now) }
+fn open_rule(names: &NameEnds, place: usize, name: &Identifier, found: &mut Findings)
+    ensures { found.new ≡ noted found.old (open_rule names.now place name.now) }
 {
-    rule(DECLARED_TWICE, name.place, names.is_open(&name.name, place))
+    found.note_rule(DECLARED_TWICE, name.place, names.is_open(&name.name, place));
 }
 
 // ---- the walk
@@ -141,32 +139,31 @@ fn open_item(
 }
 
 // The declarations of the specification.
-fn specification_fault(
+fn specification_faults(
     bodies: &NameEnds,
     whole: usize,
     names: &mut NameEnds,
     items: &[Item],
-) -> Result<Option<Fault>, AllocError>
-    ensures fault { IfOk result (λ f. f ≡ least (open_items_faults bodies.now whole names.old (map item_tree items.now))) }
+    found: &mut Findings,
+) -> Result<(), AllocError>
+    ensures found { OnOk result (found.new ≡ noted found.old (open_items_faults bodies.now whole names.old (map item_tree items.now))) }
     ensures names { OnOk result (names.new ≡ with_items bodies.now whole names.old (map item_tree items.now)) }
 {
-    least_by_parts();
-    sooner_associates();
-    let mut fault = None;
+    noted_by_parts();
     for item in items {
-        fault = sooner(fault, open_rule(names, 0, item_name(item)));
+        open_rule(names, 0, item_name(item), found);
         open_item(bodies, whole, names, item)?;
     }
-    Ok(fault)
+    Ok(())
 }
 
-fn open_item_fault(names: &NameEnds, place: usize, item: &BodyItem) -> Option<Fault>
-    ensures { result ≡ least (open_item_faults names.now place (body_item_tree item.now)) }
+fn open_item_faults(names: &NameEnds, place: usize, item: &BodyItem, found: &mut Findings)
+    ensures { found.new ≡ noted found.old (open_item_faults names.now place (body_item_tree item.now)) }
 {
     match item {
-        BodyItem::Item(item) => open_rule(names, place, item_name(item)),
-        BodyItem::Subprogram(subprogram, _) => open_rule(names, place, &subprogram.name),
-        _ => None,
+        BodyItem::Item(item) => open_rule(names, place, item_name(item), found),
+        BodyItem::Subprogram(subprogram, _) => open_rule(names, place, &subprogram.name, found),
+        _ => {}
     }
 }
 
@@ -189,23 +186,22 @@ fn open_body_item(
 }
 
 // What the package's body declares. These are the ends of its objects.
-fn body_fault(
+fn body_faults(
     whole: usize,
     names: &mut NameEnds,
     ends: &mut Vec<usize>,
     items: &[BodyItem],
-) -> Result<Option<Fault>, AllocError>
+    found: &mut Findings,
+) -> Result<(), AllocError>
     requires { ends.old.items ≡ object_ends whole 1 (map body_item_tree items.now) }
-    ensures { IfOk result (λ f. f ≡ least (open_body_faults whole names.old 1 (map body_item_tree items.now))) }
+    ensures { OnOk result (found.new ≡ noted found.old (open_body_faults whole names.old 1 (map body_item_tree items.now))) }
 {
-    least_by_parts();
-    sooner_associates();
-    let mut fault = None;
+    noted_by_parts();
     for (index, item) in items.iter().enumerate() {
-        fault = sooner(fault, open_item_fault(names, index + 1, item));
+        open_item_faults(names, index + 1, item, found);
         open_body_item(names, ends, item)?;
     }
-    Ok(fault)
+    Ok(())
 }
 
 // The place behind the package's body with these items.
@@ -215,22 +211,22 @@ fn end_place(items: &[BodyItem]) -> usize
     items.len() + 1
 }
 
-/// The least fault of a name that stands between the declaration of a protected object and its body, and is like one of the object's operations or
-/// components: both would be visible in that body (RM 8.3). Memory is the only refusal.
-pub(crate) fn like_name_fault(
+/// Notes each fault of a name between the declaration of a protected object and its body that is like one of the object's operations or components: both would
+/// be visible in that body (RM 8.3). One walk finds each such name once, and its list is in another order than that of the definition, object by object. Memory
+/// is the only refusal, and may leave some of them noted.
+pub(crate) fn like_name_faults(
     alloc: Global,
     package_: &Package,
-) -> Result<Option<Fault>, AllocError>
-    ensures { IfOk result (λ f. f ≡ least (like_name_faults (package_tree package_.now))) }
+    found: &mut Findings,
+) -> Result<(), AllocError>
+    ensures { OnOk result (found.new ≡ noted found.old (open_parts_faults (package_tree package_.now))) }
 {
-    least_by_parts();
-    sooner_associates();
+    noted_by_parts();
     let items = &package_.body.items;
     let whole = end_place(items);
     let mut bodies = bodies_of(alloc, whole, items)?;
     let mut names = NameEnds::new(alloc);
     let specified = &package_.declaration.items;
-    let outside = specification_fault(&bodies.first, whole, &mut names, specified)?;
-    let inside = body_fault(whole, &mut names, &mut bodies.ends, items)?;
-    Ok(sooner(outside, inside))
+    specification_faults(&bodies.first, whole, &mut names, specified, found)?;
+    body_faults(whole, &mut names, &mut bodies.ends, items, found)
 }

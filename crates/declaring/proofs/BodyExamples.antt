@@ -1,111 +1,28 @@
--- Declarations in order, and what bodies and loops see, worked by computation. Places are those in the text above each.
+-- What declarations in order declare, and what bodies and loops see, worked by computation. Places are those in the text above each.
 use Rattle.std.proofs.Common.{◌≡◌, [], ◌∷◌, Some, None, true, false, refl}
 use Rattle.std.specs.Prelude.{codes, take, pos}
 use Rattle.ada_tree.specs.declared.declaration.Mode.TheVariants as mode
-use Rattle.ada_tree.specs.StatementTree.{OfSubprogram, LocalObject, LocalTask, LocalProtected}
-use Rattle.ada_tree.specs.ProgramTree.{Integer, OfType as TypeItem, OfObject, OfException, OfSubprogram as OfDeclared, OfTask, OfProtected}
+use Rattle.ada_tree.specs.StatementTree.{OfSubprogram, LocalObject, LocalProtected}
+use Rattle.ada_tree.specs.ProgramTree.{OfProtected}
 use Rattle.types.specs.declared.entity.Role.TheVariants as role
 use Rattle.types.specs.Entities.{Object, Subprogram, Entry, Protected, Doubtful}
 use Rattle.types.specs.Scopes.{Scope, integer, base_range_of, entity_at, with_operations}
-use Rattle.expr_rules.specs.declared.own.Wanted.TheVariants.{Anything}
 use Rattle.expr_rules.specs.Faults.{least}
-use Rattle.expr_rules.specs.ExpressionRules.{faults_of}
 use Rattle.type_rules.specs.SubtypeNames.{named_entity}
 use Rattle.declaring.specs.LocalRules.{fixed_locals_faults, locals_faults, locals_scope}
-use Rattle.declaring.specs.BodyNames.{components_scope, formals_scope, loop_faults, loop_scope, object_body_scope}
-use Rattle.declaring.specs.ItemRules.{items_faults, items_scope}
-use Rattle.type_rules.proofs.Sample.{identifier, num, name, of, at, dot, broken, object_of, range_of, small, vec, small_to_small, operations, object, package_scope, next}
+use Rattle.declaring.specs.BodyNames.{components_scope, formals_scope, loop_scope, object_body_scope}
+use Rattle.declaring.specs.ItemRules.{items_scope}
+use Rattle.type_rules.proofs.Sample.{identifier, num, name, dot, broken, object_of, range_of, small, vec, small_to_small, operations, object, package_scope, next}
 
 -- ---- declarations in order
 
--- `Z : Integer := 1; Y : Integer := Z; Z : Small;`
-later_sees_the_first : least (locals_faults package_scope (LocalObject (object_of (identifier 0 (codes "Z")) false (identifier 4 (codes "INTEGER"))
-    (Some (num 15 1))) ∷ LocalObject (object_of (identifier 0 (codes "Y")) false (identifier 4 (codes "INTEGER")) (Some (name 15 (codes "Z") []))) ∷
-    [])) ≡ None
-later_sees_the_first = refl
-
-second_is_told : least (locals_faults package_scope (LocalObject (object_of (identifier 0 (codes "Z")) false (identifier 4 (codes "INTEGER")) (Some
-    (num 15 1))) ∷ LocalObject (object_of (identifier 30 (codes "Z")) false (identifier 34 (codes "SMALL")) None) ∷ [])) ≡ broken 11 30
-second_is_told = refl
-
+-- `Z : Integer := 1;` and then a second Z: the first keeps the name
 first_keeps_the_name : named_entity (locals_scope package_scope (LocalObject (object_of (identifier 0 (codes "Z")) false (identifier 4 (codes
     "INTEGER")) (Some (num 15 1))) ∷ LocalObject (object_of (identifier 30 (codes "Z")) true (identifier 34 (codes "SMALL")) None) ∷ [])) (identifier
     60 (codes "Z")) ≡ Some (Object role.Variable integer)
 first_keeps_the_name = refl
 
 -- ---- declarations of a package, and of a body, in order; places are those in the declaration that is told
-
--- `type Z is range 1 .. 3; Y : constant Z := 3;`
-constant_of_a_new_type : least (items_faults package_scope (TypeItem (record {
-  name = (identifier 5 (codes "Z"));
-  definition = Integer (range_of (num
-      16 1) (num 21 3));
-}) ∷ OfObject (object_of (identifier 0 (codes "Y")) true (identifier 13 (codes "Z")) (Some (num 18 3))) ∷ [])) ≡ None
-constant_of_a_new_type = refl
-
--- `type Z is range 1 .. 3; Y : constant Z := 4;`
-outside_a_new_type : least (items_faults package_scope (TypeItem (record {
-  name = (identifier 5 (codes "Z"));
-  definition = Integer (range_of (num 16
-      1) (num 21 3));
-}) ∷ OfObject (object_of (identifier 0 (codes "Y")) true (identifier 13 (codes "Z")) (Some (num 18 4))) ∷ [])) ≡ broken 15 18
-outside_a_new_type = refl
-
--- `Y : Integer := F (1);`
-function_of_a_package_object : least (items_faults package_scope (OfObject (object_of (identifier 0 (codes "Y")) false (identifier 4 (codes
-    "INTEGER")) (Some (name 15 (codes "F") (at (of (num 18 1) ∷ []) ∷ [])))) ∷ [])) ≡ broken 14 15
-function_of_a_package_object = refl
-
--- `Bad : exception;`
-exception_declared_before : least (items_faults package_scope (OfException (identifier 0 (codes "BAD")) ∷ [])) ≡ broken 11 0
-exception_declared_before = refl
-
--- `type Z is range 1 .. 3; procedure Y (A : Z);`
-procedure_behind_its_type : least (items_faults package_scope (TypeItem (record {
-  name = (identifier 5 (codes "Z"));
-  definition = Integer (range_of
-      (num 16 1) (num 21 3));
-}) ∷ OfDeclared (record {
-  place = 0;
-  name = (identifier 10 (codes "Y"));
-  formals = record {
-    name = (identifier 13 (codes
-        "A"));
-    mode = mode.In;
-    subtype = (identifier 17 (codes "Z"));
-  } ∷ [];
-  result = None;
-}) ∷ [])) ≡ None
-procedure_behind_its_type = refl
-
--- `procedure Y (A : Z); type Z is range 1 .. 3;`
-procedure_in_front_of_its_type : least (items_faults package_scope (OfDeclared (record {
-  place = 0;
-  name = (identifier 10 (codes "Y"));
-  formals =
-      record { name = (identifier 13 (codes "A")); mode = mode.In; subtype = (identifier 17 (codes "Z")) } ∷ [];
-  result = None;
-}) ∷ TypeItem (record {
-  name = (identifier 5 (codes "Z"));
-  definition = Integer (range_of (num 16 1) (num 21 3));
-}) ∷ [])) ≡ broken 10 17
-procedure_in_front_of_its_type = refl
-
--- `task Z; protected Z is end Z;`
-task_and_object_of_one_name : least (items_faults package_scope (OfTask (record {
-  place = 0;
-  name = (identifier 5 (codes "Z"));
-  aspect = None;
-  definition = None;
-}) ∷ OfProtected (record {
-  place = 0;
-  name = (identifier 10 (codes "Z"));
-  aspect = None;
-  operations = [];
-  components = [];
-  end_name = (identifier 19 (codes "Z"));
-}) ∷ [])) ≡ broken 11 10
-task_and_object_of_one_name = refl
 
 -- `protected Z is end Z; protected Y is end Y;`
 objects_are_numbered : entity_at (items_scope package_scope (OfProtected (record {
@@ -130,19 +47,6 @@ objects_are_numbered : entity_at (items_scope package_scope (OfProtected (record
   barrier = None;
 }))
 objects_are_numbered = refl
-
--- `task Z with Priority => Nobody;` in a body
-local_task_is_judged : least (locals_faults package_scope (LocalTask (record {
-  place = 0;
-  name = (identifier 5 (codes "Z"));
-  aspect = Some (record {
-    place = 7;
-    name = (identifier 12 (codes "PRIORITY"));
-    value = name 24 (codes "NOBODY") [];
-  });
-  definition = None;
-}) ∷ [])) ≡ broken 10 24
-local_task_is_judged = refl
 
 -- `protected Z is function A1 return Integer; end Z;` and behind it `Y : Integer := Z.A1;` in a body, then in a task body
 local_object_is_visible : least (locals_faults package_scope (LocalProtected (record {
@@ -216,50 +120,6 @@ visible_name_is_kept = refl
 
 -- ---- loop parameters
 
--- `for I in 1 .. X`
-a_loop : least (loop_faults package_scope (identifier 4 (codes "I")) (range_of (num 9 1) (name 14 (codes "X") []))) ≡ None
-a_loop = refl
-
--- `for I in 2 .. 1`
-null_loop : least (loop_faults package_scope (identifier 4 (codes "I")) (range_of (num 9 2) (num 14 1))) ≡ None
-null_loop = refl
-
--- `for I in S .. 9`
-typed_first_bound : least (loop_faults package_scope (identifier 4 (codes "I")) (range_of (name 9 (codes "S") []) (num 14 9))) ≡ None
-typed_first_bound = refl
-
--- `for I in 1 .. S`
-typed_second_bound : least (loop_faults package_scope (identifier 4 (codes "I")) (range_of (num 9 1) (name 14 (codes "S") []))) ≡ None
-typed_second_bound = refl
-
--- `for I in S .. X`
-bounds_of_two_types : least (loop_faults package_scope (identifier 4 (codes "I")) (range_of (name 9 (codes "S") []) (name 14 (codes "X") []))) ≡ broken 12 14
-bounds_of_two_types = refl
-
--- `for I in B .. 2`
-bound_of_truth : least (loop_faults package_scope (identifier 4 (codes "I")) (range_of (name 9 (codes "B") []) (num 14 2))) ≡ broken 12 9
-bound_of_truth = refl
-
--- `for I in 1 .. B`
-second_bound_of_truth : least (loop_faults package_scope (identifier 4 (codes "I")) (range_of (num 9 1) (name 14 (codes "B") []))) ≡ broken 12 14
-second_bound_of_truth = refl
-
--- `for I in X .. D`
-second_bound_of_time : least (loop_faults package_scope (identifier 4 (codes "I")) (range_of (name 9 (codes "X") []) (name 14 (codes "D") []))) ≡ broken 12 14
-second_bound_of_time = refl
-
--- `for I in 1 .. I`
-parameter_in_its_range : least (loop_faults package_scope (identifier 4 (codes "I")) (range_of (num 9 1) (name 14 (codes "I") []))) ≡ broken 10 14
-parameter_in_its_range = refl
-
--- `for X in Nobody .. 1`
-parameter_declared_before : least (loop_faults package_scope (identifier 4 (codes "X")) (range_of (name 9 (codes "NOBODY") []) (num 19 1))) ≡ broken 11 4
-parameter_declared_before = refl
-
--- `for I in Nobody .. True`
-hidden_bound : least (loop_faults package_scope (identifier 4 (codes "I")) (range_of (name 9 (codes "NOBODY") []) (name 19 (codes "TRUE") []))) ≡ broken 10 9
-hidden_bound = refl
-
 -- `for I in 1 .. 2`
 parameter_of_integer : entity_at (loop_scope package_scope (identifier 4 (codes "I")) (range_of (num 9 1) (num 14 2))) next ≡ Some (Object
     role.LoopParameter (record integer { first = pos 1; last = pos 2 }))
@@ -288,19 +148,6 @@ parameter_of_hidden = refl
 
 abbrev inside_object : Scope
 inside_object = object_body_scope package_scope 31
-
--- `P.Get (1)` outside and inside, then `Get (1)`
-behind_its_name_outside : least (faults_of package_scope Anything (name 0 (codes "P") (dot 2 (codes "GET") ∷ at (of (num 7 1) ∷ []) ∷ []))) ≡ None
-behind_its_name_outside = refl
-
-not_behind_its_name_inside : least (faults_of inside_object Anything (name 0 (codes "P") (dot 2 (codes "GET") ∷ at (of (num 7 1) ∷ []) ∷ []))) ≡ broken 10 2
-not_behind_its_name_inside = refl
-
-alone_outside : least (faults_of package_scope Anything (name 0 (codes "GET") (at (of (num 5 1) ∷ []) ∷ []))) ≡ broken 10 0
-alone_outside = refl
-
-alone_inside : least (faults_of inside_object Anything (name 0 (codes "GET") (at (of (num 5 1) ∷ []) ∷ []))) ≡ None
-alone_inside = refl
 
 function_inside : named_entity inside_object (identifier 0 (codes "GET")) ≡ Some (Subprogram small_to_small)
 function_inside = refl

@@ -1,17 +1,16 @@
 //! What is visible in bodies and loops (RM 6.1, 5.5, 9.5.1): formal parameters, loop parameters, the operations and components of a protected object.
-ghost use Rattle.std.specs.Prelude.{◌≡◌, ◌++◌, [], IfOk, OnErr, OnOk, map, option_map, take};
+ghost use Rattle.std.specs.Prelude.{◌≡◌, ◌++◌, [], IfOk, OnErr, OnOk, map, take};
 ghost use Rattle.ada_tree.specs.StatementTree.{range_tree};
 ghost use Rattle.types.specs.Entities.{entity_value, operation_value, profile_value};
 ghost use Rattle.types.specs.Scopes.{operations_or, protected_at, with_name, with_operations};
-ghost use Rattle.expr_rules.specs.Faults.{least};
+ghost use Rattle.expr_rules.specs.Findings.{noted};
 ghost use Rattle.declaring.specs.BodyNames.{bounds_type, component_role, components_scope, formal_role, formal_scope, formals_scope, if_integers, last_rule, loop_faults, loop_scope, loop_subtype, loop_type, object_body_scope, operation_entity, operations_scope, parameter_entity};
 
-use ada_tree::{Expr, Formal, Identifier, Mode, Range};
-use expr_rules::laws::least_by_parts;
-use expr_rules::{Own, Wanted, expression_fault, is_integral, mismatch, own_of, sooner};
-use lexer::Fault;
+use ada_tree::{Formal, Identifier, Mode, Range};
+use expr_rules::laws::noted_by_parts;
+use expr_rules::{Findings, Own, Wanted, expression_faults, is_integral, note_mismatch, own_of};
 use std::alloc::{AllocError, Global};
-use type_rules::{declare, declared_twice, object_entity, subtype_of};
+use type_rules::{declare, note_declared_twice, object_entity, subtype_of};
 use types::{
     Entity, Operation, Operations, Profile, RecordComponent, Role, Scope, Subtype, bounds, start_of,
 };
@@ -80,31 +79,31 @@ fn loop_type(scope: &Scope, range: &Range) -> Option<usize>
     if_integers(scope, own)
 }
 
-fn last_rule(scope: &Scope, number: Option<usize>, own: Own, place: u32) -> Option<Fault>
-    ensures { result ≡ least (last_rule scope.now number own place) }
+fn last_rule(scope: &Scope, number: Option<usize>, own: Own, place: u32, found: &mut Findings)
+    ensures { found.new ≡ noted found.old (last_rule scope.now number own place) }
 {
     match number {
-        Some(number) => mismatch(scope, Wanted::OfType(number), own, place),
-        None => None,
+        Some(number) => note_mismatch(scope, Wanted::OfType(number), own, place, found),
+        None => {}
     }
 }
 
-/// The least fault of a loop parameter and its range, which need not be static (RM 5.5).
-pub fn loop_fault(scope: &Scope, parameter: &Identifier, range: &Range) -> Option<Fault>
-    ensures { result ≡ least (loop_faults scope.now parameter.now (range_tree range.now)) }
+/// The broken rules of a loop parameter and its range, which need not be static (RM 5.5).
+pub fn loop_faults(scope: &Scope, parameter: &Identifier, range: &Range, found: &mut Findings)
+    ensures { found.new ≡ noted found.old (loop_faults scope.now parameter.now (range_tree range.now)) }
 {
-    least_by_parts();
-    let bounds = sooner(
-        expression_fault(scope, Wanted::AnyInteger, &range.first),
-        expression_fault(scope, Wanted::AnyInteger, &range.last),
-    );
-    let last = last_rule(
+    noted_by_parts();
+    expression_faults(scope, Wanted::AnyInteger, &range.first, found);
+    expression_faults(scope, Wanted::AnyInteger, &range.last, found);
+    let own = own_of(scope, &range.last);
+    last_rule(
         scope,
         loop_type(scope, range),
-        own_of(scope, &range.last),
+        own,
         start_of(&range.last),
+        found,
     );
-    sooner(sooner(bounds, last), declared_twice(scope, parameter))
+    note_declared_twice(scope, parameter, found);
 }
 
 // The subtype of a loop parameter: of the type of its range, between the numbers that its bounds may have.

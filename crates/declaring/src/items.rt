@@ -1,34 +1,39 @@
 //! The declarations of a package, each by its kind (RM 7.1).
-ghost use Rattle.std.specs.Prelude.{◌≡◌, IfOk, OnErr, OnOk, map};
+ghost use Rattle.std.specs.Prelude.{◌≡◌, OnErr, OnOk, map};
 ghost use Rattle.ada_tree.specs.ProgramTree.{item_tree};
-ghost use Rattle.expr_rules.specs.Faults.{least};
+ghost use Rattle.expr_rules.specs.Findings.{noted};
 ghost use Rattle.declaring.specs.ItemRules.{item_faults, item_scope, items_faults, items_scope};
 
-use crate::protected::{declare_protected, protected_fault};
-use crate::tasks::{declare_exception, declare_task, task_fault};
+use crate::protected::{declare_protected, protected_faults};
+use crate::tasks::{declare_exception, declare_task, task_faults};
 use ada_tree::Item;
-use expr_rules::laws::{least_by_parts, sooner_associates};
-use expr_rules::sooner;
-use lexer::Fault;
+use expr_rules::Findings;
+use expr_rules::laws::noted_by_parts;
 use std::alloc::{AllocError, Global};
 use type_rules::{
-    declare_package_object, declare_subprogram, declare_type, declared_twice, fixed_object_fault,
-    subprogram_fault, type_fault,
+    declare_package_object, declare_subprogram, declare_type, fixed_object_faults,
+    note_declared_twice, subprogram_faults, type_faults,
 };
 use types::Scope;
 
-/// The least fault of a declaration of the package. Memory is the only refusal.
-pub fn item_fault(alloc: Global, scope: &Scope, item: &Item) -> Result<Option<Fault>, AllocError>
-    ensures { IfOk result (λ f. f ≡ least (item_faults scope.now (item_tree item.now))) }
+/// The broken rules of a declaration of the package. Memory is the only refusal.
+pub fn item_faults(
+    alloc: Global,
+    scope: &Scope,
+    item: &Item,
+    found: &mut Findings,
+) -> Result<(), AllocError>
+    ensures { OnOk result (found.new ≡ noted found.old (item_faults scope.now (item_tree item.now))) }
 {
     match item {
-        Item::Type(declaration) => type_fault(alloc, scope, declaration),
-        Item::Object(object) => Ok(fixed_object_fault(scope, object)),
-        Item::Exception(name) => Ok(declared_twice(scope, name)),
-        Item::Subprogram(subprogram) => subprogram_fault(alloc, scope, subprogram),
-        Item::Task(task) => Ok(task_fault(scope, task)),
-        Item::Protected(object) => protected_fault(alloc, scope, object),
+        Item::Type(declaration) => return type_faults(alloc, scope, declaration, found),
+        Item::Object(object) => fixed_object_faults(scope, object, found),
+        Item::Exception(name) => note_declared_twice(scope, name, found),
+        Item::Subprogram(subprogram) => return subprogram_faults(alloc, scope, subprogram, found),
+        Item::Task(task) => task_faults(scope, task, found),
+        Item::Protected(object) => return protected_faults(alloc, scope, object, found),
     }
+    Ok(())
 }
 
 /// Makes what a declaration of the package declares visible. Memory is the only refusal, and leaves the scope as it was.
@@ -46,23 +51,21 @@ pub fn declare_item(alloc: Global, scope: &mut Scope, item: &Item) -> Result<(),
     }
 }
 
-/// Checks the declarations of a package's specification in order, and makes their names visible: each from its end on. Gives the least fault in them.
-/// Memory is the only refusal, and may leave some of the names visible.
-pub fn declare_items(
+/// Checks the declarations of a package's specification in order, and makes their names visible: each from its end on. Memory is the only refusal, and may
+/// leave some of the names visible.
+pub fn check_items(
     alloc: Global,
     scope: &mut Scope,
     items: &[Item],
-) -> Result<Option<Fault>, AllocError>
-    ensures fault { IfOk result (λ f. f ≡ least (items_faults scope.old (map item_tree items.now))) }
+    found: &mut Findings,
+) -> Result<(), AllocError>
+    ensures found { OnOk result (found.new ≡ noted found.old (items_faults scope.old (map item_tree items.now))) }
     ensures scope { OnOk result (scope.new ≡ items_scope scope.old (map item_tree items.now)) }
 {
-    least_by_parts();
-    sooner_associates();
-    let mut fault = None;
+    noted_by_parts();
     for item in items {
-        let found = item_fault(alloc, scope, item)?;
+        item_faults(alloc, scope, item, found)?;
         declare_item(alloc, scope, item)?;
-        fault = sooner(fault, found);
     }
-    Ok(fault)
+    Ok(())
 }

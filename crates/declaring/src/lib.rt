@@ -10,12 +10,12 @@ mod tasks;
 
 pub use bodies::{
     declare_components, declare_formals, declare_loop_parameter, enter_object, leave_object,
-    loop_fault,
+    loop_faults,
 };
-pub use items::{declare_item, declare_items, item_fault};
-pub use locals::{declare_locals, declare_task_locals};
-pub use protected::{declare_protected, has_handler, operation_name, protected_fault};
+pub use items::{check_items, declare_item, item_faults};
+pub use locals::{check_locals, check_task_locals};
+pub use protected::{declare_protected, has_handler, operation_name, protected_faults};
 pub use tasks::{
-    DEFAULT_PRIORITY, aspect_fault, attached_channel, declare_exception, declare_task,
-    is_attachment, is_priority, priority_of, task_fault,
+    DEFAULT_PRIORITY, aspect_faults, attached_channel, declare_exception, declare_task,
+    is_attachment, is_priority, priority_of, task_faults,
 };

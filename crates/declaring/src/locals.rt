@@ -1,110 +1,102 @@
 //! The declarations of a body or block, in order (RM 3.11).
-ghost use Rattle.std.specs.Prelude.{◌≡◌, IfOk, OnOk, map};
+ghost use Rattle.std.specs.Prelude.{◌≡◌, OnOk, map};
 ghost use Rattle.ada_tree.specs.StatementTree.{declaration_tree};
-ghost use Rattle.expr_rules.specs.Faults.{least};
+ghost use Rattle.expr_rules.specs.Findings.{noted};
 ghost use Rattle.declaring.specs.LocalRules.{fixed_local_faults, fixed_locals_faults, local_faults, local_scope, locals_faults, locals_scope};
 
-use crate::protected::{declare_protected, protected_fault};
-use crate::tasks::{declare_task, task_fault};
+use crate::protected::{declare_protected, protected_faults};
+use crate::tasks::{declare_task, task_faults};
 use ada_tree::Declaration;
-use expr_rules::laws::{least_by_parts, sooner_associates};
-use expr_rules::sooner;
-use lexer::Fault;
+use expr_rules::Findings;
+use expr_rules::laws::noted_by_parts;
 use std::alloc::{AllocError, Global};
-use type_rules::{declare_local_object, fixed_object_fault, local_object_fault};
+use type_rules::{declare_local_object, fixed_object_faults, local_object_faults};
 use types::Scope;
 
 // Checks a declaration of a body or block, and makes its name visible.
-fn local(
+fn check_local(
     alloc: Global,
     scope: &mut Scope,
     declaration: &Declaration,
-) -> Result<Option<Fault>, AllocError>
-    ensures fault { IfOk result (λ f. f ≡ least (local_faults scope.old (declaration_tree declaration.now))) }
+    found: &mut Findings,
+) -> Result<(), AllocError>
+    ensures found { OnOk result (found.new ≡ noted found.old (local_faults scope.old (declaration_tree declaration.now))) }
     ensures scope { OnOk result (scope.new ≡ local_scope scope.old (declaration_tree declaration.now)) }
 {
     match declaration {
         Declaration::Object(object) => {
-            let fault = local_object_fault(scope, object);
-            declare_local_object(scope, object)?;
-            Ok(fault)
+            local_object_faults(scope, object, found);
+            declare_local_object(scope, object)
         }
         Declaration::Task(task) => {
-            let fault = task_fault(scope, task);
-            declare_task(scope, task)?;
-            Ok(fault)
+            task_faults(scope, task, found);
+            declare_task(scope, task)
         }
         Declaration::Protected(object) => {
-            let fault = protected_fault(alloc, scope, object)?;
-            declare_protected(alloc, scope, object)?;
-            Ok(fault)
+            protected_faults(alloc, scope, object, found)?;
+            declare_protected(alloc, scope, object)
         }
     }
 }
 
-/// Checks the declarations of a subprogram, an entry or a block in order, and makes their names visible: each from its end on. Gives the least fault in
-/// them. Memory is the only refusal, and may leave some of the names visible.
-pub fn declare_locals(
+/// Checks the declarations of a subprogram, an entry or a block in order, and makes their names visible: each from its end on. Memory is the only refusal,
+/// and may leave some of the names visible.
+pub fn check_locals(
     alloc: Global,
     scope: &mut Scope,
     declarations: &[Declaration],
-) -> Result<Option<Fault>, AllocError>
-    ensures fault { IfOk result (λ f. f ≡ least (locals_faults scope.old (map declaration_tree declarations.now))) }
+    found: &mut Findings,
+) -> Result<(), AllocError>
+    ensures found { OnOk result (found.new ≡ noted found.old (locals_faults scope.old (map declaration_tree declarations.now))) }
     ensures scope { OnOk result (scope.new ≡ locals_scope scope.old (map declaration_tree declarations.now)) }
 {
-    least_by_parts();
-    sooner_associates();
-    let mut fault = None;
+    noted_by_parts();
     for declaration in declarations {
-        let found = local(alloc, scope, declaration)?;
-        fault = sooner(fault, found);
+        check_local(alloc, scope, declaration, found)?;
     }
-    Ok(fault)
+    Ok(())
 }
 
 // Checks a declaration of a task body, and makes its name visible.
-fn fixed_local(
+fn check_fixed_local(
     alloc: Global,
     scope: &mut Scope,
     declaration: &Declaration,
-) -> Result<Option<Fault>, AllocError>
-    ensures fault { IfOk result (λ f. f ≡ least (fixed_local_faults scope.old (declaration_tree declaration.now))) }
+    found: &mut Findings,
+) -> Result<(), AllocError>
+    ensures found { OnOk result (found.new ≡ noted found.old (fixed_local_faults scope.old (declaration_tree declaration.now))) }
     ensures scope { OnOk result (scope.new ≡ local_scope scope.old (declaration_tree declaration.now)) }
 {
     match declaration {
         Declaration::Object(object) => {
-            let fault = fixed_object_fault(scope, object);
-            declare_local_object(scope, object)?;
-            Ok(fault)
+            fixed_object_faults(scope, object, found);
+            declare_local_object(scope, object)
         }
         Declaration::Task(task) => {
-            let fault = task_fault(scope, task);
-            declare_task(scope, task)?;
-            Ok(fault)
+            task_faults(scope, task, found);
+            declare_task(scope, task)
         }
         Declaration::Protected(object) => {
-            let fault = protected_fault(alloc, scope, object)?;
-            declare_protected(alloc, scope, object)?;
-            Ok(fault)
+            protected_faults(alloc, scope, object, found)?;
+            declare_protected(alloc, scope, object)
         }
     }
 }
 
-/// The same for the declarations of a task body, whose initial values are static.
-pub fn declare_task_locals(
+/// Checks the declarations of a task body, whose initial values are static, in order, and makes their names visible: each from its end on. Memory is the only
+/// refusal, and may leave some of the names visible.
+pub fn check_task_locals(
     alloc: Global,
     scope: &mut Scope,
     declarations: &[Declaration],
-) -> Result<Option<Fault>, AllocError>
-    ensures fault { IfOk result (λ f. f ≡ least (fixed_locals_faults scope.old (map declaration_tree declarations.now))) }
+    found: &mut Findings,
+) -> Result<(), AllocError>
+    ensures found { OnOk result (found.new ≡ noted found.old (fixed_locals_faults scope.old (map declaration_tree declarations.now))) }
     ensures scope { OnOk result (scope.new ≡ locals_scope scope.old (map declaration_tree declarations.now)) }
 {
-    least_by_parts();
-    sooner_associates();
-    let mut fault = None;
+    noted_by_parts();
     for declaration in declarations {
-        let found = fixed_local(alloc, scope, declaration)?;
-        fault = sooner(fault, found);
+        check_fixed_local(alloc, scope, declaration, found)?;
     }
-    Ok(fault)
+    Ok(())
 }

@@ -5,22 +5,21 @@ ghost use Rattle.ada_tree.specs.StatementTree.{OperationTree, operation_tree, pr
 ghost use Rattle.types.specs.Entities.{entity_value, operation_value, profile_value};
 ghost use Rattle.types.specs.Scopes.{is_visible};
 ghost use Rattle.types.specs.Seen.{AreNames, is_seen};
-ghost use Rattle.expr_rules.specs.Faults.{least};
+ghost use Rattle.expr_rules.specs.Findings.{noted};
 ghost use Rattle.declaring.specs.ProtectedRules.{component_initial_faults, default_ceiling, has_handler, is_entry, is_handler, like_operation_faults, like_part_faults, object_components, object_operations, object_with, operation_bytes, operation_name, operation_profile, operation_profile_faults, operations_faults, parts_faults, protected_entity, protected_faults, protected_scope};
 
-use crate::tasks::{aspect_fault, is_attachment, operation_aspect_fault, priority_of};
+use crate::tasks::{aspect_faults, is_attachment, operation_aspect_faults, priority_of};
 use ada_tree::{
     Identifier, Operation as OperationDeclaration, ProtectedComponent, ProtectedDeclaration,
 };
 use base::faults::DECLARED_TWICE;
 use base::limits::{CEILING, TASK_PRIORITY};
-use expr_rules::laws::{least_by_parts, sooner_associates};
-use expr_rules::{rule, sooner};
-use lexer::Fault;
+use expr_rules::Findings;
+use expr_rules::laws::noted_by_parts;
 use std::alloc::{AllocError, Global};
 use type_rules::{
-    declare, declared_twice, end_rule, fixed_fault, formal_parameters, formals_fault,
-    profile_fault, profile_with, subtype_fault, subtype_of,
+    declare, fixed_faults, formal_parameters, formals_faults, note_declared_twice, note_end_name,
+    profile_faults, profile_with, subtype_faults, subtype_of,
 };
 use types::{
     Entity, Operation, Operations, Profile, ProtectedObject, RecordComponent, Scope, SeenNames,
@@ -70,20 +69,22 @@ pub fn operation_name(operation: &OperationDeclaration) -> &Identifier
     }
 }
 
-fn operation_profile_fault(
+fn operation_profile_faults(
     alloc: Global,
     scope: &Scope,
     operation: &OperationDeclaration,
-) -> Result<Option<Fault>, AllocError>
-    ensures { IfOk result (λ f. f ≡ least (operation_profile_faults scope.now (operation_tree operation.now))) }
+    found: &mut Findings,
+) -> Result<(), AllocError>
+    ensures { OnOk result (found.new ≡ noted found.old (operation_profile_faults scope.now (operation_tree operation.now))) }
 {
+    noted_by_parts();
     match operation {
         OperationDeclaration::Subprogram(subprogram, aspect) => {
-            least_by_parts();
-            let profile = profile_fault(alloc, scope, subprogram)?;
-            Ok(sooner(profile, operation_aspect_fault(scope, aspect.as_ref())))
+            profile_faults(alloc, scope, subprogram, found)?;
+            operation_aspect_faults(scope, aspect.as_ref(), found);
+            Ok(())
         }
-        OperationDeclaration::Entry(entry) => formals_fault(alloc, scope, &entry.formals),
+        OperationDeclaration::Entry(entry) => formals_faults(alloc, scope, &entry.formals, found),
     }
 }
 
@@ -95,121 +96,110 @@ fn is_taken(scope: &Scope, own: &Identifier, name: &Identifier) -> bool
 }
 
 // An operation, of which this says whether one before it has its name.
-fn operation_fault(
+fn operation_faults(
     alloc: Global,
     scope: &Scope,
     own: &Identifier,
     is_second: bool,
     operation: &OperationDeclaration,
-) -> Result<Option<Fault>, AllocError>
-    ensures { IfOk result (λ f. f ≡ least (like_operation_faults scope.now own.now is_second (operation_tree operation.now))) }
+    found: &mut Findings,
+) -> Result<(), AllocError>
+    ensures { OnOk result (found.new ≡ noted found.old (like_operation_faults scope.now own.now is_second (operation_tree operation.now))) }
 {
-    least_by_parts();
-    let profile = operation_profile_fault(alloc, scope, operation)?;
+    noted_by_parts();
     let name = operation_name(operation);
     let is_like = is_taken(scope, own, name) || is_second;
-    Ok(sooner(rule(DECLARED_TWICE, name.place, is_like), profile))
+    found.note_rule(DECLARED_TWICE, name.place, is_like);
+    operation_profile_faults(alloc, scope, operation, found)
 }
 
 // The operations, whose names are added to those that were seen: none.
-fn operations_fault(
+fn operations_faults(
     alloc: Global,
     scope: &Scope,
     own: &Identifier,
     names: &mut SeenNames,
     operations: &[OperationDeclaration],
-) -> Result<Option<Fault>, AllocError>
+    found: &mut Findings,
+) -> Result<(), AllocError>
     requires { names.old ≡ [] }
-    ensures fault { IfOk result (λ f. f ≡ least (operations_faults scope.now own.now [] (map operation_tree operations.now))) }
+    ensures found { OnOk result (found.new ≡ noted found.old (operations_faults scope.now own.now [] (map operation_tree operations.now))) }
     ensures names { OnOk result (AreNames operation_bytes (map operation_tree operations.now) names.new) }
 {
-    least_by_parts();
-    sooner_associates();
-    let mut fault = None;
     for operation in operations {
         let is_second = names.see(&operation_name(operation).name)?;
-        let found = operation_fault(alloc, scope, own, is_second, operation)?;
-        fault = sooner(fault, found);
+        operation_faults(alloc, scope, own, is_second, operation, found)?;
     }
-    Ok(fault)
+    Ok(())
 }
 
-fn component_initial_fault(scope: &Scope, component: &ProtectedComponent) -> Option<Fault>
-    ensures { result ≡ least (component_initial_faults scope.now (protected_component_tree component.now)) }
+fn component_initial_faults(scope: &Scope, component: &ProtectedComponent, found: &mut Findings)
+    ensures { found.new ≡ noted found.old (component_initial_faults scope.now (protected_component_tree component.now)) }
 {
     match &component.value {
-        Some(e) => fixed_fault(scope, subtype_of(scope, &component.subtype), e),
-        None => None,
+        Some(e) => fixed_faults(scope, subtype_of(scope, &component.subtype), e, found),
+        None => {}
     }
 }
 
 // A component behind operations of these names, of which this says whether one before it has its name.
-fn part_fault(
+fn part_faults(
     scope: &Scope,
     own: &Identifier,
     operations: &SeenNames,
     is_second: bool,
     component: &ProtectedComponent,
-) -> Option<Fault>
-    ensures { result ≡ least (like_part_faults scope.now own.now (is_seen operations.now (protected_component_tree component.now).name.name) is_second
-        (protected_component_tree component.now)) }
+    found: &mut Findings,
+)
+    ensures { found.new ≡ noted found.old (like_part_faults scope.now own.now (is_seen operations.now (protected_component_tree component.now).name.name)
+        is_second (protected_component_tree component.now)) }
 {
-    least_by_parts();
+    noted_by_parts();
     let name = &component.name;
     let is_like = is_taken(scope, own, name) || operations.has(&name.name) || is_second;
-    sooner(
-        sooner(
-            rule(DECLARED_TWICE, name.place, is_like),
-            subtype_fault(scope, &component.subtype),
-        ),
-        component_initial_fault(scope, component),
-    )
+    found.note_rule(DECLARED_TWICE, name.place, is_like);
+    subtype_faults(scope, &component.subtype, found);
+    component_initial_faults(scope, component, found);
 }
 
 // The components behind operations of these names.
-fn parts_fault(
+fn parts_faults(
     alloc: Global,
     scope: &Scope,
     own: &Identifier,
     operations: &SeenNames,
     components: &[ProtectedComponent],
-) -> Result<Option<Fault>, AllocError>
-    ensures { (all : List OperationTree) → AreNames operation_bytes all operations.now → IfOk result
-        (λ f. f ≡ least (parts_faults scope.now own.now all [] (map protected_component_tree components.now))) }
+    found: &mut Findings,
+) -> Result<(), AllocError>
+    ensures { (all : List OperationTree) → AreNames operation_bytes all operations.now → OnOk result
+        (found.new ≡ noted found.old (parts_faults scope.now own.now all [] (map protected_component_tree components.now))) }
 {
-    least_by_parts();
-    sooner_associates();
     let mut names = SeenNames::new(alloc);
-    let mut fault = None;
     for component in components {
         let is_second = names.see(&component.name.name)?;
-        fault = sooner(
-            fault,
-            part_fault(scope, own, operations, is_second, component),
-        );
+        part_faults(scope, own, operations, is_second, component, found);
     }
-    Ok(fault)
+    Ok(())
 }
 
-/// The least fault of the declaration of a protected object. Memory is the only refusal.
-pub fn protected_fault(
+/// The broken rules of the declaration of a protected object. Memory is the only refusal.
+pub fn protected_faults(
     alloc: Global,
     scope: &Scope,
     object: &ProtectedDeclaration,
-) -> Result<Option<Fault>, AllocError>
-    ensures { IfOk result (λ f. f ≡ least (protected_faults scope.now (protected_tree object.now))) }
+    found: &mut Findings,
+) -> Result<(), AllocError>
+    ensures { OnOk result (found.new ≡ noted found.old (protected_faults scope.now (protected_tree object.now))) }
 {
-    least_by_parts();
+    noted_by_parts();
     let own = &object.name;
     let mut names = SeenNames::new(alloc);
-    let aspect = aspect_fault(scope, object.aspect.as_ref());
-    let operations = operations_fault(alloc, scope, own, &mut names, &object.operations)?;
-    let parts = parts_fault(alloc, scope, own, &names, &object.components)?;
-    let inside = sooner(
-        sooner(sooner(aspect, operations), parts),
-        end_rule(own, &object.end_name),
-    );
-    Ok(sooner(inside, declared_twice(scope, own)))
+    aspect_faults(scope, object.aspect.as_ref(), found);
+    operations_faults(alloc, scope, own, &mut names, &object.operations, found)?;
+    parts_faults(alloc, scope, own, &names, &object.components, found)?;
+    note_end_name(own, &object.end_name, found);
+    note_declared_twice(scope, own, found);
+    Ok(())
 }
 
 fn operation_profile(

@@ -1,19 +1,18 @@
 //! Exceptions, tasks and priorities (RM 11.1, 9.1, D.1).
-ghost use Rattle.std.specs.Prelude.{◌≡◌, ◌≤◌, ◌++◌, IfSome, OnErr, OnOk, codes, option_map};
+ghost use Rattle.std.specs.Prelude.{◌≡◌, ◌≤◌, ◌++◌, IfSome, OnErr, OnOk, option_map};
 ghost use Rattle.base.specs.declared.limits.TheConstants.{CHANNELS};
 ghost use Rattle.ada_tree.specs.StatementTree.{aspect_tree, optional_tree, task_definition_tree, task_tree};
 ghost use Rattle.types.specs.Values.{value_of};
-ghost use Rattle.expr_rules.specs.Faults.{least};
+ghost use Rattle.expr_rules.specs.Findings.{noted};
 ghost use Rattle.declaring.specs.HandlerChannels.{attached_channel, channel_of};
 ghost use Rattle.declaring.specs.TaskRules.{aspect_faults, aspect_wanted, exception_scope, is_attachment, is_priority, operation_aspect_faults, priority_of, priority_within, task_end_faults, task_faults, task_scope};
 
 use ada_tree::{Aspect, Identifier, TaskDeclaration, TaskDefinition};
 use base::limits::{CHANNELS, TASK_PRIORITY};
-use expr_rules::laws::least_by_parts;
-use expr_rules::{Wanted, expression_fault, sooner, static_scalar};
-use lexer::Fault;
+use expr_rules::laws::noted_by_parts;
+use expr_rules::{Findings, Wanted, expression_faults, static_scalar};
 use std::alloc::AllocError;
-use type_rules::{declare, declared_twice, end_rule};
+use type_rules::{declare, note_declared_twice, note_end_name};
 use types::{Entity, Scope, Subtype, Value};
 
 /// The base priority of a task without an aspect, and of main (RM D.1).
@@ -44,16 +43,16 @@ fn aspect_wanted(is_priority: bool) -> Wanted
     }
 }
 
-/// The least fault of an aspect's expression: that of a Priority is an Integer (RM D.1).
-pub fn aspect_fault(scope: &Scope, aspect: Option<&Aspect>) -> Option<Fault>
-    ensures { result ≡ least (aspect_faults scope.now (option_map (λ a. aspect_tree a.now) aspect.entry)) }
+/// The broken rules of an aspect's expression: that of a Priority is an Integer (RM D.1).
+pub fn aspect_faults(scope: &Scope, aspect: Option<&Aspect>, found: &mut Findings)
+    ensures { found.new ≡ noted found.old (aspect_faults scope.now (option_map (λ a. aspect_tree a.now) aspect.entry)) }
 {
     match aspect {
         Some(aspect) => {
             let wanted = aspect_wanted(is_priority(aspect));
-            expression_fault(scope, wanted, &aspect.value)
+            expression_faults(scope, wanted, &aspect.value, found);
         }
-        None => None,
+        None => {}
     }
 }
 
@@ -64,16 +63,16 @@ pub fn is_attachment(aspect: &Aspect) -> bool
     aspect.name.name.as_bytes() == "ATTACH_HANDLER".as_bytes()
 }
 
-/// The least fault of the expression of an operation's aspect: that of an Attach_Handler is an Integer (RM C.3.1).
-pub fn operation_aspect_fault(scope: &Scope, aspect: Option<&Aspect>) -> Option<Fault>
-    ensures { result ≡ least (operation_aspect_faults scope.now (option_map (λ a. aspect_tree a.now) aspect.entry)) }
+/// The broken rules of the expression of an operation's aspect: that of an Attach_Handler is an Integer (RM C.3.1).
+pub fn operation_aspect_faults(scope: &Scope, aspect: Option<&Aspect>, found: &mut Findings)
+    ensures { found.new ≡ noted found.old (operation_aspect_faults scope.now (option_map (λ a. aspect_tree a.now) aspect.entry)) }
 {
     match aspect {
         Some(aspect) => {
             let wanted = aspect_wanted(is_attachment(aspect));
-            expression_fault(scope, wanted, &aspect.value)
+            expression_faults(scope, wanted, &aspect.value, found);
         }
-        None => None,
+        None => {}
     }
 }
 
@@ -127,25 +126,23 @@ pub fn priority_of(scope: &Scope, highest: u8, other: u8, aspect: Option<&Aspect
     }
 }
 
-fn task_end_fault(name: &Identifier, definition: &Option<TaskDefinition>) -> Option<Fault>
-    ensures { result ≡ least (task_end_faults name.now (optional_tree task_definition_tree definition.now)) }
+fn task_end_faults(name: &Identifier, definition: &Option<TaskDefinition>, found: &mut Findings)
+    ensures { found.new ≡ noted found.old (task_end_faults name.now (optional_tree task_definition_tree definition.now)) }
 {
     match definition {
-        Some(definition) => end_rule(name, &definition.end_name),
-        None => None,
+        Some(definition) => note_end_name(name, &definition.end_name, found),
+        None => {}
     }
 }
 
-/// The least fault of the declaration of a task; its entries declare no names.
-pub fn task_fault(scope: &Scope, task: &TaskDeclaration) -> Option<Fault>
-    ensures { result ≡ least (task_faults scope.now (task_tree task.now)) }
+/// The broken rules of the declaration of a task; its entries declare no names.
+pub fn task_faults(scope: &Scope, task: &TaskDeclaration, found: &mut Findings)
+    ensures { found.new ≡ noted found.old (task_faults scope.now (task_tree task.now)) }
 {
-    least_by_parts();
-    let inside = sooner(
-        aspect_fault(scope, task.aspect.as_ref()),
-        task_end_fault(&task.name, &task.definition),
-    );
-    sooner(inside, declared_twice(scope, &task.name))
+    noted_by_parts();
+    aspect_faults(scope, task.aspect.as_ref(), found);
+    task_end_faults(&task.name, &task.definition, found);
+    note_declared_twice(scope, &task.name, found);
 }
 
 /// Makes a task visible, with its priority. Memory is the only refusal, and leaves the scope as it was.

@@ -3,10 +3,9 @@ use Rattle.std.proofs.Common.{◌≡◌, ℕ, List, [], ◌∷◌, Option, Some,
 use Rattle.std.specs.Prelude.{pos, codes}
 use Rattle.lexer.specs.declared.fault.Fault.{Fault}
 use Rattle.ada_tree.specs.declared.expression.Identifier.{Identifier}
-use Rattle.ada_tree.specs.declared.expression.UnaryOperator.{UnaryOperator}
 use Rattle.ada_tree.specs.declared.expression.BinaryOperator.{BinaryOperator}
 use Rattle.ada_tree.specs.declared.declaration.Mode.TheVariants as mode
-use Rattle.ada_tree.specs.ExpressionTree.{ExprTree, Number, Named, Conditional, Unary, Binary, NoElsifValues, MoreElsifValues, SelectorTree, selectors_of, Component, Arguments, Attribute, ArgumentTree, Value, Text, arguments_of}
+use Rattle.ada_tree.specs.ExpressionTree.{ExprTree, Number, Named, Binary, SelectorTree, selectors_of, Component, Arguments, ArgumentTree, Value, arguments_of}
 use Rattle.types.specs.declared.entity.Subtype.{Subtype}
 use Rattle.types.specs.declared.entity.Role.TheVariants as role
 use Rattle.types.specs.declared.entity.Value.TheVariants as scalar
@@ -24,17 +23,8 @@ identifier place text = record { name = text; place = place }
 abbrev pub num : ℕ → ℕ → ExprTree
 num place n = Number (pos n) place
 
-abbrev pub one : UnaryOperator → ℕ → ExprTree → ExprTree
-one operator place e = Unary operator place e
-
 abbrev pub two : BinaryOperator → ExprTree → ExprTree → ExprTree
 two operator a b = Binary operator a b
-
-abbrev pub if_then : ℕ → ExprTree → ExprTree → ExprTree → ExprTree
-if_then place c a b = Conditional place c a NoElsifValues b
-
-abbrev pub if_elsif : ℕ → ExprTree → ExprTree → ExprTree → ExprTree → ExprTree → ExprTree
-if_elsif place c a d b other = Conditional place c a (MoreElsifValues d b NoElsifValues) other
 
 abbrev pub name : ℕ → List ℕ → List SelectorTree → ExprTree
 name place text selectors = Named (identifier place text) (selectors_of selectors)
@@ -42,17 +32,11 @@ name place text selectors = Named (identifier place text) (selectors_of selector
 abbrev pub of : ExprTree → ArgumentTree
 of e = Value e
 
-abbrev pub label : ℕ → ArgumentTree
-label place = Text (codes "a") place
-
 abbrev pub at : List ArgumentTree → SelectorTree
 at arguments = Arguments (arguments_of arguments)
 
 abbrev pub dot : ℕ → List ℕ → SelectorTree
 dot place text = Component (identifier place text)
-
-abbrev pub tick : ℕ → List ℕ → SelectorTree
-tick place text = Attribute (identifier place text)
 
 abbrev pub broken : ℕ → ℕ → Option Fault
 broken number place = Some (record { number = number; place = place })

@@ -1,5 +1,5 @@
--- Expressions that must be static, in which nothing else is broken.
-use Rattle.std.proofs.Common.{◌≡◌, ℕ, [], ◌∷◌, ◌++◌, Bool, false, Option, Some, None, refl, sym, ap, ◌∙◌}
+-- Values of expressions that must be static, in which nothing else is broken.
+use Rattle.std.proofs.Common.{◌≡◌, ℕ, [], ◌∷◌, Bool, false, Option, Some, None, refl, sym, ap}
 use Rattle.std.specs.Prelude.{nat_eq}
 use Rattle.base.specs.declared.faults.TheConstants.{WRONG_STATIC_VALUE}
 use Rattle.lexer.specs.declared.fault.Fault.{Fault}
@@ -9,21 +9,9 @@ use Rattle.types.specs.declared.statics.StaticForm.TheVariants.{Static, NotStati
 use Rattle.types.specs.Values.{Value}
 use Rattle.types.specs.Evaluations.{Val, Gives, Raises, Meaningless}
 use Rattle.types.specs.Statics.{fault_of}
-use Rattle.expr_rules.specs.Faults.{Faults, least, rule, sooner}
-use Rattle.expr_rules.specs.StaticRules.{if_unbroken, scalar_if_known, static_result, value_rule}
-use Rattle.expr_rules.proofs.Least.{least_append, none_least, sooner_none}
-
-by_empty : (fs form value : Faults) (o v : Option Fault) → fs ≡ [] → o ≡ least form → v ≡ least value → sooner o v ≡ least (fs ++ form ++ if_unbroken fs value)
-by_empty [] form value o v e h k = (λ j. sooner (h j) (k j)) ∙ sym (least_append form value)
-by_empty (f ∷ fs) form value o v e h k = cc
-
-pub nothing_else : (fs form value : Faults) (o v : Option Fault) → None ≡ least fs → o ≡ least form → v ≡ least value → sooner o v ≡ least (fs ++ form ++ if_unbroken fs value)
-nothing_else fs form value o v none h k = by_empty fs form value o v (none_least fs none) h k
-
-pub something_else : (fs form value : Faults) (o : Option Fault) (f : Fault) → Some f ≡ least fs → o ≡ least form → sooner (Some f) o ≡ least (fs ++ form ++ if_unbroken fs value)
-something_else [] form value o f h k = cc
-something_else (g ∷ fs) form value o f h k =
-    (λ j. sooner (h j) (k j)) ∙ sym (least_append (g ∷ fs) form) ∙ sym (least_append (g ∷ fs ++ form) [] ∙ sooner_none (least (g ∷ fs ++ form)))
+use Rattle.expr_rules.specs.Faults.{Faults, least, rule}
+use Rattle.expr_rules.specs.StaticRules.{scalar_if_known, static_result, value_rule}
+use Rattle.expr_rules.proofs.Least.{none_least}
 
 abbrev is_wrong : Option ℕ → Bool
 is_wrong (Some m) = nat_eq m WRONG_STATIC_VALUE

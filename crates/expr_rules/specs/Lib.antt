@@ -4,6 +4,7 @@ pub use Rattle.types.specs.Standings
 pub use Rattle.types.specs.Values
 pub use Rattle.types.specs.Statics
 pub mod Faults
+pub mod Findings
 pub mod Typing
 pub mod NameRules
 pub mod ExpressionRules

@@ -2,6 +2,7 @@
 #![tactic(auto)]
 
 mod fault;
+mod findings;
 pub mod laws;
 mod names;
 mod own;
@@ -9,10 +10,14 @@ mod statics;
 mod walk;
 
 pub use fault::{rule, sooner};
-pub use names::{Slot, mismatch};
+pub use findings::Findings;
+pub use names::{Slot, mismatch, note_mismatch};
 pub use own::{
     Own, Wanted, is_boolean, is_integral, is_scalar, is_span, is_time, own_of, own_of_standing,
     typed_wanted,
 };
-pub use statics::{static_fault, static_scalar};
-pub use walk::{call_fault, check_expr, expression_fault, target_fault};
+pub use statics::{static_fault, static_faults, static_scalar};
+pub use walk::{
+    call_fault, call_faults, check_expr, expression_fault, expression_faults, target_fault,
+    target_faults,
+};

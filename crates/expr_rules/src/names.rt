@@ -4,9 +4,11 @@ ghost use Rattle.ada_tree.specs.ExpressionTree.{argument_trees, expr_tree, selec
 ghost use Rattle.types.specs.Entities.{form_value, profile_value, protected_value};
 ghost use Rattle.types.specs.Standings.{count, select};
 ghost use Rattle.expr_rules.specs.Faults.{least, rule};
+ghost use Rattle.expr_rules.specs.Findings.{noted};
 ghost use Rattle.expr_rules.specs.NameRules.{actual_rule, call_rule, call_slot, component_rule, conversion_slot, count_rule, end_rule, formal_slot, index_slot, is_changeable, is_doubtful, label_rule, mismatch, operation_rule, part_rule, profile_formals, put_slot, slot_at, slot_rule, slot_wanted, value_rule, variable_rule};
 
-use crate::fault::{rule, sooner};
+use crate::fault::rule;
+use crate::findings::Findings;
 use crate::own::{Own, Wanted, is_known, is_wanted};
 use ada_tree::laws::{arguments_by_parts, chains_by_parts, names_by_parts};
 use ada_tree::{Argument, Expr, Identifier, Mode, Selector};
@@ -26,6 +28,17 @@ pub enum Slot {
     TakesLabel,
 }
 
+/// Rule 12 at this place, broken where a type that is known is not the one that is expected.
+pub fn note_mismatch(scope: &Scope, wanted: Wanted, own: Own, place: u32, found: &mut Findings)
+    ensures { found.new ≡ noted found.old (mismatch scope.now wanted own place) }
+{
+    found.note_rule(
+        NO_MEANING,
+        place,
+        is_known(own) && !is_wanted(scope, wanted, own),
+    );
+}
+
 /// Fault 12 at this place where a type that is known is not the one that is expected.
 pub fn mismatch(scope: &Scope, wanted: Wanted, own: Own, place: u32) -> Option<Fault>
     ensures { result ≡ least (mismatch scope.now wanted own place) }
@@ -37,21 +50,21 @@ pub fn mismatch(scope: &Scope, wanted: Wanted, own: Own, place: u32) -> Option<F
     )
 }
 
-pub(crate) fn value_rule(place: u32, standing: Standing) -> Option<Fault>
-    ensures { result ≡ least (value_rule place standing) }
+pub(crate) fn value_rule(place: u32, standing: Standing, found: &mut Findings)
+    ensures { found.new ≡ noted found.old (value_rule place standing) }
 {
     match standing {
-        Standing::Statement | Standing::Other => rule(NO_MEANING, place, true),
-        _ => None,
+        Standing::Statement | Standing::Other => found.note_rule(NO_MEANING, place, true),
+        _ => {}
     }
 }
 
-pub(crate) fn call_rule(place: u32, standing: Standing) -> Option<Fault>
-    ensures { result ≡ least (call_rule place standing) }
+pub(crate) fn call_rule(place: u32, standing: Standing, found: &mut Findings)
+    ensures { found.new ≡ noted found.old (call_rule place standing) }
 {
     match standing {
-        Standing::Statement | Standing::Doubtful => None,
-        _ => rule(NO_MEANING, place, true),
+        Standing::Statement | Standing::Doubtful => {}
+        _ => found.note_rule(NO_MEANING, place, true),
     }
 }
 
@@ -64,38 +77,45 @@ fn is_changeable(role: Role) -> bool
     }
 }
 
-#[tactic(auto, using(crate::proofs::Least::least_append))]
+#[tactic(auto, using(crate::specs::Walks::noted_append))]
 pub(crate) fn variable_rule(
     scope: &Scope,
     place: u32,
     wanted: Wanted,
     standing: Standing,
-) -> Option<Fault>
-    ensures { result ≡ least (variable_rule scope.now place wanted standing) }
+    found: &mut Findings,
+)
+    ensures { found.new ≡ noted found.old (variable_rule scope.now place wanted standing) }
 {
     match standing {
-        Standing::Part(role, subtype) => sooner(
-            mismatch(scope, wanted, Own::Typed(subtype.type_number), place),
-            rule(NOT_A_VARIABLE, place, !is_changeable(role)),
-        ),
-        Standing::Fixed(subtype, _) => sooner(
-            mismatch(scope, wanted, Own::Typed(subtype.type_number), place),
-            rule(NOT_A_VARIABLE, place, true),
-        ),
-        Standing::Doubtful => None,
-        _ => rule(NO_MEANING, place, true),
+        Standing::Part(role, subtype) => {
+            note_mismatch(scope, wanted, Own::Typed(subtype.type_number), place, found);
+            found.note_rule(NOT_A_VARIABLE, place, !is_changeable(role));
+        }
+        Standing::Fixed(subtype, _) => {
+            note_mismatch(scope, wanted, Own::Typed(subtype.type_number), place, found);
+            found.note_rule(NOT_A_VARIABLE, place, true);
+        }
+        Standing::Doubtful => {}
+        _ => found.note_rule(NO_MEANING, place, true),
     }
 }
 
-fn actual_rule(scope: &Scope, wanted: Wanted, e: &Expr) -> Option<Fault>
-    ensures { result ≡ least (actual_rule scope.now wanted (expr_tree e.now)) }
+fn actual_rule(scope: &Scope, wanted: Wanted, e: &Expr, found: &mut Findings)
+    ensures { found.new ≡ noted found.old (actual_rule scope.now wanted (expr_tree e.now)) }
 {
     names_by_parts();
     chains_by_parts();
     match e {
-        Expr::Name(name) => variable_rule(scope, name.first.place, wanted, scope.standing(name)),
-        Expr::Chain(..) => rule(NO_MEANING, start_of(e), true),
-        _ => rule(NO_MEANING, start_of(e), true),
+        Expr::Name(name) => variable_rule(
+            scope,
+            name.first.place,
+            wanted,
+            scope.standing(name),
+            found,
+        ),
+        Expr::Chain(..) => found.note_rule(NO_MEANING, start_of(e), true),
+        _ => found.note_rule(NO_MEANING, start_of(e), true),
     }
 }
 
@@ -117,29 +137,29 @@ fn formal_count(profile: Option<&Profile>) -> usize
     }
 }
 
-fn component_rule(place: u32, name: &Identifier, form: Option<&TypeForm>) -> Option<Fault>
-    ensures { result ≡ least (component_rule place name.now (option_map (λ f. form_value f.now) form.entry)) }
+fn component_rule(place: u32, name: &Identifier, form: Option<&TypeForm>, found: &mut Findings)
+    ensures { found.new ≡ noted found.old (component_rule place name.now (option_map (λ f. form_value f.now) form.entry)) }
 {
     match form {
-        Some(TypeForm::Record(components)) => rule(
+        Some(TypeForm::Record(components)) => found.note_rule(
             NAME_NOT_VISIBLE,
             name.place,
             components.subtype_of(&name.name).is_none(),
         ),
-        _ => rule(NO_MEANING, place, true),
+        _ => found.note_rule(NO_MEANING, place, true),
     }
 }
 
-fn operation_rule(name: &Identifier, object: Option<&ProtectedObject>) -> Option<Fault>
-    ensures { result ≡ least (operation_rule name.now (option_map (λ p. protected_value p.now) object.entry)) }
+fn operation_rule(name: &Identifier, object: Option<&ProtectedObject>, found: &mut Findings)
+    ensures { found.new ≡ noted found.old (operation_rule name.now (option_map (λ p. protected_value p.now) object.entry)) }
 {
     match object {
-        Some(object) => rule(
+        Some(object) => found.note_rule(
             NAME_NOT_VISIBLE,
             name.place,
             object.position_of(&name.name).is_none(),
         ),
-        None => rule(NAME_NOT_VISIBLE, name.place, true),
+        None => found.note_rule(NAME_NOT_VISIBLE, name.place, true),
     }
 }
 
@@ -149,17 +169,23 @@ fn count(arguments: &[Argument]) -> usize
     arguments.len()
 }
 
-fn count_rule(place: u32, actuals: usize, formals: usize) -> Option<Fault>
-    ensures { result ≡ least (count_rule place actuals formals) }
+fn count_rule(place: u32, actuals: usize, formals: usize, found: &mut Findings)
+    ensures { found.new ≡ noted found.old (count_rule place actuals formals) }
 {
-    rule(WRONG_ARGUMENT_COUNT, place, !(actuals == formals))
+    found.note_rule(WRONG_ARGUMENT_COUNT, place, !(actuals == formals))
 }
 
 // A part without a rule of its own.
-fn other_part(scope: &Scope, place: u32, standing: Standing, selector: &Selector) -> Option<Fault>
-    ensures { result ≡ least (rule 12 place (is_doubtful (select scope.now standing (selector_tree selector.now)))) }
+fn other_part(
+    scope: &Scope,
+    place: u32,
+    standing: Standing,
+    selector: &Selector,
+    found: &mut Findings,
+)
+    ensures { found.new ≡ noted found.old (rule 12 place (is_doubtful (select scope.now standing (selector_tree selector.now)))) }
 {
-    rule(
+    found.note_rule(
         NO_MEANING,
         place,
         is_doubtful(scope.select(standing, selector)),
@@ -171,41 +197,52 @@ pub(crate) fn part_rule(
     place: u32,
     standing: Standing,
     selector: &Selector,
-) -> Option<Fault>
-    ensures { result ≡ least (part_rule scope.now place standing (selector_tree selector.now)) }
+    found: &mut Findings,
+)
+    ensures { found.new ≡ noted found.old (part_rule scope.now place standing (selector_tree selector.now)) }
 {
     arguments_by_parts();
     match (standing, selector) {
-        (Standing::Doubtful, _) => None,
+        (Standing::Doubtful, _) => {}
         (Standing::Part(_, subtype), Selector::Component(name)) => {
-            component_rule(place, name, scope.form(subtype.type_number))
+            component_rule(place, name, scope.form(subtype.type_number), found)
         }
         (Standing::Fixed(subtype, _), Selector::Component(name)) => {
-            component_rule(place, name, scope.form(subtype.type_number))
+            component_rule(place, name, scope.form(subtype.type_number), found)
         }
         (Standing::Protected(number), Selector::Component(name)) => {
-            operation_rule(name, scope.protected(number))
+            operation_rule(name, scope.protected(number), found)
         }
-        (Standing::Task, Selector::Component(name)) => rule(NAME_NOT_VISIBLE, name.place, true),
+        (Standing::Task, Selector::Component(name)) => found.note_rule(
+            NAME_NOT_VISIBLE,
+            name.place,
+            true,
+        ),
         (Standing::Callee(callee), Selector::Arguments(arguments)) => count_rule(
             place,
             count(arguments),
             formal_count(scope.callee_profile(callee)),
+            found,
         ),
-        (Standing::Put, Selector::Arguments(arguments)) => count_rule(place, count(arguments), 2),
-        _ => other_part(scope, place, standing, selector),
+        (Standing::Put, Selector::Arguments(arguments)) => count_rule(
+            place,
+            count(arguments),
+            2,
+            found,
+        ),
+        _ => other_part(scope, place, standing, selector, found),
     }
 }
 
-pub(crate) fn end_rule(scope: &Scope, place: u32, standing: Standing) -> Option<Fault>
-    ensures { result ≡ least (end_rule scope.now place standing) }
+pub(crate) fn end_rule(scope: &Scope, place: u32, standing: Standing, found: &mut Findings)
+    ensures { found.new ≡ noted found.old (end_rule scope.now place standing) }
 {
     match standing {
         Standing::Callee(callee) => {
-            count_rule(place, 0, formal_count(scope.callee_profile(callee)))
+            count_rule(place, 0, formal_count(scope.callee_profile(callee)), found)
         }
-        Standing::Put => count_rule(place, 0, 2),
-        _ => None,
+        Standing::Put => count_rule(place, 0, 2, found),
+        _ => {}
     }
 }
 
@@ -282,21 +319,21 @@ pub(crate) fn slot_wanted(slot: Slot) -> Wanted
     }
 }
 
-pub(crate) fn slot_rule(scope: &Scope, slot: Slot, e: &Expr, own: Own) -> Option<Fault>
-    ensures { result ≡ least (slot_rule scope.now slot (expr_tree e.now) own) }
+pub(crate) fn slot_rule(scope: &Scope, slot: Slot, e: &Expr, own: Own, found: &mut Findings)
+    ensures { found.new ≡ noted found.old (slot_rule scope.now slot (expr_tree e.now) own) }
 {
     match slot {
-        Slot::Expects(wanted) => mismatch(scope, wanted, own, start_of(e)),
-        Slot::Takes(number) => actual_rule(scope, Wanted::OfType(number), e),
-        Slot::TakesLabel => rule(NO_MEANING, start_of(e), true),
+        Slot::Expects(wanted) => note_mismatch(scope, wanted, own, start_of(e), found),
+        Slot::Takes(number) => actual_rule(scope, Wanted::OfType(number), e, found),
+        Slot::TakesLabel => found.note_rule(NO_MEANING, start_of(e), true),
     }
 }
 
-pub(crate) fn label_rule(slot: Slot, place: u32) -> Option<Fault>
-    ensures { result ≡ least (label_rule slot place) }
+pub(crate) fn label_rule(slot: Slot, place: u32, found: &mut Findings)
+    ensures { found.new ≡ noted found.old (label_rule slot place) }
 {
     match slot {
-        Slot::TakesLabel => None,
-        _ => rule(NO_MEANING, place, true),
+        Slot::TakesLabel => {}
+        _ => found.note_rule(NO_MEANING, place, true),
     }
 }

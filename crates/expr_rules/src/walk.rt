@@ -1,15 +1,16 @@
-//! The least fault in an expression, in one walk (docs/LANGUAGE.md, "Rules of expressions").
+//! The broken rules of an expression, in one walk (docs/LANGUAGE.md, "Rules of expressions").
 ghost use Rattle.std.specs.Prelude.{◌≡◌, [], IfErr, OnOk, Some};
 ghost use Rattle.ada_tree.specs.ExpressionTree.{expr_tree, elsif_value_tree, elsif_value_trees, selector_tree, selector_trees, argument_tree, argument_trees, name_tree};
-ghost use Rattle.expr_rules.specs.Faults.{IsLeast, least, rule, sooner};
+ghost use Rattle.expr_rules.specs.Faults.{IsLeast, least, rule};
+ghost use Rattle.expr_rules.specs.Findings.{noted};
 ghost use Rattle.expr_rules.specs.Typing.{elsif_own_of, own_of, typed_wanted};
-ghost use Rattle.expr_rules.specs.ExpressionRules.{argument_faults, arguments_faults, below, beside, beside_typed, binary_rule, call_faults, conditional_wanted, elsif_faults, faults_of, first_typed, name_faults, or_first, part_faults, parts_own, parts_wanted, selector_faults, selectors_faults, target_faults, unary_rule, wanted_of};
-ghost use Rattle.expr_rules.specs.Judging.{joined, judged, judged_after};
+ghost use Rattle.expr_rules.specs.ExpressionRules.{argument_faults, arguments_faults, below, beside, beside_typed, binary_rule, call_faults, conditional_wanted, elsif_faults, faults_in, faults_of, first_typed, name_faults, or_first, part_faults, parts_own, parts_wanted, selector_faults, selectors_faults, target_faults, unary_rule, wanted_of};
+ghost use Rattle.expr_rules.specs.Judging.{joined, joined_faults, judged, judged_after, operands_faults};
 
-use crate::fault::{rule, sooner};
+use crate::findings::Findings;
 use crate::names::{
-    Slot, call_rule, end_rule, label_rule, mismatch, part_rule, slot_at, slot_rule, slot_wanted,
-    value_rule, variable_rule,
+    Slot, call_rule, end_rule, label_rule, note_mismatch, part_rule, slot_at, slot_rule,
+    slot_wanted, value_rule, variable_rule,
 };
 use crate::own::{
     Own, Wanted, binary_own, has_binary, has_unary, is_integers, is_known, is_logical, is_relation,
@@ -23,28 +24,34 @@ use base::faults::{NAME_NOT_VISIBLE, NO_MEANING};
 use lexer::Fault;
 use types::{Scope, Standing};
 
-// The type that an expression has by itself, the least fault in it, and its place.
+// The type that an expression has by itself, and its place.
 #[derive(Clone, Copy, Debug)]
 struct Judged {
     own: Own,
-    fault: Option<Fault>,
     place: u32,
 }
 
-fn unary_rule(scope: &Scope, operator: UnaryOperator, place: u32, own: Own) -> Option<Fault>
-    ensures { result ≡ least (unary_rule scope.now operator place own) }
+fn unary_rule(scope: &Scope, operator: UnaryOperator, place: u32, own: Own, found: &mut Findings)
+    ensures { found.new ≡ noted found.old (unary_rule scope.now operator place own) }
 {
-    rule(
+    found.note_rule(
         NO_MEANING,
         place,
         is_known(own) && !has_unary(scope, operator, own),
     )
 }
 
-fn binary_rule(scope: &Scope, operator: BinaryOperator, place: u32, a: Own, b: Own) -> Option<Fault>
-    ensures { result ≡ least (binary_rule scope.now operator place a b) }
+fn binary_rule(
+    scope: &Scope,
+    operator: BinaryOperator,
+    place: u32,
+    a: Own,
+    b: Own,
+    found: &mut Findings,
+)
+    ensures { found.new ≡ noted found.old (binary_rule scope.now operator place a b) }
 {
-    rule(
+    found.note_rule(
         NO_MEANING,
         place,
         is_known(a) && (is_known(b) && !has_binary(scope, operator, a, b)),
@@ -137,233 +144,239 @@ fn conditional_wanted(
 }
 
 #[cycle(expression)]
-#[tactic(auto, using(crate::proofs::Least::least_append, crate::proofs::Least::sooner_assoc))]
-fn judge(scope: &Scope, wanted: Wanted, e: &Expr) -> Judged
-    ensures { result ≡ judged scope.now wanted (expr_tree e.now) }
+#[tactic(auto, using(crate::specs::Walks::noted_append))]
+fn judge(scope: &Scope, wanted: Wanted, e: &Expr, found: &mut Findings) -> Judged
+    ensures judged { result ≡ judged scope.now (expr_tree e.now) }
+    ensures found { found.new ≡ noted found.old (faults_in scope.now wanted (expr_tree e.now)) }
 {
     names_by_parts();
     conditional_by_parts();
     chains_by_parts();
     match e {
-        Expr::Number(_, place) => found(Own::Universal, None, *place),
+        Expr::Number(_, place) => at(Own::Universal, *place),
         Expr::Name(name) => {
             let standing = scope.standing(name);
-            let fault = sooner(
-                name_fault(scope, name),
-                value_rule(name.first.place, standing),
-            );
-            found(own_of_standing(standing), fault, name.first.place)
+            name_faults(scope, name, found);
+            value_rule(name.first.place, standing, found);
+            at(own_of_standing(standing), name.first.place)
         }
         Expr::Parenthesized(place, inner) => {
-            let inner = judge(scope, wanted, inner);
-            found(inner.own, inner.fault, *place)
+            let inner = judge(scope, wanted, inner, found);
+            at(inner.own, *place)
         }
         Expr::Unary(operator, place, operand) => {
-            let inner = judge(scope, below(*operator, wanted), operand);
-            let fault = sooner(inner.fault, unary_rule(scope, *operator, *place, inner.own));
-            found(unary_own(scope, *operator, inner.own), fault, *place)
+            let inner = judge(scope, below(*operator, wanted), operand, found);
+            unary_rule(scope, *operator, *place, inner.own, found);
+            at(unary_own(scope, *operator, inner.own), *place)
         }
         Expr::Chain(first, second, more) => {
             let beside = beside(scope, second.operator, own_of(scope, &second.value));
-            let left = judge(scope, beside, first);
-            judge_operands(scope, judge_operand(scope, left, second), more)
+            let left = judge(scope, beside, first, found);
+            let both = judge_operand(scope, left, second, found);
+            judge_operands(scope, both, more, found)
         }
         Expr::Conditional(place, condition, value, parts, else_value) => {
             let inner = conditional_wanted(scope, wanted, value, parts, else_value);
-            let condition = expected(scope, Wanted::BOOLEAN, condition);
-            let value = expected(scope, inner, value);
-            let others = elsif_fault(scope, inner, parts);
-            let last = expected(scope, inner, else_value);
-            let fault = sooner(sooner(sooner(condition, value), others), last);
-            found(own_of(scope, e), fault, *place)
+            faults_of(scope, Wanted::BOOLEAN, condition, found);
+            faults_of(scope, inner, value, found);
+            elsif_faults(scope, inner, parts, found);
+            faults_of(scope, inner, else_value, found);
+            at(own_of(scope, e), *place)
         }
     }
 }
 
-fn found(own: Own, fault: Option<Fault>, place: u32) -> Judged
+fn at(own: Own, place: u32) -> Judged
     ensures own { result.own ≡ own }
-    ensures fault { result.fault ≡ fault }
     ensures place { result.place ≡ place }
 {
-    Judged { own, fault, place }
+    Judged { own, place }
 }
 
 // An operator and the operand behind it, where all before them was judged so.
 #[cycle(expression)]
-fn judge_operand(scope: &Scope, left: Judged, operand: &Operand) -> Judged
-    ensures { result ≡ joined scope.now left operand.now.operator (expr_tree operand.now.value) }
+#[tactic(auto, using(crate::specs::Walks::noted_append))]
+fn judge_operand(scope: &Scope, left: Judged, operand: &Operand, found: &mut Findings) -> Judged
+    ensures judged { result ≡ joined scope.now left operand.now.operator (expr_tree operand.now.value) }
+    ensures found { found.new ≡ noted found.old (joined_faults scope.now left operand.now.operator (expr_tree operand.now.value)) }
 {
     let operator = operand.operator;
-    let right = judge(scope, beside(scope, operator, left.own), &operand.value);
-    let operands = sooner(left.fault, right.fault);
-    let fault = sooner(
-        operands,
-        binary_rule(scope, operator, left.place, left.own, right.own),
-    );
-    found(
-        binary_own(scope, operator, left.own, right.own),
-        fault,
-        left.place,
-    )
+    let beside = beside(scope, operator, left.own);
+    let right = judge(scope, beside, &operand.value, found);
+    binary_rule(scope, operator, left.place, left.own, right.own, found);
+    at(binary_own(scope, operator, left.own, right.own), left.place)
 }
 
 #[cycle(expression)]
-fn judge_operands(scope: &Scope, first: Judged, operands: &[Operand]) -> Judged
-    ensures { result ≡ judged_after scope.now first operands.now }
+fn judge_operands(
+    scope: &Scope,
+    first: Judged,
+    operands: &[Operand],
+    found: &mut Findings,
+) -> Judged
+    ensures judged { result ≡ judged_after scope.now first operands.now }
+    ensures found { found.new ≡ noted found.old (operands_faults scope.now first operands.now) }
 {
     let mut left = first;
     for operand in operands {
-        left = judge_operand(scope, left, operand);
+        left = judge_operand(scope, left, operand, found);
     }
     left
 }
 
 #[cycle(expression)]
-#[tactic(auto, using(crate::proofs::Least::least_append))]
-fn expected(scope: &Scope, wanted: Wanted, e: &Expr) -> Option<Fault>
-    ensures { result ≡ least (faults_of scope.now wanted (expr_tree e.now)) }
+#[tactic(auto, using(crate::specs::Walks::noted_append))]
+fn faults_of(scope: &Scope, wanted: Wanted, e: &Expr, found: &mut Findings)
+    ensures { found.new ≡ noted found.old (faults_of scope.now wanted (expr_tree e.now)) }
 {
-    let inside = judge(scope, wanted, e);
-    sooner(
-        inside.fault,
-        mismatch(scope, wanted, inside.own, inside.place),
-    )
+    let inside = judge(scope, wanted, e, found);
+    note_mismatch(scope, wanted, inside.own, inside.place, found);
 }
 
 #[cycle(expression)]
-#[tactic(auto, using(crate::proofs::Least::least_append))]
-fn part_fault(scope: &Scope, wanted: Wanted, part: &ElsifValue) -> Option<Fault>
-    ensures { result ≡ least (part_faults scope.now wanted (elsif_value_tree part.now).0 (elsif_value_tree part.now).1) }
+#[tactic(auto, using(crate::specs::Walks::noted_append))]
+fn part_faults(scope: &Scope, wanted: Wanted, part: &ElsifValue, found: &mut Findings)
+    ensures { found.new ≡ noted found.old (part_faults scope.now wanted (elsif_value_tree part.now).0 (elsif_value_tree part.now).1) }
 {
-    let condition = expected(scope, Wanted::BOOLEAN, &part.condition);
-    let value = expected(scope, wanted, &part.value);
-    sooner(condition, value)
+    faults_of(scope, Wanted::BOOLEAN, &part.condition, found);
+    faults_of(scope, wanted, &part.value, found);
 }
 
 #[cycle(expression)]
-#[tactic(auto, using(crate::proofs::Least::least_append))]
-fn elsif_fault(scope: &Scope, wanted: Wanted, parts: &[ElsifValue]) -> Option<Fault>
-    ensures { result ≡ least (elsif_faults scope.now wanted (elsif_value_trees parts.now)) }
+fn elsif_faults(scope: &Scope, wanted: Wanted, parts: &[ElsifValue], found: &mut Findings)
+    ensures { found.new ≡ noted found.old (elsif_faults scope.now wanted (elsif_value_trees parts.now)) }
 {
-    let mut fault = None;
     for part in parts {
-        fault = sooner(fault, part_fault(scope, wanted, part));
+        part_faults(scope, wanted, part, found);
     }
-    fault
 }
 
 #[cycle(expression)]
-#[tactic(auto, using(crate::proofs::Least::least_append))]
-fn name_fault(scope: &Scope, name: &NameExpr) -> Option<Fault>
-    ensures { result ≡ least (name_faults scope.now (name_tree name.now).first (name_tree name.now).selectors) }
+#[tactic(auto, using(crate::specs::Walks::noted_append))]
+fn name_faults(scope: &Scope, name: &NameExpr, found: &mut Findings)
+    ensures { found.new ≡ noted found.old (name_faults scope.now (name_tree name.now).first (name_tree name.now).selectors) }
 {
     let place = name.first.place;
-    let hidden = rule(
-        NAME_NOT_VISIBLE,
-        place,
-        scope.number_of(&name.first.name).is_none(),
-    );
+    let is_hidden = scope.number_of(&name.first.name).is_none();
+    found.note_rule(NAME_NOT_VISIBLE, place, is_hidden);
     let first = scope.stands_first(&name.first);
-    sooner(
-        hidden,
-        selectors_fault(scope, place, first, &name.selectors),
-    )
+    selectors_faults(scope, place, first, &name.selectors, found);
 }
 
 #[cycle(expression)]
-#[tactic(auto, using(crate::proofs::Least::least_append))]
-fn selectors_fault(
+fn selectors_faults(
     scope: &Scope,
     place: u32,
     first: Standing,
     selectors: &[Selector],
-) -> Option<Fault>
-    ensures { result ≡ least (selectors_faults scope.now place first (selector_trees selectors.now)) }
+    found: &mut Findings,
+)
+    ensures { found.new ≡ noted found.old (selectors_faults scope.now place first (selector_trees selectors.now)) }
 {
     let mut standing = first;
-    let mut fault = None;
     for selector in selectors {
-        fault = sooner(fault, selector_fault(scope, place, standing, selector));
+        selector_faults(scope, place, standing, selector, found);
         standing = scope.select(standing, selector);
     }
-    sooner(fault, end_rule(scope, place, standing))
+    end_rule(scope, place, standing, found);
 }
 
 #[cycle(expression)]
-#[tactic(auto, using(crate::proofs::Least::least_append))]
-fn selector_fault(
+#[tactic(auto, using(crate::specs::Walks::noted_append))]
+fn selector_faults(
     scope: &Scope,
     place: u32,
     standing: Standing,
     selector: &Selector,
-) -> Option<Fault>
-    ensures { result ≡ least (selector_faults scope.now place standing (selector_tree selector.now)) }
+    found: &mut Findings,
+)
+    ensures { found.new ≡ noted found.old (selector_faults scope.now place standing (selector_tree selector.now)) }
 {
     arguments_by_parts();
-    let part = part_rule(scope, place, standing, selector);
-    match selector {
-        Selector::Arguments(arguments) => {
-            sooner(part, arguments_fault(scope, standing, arguments))
-        }
-        _ => part,
+    part_rule(scope, place, standing, selector, found);
+    if let Selector::Arguments(arguments) = selector {
+        arguments_faults(scope, standing, arguments, found);
     }
 }
 
 #[cycle(expression)]
-#[tactic(auto, using(crate::proofs::Least::least_append))]
-fn arguments_fault(scope: &Scope, standing: Standing, arguments: &[Argument]) -> Option<Fault>
-    ensures { result ≡ least (arguments_faults scope.now standing 0 (argument_trees arguments.now)) }
+fn arguments_faults(scope: &Scope, standing: Standing, arguments: &[Argument], found: &mut Findings)
+    ensures { found.new ≡ noted found.old (arguments_faults scope.now standing 0 (argument_trees arguments.now)) }
 {
-    let mut fault = None;
     for (index, argument) in arguments.iter().enumerate() {
         let slot = slot_at(scope, standing, index);
-        fault = sooner(fault, argument_fault(scope, slot, argument));
+        argument_faults(scope, slot, argument, found);
     }
-    fault
 }
 
 #[cycle(expression)]
-#[tactic(auto, using(crate::proofs::Least::least_append))]
-fn argument_fault(scope: &Scope, slot: Slot, argument: &Argument) -> Option<Fault>
-    ensures { result ≡ least (argument_faults scope.now slot (argument_tree argument.now)) }
+#[tactic(auto, using(crate::specs::Walks::noted_append))]
+fn argument_faults(scope: &Scope, slot: Slot, argument: &Argument, found: &mut Findings)
+    ensures { found.new ≡ noted found.old (argument_faults scope.now slot (argument_tree argument.now)) }
 {
     match argument {
         Argument::Expr(e) => {
-            let inside = judge(scope, slot_wanted(slot), e);
-            sooner(inside.fault, slot_rule(scope, slot, e, inside.own))
+            let inside = judge(scope, slot_wanted(slot), e, found);
+            slot_rule(scope, slot, e, inside.own, found);
         }
-        Argument::Label(_, place) => label_rule(slot, *place),
+        Argument::Label(_, place) => label_rule(slot, *place, found),
     }
 }
 
+/// The broken rules of an expression of which this is expected: 10, 12, 13 and 16 (docs/LANGUAGE.md, "Rules of expressions").
+pub fn expression_faults(scope: &Scope, wanted: Wanted, e: &Expr, found: &mut Findings)
+    ensures { found.new ≡ noted found.old (faults_of scope.now wanted (expr_tree e.now)) }
+{
+    faults_of(scope, wanted, e, found);
+}
+
+/// The broken rules of a statement that is this name: the call of a procedure or entry, or of `Put` (RM 6.4, 9.5.3).
+#[tactic(auto, using(crate::specs::Walks::noted_append))]
+pub fn call_faults(scope: &Scope, name: &NameExpr, found: &mut Findings)
+    ensures { found.new ≡ noted found.old (call_faults scope.now (name_tree name.now).first (name_tree name.now).selectors) }
+{
+    name_faults(scope, name, found);
+    call_rule(name.first.place, scope.standing(name), found);
+}
+
+/// The broken rules of the target of an assignment (RM 5.2).
+#[tactic(auto, using(crate::specs::Walks::noted_append))]
+pub fn target_faults(scope: &Scope, name: &NameExpr, found: &mut Findings)
+    ensures { found.new ≡ noted found.old (target_faults scope.now (name_tree name.now).first (name_tree name.now).selectors) }
+{
+    let standing = scope.standing(name);
+    name_faults(scope, name, found);
+    variable_rule(scope, name.first.place, Wanted::Anything, standing, found);
+}
+
 /// The least fault in an expression of which this is expected: of rules 10, 12, 13 and 16 (docs/LANGUAGE.md, "Rules of expressions").
+#[tactic(auto, using(crate::proofs::Noted::least_found))]
 pub fn expression_fault(scope: &Scope, wanted: Wanted, e: &Expr) -> Option<Fault>
     ensures { result ≡ least (faults_of scope.now wanted (expr_tree e.now)) }
 {
-    expected(scope, wanted, e)
+    let mut found = Findings::new();
+    expression_faults(scope, wanted, e, &mut found);
+    found.least()
 }
 
 /// The least fault in a statement that is this name: the call of a procedure or entry, or of `Put` (RM 6.4, 9.5.3).
-#[tactic(auto, using(crate::proofs::Least::least_append))]
+#[tactic(auto, using(crate::proofs::Noted::least_found))]
 pub fn call_fault(scope: &Scope, name: &NameExpr) -> Option<Fault>
     ensures { result ≡ least (call_faults scope.now (name_tree name.now).first (name_tree name.now).selectors) }
 {
-    sooner(
-        name_fault(scope, name),
-        call_rule(name.first.place, scope.standing(name)),
-    )
+    let mut found = Findings::new();
+    call_faults(scope, name, &mut found);
+    found.least()
 }
 
 /// The least fault in the target of an assignment (RM 5.2).
-#[tactic(auto, using(crate::proofs::Least::least_append))]
+#[tactic(auto, using(crate::proofs::Noted::least_found))]
 pub fn target_fault(scope: &Scope, name: &NameExpr) -> Option<Fault>
     ensures { result ≡ least (target_faults scope.now (name_tree name.now).first (name_tree name.now).selectors) }
 {
-    let standing = scope.standing(name);
-    sooner(
-        name_fault(scope, name),
-        variable_rule(scope, name.first.place, Wanted::Anything, standing),
-    )
+    let mut found = Findings::new();
+    target_faults(scope, name, &mut found);
+    found.least()
 }
 
 fn wanted_of(expected: Option<u16>) -> Wanted

@@ -58,9 +58,9 @@ of_declared ts = of_places _ ⊕ of_places _ ⊕ of_places _ ⊕ of_places _ ⊕
 
 of_package_size : (p : PackageTree) → Legality (package_size_faults p)
 of_package_size p =
-    of_declared (package_things p)
+    of_body_items (specified_scope standard p) p.body.items
+    ⊕ of_declared (package_things p)
     ⊕ of_places _
-    ⊕ of_body_items (specified_scope standard p) p.body.items
 
 of_optional_size : (p : Option PackageTree) → Legality (optional_size_faults p)
 of_optional_size (Some p) = of_package_size p

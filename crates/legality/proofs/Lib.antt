@@ -1,9 +1,7 @@
-mod BodyExamples
 mod MainExamples
 mod Walks
 mod Objects
 mod PackageBodyExamples
-mod PackageExamples
 mod Meanings
 mod Parts
 mod Sample

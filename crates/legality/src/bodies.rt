@@ -1,9 +1,9 @@
 //! Bodies of subprograms and tasks (RM 6.3, 9.1).
-ghost use Rattle.std.specs.Prelude.{◌≡◌, ◌++◌, IfOk, OnOk, is_some, map};
+ghost use Rattle.std.specs.Prelude.{◌≡◌, ◌++◌, OnOk, is_some, map};
 ghost use Rattle.ada_tree.specs.StatementTree.{declaration_tree, handler_trees, stmt_tree, stmt_trees, subprogram_tree};
 ghost use Rattle.ada_tree.specs.ProgramTree.{body_tree};
 ghost use Rattle.types.specs.Entities.{entity_value};
-ghost use Rattle.expr_rules.specs.Faults.{least};
+ghost use Rattle.expr_rules.specs.Findings.{noted};
 ghost use Rattle.declaring.specs.BodyNames.{formals_scope};
 ghost use Rattle.type_rules.specs.ProfileRules.{subprogram_scope};
 ghost use Rattle.type_rules.specs.SubtypeNames.{named_entity};
@@ -13,34 +13,41 @@ use ada_tree::laws::statements_by_parts;
 use ada_tree::{Body, Declaration, Formal, Handler, Identifier, Stmt, Subprogram};
 use base::faults::{DECLARED_TWICE, UNMATCHED_BODY, WRONG_FUNCTION};
 use declaring::laws::names_are_added;
-use declaring::{declare_formals, declare_locals, declare_task_locals};
-use expr_rules::laws::{least_by_parts, sooner_associates};
-use expr_rules::{rule, sooner};
-use lexer::Fault;
+use declaring::{check_locals, check_task_locals, declare_formals};
+use expr_rules::Findings;
+use expr_rules::laws::noted_by_parts;
 use std::alloc::{AllocError, Global};
-use stmt_rules::{Around, BodyKind, sequence_fault};
-use type_rules::{declare_subprogram, end_rule, named_entity, profile_fault, subtype_of};
+use stmt_rules::{Around, BodyKind, sequence_faults};
+use type_rules::{declare_subprogram, named_entity, note_end_name, profile_faults, subtype_of};
 use types::{Entity, Scope, Subtype};
 
-/// The least fault in the declarations, statements and handlers of a body of this kind, which sees the names of the scope. The scope stays as it was.
+/// The broken rules of the declarations, statements and handlers of a body of this kind, which sees the names of the scope. The scope stays as it was.
 /// Memory is the only refusal, and may leave names of the body visible.
-pub fn body_fault(
+pub fn body_faults(
     alloc: Global,
     scope: &mut Scope,
     kind: BodyKind,
     body: &Body,
-) -> Result<Option<Fault>, AllocError>
-    ensures fault { IfOk result (λ f. f ≡ least (body_faults scope.old kind (body_tree body.now))) }
+    found: &mut Findings,
+) -> Result<(), AllocError>
+    ensures found { OnOk result (found.new ≡ noted found.old (body_faults scope.old kind (body_tree body.now))) }
     ensures scope { OnOk result (scope.new ≡ scope.old) }
 {
-    least_by_parts();
+    noted_by_parts();
     names_are_added();
     let len = scope.len();
-    let declared = declare_locals(alloc, scope, &body.declarations)?;
+    check_locals(alloc, scope, &body.declarations, found)?;
     let around = Around::body(kind);
-    let inside = sequence_fault(alloc, scope, around, &body.statements, &body.handlers)?;
+    sequence_faults(
+        alloc,
+        scope,
+        around,
+        &body.statements,
+        &body.handlers,
+        found,
+    )?;
     scope.truncate(len);
-    Ok(sooner(declared, inside))
+    Ok(())
 }
 
 fn is_task(scope: &Scope, name: &Identifier) -> bool
@@ -53,33 +60,41 @@ fn is_task(scope: &Scope, name: &Identifier) -> bool
     }
 }
 
-fn task_rule(scope: &Scope, name: &Identifier) -> Option<Fault>
-    ensures { result ≡ least (task_rule scope.now name.now) }
+fn task_rule(scope: &Scope, name: &Identifier, found: &mut Findings)
+    ensures { found.new ≡ noted found.old (task_rule scope.now name.now) }
 {
-    rule(UNMATCHED_BODY, name.place, !is_task(scope, name))
+    found.note_rule(UNMATCHED_BODY, name.place, !is_task(scope, name));
 }
 
-/// The least fault of the body of a task, whose initial values are static. The scope stays as it was. Memory is the only refusal, and may leave names of the
+/// The broken rules of the body of a task, whose initial values are static. The scope stays as it was. Memory is the only refusal, and may leave names of the
 /// body visible.
-pub fn task_body_fault(
+pub fn task_body_faults(
     alloc: Global,
     scope: &mut Scope,
     name: &Identifier,
     body: &Body,
-) -> Result<Option<Fault>, AllocError>
-    ensures fault { IfOk result (λ f. f ≡ least (task_body_faults scope.old name.now (body_tree body.now))) }
+    found: &mut Findings,
+) -> Result<(), AllocError>
+    ensures found { OnOk result (found.new ≡ noted found.old (task_body_faults scope.old name.now (body_tree body.now))) }
     ensures scope { OnOk result (scope.new ≡ scope.old) }
 {
-    least_by_parts();
+    noted_by_parts();
     names_are_added();
     let len = scope.len();
-    let missing = task_rule(scope, name);
-    let declared = declare_task_locals(alloc, scope, &body.declarations)?;
+    task_rule(scope, name, found);
+    check_task_locals(alloc, scope, &body.declarations, found)?;
     let around = Around::body(BodyKind::Task);
-    let inside = sequence_fault(alloc, scope, around, &body.statements, &body.handlers)?;
+    sequence_faults(
+        alloc,
+        scope,
+        around,
+        &body.statements,
+        &body.handlers,
+        found,
+    )?;
     scope.truncate(len);
-    let head = sooner(missing, declared);
-    Ok(sooner(sooner(head, inside), end_rule(name, &body.end_name)))
+    note_end_name(name, &body.end_name, found);
+    Ok(())
 }
 
 fn is_return_of_value(statement: &Stmt) -> bool
@@ -124,14 +139,14 @@ fn is_function_body(body: &Body) -> bool
         && (has_no_handlers(&body.handlers) && is_single_return(&body.statements))
 }
 
-fn function_body_fault(subprogram: &Subprogram, body: &Body) -> Option<Fault>
-    ensures { result ≡ least (function_body_faults (subprogram_tree subprogram.now) (body_tree body.now)) }
+fn function_body_faults(subprogram: &Subprogram, body: &Body, found: &mut Findings)
+    ensures { found.new ≡ noted found.old (function_body_faults (subprogram_tree subprogram.now) (body_tree body.now)) }
 {
-    rule(
+    found.note_rule(
         WRONG_FUNCTION,
         subprogram.name.place,
         subprogram.result.is_some() && !is_function_body(body),
-    )
+    );
 }
 
 fn type_number(subtype: Option<Subtype>) -> Option<usize>
@@ -171,74 +186,70 @@ fn body_name_number(scope: &Scope, name: &Identifier) -> u8
     }
 }
 
-fn body_name_rule(scope: &Scope, name: &Identifier) -> Option<Fault>
-    ensures { result ≡ least (body_name_rule scope.now name.now) }
+fn body_name_rule(scope: &Scope, name: &Identifier, found: &mut Findings)
+    ensures { found.new ≡ noted found.old (body_name_rule scope.now name.now) }
 {
     let is_visible = scope.number_of(&name.name).is_some();
-    rule(body_name_number(scope, name), name.place, is_visible)
+    found.note_rule(body_name_number(scope, name), name.place, is_visible);
 }
 
-fn body_name_fault(scope: &Scope, name: &Identifier) -> Option<Fault>
-    ensures { result ≡ least (body_name_faults scope.now name.now) }
+fn body_name_faults(scope: &Scope, name: &Identifier, found: &mut Findings)
+    ensures { found.new ≡ noted found.old (body_name_faults scope.now name.now) }
 {
-    if is_subprogram(scope, name) {
-        None
-    } else {
-        body_name_rule(scope, name)
+    if !is_subprogram(scope, name) {
+        body_name_rule(scope, name, found);
     }
 }
 
-fn own_name_fault(name: &Identifier, formals: &[Formal]) -> Option<Fault>
-    ensures { result ≡ least (own_name_faults name.now formals.now) }
+fn own_name_faults(name: &Identifier, formals: &[Formal], found: &mut Findings)
+    ensures { found.new ≡ noted found.old (own_name_faults name.now formals.now) }
 {
-    least_by_parts();
-    sooner_associates();
-    let mut fault = None;
+    noted_by_parts();
     for formal in formals {
         let is_own = formal.name.name.as_bytes() == name.name.as_bytes();
-        fault = sooner(fault, rule(DECLARED_TWICE, formal.name.place, is_own));
+        found.note_rule(DECLARED_TWICE, formal.name.place, is_own);
     }
-    fault
 }
 
-// What is broken in front of the declarations of a subprogram's body.
-fn head_fault(
+// What is broken before the declarations of a subprogram's body.
+fn head_faults(
     alloc: Global,
     scope: &Scope,
     subprogram: &Subprogram,
     body: &Body,
-) -> Result<Option<Fault>, AllocError>
-    ensures { IfOk result (λ f. f ≡ least (head_faults scope.now (subprogram_tree subprogram.now) (body_tree body.now))) }
+    found: &mut Findings,
+) -> Result<(), AllocError>
+    ensures { OnOk result (found.new ≡ noted found.old (head_faults scope.now (subprogram_tree subprogram.now) (body_tree body.now))) }
 {
-    least_by_parts();
-    let profile = sooner(
-        profile_fault(alloc, scope, subprogram)?,
-        own_name_fault(&subprogram.name, &subprogram.formals),
-    );
-    let named = sooner(profile, body_name_fault(scope, &subprogram.name));
-    Ok(sooner(named, function_body_fault(subprogram, body)))
+    noted_by_parts();
+    profile_faults(alloc, scope, subprogram, found)?;
+    own_name_faults(&subprogram.name, &subprogram.formals, found);
+    body_name_faults(scope, &subprogram.name, found);
+    function_body_faults(subprogram, body, found);
+    Ok(())
 }
 
-/// The least fault of a subprogram's body, and makes its name visible, unless a declaration did before. Memory is the only refusal, and may leave names of
+/// The broken rules of a subprogram's body, and makes its name visible, unless a declaration did before. Memory is the only refusal, and may leave names of
 /// the body visible.
-pub fn subprogram_body_fault(
+pub fn subprogram_body_faults(
     alloc: Global,
     scope: &mut Scope,
     subprogram: &Subprogram,
     body: &Body,
-) -> Result<Option<Fault>, AllocError>
-    ensures fault { IfOk result (λ f. f ≡ least (subprogram_body_faults scope.old (subprogram_tree subprogram.now) (body_tree body.now))) }
+    found: &mut Findings,
+) -> Result<(), AllocError>
+    ensures found { OnOk result (found.new ≡ noted found.old (subprogram_body_faults scope.old (subprogram_tree subprogram.now) (body_tree body.now))) }
     ensures scope { OnOk result (scope.new ≡ subprogram_scope scope.old (subprogram_tree subprogram.now)) }
 {
-    least_by_parts();
+    noted_by_parts();
     names_are_added();
-    let head = head_fault(alloc, scope, subprogram, body)?;
+    head_faults(alloc, scope, subprogram, body, found)?;
     let kind = kind_of(scope, &subprogram.result);
     declare_subprogram(alloc, scope, subprogram)?;
     let len = scope.len();
     declare_formals(scope, &subprogram.formals)?;
-    let inside = body_fault(alloc, scope, kind, body)?;
+    body_faults(alloc, scope, kind, body, found)?;
     scope.truncate(len);
-    let end = end_rule(&subprogram.name, &body.end_name);
-    Ok(sooner(sooner(head, inside), end))
+    note_end_name(&subprogram.name, &body.end_name, found);
+    Ok(())
 }

@@ -9,10 +9,10 @@ mod protected;
 mod units;
 mod visible;
 
-pub use bodies::{body_fault, subprogram_body_fault, task_body_fault};
-pub use main_procedure::{item_name, main_fault, main_scope};
-pub use package::package_fault;
-pub use package_body::body_items_fault;
-pub use protected::protected_body_fault;
-pub use units::{clauses_fault, see_units};
+pub use bodies::{body_faults, subprogram_body_faults, task_body_faults};
+pub use main_procedure::{item_name, main_faults, main_scope};
+pub use package::package_faults;
+pub use package_body::body_items_faults;
+pub use protected::protected_body_faults;
+pub use units::{clauses_faults, see_units};
 pub use visible::{inside_scope, see_body_item};

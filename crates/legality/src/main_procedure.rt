@@ -1,23 +1,22 @@
 //! The main procedure (RM 10.2).
-ghost use Rattle.std.specs.Prelude.{◌≡◌, IfOk, map, option_map};
+ghost use Rattle.std.specs.Prelude.{◌≡◌, IfOk, OnOk, map, option_map};
 ghost use Rattle.std.specs.List.{list_any};
 ghost use Rattle.ada_tree.specs.ProgramTree.{body_item_tree, item_tree, main_tree, package_tree};
 ghost use Rattle.types.specs.Scopes.{is_visible};
 ghost use Rattle.types.specs.Seen.{ArePlaces};
-ghost use Rattle.expr_rules.specs.Faults.{least};
+ghost use Rattle.expr_rules.specs.Findings.{noted};
 ghost use Rattle.matching.specs.MatchingRules.{passes_declared};
 ghost use Rattle.legality.specs.MainRules.{called_rule, declared_meaning, has_no_formals, is_task_named, is_task_of, item_bytes, item_meaning, item_name, main_call_faults, main_faults, main_name_faults, main_scope, main_statement_faults, main_statements_faults, meaning_at, meaning_of, no_package_rule, package_call_faults};
 
 use ada_tree::{BodyItem, Formal, Identifier, Item, Main, MainStatement, Package};
 use base::faults::{DECLARED_TWICE, NAME_NOT_VISIBLE, NO_MEANING, WRONG_ARGUMENT_COUNT};
-use declaring::aspect_fault;
-use expr_rules::laws::{least_by_parts, sooner_associates};
-use expr_rules::{rule, sooner};
-use lexer::Fault;
+use declaring::aspect_faults;
+use expr_rules::Findings;
+use expr_rules::laws::noted_by_parts;
 use matching::same_name;
 use std::alloc::{AllocError, Global};
 use std::marker::Model;
-use type_rules::{declare, end_rule};
+use type_rules::{declare, note_end_name};
 use types::{Entity, NamePlaces, Scope};
 
 /// What the specification of a package declares by a name.
@@ -88,11 +87,16 @@ pub fn main_scope(alloc: Global, package_: Option<&Package>) -> Result<Scope, Al
     }
 }
 
-fn main_name_fault(scope: &Scope, package_: Option<&Package>, name: &Identifier) -> Option<Fault>
-    ensures { result ≡ least (main_name_faults scope.now (option_map (λ p. package_tree p.now) package_.entry) name.now) }
+fn main_name_faults(
+    scope: &Scope,
+    package_: Option<&Package>,
+    name: &Identifier,
+    found: &mut Findings,
+)
+    ensures { found.new ≡ noted found.old (main_name_faults scope.now (option_map (λ p. package_tree p.now) package_.entry) name.now) }
 {
     let is_taken = scope.number_of(&name.name).is_some() || is_task_of(package_, name);
-    rule(DECLARED_TWICE, name.place, is_taken)
+    found.note_rule(DECLARED_TWICE, name.place, is_taken);
 }
 
 fn meaning_of(is_function: bool, has_no_formals: bool) -> Meaning
@@ -204,116 +208,123 @@ impl<'a> NamedPackage<'a> {
     }
 }
 
-fn called_rule(first: &Identifier, second: &Identifier, meaning: Meaning) -> Option<Fault>
-    ensures { result ≡ least (called_rule first.now second.now meaning) }
+fn called_rule(first: &Identifier, second: &Identifier, meaning: Meaning, found: &mut Findings)
+    ensures { found.new ≡ noted found.old (called_rule first.now second.now meaning) }
 {
     match meaning {
-        Meaning::Procedure => None,
-        Meaning::WithFormals => rule(WRONG_ARGUMENT_COUNT, first.place, true),
-        Meaning::Other => rule(NO_MEANING, first.place, true),
-        Meaning::Nothing => rule(NAME_NOT_VISIBLE, second.place, true),
+        Meaning::Procedure => {}
+        Meaning::WithFormals => found.note_rule(WRONG_ARGUMENT_COUNT, first.place, true),
+        Meaning::Other => found.note_rule(NO_MEANING, first.place, true),
+        Meaning::Nothing => found.note_rule(NAME_NOT_VISIBLE, second.place, true),
     }
 }
 
-fn no_package_rule(is_visible: bool, first: &Identifier) -> Option<Fault>
-    ensures { result ≡ least (no_package_rule is_visible first.now) }
+fn no_package_rule(is_visible: bool, first: &Identifier, found: &mut Findings)
+    ensures { found.new ≡ noted found.old (no_package_rule is_visible first.now) }
 {
     if is_visible {
-        rule(NO_MEANING, first.place, true)
+        found.note_rule(NO_MEANING, first.place, true);
     } else {
-        rule(NAME_NOT_VISIBLE, first.place, true)
+        found.note_rule(NAME_NOT_VISIBLE, first.place, true);
     }
 }
 
-fn package_call_fault(
+fn package_call_faults(
     scope: &Scope,
     package_: &NamedPackage,
     first: &Identifier,
     second: &Identifier,
-) -> Option<Fault>
-    ensures { result ≡ least (package_call_faults scope.now (package_tree package_.now) first.now second.now) }
+    found: &mut Findings,
+)
+    ensures { found.new ≡ noted found.old (package_call_faults scope.now (package_tree package_.now) first.now second.now) }
 {
     if same_name(&package_.package_.declaration.name, first) {
-        called_rule(first, second, package_.meaning(second))
+        called_rule(first, second, package_.meaning(second), found);
     } else {
-        no_package_rule(scope.number_of(&first.name).is_some(), first)
+        no_package_rule(scope.number_of(&first.name).is_some(), first, found);
     }
 }
 
-fn main_call_fault(
+fn main_call_faults(
     scope: &Scope,
     package_: Option<&NamedPackage>,
     first: &Identifier,
     second: &Identifier,
-) -> Option<Fault>
-    ensures { result ≡ least (main_call_faults scope.now (option_map (λ p. package_tree p.now) package_.entry) first.now second.now) }
+    found: &mut Findings,
+)
+    ensures { found.new ≡ noted found.old (main_call_faults scope.now (option_map (λ p. package_tree p.now) package_.entry) first.now second.now) }
 {
     match package_ {
-        Some(package_) => package_call_fault(scope, package_, first, second),
-        None => no_package_rule(scope.number_of(&first.name).is_some(), first),
+        Some(package_) => package_call_faults(scope, package_, first, second, found),
+        None => no_package_rule(scope.number_of(&first.name).is_some(), first, found),
     }
 }
 
-fn main_statement_fault(
+fn main_statement_faults(
     scope: &Scope,
     package_: Option<&NamedPackage>,
     statement: &MainStatement,
-) -> Option<Fault>
-    ensures { result ≡ least (main_statement_faults scope.now (option_map (λ p. package_tree p.now) package_.entry) statement.now) }
+    found: &mut Findings,
+)
+    ensures { found.new ≡ noted found.old (main_statement_faults scope.now (option_map (λ p. package_tree p.now) package_.entry) statement.now) }
 {
     match statement {
-        MainStatement::Null(_) => None,
-        MainStatement::Call(first, second) => main_call_fault(scope, package_, first, second),
+        MainStatement::Null(_) => {}
+        MainStatement::Call(first, second) => {
+            main_call_faults(scope, package_, first, second, found)
+        }
     }
 }
 
-fn main_statements_fault(
+fn main_statements_faults(
     scope: &Scope,
     package_: Option<&NamedPackage>,
     statements: &[MainStatement],
-) -> Option<Fault>
-    ensures { result ≡ least (main_statements_faults scope.now (option_map (λ p. package_tree p.now) package_.entry) statements.now) }
+    found: &mut Findings,
+)
+    ensures { found.new ≡ noted found.old (main_statements_faults scope.now (option_map (λ p. package_tree p.now) package_.entry) statements.now) }
 {
-    least_by_parts();
-    sooner_associates();
-    let mut fault = None;
+    noted_by_parts();
     for statement in statements {
-        fault = sooner(fault, main_statement_fault(scope, package_, statement));
+        main_statement_faults(scope, package_, statement, found);
     }
-    fault
 }
 
-fn statements_fault(
+fn statements_faults(
     alloc: Global,
     scope: &Scope,
     package_: Option<&Package>,
     statements: &[MainStatement],
-) -> Result<Option<Fault>, AllocError>
-    ensures { IfOk result (λ f. f ≡ least (main_statements_faults scope.now (option_map (λ p. package_tree p.now) package_.entry) statements.now)) }
+    found: &mut Findings,
+) -> Result<(), AllocError>
+    ensures { OnOk result (found.new ≡ noted found.old (main_statements_faults scope.now
+        (option_map (λ p. package_tree p.now) package_.entry) statements.now)) }
 {
     match package_ {
         Some(package_) => {
             let named = NamedPackage::new(alloc, package_)?;
-            Ok(main_statements_fault(scope, Some(&named), statements))
+            main_statements_faults(scope, Some(&named), statements, found);
         }
-        None => Ok(main_statements_fault(scope, None, statements)),
+        None => main_statements_faults(scope, None, statements, found),
     }
+    Ok(())
 }
 
-/// The least fault of the main procedure behind this package: its name, its aspect, what it calls, and the name after its `end`. Memory is the only refusal.
-pub fn main_fault(
+/// The broken rules of the main procedure after this package: its name, its aspect, what it calls, and the name after its `end`. Memory is the only refusal.
+pub fn main_faults(
     alloc: Global,
     package_: Option<&Package>,
     main: &Main,
-) -> Result<Option<Fault>, AllocError>
-    ensures { IfOk result (λ f. f ≡ least (main_faults (option_map (λ p. package_tree p.now) package_.entry) (main_tree main.now))) }
+    found: &mut Findings,
+) -> Result<(), AllocError>
+    ensures { OnOk result (found.new ≡ noted found.old (main_faults (option_map (λ p. package_tree p.now) package_.entry) (main_tree main.now))) }
 {
-    least_by_parts();
+    noted_by_parts();
     let mut scope = main_scope(alloc, package_)?;
-    let named = main_name_fault(&scope, package_, &main.name);
-    let head = sooner(named, aspect_fault(&scope, main.aspect.as_ref()));
+    main_name_faults(&scope, package_, &main.name, found);
+    aspect_faults(&scope, main.aspect.as_ref(), found);
     declare(&mut scope, &main.name, Entity::Unit)?;
-    let inside = statements_fault(alloc, &scope, package_, &main.statements)?;
-    let end = end_rule(&main.name, &main.end_name);
-    Ok(sooner(sooner(head, inside), end))
+    statements_faults(alloc, &scope, package_, &main.statements, found)?;
+    note_end_name(&main.name, &main.end_name, found);
+    Ok(())
 }

@@ -1,14 +1,13 @@
 //! The units that a package names (RM 10.1.2).
-ghost use Rattle.std.specs.Prelude.{◌≡◌, bytes_eq, IfOk, OnOk, option_map};
-ghost use Rattle.expr_rules.specs.Faults.{least};
+ghost use Rattle.std.specs.Prelude.{◌≡◌, bytes_eq, OnOk, option_map};
+ghost use Rattle.expr_rules.specs.Findings.{noted};
 ghost use Rattle.declaring.specs.PackageNames.{clause_scope, clauses_scope, is_bare, is_control_io, is_named, is_real_time, is_second};
 ghost use Rattle.legality.specs.UnitRules.{again_rule, clause_faults, clauses_behind, clauses_faults, is_same_unit};
 
 use ada_tree::{Identifier, UnitClause, UnitName};
 use base::faults::{DECLARED_TWICE, NAME_NOT_VISIBLE};
-use expr_rules::laws::{least_by_parts, sooner_associates};
-use expr_rules::{rule, sooner};
-use lexer::Fault;
+use expr_rules::Findings;
+use expr_rules::laws::noted_by_parts;
 use std::alloc::{AllocError, Global};
 use types::Scope;
 
@@ -45,28 +44,23 @@ fn is_same_unit(left: &UnitName, right: &UnitName) -> bool
     (is_real_time(left) && is_real_time(right)) || (is_control_io(left) && is_control_io(right))
 }
 
-// A unit behind clauses of which these say whether they name Ada.Real_Time, and Control_IO.
-fn again_rule(times_named: bool, io_named: bool, unit: &UnitName) -> Option<Fault>
-    ensures { result ≡ least (again_rule times_named io_named unit.now) }
+// A unit after clauses of which these say whether they name Ada.Real_Time, and Control_IO.
+fn again_rule(times_named: bool, io_named: bool, unit: &UnitName, found: &mut Findings)
+    ensures { found.new ≡ noted found.old (again_rule times_named io_named unit.now) }
 {
     let is_again = (times_named && is_real_time(unit)) || (io_named && is_control_io(unit));
-    rule(DECLARED_TWICE, unit.first.place, is_again)
+    found.note_rule(DECLARED_TWICE, unit.first.place, is_again);
 }
 
-fn clause_fault(times_named: bool, io_named: bool, clause: &UnitClause) -> Option<Fault>
-    ensures { result ≡ least (clause_faults times_named io_named clause.now) }
+fn clause_faults(times_named: bool, io_named: bool, clause: &UnitClause, found: &mut Findings)
+    ensures { found.new ≡ noted found.old (clause_faults times_named io_named clause.now) }
 {
-    least_by_parts();
+    noted_by_parts();
     let is_known = is_real_time(&clause.unit) || is_control_io(&clause.unit);
-    let unit = sooner(
-        rule(NAME_NOT_VISIBLE, clause.unit.first.place, !is_known),
-        again_rule(times_named, io_named, &clause.unit),
-    );
+    found.note_rule(NAME_NOT_VISIBLE, clause.unit.first.place, !is_known);
+    again_rule(times_named, io_named, &clause.unit, found);
     let is_same = is_same_unit(&clause.unit, &clause.used);
-    sooner(
-        unit,
-        rule(NAME_NOT_VISIBLE, clause.used.first.place, !is_same),
-    )
+    found.note_rule(NAME_NOT_VISIBLE, clause.used.first.place, !is_same);
 }
 
 fn see_unit(alloc: Global, scope: &mut Scope, clause: &UnitClause) -> Result<(), AllocError>
@@ -81,22 +75,19 @@ fn see_unit(alloc: Global, scope: &mut Scope, clause: &UnitClause) -> Result<(),
     }
 }
 
-/// The least fault of the clauses in front of a package: a unit that is none of the two, or is named for the second time, or a `use` of another unit than
+/// The broken rules of the clauses before a package: a unit that is none of the two, or is named for the second time, or a `use` of another unit than
 /// its `with`.
-pub fn clauses_fault(clauses: &[UnitClause]) -> Option<Fault>
-    ensures { result ≡ least (clauses_faults clauses.now) }
+pub fn clauses_faults(clauses: &[UnitClause], found: &mut Findings)
+    ensures { found.new ≡ noted found.old (clauses_faults clauses.now) }
 {
-    least_by_parts();
-    sooner_associates();
+    noted_by_parts();
     let mut times_named = false;
     let mut io_named = false;
-    let mut fault = None;
     for clause in clauses {
-        fault = sooner(fault, clause_fault(times_named, io_named, clause));
+        clause_faults(times_named, io_named, clause, found);
         times_named = times_named || is_real_time(&clause.unit);
         io_named = io_named || is_control_io(&clause.unit);
     }
-    fault
 }
 
 /// Makes visible what the units in these clauses have. Memory is the only refusal, and may leave some of the names visible.

@@ -1,4 +1,4 @@
-//! What is visible in a package: in front of its first declaration, and behind each one of its body.
+//! What is visible in a package: before its first declaration, and after each one of its body.
 ghost use Rattle.std.specs.Prelude.{◌≡◌, IfOk, OnOk};
 ghost use Rattle.ada_tree.specs.ProgramTree.{body_item_tree, package_tree};
 ghost use Rattle.types.specs.Scopes.{standard};
@@ -21,7 +21,7 @@ pub fn inside_scope(alloc: Global, package_: &Package) -> Result<Scope, AllocErr
     Ok(scope)
 }
 
-/// Makes visible what is visible behind a declaration or body in the body of a package. Memory is the only refusal.
+/// Makes visible what is visible after a declaration or body in the body of a package. Memory is the only refusal.
 pub fn see_body_item(alloc: Global, scope: &mut Scope, item: &BodyItem) -> Result<(), AllocError>
     ensures { OnOk result (scope.new ≡ body_item_scope scope.old (body_item_tree item.now)) }
 {

@@ -1,5 +1,4 @@
 mod Alike
 mod Fronts
 mod MatchingExamples
-pub mod Sample
 mod Tabled

@@ -10,4 +10,4 @@ mod operations;
 mod places;
 
 pub use conformance::same_name;
-pub use operations::matching_fault;
+pub use operations::matching_faults;

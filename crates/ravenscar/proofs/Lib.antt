@@ -1,2 +1,6 @@
 mod HandlerExamples
 mod ProgramExamples
+mod Ordered
+mod Counting
+mod Listed
+mod Acceptance

@@ -3,3 +3,4 @@ pub mod HandlerRules
 pub mod PragmaRules
 pub mod TaskingRules
 pub mod ProgramRules
+pub mod BrokenRules

@@ -6,19 +6,19 @@ ghost use Rattle.base.specs.declared.limits.TheConstants.{TASK_PRIORITY};
 ghost use Rattle.declaring.specs.PackageNames.{program_scope};
 ghost use Rattle.checking.specs.ProgramLayouts.{object_layouts, variables_layout};
 ghost use Rattle.checking.specs.ProgramRules.{IsLegal};
-ghost use Rattle.expr_rules.specs.Faults.{least};
+ghost use Rattle.expr_rules.specs.Findings.{noted};
 ghost use Rattle.legality.specs.MainRules.{main_scope};
 ghost use Rattle.ravenscar.specs.TaskingRules.{aspect_faults};
 ghost use Rattle.ravenscar.specs.ProgramRules.{IsRestricted, RefusesUnrestricted, restriction_faults};
 
-use crate::package::package_part_fault;
-use crate::pragmas::pragma_fault;
-use crate::tasking::aspect_fault;
+use crate::package::package_part_faults;
+use crate::pragmas::pragma_faults;
+use crate::tasking::aspect_faults;
 use ada_tree::{Main, Package, Program};
 use base::limits::TASK_PRIORITY;
 use checking::Checked;
-use expr_rules::laws::{least_by_parts, least_is_least};
-use expr_rules::sooner;
+use expr_rules::Findings;
+use expr_rules::laws::{found_is_all, least_is_least, noted_by_parts};
 use legality::main_scope;
 use lexer::Fault;
 use std::alloc::{AllocError, Global};
@@ -81,27 +81,34 @@ impl Accepted {
     }
 }
 
-fn main_fault(
+fn main_faults(
     alloc: Global,
     package_: Option<&Package>,
     main: &Main,
-) -> Result<Option<Fault>, AllocError>
-    ensures { IfOk result (λ f. f ≡ least (aspect_faults (main_scope (option_map (λ p. package_tree p.now) package_.entry)) TASK_PRIORITY
+    found: &mut Findings,
+) -> Result<(), AllocError>
+    ensures { OnOk result (found.new ≡ noted found.old (aspect_faults (main_scope (option_map (λ p. package_tree p.now) package_.entry)) TASK_PRIORITY
         (main_tree main.now).aspect)) }
 {
     let scope = main_scope(alloc, package_)?;
-    Ok(aspect_fault(&scope, TASK_PRIORITY, main.aspect.as_ref()))
+    aspect_faults(&scope, TASK_PRIORITY, main.aspect.as_ref(), found);
+    Ok(())
 }
 
-// The least restriction that a program breaks, if it breaks one.
-fn restriction_fault(alloc: Global, program: &Program) -> Result<Option<Fault>, AllocError>
-    ensures { IfOk result (λ f. f ≡ least (restriction_faults (program_tree program.now))) }
+/// Notes each restriction that a program breaks, 30 to 39 and 70 to 73. Memory is the only refusal, and may leave some of them noted.
+pub fn restriction_faults(
+    alloc: Global,
+    program: &Program,
+    found: &mut Findings,
+) -> Result<(), AllocError>
+    ensures { OnOk result (found.new ≡ noted found.old (restriction_faults (program_tree program.now))) }
 {
-    least_by_parts();
+    noted_by_parts();
     let package_ = program.package_.as_ref();
-    let inside = package_part_fault(alloc, package_)?;
-    let main = main_fault(alloc, package_, &program.main)?;
-    Ok(sooner(sooner(pragma_fault(program), inside), main))
+    pragma_faults(program, found);
+    package_part_faults(alloc, package_, found)?;
+    main_faults(alloc, package_, &program.main, found)?;
+    Ok(())
 }
 
 /// Asks of a legal program that it keeps the restrictions of the Ravenscar profile, the rules from 30 to 39 and from 70 to 73. What keeps them is refused for
@@ -115,8 +122,11 @@ pub fn restrict(alloc: Global, checked: Checked) -> Result<Accepted, Fault>
     ensures restricted { OnOk result (IsRestricted (program_tree checked)) }
     ensures refused { IfErr result (λ fault. RefusesUnrestricted (program_tree checked) fault) }
 {
+    found_is_all();
     least_is_least();
-    match restriction_fault(alloc, checked.program())? {
+    let mut found = Findings::new();
+    restriction_faults(alloc, checked.program(), &mut found)?;
+    match found.least() {
         Some(fault) => Err(fault),
         None => Ok(Accepted { checked }),
     }

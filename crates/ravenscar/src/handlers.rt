@@ -3,7 +3,7 @@ ghost use Rattle.std.specs.Prelude.{◌≡◌, ◌≤◌, IfSome, map, option_ma
 ghost use Rattle.base.specs.declared.limits.TheConstants.{CHANNELS};
 ghost use Rattle.ada_tree.specs.StatementTree.{aspect_tree, operation_tree, subprogram_tree};
 ghost use Rattle.types.specs.Values.{value_of};
-ghost use Rattle.expr_rules.specs.Faults.{least};
+ghost use Rattle.expr_rules.specs.Findings.{noted};
 ghost use Rattle.ravenscar.specs.HandlerRules.{attachment_faults, ceiling_faults, has_formals, is_highest, is_lower, is_taken, none_taken, operation_aspect_faults, operations_aspects_faults, taken_behind, taken_by_all, with_channel};
 
 use ada_tree::{Aspect, Formal, Operation, Subprogram};
@@ -12,9 +12,8 @@ use base::faults::{
 };
 use base::limits::{CEILING, CHANNELS};
 use declaring::{attached_channel, has_handler, is_attachment, is_priority};
-use expr_rules::laws::{least_by_parts, sooner_associates};
-use expr_rules::{Wanted, rule, sooner, static_scalar};
-use lexer::Fault;
+use expr_rules::laws::noted_by_parts;
+use expr_rules::{Findings, Wanted, static_scalar};
 use types::{Scope, Subtype, Value, start_of};
 
 /// How many numbers of channels there are, 0 among them, which none has.
@@ -53,39 +52,37 @@ fn has_formals(formals: &[Formal]) -> bool
 }
 
 // 70, 72 and 71 of an operation with this aspect.
-fn attachment_fault(
+fn attachment_faults(
     scope: &Scope,
     taken: &[bool; CHANNEL_NUMBERS],
     subprogram: &Subprogram,
     aspect: &Aspect,
-) -> Option<Fault>
-    ensures { result ≡ least (attachment_faults scope.now taken.now (subprogram_tree subprogram.now) (aspect_tree aspect.now)) }
+    found: &mut Findings,
+)
+    ensures { found.new ≡ noted found.old (attachment_faults scope.now taken.now (subprogram_tree subprogram.now) (aspect_tree aspect.now)) }
 {
-    least_by_parts();
+    noted_by_parts();
     let channel = attached_channel(scope, aspect);
     let is_other = subprogram.result.is_some() || has_formals(&subprogram.formals);
-    let profile = rule(HANDLER_PROFILE, aspect.place, is_other);
-    let second = rule(SECOND_HANDLER, aspect.place, is_taken(taken, channel));
-    let wrong = rule(WRONG_INTERRUPT, start_of(&aspect.value), channel.is_none());
-    sooner(sooner(profile, second), wrong)
+    found.note_rule(HANDLER_PROFILE, aspect.place, is_other);
+    found.note_rule(SECOND_HANDLER, aspect.place, is_taken(taken, channel));
+    found.note_rule(WRONG_INTERRUPT, start_of(&aspect.value), channel.is_none());
 }
 
-fn operation_aspect_fault(
+fn operation_aspect_faults(
     scope: &Scope,
     taken: &[bool; CHANNEL_NUMBERS],
     operation: &Operation,
-) -> Option<Fault>
-    ensures { result ≡ least (operation_aspect_faults scope.now taken.now (operation_tree operation.now)) }
+    found: &mut Findings,
+)
+    ensures { found.new ≡ noted found.old (operation_aspect_faults scope.now taken.now (operation_tree operation.now)) }
 {
-    match operation {
-        Operation::Subprogram(subprogram, Some(aspect)) => {
-            if is_attachment(aspect) {
-                attachment_fault(scope, taken, subprogram, aspect)
-            } else {
-                rule(WRONG_ASPECT, aspect.place, true)
-            }
+    if let Operation::Subprogram(subprogram, Some(aspect)) = operation {
+        if is_attachment(aspect) {
+            attachment_faults(scope, taken, subprogram, aspect, found);
+        } else {
+            found.note_rule(WRONG_ASPECT, aspect.place, true);
         }
-        _ => None,
     }
 }
 
@@ -99,23 +96,21 @@ fn take_behind(scope: &Scope, taken: &mut [bool; CHANNEL_NUMBERS], operation: &O
     }
 }
 
-/// The least restriction that aspects of operations break, whose channels are taken then (38, 70 to 72).
-pub(crate) fn operations_aspects_fault(
+/// Notes each restriction that aspects of operations break, whose channels are taken then (38, 70 to 72).
+pub(crate) fn operations_aspects_faults(
     scope: &Scope,
     taken: &mut [bool; CHANNEL_NUMBERS],
     operations: &[Operation],
-) -> Option<Fault>
-    ensures fault { result ≡ least (operations_aspects_faults scope.now taken.old (map operation_tree operations.now)) }
+    found: &mut Findings,
+)
+    ensures found { found.new ≡ noted found.old (operations_aspects_faults scope.now taken.old (map operation_tree operations.now)) }
     ensures taken { taken.new ≡ taken_by_all scope.now taken.old (map operation_tree operations.now) }
 {
-    least_by_parts();
-    sooner_associates();
-    let mut fault = None;
+    noted_by_parts();
     for operation in operations {
-        fault = sooner(fault, operation_aspect_fault(scope, taken, operation));
+        operation_aspect_faults(scope, taken, operation, found);
         take_behind(scope, taken, operation);
     }
-    fault
 }
 
 fn is_highest(value: Option<Value>) -> bool
@@ -134,19 +129,17 @@ fn is_lower(scope: &Scope, aspect: &Aspect) -> bool
     is_priority(aspect) && !is_highest(static_scalar(scope, wanted, None, &aspect.value))
 }
 
-/// Fault 73 where an object has a handler and an aspect Priority that isn't the highest (RM C.3.1).
-pub(crate) fn ceiling_fault(
+/// Notes fault 73 where an object has a handler and an aspect Priority that isn't the highest (RM C.3.1).
+pub(crate) fn ceiling_faults(
     scope: &Scope,
     operations: &[Operation],
     aspect: Option<&Aspect>,
-) -> Option<Fault>
-    ensures { result ≡ least (ceiling_faults scope.now (map operation_tree operations.now) (option_map (λ a. aspect_tree a.now) aspect.entry)) }
+    found: &mut Findings,
+)
+    ensures { found.new ≡ noted found.old (ceiling_faults scope.now (map operation_tree operations.now) (option_map (λ a. aspect_tree a.now) aspect.entry)) }
 {
-    match aspect {
-        Some(aspect) => {
-            let is_low = has_handler(operations) && is_lower(scope, aspect);
-            rule(HANDLER_CEILING, aspect.place, is_low)
-        }
-        None => None,
+    if let Some(aspect) = aspect {
+        let is_low = has_handler(operations) && is_lower(scope, aspect);
+        found.note_rule(HANDLER_CEILING, aspect.place, is_low);
     }
 }

@@ -3,8 +3,11 @@
 
 mod accepted;
 mod handlers;
+pub mod laws;
+mod listing;
 mod package;
 mod pragmas;
 mod tasking;
 
 pub use accepted::{Accepted, restrict};
+pub use listing::broken_rules;

@@ -1,13 +1,12 @@
 //! The pragmas of a program (RM D.13, H.6).
 ghost use Rattle.std.specs.Prelude.{◌≡◌, option_map};
 ghost use Rattle.ada_tree.specs.ProgramTree.{package_tree, program_tree};
-ghost use Rattle.expr_rules.specs.Faults.{least};
+ghost use Rattle.expr_rules.specs.Findings.{noted};
 ghost use Rattle.ravenscar.specs.PragmaRules.{difference, first_difference, or_behind, package_start, pragma_faults, pragma_rule, second_difference, start_behind, third_difference};
 
 use ada_tree::{Package, Pragma, Program, UnitClause};
 use base::faults::WRONG_PRAGMAS;
-use expr_rules::rule;
-use lexer::Fault;
+use expr_rules::Findings;
 
 fn difference(name: &str, argument: &str, pragma: &Pragma) -> Option<u32>
     ensures { result ≡ difference name.now argument.now pragma.now }
@@ -81,19 +80,18 @@ fn start_behind(package_: Option<&Package>, main: u32) -> u32
     }
 }
 
-fn pragma_rule(place: Option<u32>) -> Option<Fault>
-    ensures { result ≡ least (pragma_rule place) }
+fn pragma_rule(place: Option<u32>, found: &mut Findings)
+    ensures { found.new ≡ noted found.old (pragma_rule place) }
 {
-    match place {
-        Some(place) => rule(WRONG_PRAGMAS, place, true),
-        None => None,
+    if let Some(place) = place {
+        found.note_rule(WRONG_PRAGMAS, place, true);
     }
 }
 
-/// Fault 39 where the pragmas are not those of the profile, at the first token that is another one.
-pub(crate) fn pragma_fault(program: &Program) -> Option<Fault>
-    ensures { result ≡ least (pragma_faults (program_tree program.now)) }
+/// Notes fault 39 where the pragmas are not those of the profile, at the first token that is another one.
+pub(crate) fn pragma_faults(program: &Program, found: &mut Findings)
+    ensures { found.new ≡ noted found.old (pragma_faults (program_tree program.now)) }
 {
     let behind = start_behind(program.package_.as_ref(), program.main.place);
-    pragma_rule(first_difference(behind, &program.pragmas))
+    pragma_rule(first_difference(behind, &program.pragmas), found);
 }

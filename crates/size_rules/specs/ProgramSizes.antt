@@ -33,7 +33,7 @@ label_faults ts = over LABELS (first_uses [] ts)
 -- ---- the package, its frames among it
 
 abbrev pub package_size_faults : PackageTree → Faults
-package_size_faults p = declared_faults (package_things p) ++ label_faults (package_inside p) ++ frame_faults p
+package_size_faults p = frame_faults p ++ declared_faults (package_things p) ++ label_faults (package_inside p)
 
 abbrev pub optional_size_faults : Option PackageTree → Faults
 optional_size_faults (Some p) = package_size_faults p

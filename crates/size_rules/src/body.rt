@@ -1,13 +1,13 @@
 //! What stands in a body: its objects, and the labels of its calls.
-ghost use Rattle.std.specs.Prelude.{◌≡◌, ◌++◌, ◌∷◌, [], IfOk, OnOk, map};
+ghost use Rattle.std.specs.Prelude.{◌≡◌, ◌++◌, ◌∷◌, [], OnOk, map};
 ghost use Rattle.ada_tree.specs.ExpressionTree.{argument_trees, name_tree, selector_trees};
 ghost use Rattle.ada_tree.specs.ProgramTree.{body_tree};
 ghost use Rattle.ada_tree.specs.StatementTree.{alternative_trees, declaration_tree, elsif_trees, handler_trees, stmt_tree, stmt_trees};
-ghost use Rattle.expr_rules.specs.Faults.{least};
+ghost use Rattle.expr_rules.specs.Findings.{noted};
 ghost use Rattle.size_rules.specs.BodySizes.{alternatives_things, body_faults, body_things, call_things, elsifs_things, first_argument, formals_things};
 ghost use Rattle.size_rules.specs.BodySizes.{handlers_things, local_things, locals_things, sized_object, stmt_things, stmts_things, words_named};
 
-use crate::passing::words_fault;
+use crate::passing::words_faults;
 use crate::thing::Thing;
 use ada_tree::laws::{arguments_by_parts, statements_by_parts};
 use ada_tree::{
@@ -15,7 +15,7 @@ use ada_tree::{
     Stmt,
 };
 use base::limits::FRAME_WORDS;
-use lexer::Fault;
+use expr_rules::Findings;
 use std::alloc::AllocError;
 use type_rules::subtype_of;
 use types::Scope;
@@ -181,18 +181,20 @@ fn push_body(
     push_handlers(scope, &body.handlers, things)
 }
 
-/// The least fault of the words of a body's frame, which sees the names in front of it; what stands in it is pushed. Memory is the only refusal, and may leave
+/// Notes each fault of the words of a body's frame, which sees the names in front of it; what stands in it is pushed. Memory is the only refusal, and may leave
 /// some of it pushed.
-pub(crate) fn body_fault(
+pub(crate) fn body_faults(
     scope: &Scope,
     formals: &[Formal],
     body: &Body,
     things: &mut Vec<Thing>,
-) -> Result<Option<Fault>, AllocError>
-    ensures fault { IfOk result (λ f. f ≡ least (body_faults scope.now formals.now (body_tree body.now))) }
+    found: &mut Findings,
+) -> Result<(), AllocError>
+    ensures found { OnOk result (found.new ≡ noted found.old (body_faults scope.now formals.now (body_tree body.now))) }
     ensures things { OnOk result (things.new.items ≡ things.old.items ++ body_things scope.now formals.now (body_tree body.now)) }
 {
     let start = things.len();
     push_body(scope, formals, body, things)?;
-    Ok(words_fault(FRAME_WORDS as u16, &things[start..]))
+    words_faults(FRAME_WORDS as u16, &things[start..], found);
+    Ok(())
 }

@@ -9,5 +9,5 @@ mod passing;
 mod program;
 mod thing;
 
-pub use program::size_fault;
+pub use program::size_faults;
 pub use thing::Kind;

@@ -1,38 +1,35 @@
 //! What passes a limit: the things behind the first so many, and the objects for which no words are left.
 ghost use Rattle.std.specs.Prelude.{◌≡◌, ◌++◌, ◌∷◌, [], IfOk, OnOk, drop, map};
-ghost use Rattle.expr_rules.specs.Faults.{least};
+ghost use Rattle.expr_rules.specs.Findings.{noted};
 ghost use Rattle.size_rules.specs.Limits.{first_use, first_uses, is_among, limit_passed, object_rule, over, place_of_kind, places_of, room_behind};
 ghost use Rattle.size_rules.specs.Limits.{same_kind, used_with, words_faults};
 
 use crate::thing::{Kind, Thing};
 use base::faults::LIMIT_PASSED;
-use expr_rules::laws::{least_by_parts, sooner_associates};
-use expr_rules::{rule, sooner};
+use expr_rules::Findings;
+use expr_rules::laws::noted_by_parts;
 use indexmap::IndexMap;
 use lexer::{Fault, Text};
 use std::alloc::{AllocError, Global};
 use std::marker::Model;
 
-fn passed_fault(places: &[u32]) -> Option<Fault>
-    ensures { result ≡ least (map limit_passed places.now) }
+fn passed_faults(places: &[u32], found: &mut Findings)
+    ensures { found.new ≡ noted found.old (map limit_passed places.now) }
 {
-    least_by_parts();
-    sooner_associates();
-    let mut fault = None;
     for place in places {
-        fault = sooner(fault, rule(LIMIT_PASSED, *place, true));
+        found.note(Fault {
+            number: LIMIT_PASSED,
+            place: *place,
+        });
     }
-    fault
 }
 
-// The fault of the first of these places that is behind so many others.
-fn over_fault(limit: usize, places: &[u32]) -> Option<Fault>
-    ensures { result ≡ least (over limit places.now) }
+// The faults of those of these places that are behind so many others.
+fn over(limit: usize, places: &[u32], found: &mut Findings)
+    ensures { found.new ≡ noted found.old (over limit places.now) }
 {
     if limit < places.len() {
-        passed_fault(&places[limit..])
-    } else {
-        None
+        passed_faults(&places[limit..], found);
     }
 }
 
@@ -69,17 +66,19 @@ fn places_of(alloc: Global, kind: Kind, things: &[Thing]) -> Result<Vec<u32>, Al
     Ok(places)
 }
 
-/// The least fault of the things of this kind that are behind so many of the kind. Memory is the only refusal.
-pub(crate) fn count_fault(
+/// Notes the faults of the things of this kind that are behind so many of the kind. Memory is the only refusal.
+pub(crate) fn count_faults(
     alloc: Global,
     kind: Kind,
     limit: usize,
     things: &[Thing],
-) -> Result<Option<Fault>, AllocError>
-    ensures { IfOk result (λ f. f ≡ least (over limit (places_of kind things.now))) }
+    found: &mut Findings,
+) -> Result<(), AllocError>
+    ensures { OnOk result (found.new ≡ noted found.old (over limit (places_of kind things.now))) }
 {
     let places = places_of(alloc, kind, things)?;
-    Ok(over_fault(limit, &places))
+    over(limit, &places, found);
+    Ok(())
 }
 
 // The labels that were used so far, each once. Contracts see a list.
@@ -138,24 +137,25 @@ fn first_uses(alloc: Global, things: &[Thing]) -> Result<Vec<u32>, AllocError>
     Ok(places)
 }
 
-/// The least fault of the labels that are behind so many different ones. Memory is the only refusal.
-pub(crate) fn label_fault(
+/// Notes the faults of the labels that are behind so many different ones. Memory is the only refusal.
+pub(crate) fn label_faults(
     alloc: Global,
     limit: usize,
     things: &[Thing],
-) -> Result<Option<Fault>, AllocError>
-    ensures { IfOk result (λ f. f ≡ least (over limit (first_uses [] things.now))) }
+    found: &mut Findings,
+) -> Result<(), AllocError>
+    ensures { OnOk result (found.new ≡ noted found.old (over limit (first_uses [] things.now))) }
 {
     let places = first_uses(alloc, things)?;
-    Ok(over_fault(limit, &places))
+    over(limit, &places, found);
+    Ok(())
 }
 
-fn object_rule(room: u16, thing: &Thing) -> Option<Fault>
-    ensures { result ≡ least (object_rule room thing.now) }
+fn object_rule(room: u16, thing: &Thing, found: &mut Findings)
+    ensures { found.new ≡ noted found.old (object_rule room thing.now) }
 {
-    match thing {
-        Thing::Object(place, words) => rule(LIMIT_PASSED, *place, room < *words),
-        _ => None,
+    if let Thing::Object(place, words) = thing {
+        found.note_rule(LIMIT_PASSED, *place, room < *words);
     }
 }
 
@@ -168,17 +168,14 @@ fn room_behind(room: u16, thing: &Thing) -> u16
     }
 }
 
-/// The least fault of the objects for which not enough of so many words is left.
-pub(crate) fn words_fault(words: u16, things: &[Thing]) -> Option<Fault>
-    ensures { result ≡ least (words_faults words things.now) }
+/// Notes the faults of the objects for which not enough of so many words is left.
+pub(crate) fn words_faults(words: u16, things: &[Thing], found: &mut Findings)
+    ensures { found.new ≡ noted found.old (words_faults words things.now) }
 {
-    least_by_parts();
-    sooner_associates();
+    noted_by_parts();
     let mut room = words;
-    let mut fault = None;
     for thing in things {
-        fault = sooner(fault, object_rule(room, thing));
+        object_rule(room, thing, found);
         room = room_behind(room, thing);
     }
-    fault
 }

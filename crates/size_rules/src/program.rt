@@ -1,56 +1,52 @@
 //! The limits of whole programs.
-ghost use Rattle.std.specs.Prelude.{◌≡◌, IfOk};
+ghost use Rattle.std.specs.Prelude.{◌≡◌, OnOk};
 ghost use Rattle.ada_tree.specs.ProgramTree.{package_tree, program_tree};
-ghost use Rattle.expr_rules.specs.Faults.{least};
+ghost use Rattle.expr_rules.specs.Findings.{noted};
 ghost use Rattle.size_rules.specs.ProgramSizes.{declared_faults, package_size_faults, size_faults};
 
-use crate::bodies::body_items_fault;
+use crate::bodies::body_items_faults;
 use crate::declarations::push_items;
-use crate::passing::{count_fault, label_fault, words_fault};
+use crate::passing::{count_faults, label_faults, words_faults};
 use crate::thing::{DECLARED_EXCEPTIONS, DECLARED_TASKS, Kind, Thing};
 use ada_tree::{Package, Program};
 use base::limits::{LABELS, OBJECTS, PROCEDURES, WORDS};
-use expr_rules::laws::least_by_parts;
-use expr_rules::sooner;
+use expr_rules::Findings;
+use expr_rules::laws::noted_by_parts;
 use legality::inside_scope;
-use lexer::Fault;
 use std::alloc::{AllocError, Global};
 
-fn declared_fault(alloc: Global, things: &[Thing]) -> Result<Option<Fault>, AllocError>
-    ensures { IfOk result (λ f. f ≡ least (declared_faults things.now)) }
+fn declared_faults(alloc: Global, things: &[Thing], found: &mut Findings) -> Result<(), AllocError>
+    ensures { OnOk result (found.new ≡ noted found.old (declared_faults things.now)) }
 {
-    least_by_parts();
-    let subprograms = count_fault(alloc, Kind::Subprogram, PROCEDURES, things)?;
-    let tasks = count_fault(alloc, Kind::Task, DECLARED_TASKS, things)?;
-    let objects = count_fault(alloc, Kind::ProtectedObject, OBJECTS, things)?;
-    let exceptions = count_fault(alloc, Kind::Exception, DECLARED_EXCEPTIONS, things)?;
-    let words = words_fault(WORDS as u16, things);
-    let two = sooner(subprograms, tasks);
-    let four = sooner(sooner(two, objects), exceptions);
-    Ok(sooner(four, words))
+    noted_by_parts();
+    count_faults(alloc, Kind::Subprogram, PROCEDURES, things, found)?;
+    count_faults(alloc, Kind::Task, DECLARED_TASKS, things, found)?;
+    count_faults(alloc, Kind::ProtectedObject, OBJECTS, things, found)?;
+    count_faults(alloc, Kind::Exception, DECLARED_EXCEPTIONS, things, found)?;
+    words_faults(WORDS as u16, things, found);
+    Ok(())
 }
 
-fn package_fault(alloc: Global, package_: &Package) -> Result<Option<Fault>, AllocError>
-    ensures { IfOk result (λ f. f ≡ least (package_size_faults (package_tree package_.now))) }
+fn package_faults(alloc: Global, package_: &Package, found: &mut Findings) -> Result<(), AllocError>
+    ensures { OnOk result (found.new ≡ noted found.old (package_size_faults (package_tree package_.now))) }
 {
-    least_by_parts();
+    noted_by_parts();
     let mut scope = inside_scope(alloc, package_)?;
     let mut things = Vec::new(alloc);
     let mut inside = Vec::new(alloc);
     push_items(alloc, &mut scope, &package_.declaration.items, &mut things)?;
     let items = &package_.body.items;
-    let frames = body_items_fault(alloc, &mut scope, items, &mut things, &mut inside)?;
-    let declared = declared_fault(alloc, &things)?;
-    let labels = label_fault(alloc, LABELS, &inside)?;
-    Ok(sooner(sooner(declared, labels), frames))
+    body_items_faults(alloc, &mut scope, items, &mut things, &mut inside, found)?;
+    declared_faults(alloc, &things, found)?;
+    label_faults(alloc, LABELS, &inside, found)
 }
 
-/// The least limit that a program passes: fault 23 at the thing over it (docs/LANGUAGE.md, "Limits"). Memory is the only refusal.
-pub fn size_fault(alloc: Global, program: &Program) -> Result<Option<Fault>, AllocError>
-    ensures { IfOk result (λ f. f ≡ least (size_faults (program_tree program.now))) }
+/// Notes each limit that a program passes: fault 23 at each thing over it (docs/LANGUAGE.md, "Limits"). Memory is the only refusal, and may leave some noted.
+pub fn size_faults(alloc: Global, program: &Program, found: &mut Findings) -> Result<(), AllocError>
+    ensures { OnOk result (found.new ≡ noted found.old (size_faults (program_tree program.now))) }
 {
     match &program.package_ {
-        Some(package_) => package_fault(alloc, package_),
-        None => Ok(None),
+        Some(package_) => package_faults(alloc, package_, found),
+        None => Ok(()),
     }
 }

@@ -83,7 +83,7 @@ exceptions_bodies k own s (x ∷ rest) =
     (many_both k (body_item_things s x) (body_items_things (body_item_scope s x) rest))
 
 pub declared_none : (p : PackageTree) → optional_size_faults (Some p) ≡ [] → declared_faults (package_things p) ≡ []
-declared_none p h = front_empty (declared_faults (package_things p)) (label_faults (package_inside p)) (front_empty _ (frame_faults p) h)
+declared_none p h = back_empty (frame_faults p) (declared_faults (package_things p)) (front_empty _ (label_faults (package_inside p)) h)
 
 exceptions_by : (k : _) (p : PackageTree) → length (places_of k (package_things p)) ≤ 32
     → ((s : Scope) (name : Identifier) → places_of k (item_things s (OfException name)) ≡ name.place ∷ [])

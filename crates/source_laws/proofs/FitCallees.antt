@@ -53,7 +53,7 @@ frames_legal : (o : Option PackageTree) → optional_size_faults o ≡ [] → fr
 frames_legal None h = refl
 frames_legal (Some p) h =
     frames_joined (inside_scope standard p) p.declaration.items p.body.items
-    ∙ back_empty (declared_faults (package_things p) ++ label_faults (package_inside p)) (frame_faults p) h
+    ∙ front_empty (frame_faults p) (declared_faults (package_things p)) (front_empty _ (label_faults (package_inside p)) h)
 
 frame_at : (s : Scope) (all : List BodyItemTree) (k : ℕ) (x : BodyItemTree) → slice_get all k ≡ Some x → frames.body_items_faults s all ≡ []
     → frames.body_item_faults (scope_at s all k) x ≡ []

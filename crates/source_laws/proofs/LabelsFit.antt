@@ -274,7 +274,7 @@ labels_few None h = omega arith
 labels_few (Some p) h =
     let behind = specified_scope standard p in
     let things = package_inside p in
-    let none = back_empty (declared_faults (package_things p)) (label_faults things) (front_empty _ (frame_faults p) h) in
+    let none = back_empty (frame_faults p ++ declared_faults (package_things p)) (label_faults things) h in
     let all = items_counted behind p.body.items in
     let counted = all.labels [] [] (record { differ = tt; among = λ q e. e }) in
     let few = no_more_than (items_labels [] p.body.items) (used_all [] things) counted.differ counted.among in

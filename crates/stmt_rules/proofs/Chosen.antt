@@ -1,25 +1,22 @@
 -- What is chosen, each value and each exception once, breaks the same rules as with all repetitions.
-use Rattle.std.proofs.Common.{◌≡◌, ◌<◌, ◌+◌, ◌++◌, ◌||◌, ℕ, ℤ, Bool, true, false, not, ◌&&◌, List, [], ◌∷◌, length, drop, map, Option, Some, None, refl, sym, ap, ◌∙◌, bytes_eq, get_or, subst, if◌then◌else◌, arith}
+use Rattle.std.proofs.Common.{◌≡◌, ◌+◌, ◌++◌, ◌||◌, ℕ, ℤ, Bool, true, false, ◌&&◌, List, [], ◌∷◌, Option, Some, None, refl, sym, ap, ◌∙◌, bytes_eq, if◌then◌else◌, arith}
 use Rattle.std.specs.List.{list_any}
 use Rattle.std.proofs.Math.Bool.{or-false}
 use Rattle.std.proofs.lemmas.Int.{ints}
-use Rattle.std.proofs.lemmas.List.{at_drop_more}
 use Rattle.std.proofs.lemmas.List.Folds.{list_any-append}
-use Rattle.ada_tree.specs.declared.expression.Expr.{Expr}
 use Rattle.ada_tree.specs.declared.statement.ExceptionChoice.{ExceptionChoice}
 use Rattle.ada_tree.specs.declared.statement.ExceptionChoice.TheVariants.{Exception, Others}
-use Rattle.ada_tree.specs.ExpressionTree.{ExprTree, expr_tree}
+use Rattle.ada_tree.specs.ExpressionTree.{ExprTree}
 use Rattle.ada_tree.specs.StatementTree.{ChoicesTree, Values, OtherValues, AlternativeTrees, NoAlternatives, MoreAlternatives, HandlerTrees, NoHandlers, MoreHandlers}
 use Rattle.types.specs.declared.entity.Value.{Value as Scalar}
 use Rattle.types.specs.declared.entity.Value.TheVariants as scalar
 use Rattle.types.specs.Operators.{are_same}
 use Rattle.types.specs.Scopes.{Scope}
-use Rattle.types.specs.Seen.{seen_with}
 use Rattle.types.specs.Statics.{start_of}
 use Rattle.types.proofs.Seeing.{either_way, seen_more}
 use Rattle.base.specs.declared.faults.TheConstants.{WRONG_CHOICES}
 use Rattle.expr_rules.specs.declared.own.Wanted.{Wanted}
-use Rattle.expr_rules.specs.Faults.{Faults, LeastByParts, SoonerAssociates, least, rule, sooner}
+use Rattle.expr_rules.specs.Faults.{rule}
 use Rattle.expr_rules.specs.StaticRules.{static_faults}
 use Rattle.type_rules.specs.SubtypeNames.{named_entity}
 use Rattle.stmt_rules.specs.declared.around.Around.{Around}

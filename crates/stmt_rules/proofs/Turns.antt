@@ -1,8 +1,7 @@
 -- Turns of the loops over alternatives and handlers, of which the last one is another.
-use Rattle.std.proofs.Common.{◌≡◌, ◌++◌, ◌∷◌, length-drop, ℕ, ◌+◌, ◌<◌, Bool, List, [], length, drop, map, Option, refl, sym, ap, ◌∙◌, arith}
+use Rattle.std.proofs.Common.{◌≡◌, ◌++◌, ◌∷◌, length-drop, ℕ, ◌+◌, ◌<◌, Bool, List, [], length, drop, map, sym, ap, ◌∙◌, arith}
 use Rattle.std.specs.Prelude.{get_or, nat_eq}
 use Rattle.std.proofs.lemmas.List.{at_drop_more}
-use Rattle.lexer.specs.declared.fault.Fault.{Fault}
 use Rattle.ada_tree.specs.declared.expression.Expr.{Expr}
 use Rattle.ada_tree.specs.declared.statement.ExceptionChoice.{ExceptionChoice}
 use Rattle.ada_tree.specs.ExpressionTree.{expr_tree}
@@ -12,7 +11,9 @@ use Rattle.ada_tree.specs.StatementTree.{alternative_tree, alternative_trees, ha
 use Rattle.types.specs.declared.entity.Value.{Value as Scalar}
 use Rattle.types.specs.Scopes.{Scope}
 use Rattle.expr_rules.specs.declared.own.Wanted.{Wanted}
-use Rattle.expr_rules.specs.Faults.{Faults, LeastByParts, SoonerAssociates, least, sooner}
+use Rattle.expr_rules.specs.Faults.{Faults}
+use Rattle.expr_rules.specs.Findings.{Findings, noted}
+use Rattle.expr_rules.specs.Walks.{noted_turn}
 use Rattle.stmt_rules.specs.declared.around.Around.{Around}
 use Rattle.stmt_rules.proofs.Chosen.{alternatives_behind, choices_behind, handlers_behind, values_behind}
 use Rattle.stmt_rules.specs.CaseRules.{choice_faults, choice_value, values_faults}
@@ -22,22 +23,15 @@ use Rattle.stmt_rules.specs.CaseRules as alternatives
 use Rattle.stmt_rules.specs.HandlerRules as handlers
 use Rattle.stmt_rules.specs.StatementRules.{alternative_faults, alternatives_faults, handler_faults, more_handlers_faults}
 
--- a turn of a loop over what is left, by the laws of lists of faults
-turn : LeastByParts
-    → SoonerAssociates
-    → {X : Type 0} (left : List X → Faults) (all : List X) (n : ℕ) (x : X) (f one : Option Fault) (first rest : Faults) (whole : Option Fault)
+-- a turn of a loop over what is left
+turn : {X : Type 0} (left : List X → Faults) (all : List X) (n : ℕ) (x : X) (found one : Findings) (first rest : Faults) (whole : Findings)
     → n < length all
     → x ≡ get_or all n x
     → left (x ∷ drop (n + 1) all) ≡ first ++ rest
-    → sooner f (least (left (drop n all))) ≡ whole
-    → one ≡ least first
-    → sooner (sooner f one) (least rest) ≡ whole
-turn parts associates left all n x f one first rest whole less is split h here =
-    associates f one (least rest)
-    ∙ ap (λ o. sooner f (sooner o (least rest))) here
-    ∙ ap (sooner f) (sym (parts first rest))
-    ∙ ap (λ l. sooner f (least l)) (sym (at_drop_more left all n x less ∙ ap (λ y. left (y ∷ drop (n + 1) all)) (sym is) ∙ split))
-    ∙ h
+    → noted found (left (drop n all)) ≡ whole
+    → one ≡ noted found first
+    → noted one rest ≡ whole
+turn left all n x found one first rest whole less is split h here = ap (λ g. noted g rest) here ∙ noted_turn left all n x found first rest whole less is split h
 
 -- ---- the last one is the one with the last index
 
@@ -57,53 +51,47 @@ last_handler all n less = no_handler (drop (n + 1) all) (n + 1) (length all) (le
 
 -- ---- the turns
 
-pub alternatives_turn : LeastByParts
-    → SoonerAssociates
-    → (s : Scope) (a : Around) (w : Wanted) (before : List Scalar) (all : List Alternative) (n : ℕ) (x : Alternative) (f one whole : Option Fault)
+pub alternatives_turn : (s : Scope) (a : Around) (w : Wanted) (before : List Scalar) (all : List Alternative) (n : ℕ) (x : Alternative) (found one whole : Findings)
     → n < length all
     → x ≡ get_or all n x
-    → sooner f (least (alternatives_faults s a w before (alternative_trees (drop n all)))) ≡ whole
-    → one ≡ least (alternative_faults s a w before (nat_eq (n + 1) (length all)) (alternative_tree x))
-    → sooner (sooner f one) (least (alternatives_faults s a w (once_by s w before (alternative_tree x).1.0) (alternative_trees (drop (n + 1) all)))) ≡ whole
-alternatives_turn parts associates s a w before all n x f one whole less is h here =
+    → noted found (alternatives_faults s a w before (alternative_trees (drop n all))) ≡ whole
+    → one ≡ noted found (alternative_faults s a w before (nat_eq (n + 1) (length all)) (alternative_tree x))
+    → noted one (alternatives_faults s a w (once_by s w before (alternative_tree x).1.0) (alternative_trees (drop (n + 1) all))) ≡ whole
+alternatives_turn s a w before all n x found one whole less is h here =
     let rest = drop (n + 1) all in
-    turn parts associates (λ l. alternatives_faults s a w before (alternative_trees l)) all n x f one
+    turn (λ l. alternatives_faults s a w before (alternative_trees l)) all n x found one
     (alternative_faults s a w before (alternatives.no_more (alternative_trees rest)) (alternative_tree x))
     (alternatives_faults s a w (once_by s w before (alternative_tree x).1.0) (alternative_trees rest)) whole less is
     (ap (λ fs. alternative_faults s a w before (alternatives.no_more (alternative_trees rest)) (alternative_tree x) ++ fs) (alternatives_behind s w a before (alternative_tree x).1.0 (alternative_trees rest)))
     h
-    (here ∙ ap (λ b. least (alternative_faults s a w before b (alternative_tree x))) (sym (last_alternative all n less)))
+    (here ∙ ap (λ b. noted found (alternative_faults s a w before b (alternative_tree x))) (sym (last_alternative all n less)))
 
-pub handlers_turn : LeastByParts
-    → SoonerAssociates
-    → (s : Scope) (a : Around) (before : List (List ℕ)) (all : List Handler) (n : ℕ) (x : Handler) (f one whole : Option Fault)
+pub handlers_turn : (s : Scope) (a : Around) (before : List (List ℕ)) (all : List Handler) (n : ℕ) (x : Handler) (found one whole : Findings)
     → n < length all
     → x ≡ get_or all n x
-    → sooner f (least (more_handlers_faults s a before (handler_trees (drop n all)))) ≡ whole
-    → one ≡ least (handler_faults s a before (nat_eq (n + 1) (length all)) (handler_tree x))
-    → sooner (sooner f one) (least (more_handlers_faults s a (seen_after before (handler_tree x).0) (handler_trees (drop (n + 1) all)))) ≡ whole
-handlers_turn parts associates s a before all n x f one whole less is h here =
+    → noted found (more_handlers_faults s a before (handler_trees (drop n all))) ≡ whole
+    → one ≡ noted found (handler_faults s a before (nat_eq (n + 1) (length all)) (handler_tree x))
+    → noted one (more_handlers_faults s a (seen_after before (handler_tree x).0) (handler_trees (drop (n + 1) all))) ≡ whole
+handlers_turn s a before all n x found one whole less is h here =
     let rest = drop (n + 1) all in
-    turn parts associates (λ l. more_handlers_faults s a before (handler_trees l)) all n x f one
+    turn (λ l. more_handlers_faults s a before (handler_trees l)) all n x found one
     (handler_faults s a before (handlers.no_more (handler_trees rest)) (handler_tree x))
     (more_handlers_faults s a (seen_after before (handler_tree x).0) (handler_trees rest)) whole less is
     (ap (λ fs. handler_faults s a before (handlers.no_more (handler_trees rest)) (handler_tree x) ++ fs) (handlers_behind s a before (handler_tree x).0 (handler_trees rest)))
     h
-    (here ∙ ap (λ b. least (handler_faults s a before b (handler_tree x))) (sym (last_handler all n less)))
+    (here ∙ ap (λ b. noted found (handler_faults s a before b (handler_tree x))) (sym (last_handler all n less)))
 
 -- ---- choices
 
-pub choices_turn : LeastByParts
-    → SoonerAssociates
-    → (s : Scope) (l : Bool) (before : List (List ℕ)) (all : List ExceptionChoice) (n : ℕ) (x : ExceptionChoice) (f one whole : Option Fault)
+pub choices_turn : (s : Scope) (l : Bool) (before : List (List ℕ)) (all : List ExceptionChoice) (n : ℕ) (x : ExceptionChoice) (found one whole : Findings)
     → n < length all
     → x ≡ get_or all n x
-    → sooner f (least (exception_choices_faults s before l (drop n all))) ≡ whole
-    → one ≡ least (exception_choice_faults s before l x)
-    → sooner (sooner f one) (least (exception_choices_faults s (seen_by before x) l (drop (n + 1) all))) ≡ whole
-choices_turn parts associates s l before all n x f one whole less is h here =
+    → noted found (exception_choices_faults s before l (drop n all)) ≡ whole
+    → one ≡ noted found (exception_choice_faults s before l x)
+    → noted one (exception_choices_faults s (seen_by before x) l (drop (n + 1) all)) ≡ whole
+choices_turn s l before all n x found one whole less is h here =
     let rest = drop (n + 1) all in
-    turn parts associates (exception_choices_faults s before l) all n x f one (exception_choice_faults s before l x) (exception_choices_faults s (seen_by before x) l rest) whole less is
+    turn (exception_choices_faults s before l) all n x found one (exception_choice_faults s before l x) (exception_choices_faults s (seen_by before x) l rest) whole less is
     (choices_behind s l before x rest) h here
 
 pub seen_turn : (before : List (List ℕ)) (all : List ExceptionChoice) (n : ℕ) (x : ExceptionChoice)
@@ -112,17 +100,15 @@ pub seen_turn : (before : List (List ℕ)) (all : List ExceptionChoice) (n : ℕ
     → seen_after (seen_by before x) (drop (n + 1) all) ≡ seen_after before (drop n all)
 seen_turn before all n x less is = sym (at_drop_more (seen_after before) all n x less ∙ ap (λ y. seen_after before (y ∷ drop (n + 1) all)) (sym is))
 
-pub values_turn : LeastByParts
-    → SoonerAssociates
-    → (s : Scope) (w : Wanted) (before : List Scalar) (all : List Expr) (n : ℕ) (x : Expr) (f one whole : Option Fault)
+pub values_turn : (s : Scope) (w : Wanted) (before : List Scalar) (all : List Expr) (n : ℕ) (x : Expr) (found one whole : Findings)
     → n < length all
     → x ≡ get_or all n x
-    → sooner f (least (values_faults s w before (map expr_tree (drop n all)))) ≡ whole
-    → one ≡ least (choice_faults s w before (expr_tree x))
-    → sooner (sooner f one) (least (values_faults s w (chosen_once before (choice_value s w (expr_tree x))) (map expr_tree (drop (n + 1) all)))) ≡ whole
-values_turn parts associates s w before all n x f one whole less is h here =
+    → noted found (values_faults s w before (map expr_tree (drop n all))) ≡ whole
+    → one ≡ noted found (choice_faults s w before (expr_tree x))
+    → noted one (values_faults s w (chosen_once before (choice_value s w (expr_tree x))) (map expr_tree (drop (n + 1) all))) ≡ whole
+values_turn s w before all n x found one whole less is h here =
     let rest = map expr_tree (drop (n + 1) all) in
-    turn parts associates (λ l. values_faults s w before (map expr_tree l)) all n x f one (choice_faults s w before (expr_tree x)) (values_faults s w (chosen_once before (choice_value s w (expr_tree x))) rest) whole less is
+    turn (λ l. values_faults s w before (map expr_tree l)) all n x found one (choice_faults s w before (expr_tree x)) (values_faults s w (chosen_once before (choice_value s w (expr_tree x))) rest) whole less is
     (values_behind s w before (expr_tree x) rest) h here
 
 pub once_turn : (s : Scope) (w : Wanted) (before : List Scalar) (all : List Expr) (n : ℕ) (x : Expr)

@@ -1,8 +1,8 @@
-//! What stands around a statement.
+//! What is around a statement.
 ghost use Rattle.std.specs.Prelude.{◌≡◌};
 ghost use Rattle.stmt_rules.specs.StatementRules.{in_body, in_handler, in_loop};
 
-/// The kind of body that a statement stands in (RM 6.3, 9.1, 9.5.2).
+/// The kind of body that a statement is in (RM 6.3, 9.1, 9.5.2).
 #[derive(Clone, Copy, Debug, PartialEq, Eq)]
 pub enum BodyKind {
     Procedure,
@@ -12,7 +12,7 @@ pub enum BodyKind {
     Task,
 }
 
-/// What stands around a statement.
+/// What is around a statement.
 #[derive(Clone, Copy, Debug, PartialEq, Eq)]
 pub struct Around {
     pub kind: BodyKind,
@@ -23,7 +23,7 @@ pub struct Around {
 }
 
 impl Around {
-    /// What stands around the statements of a body of this kind.
+    /// What is around the statements of a body of this kind.
     pub fn body(kind: BodyKind) -> Around
         ensures { result ≡ in_body kind }
     {

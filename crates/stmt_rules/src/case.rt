@@ -1,20 +1,19 @@
 //! The expression and the choices of case statements (RM 5.4).
-ghost use Rattle.std.specs.Prelude.{◌≡◌, ◌++◌, IfOk, OnOk, None, map};
+ghost use Rattle.std.specs.Prelude.{◌≡◌, IfOk, OnOk, None, map};
 ghost use Rattle.ada_tree.specs.ExpressionTree.{expr_tree};
 ghost use Rattle.ada_tree.specs.StatementTree.{alternative_trees, choices_tree};
-ghost use Rattle.expr_rules.specs.Faults.{least};
+ghost use Rattle.expr_rules.specs.Findings.{noted};
 ghost use Rattle.stmt_rules.specs.CaseRules.{choice_faults, choice_value, choices_faults, choices_wanted, discrete_rule, has_others, is_chosen, is_discrete, is_others, others_rule, selecting_faults, values_faults};
 ghost use Rattle.stmt_rules.specs.Choosing.{chosen_once, once_after, once_by};
 
 use ada_tree::{Alternative, CaseChoices, Expr};
 use base::faults::{NO_MEANING, WRONG_CHOICES};
-use expr_rules::laws::{least_by_parts, sooner_associates};
+use expr_rules::laws::noted_by_parts;
 use expr_rules::{
-    Own, Wanted, expression_fault, is_boolean, is_integral, own_of, rule, sooner, static_fault,
+    Findings, Own, Wanted, expression_faults, is_boolean, is_integral, own_of, static_faults,
     static_scalar, typed_wanted,
 };
 use indexmap::IndexSet;
-use lexer::Fault;
 use std::alloc::AllocError;
 use types::{Scope, Subtype, Value, start_of};
 
@@ -24,24 +23,22 @@ fn is_discrete(scope: &Scope, own: Own) -> bool
     is_integral(scope, own) || is_boolean(scope, own)
 }
 
-fn discrete_rule(scope: &Scope, own: Own, place: u32) -> Option<Fault>
-    ensures { result ≡ least (discrete_rule scope.now own place) }
+fn discrete_rule(scope: &Scope, own: Own, place: u32, found: &mut Findings)
+    ensures { found.new ≡ noted found.old (discrete_rule scope.now own place) }
 {
     match own {
-        Own::Unknown => None,
-        own => rule(NO_MEANING, place, !is_discrete(scope, own)),
+        Own::Unknown => {}
+        own => found.note_rule(NO_MEANING, place, !is_discrete(scope, own)),
     }
 }
 
-/// The least fault of the expression of a case statement.
-pub(crate) fn selecting_fault(scope: &Scope, e: &Expr) -> Option<Fault>
-    ensures { result ≡ least (selecting_faults scope.now (expr_tree e.now)) }
+/// The broken rules of the expression of a case statement.
+pub(crate) fn selecting_faults(scope: &Scope, e: &Expr, found: &mut Findings)
+    ensures { found.new ≡ noted found.old (selecting_faults scope.now (expr_tree e.now)) }
 {
-    least_by_parts();
-    sooner(
-        expression_fault(scope, Wanted::Anything, e),
-        discrete_rule(scope, own_of(scope, e), start_of(e)),
-    )
+    noted_by_parts();
+    expression_faults(scope, Wanted::Anything, e, found);
+    discrete_rule(scope, own_of(scope, e), start_of(e), found);
 }
 
 /// What is expected of the choices for an expression of this type.
@@ -78,55 +75,58 @@ fn choose(chosen: &mut IndexSet<Value>, value: Option<Value>) -> Result<bool, Al
     }
 }
 
-fn choice_fault(
+fn choice_faults(
     scope: &Scope,
     wanted: Wanted,
     chosen: &mut IndexSet<Value>,
     e: &Expr,
-) -> Result<Option<Fault>, AllocError>
-    ensures fault { IfOk result (λ f. f ≡ least (choice_faults scope.now wanted chosen.old.keys (expr_tree e.now))) }
+    found: &mut Findings,
+) -> Result<(), AllocError>
+    ensures found { OnOk result (found.new ≡ noted found.old (choice_faults scope.now wanted chosen.old.keys (expr_tree e.now))) }
     ensures chosen { OnOk result (chosen.new.keys ≡ chosen_once chosen.old.keys (choice_value scope.now wanted (expr_tree e.now))) }
 {
-    least_by_parts();
-    let fault = static_fault(scope, wanted, None, e);
+    noted_by_parts();
+    static_faults(scope, wanted, None, e, found);
     let is_again = choose(chosen, choice_value(scope, wanted, e))?;
-    Ok(sooner(fault, rule(WRONG_CHOICES, start_of(e), is_again)))
+    found.note_rule(WRONG_CHOICES, start_of(e), is_again);
+    Ok(())
 }
 
-fn values_fault(
+fn values_faults(
     scope: &Scope,
     wanted: Wanted,
     chosen: &mut IndexSet<Value>,
     values: &[Expr],
-) -> Result<Option<Fault>, AllocError>
-    ensures fault { IfOk result (λ f. f ≡ least (values_faults scope.now wanted chosen.old.keys (map expr_tree values.now))) }
+    found: &mut Findings,
+) -> Result<(), AllocError>
+    ensures found { OnOk result (found.new ≡ noted found.old (values_faults scope.now wanted chosen.old.keys (map expr_tree values.now))) }
     ensures chosen { OnOk result (chosen.new.keys ≡ once_after scope.now wanted chosen.old.keys (map expr_tree values.now)) }
 {
-    least_by_parts();
-    sooner_associates();
-    let mut fault = None;
     for e in values {
-        let found = choice_fault(scope, wanted, chosen, e)?;
-        fault = sooner(fault, found);
+        choice_faults(scope, wanted, chosen, e, found)?;
     }
-    Ok(fault)
+    Ok(())
 }
 
-/// The least fault of the choices of an alternative, behind alternatives that choose these values, to which its own are added. Memory is the only refusal,
+/// The broken rules of the choices of an alternative after alternatives that choose these values, to which its own are added. Memory is the only refusal,
 /// and may leave some of them added.
-pub(crate) fn choices_fault(
+pub(crate) fn choices_faults(
     scope: &Scope,
     wanted: Wanted,
     chosen: &mut IndexSet<Value>,
     is_last: bool,
     choices: &CaseChoices,
-) -> Result<Option<Fault>, AllocError>
-    ensures fault { IfOk result (λ f. f ≡ least (choices_faults scope.now wanted chosen.old.keys is_last (choices_tree choices.now))) }
+    found: &mut Findings,
+) -> Result<(), AllocError>
+    ensures found { OnOk result (found.new ≡ noted found.old (choices_faults scope.now wanted chosen.old.keys is_last (choices_tree choices.now))) }
     ensures chosen { OnOk result (chosen.new.keys ≡ once_by scope.now wanted chosen.old.keys (choices_tree choices.now)) }
 {
     match choices {
-        CaseChoices::Values(values) => values_fault(scope, wanted, chosen, values),
-        CaseChoices::Others(place) => Ok(rule(WRONG_CHOICES, *place, !is_last)),
+        CaseChoices::Values(values) => values_faults(scope, wanted, chosen, values, found),
+        CaseChoices::Others(place) => {
+            found.note_rule(WRONG_CHOICES, *place, !is_last);
+            Ok(())
+        }
     }
 }
 
@@ -150,9 +150,9 @@ fn has_others(all: &[Alternative]) -> bool
     false
 }
 
-/// Fault 17 at the place of a case statement without `others`.
-pub(crate) fn others_rule(place: u32, all: &[Alternative]) -> Option<Fault>
-    ensures { result ≡ least (others_rule place (alternative_trees all.now)) }
+/// Rule 17 at the place of a case statement, broken where it is without `others`.
+pub(crate) fn others_rule(place: u32, all: &[Alternative], found: &mut Findings)
+    ensures { found.new ≡ noted found.old (others_rule place (alternative_trees all.now)) }
 {
-    rule(WRONG_CHOICES, place, !has_others(all))
+    found.note_rule(WRONG_CHOICES, place, !has_others(all));
 }

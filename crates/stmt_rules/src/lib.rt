@@ -8,4 +8,4 @@ mod simple;
 mod statement;
 
 pub use around::{Around, BodyKind};
-pub use statement::{handlers_fault, sequence_fault, statements_fault};
+pub use statement::{handlers_faults, sequence_faults, statements_faults};

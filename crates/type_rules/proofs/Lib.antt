@@ -1,4 +1,3 @@
-mod Joined
 mod Calls
 pub mod Sample
 mod ObjectExamples

@@ -6,9 +6,9 @@ use Rattle.ada_tree.specs.declared.expression.Identifier.{Identifier}
 use Rattle.ada_tree.specs.declared.expression.UnaryOperator.{UnaryOperator}
 use Rattle.ada_tree.specs.declared.expression.BinaryOperator.{BinaryOperator}
 use Rattle.ada_tree.specs.declared.declaration.Mode.TheVariants as mode
-use Rattle.ada_tree.specs.ExpressionTree.{ExprTree, Number, Named, Conditional, Unary, Binary, NoElsifValues, MoreElsifValues, SelectorTree, selectors_of, Component, Arguments, Attribute, ArgumentTree, Value, arguments_of}
+use Rattle.ada_tree.specs.ExpressionTree.{ExprTree, Number, Named, Unary, Binary, SelectorTree, selectors_of, Component, Arguments, ArgumentTree, Value, arguments_of}
 use Rattle.ada_tree.specs.StatementTree.{ObjectTree, RangeTree}
-use Rattle.ada_tree.specs.ProgramTree.{TypeTree, Integer}
+use Rattle.ada_tree.specs.ProgramTree.{TypeTree}
 use Rattle.types.specs.declared.entity.Subtype.{Subtype}
 use Rattle.types.specs.declared.entity.Role.TheVariants as role
 use Rattle.types.specs.declared.entity.Value.TheVariants as scalar
@@ -30,12 +30,6 @@ one operator place e = Unary operator place e
 abbrev pub two : BinaryOperator → ExprTree → ExprTree → ExprTree
 two operator a b = Binary operator a b
 
-abbrev pub if_then : ℕ → ExprTree → ExprTree → ExprTree → ExprTree
-if_then place c a b = Conditional place c a NoElsifValues b
-
-abbrev pub if_elsif : ℕ → ExprTree → ExprTree → ExprTree → ExprTree → ExprTree → ExprTree
-if_elsif place c a d b other = Conditional place c a (MoreElsifValues d b NoElsifValues) other
-
 abbrev pub name : ℕ → List ℕ → List SelectorTree → ExprTree
 name place text selectors = Named (identifier place text) (selectors_of selectors)
 
@@ -47,9 +41,6 @@ at arguments = Arguments (arguments_of arguments)
 
 abbrev pub dot : ℕ → List ℕ → SelectorTree
 dot place text = Component (identifier place text)
-
-abbrev pub tick : ℕ → List ℕ → SelectorTree
-tick place text = Attribute (identifier place text)
 
 abbrev pub broken : ℕ → ℕ → Option Fault
 broken number place = Some (record { number = number; place = place })

@@ -3,18 +3,20 @@ ghost use Rattle.std.specs.Prelude.{◌≡◌, ◌++◌, [], IfOk, OnErr, OnOk, 
 ghost use Rattle.ada_tree.specs.ProgramTree.{definition_tree, index_tree, type_tree};
 ghost use Rattle.ada_tree.specs.StatementTree.{range_tree};
 ghost use Rattle.types.specs.Entities.{entity_value, form_value};
-ghost use Rattle.expr_rules.specs.Faults.{least, rule};
+ghost use Rattle.expr_rules.specs.Faults.{rule};
+ghost use Rattle.expr_rules.specs.Findings.{noted};
 ghost use Rattle.type_rules.specs.SubtypeNames.{subtype_faults};
 ghost use Rattle.type_rules.specs.TypeRules.{array_entity, array_faults, subtype_range_faults, components_faults, composite, definition_entity, definition_faults, index_faults, index_place, index_subtype, integer_entity, is_long, narrowed, narrowed_faults, record_components, record_entity, subtype_entity, short_length, type_faults, type_scope};
 
-use crate::names::{declare, declared_twice, if_integer, is_other, subtype_fault, subtype_of};
-use crate::ranges::{range_fault, range_subtype};
+use crate::names::{
+    declare, if_integer, is_other, note_declared_twice, subtype_faults, subtype_of,
+};
+use crate::ranges::{range_faults, range_subtype};
 use ada_tree::{ArrayIndex, Component, Identifier, Range, TypeDeclaration, TypeDefinition};
 use base::faults::{DECLARED_TWICE, LIMIT_PASSED, NO_MEANING};
 use base::limits::COMPONENTS;
-use expr_rules::laws::{least_by_parts, sooner_associates};
-use expr_rules::{Wanted, rule, sooner};
-use lexer::Fault;
+use expr_rules::laws::noted_by_parts;
+use expr_rules::{Findings, Wanted};
 use std::alloc::{AllocError, Global};
 use types::{Components, Entity, RecordComponent, Scope, SeenNames, Subtype, TypeForm, start_of};
 
@@ -52,24 +54,21 @@ fn index_subtype(scope: &Scope, index: &ArrayIndex) -> Option<Subtype>
     }
 }
 
-fn index_fault(scope: &Scope, index: &ArrayIndex) -> Option<Fault>
-    ensures { result ≡ least (index_faults scope.now (index_tree index.now)) }
+fn index_faults(scope: &Scope, index: &ArrayIndex, found: &mut Findings)
+    ensures { found.new ≡ noted found.old (index_faults scope.now (index_tree index.now)) }
 {
-    least_by_parts();
+    noted_by_parts();
     match index {
         ArrayIndex::Range(range) => {
             let integer = Subtype::INTEGER;
             let wanted = Wanted::OfType(integer.type_number);
-            range_fault(scope, wanted, Some(integer), range)
+            range_faults(scope, wanted, Some(integer), range, found);
         }
-        ArrayIndex::Subtype(name) => sooner(
-            subtype_fault(scope, name),
-            rule(
-                NO_MEANING,
-                name.place,
-                is_other(scope, subtype_of(scope, name)),
-            ),
-        ),
+        ArrayIndex::Subtype(name) => {
+            subtype_faults(scope, name, found);
+            let is_other = is_other(scope, subtype_of(scope, name));
+            found.note_rule(NO_MEANING, name.place, is_other);
+        }
     }
 }
 
@@ -83,32 +82,28 @@ fn is_long(index: Option<Subtype>) -> bool
 }
 
 // A component, of which this says whether one before it has its name.
-fn component_fault(scope: &Scope, is_second: bool, component: &Component) -> Option<Fault>
-    ensures { result ≡ least (rule DECLARED_TWICE component.now.name.place is_second ++ subtype_faults scope.now component.now.subtype) }
+fn component_faults(scope: &Scope, is_second: bool, component: &Component, found: &mut Findings)
+    ensures { found.new ≡ noted found.old (rule DECLARED_TWICE component.now.name.place is_second ++ subtype_faults scope.now component.now.subtype) }
 {
-    least_by_parts();
-    sooner(
-        rule(DECLARED_TWICE, component.name.place, is_second),
-        subtype_fault(scope, &component.subtype),
-    )
+    noted_by_parts();
+    found.note_rule(DECLARED_TWICE, component.name.place, is_second);
+    subtype_faults(scope, &component.subtype, found);
 }
 
-fn components_fault(
+fn components_faults(
     alloc: Global,
     scope: &Scope,
     components: &[Component],
-) -> Result<Option<Fault>, AllocError>
-    ensures { IfOk result (λ f. f ≡ least (components_faults scope.now [] components.now)) }
+    found: &mut Findings,
+) -> Result<(), AllocError>
+    ensures { OnOk result (found.new ≡ noted found.old (components_faults scope.now [] components.now)) }
 {
-    least_by_parts();
-    sooner_associates();
     let mut names = SeenNames::new(alloc);
-    let mut fault = None;
     for component in components {
         let is_second = names.see(&component.name.name)?;
-        fault = sooner(fault, component_fault(scope, is_second, component));
+        component_faults(scope, is_second, component, found);
     }
-    Ok(fault)
+    Ok(())
 }
 
 // The components, where the subtype of each is known.
@@ -132,76 +127,76 @@ fn record_components(
     Ok(Some(all))
 }
 
-fn narrowed_fault(scope: &Scope, range: &Range, subtype: Option<Subtype>) -> Option<Fault>
-    ensures { result ≡ least (narrowed_faults scope.now (range_tree range.now) subtype) }
+fn narrowed_faults(scope: &Scope, range: &Range, subtype: Option<Subtype>, found: &mut Findings)
+    ensures { found.new ≡ noted found.old (narrowed_faults scope.now (range_tree range.now) subtype) }
 {
     match subtype {
         Some(subtype) => {
             let wanted = Wanted::OfType(subtype.type_number);
-            range_fault(scope, wanted, Some(subtype), range)
+            range_faults(scope, wanted, Some(subtype), range, found);
         }
-        None => range_fault(scope, Wanted::AnyInteger, None, range),
+        None => range_faults(scope, Wanted::AnyInteger, None, range, found),
     }
 }
 
-fn array_fault(scope: &Scope, index: &ArrayIndex, component: &Identifier) -> Option<Fault>
-    ensures { result ≡ least (array_faults scope.now (index_tree index.now) component.now) }
+fn array_faults(scope: &Scope, index: &ArrayIndex, component: &Identifier, found: &mut Findings)
+    ensures { found.new ≡ noted found.old (array_faults scope.now (index_tree index.now) component.now) }
 {
-    least_by_parts();
-    let long = rule(
-        LIMIT_PASSED,
-        index_place(index),
-        is_long(index_subtype(scope, index)),
-    );
-    sooner(
-        sooner(index_fault(scope, index), long),
-        subtype_fault(scope, component),
-    )
+    noted_by_parts();
+    index_faults(scope, index, found);
+    let is_long = is_long(index_subtype(scope, index));
+    found.note_rule(LIMIT_PASSED, index_place(index), is_long);
+    subtype_faults(scope, component, found);
 }
 
 // A subtype with a range of its own.
-fn subtype_range_fault(scope: &Scope, name: &Identifier, range: &Range) -> Option<Fault>
-    ensures { result ≡ least (subtype_range_faults scope.now name.now (range_tree range.now)) }
+fn subtype_range_faults(scope: &Scope, name: &Identifier, range: &Range, found: &mut Findings)
+    ensures { found.new ≡ noted found.old (subtype_range_faults scope.now name.now (range_tree range.now)) }
 {
-    least_by_parts();
+    noted_by_parts();
     let subtype = subtype_of(scope, name);
-    let named = sooner(
-        subtype_fault(scope, name),
-        rule(NO_MEANING, name.place, is_other(scope, subtype)),
-    );
-    sooner(
-        named,
-        narrowed_fault(scope, range, if_integer(scope, subtype)),
-    )
+    subtype_faults(scope, name, found);
+    found.note_rule(NO_MEANING, name.place, is_other(scope, subtype));
+    narrowed_faults(scope, range, if_integer(scope, subtype), found);
 }
 
-fn definition_fault(
+fn definition_faults(
     alloc: Global,
     scope: &Scope,
     definition: &TypeDefinition,
-) -> Result<Option<Fault>, AllocError>
-    ensures { IfOk result (λ f. f ≡ least (definition_faults scope.now (definition_tree definition.now))) }
+    found: &mut Findings,
+) -> Result<(), AllocError>
+    ensures { OnOk result (found.new ≡ noted found.old (definition_faults scope.now (definition_tree definition.now))) }
 {
     match definition {
-        TypeDefinition::Integer(range) => Ok(range_fault(scope, Wanted::AnyInteger, None, range)),
-        TypeDefinition::Array(index, component) => Ok(array_fault(scope, index, component)),
-        TypeDefinition::Record(components) => components_fault(alloc, scope, components),
-        TypeDefinition::Subtype(name, None) => Ok(subtype_fault(scope, name)),
-        TypeDefinition::Subtype(name, Some(range)) => Ok(subtype_range_fault(scope, name, range)),
+        TypeDefinition::Integer(range) => {
+            range_faults(scope, Wanted::AnyInteger, None, range, found);
+        }
+        TypeDefinition::Array(index, component) => array_faults(scope, index, component, found),
+        TypeDefinition::Record(components) => {
+            return components_faults(alloc, scope, components, found);
+        }
+        TypeDefinition::Subtype(name, None) => subtype_faults(scope, name, found),
+        TypeDefinition::Subtype(name, Some(range)) => {
+            subtype_range_faults(scope, name, range, found);
+        }
     }
+    Ok(())
 }
 
-/// The least fault of the declaration of a type or subtype. Memory is the only refusal.
-pub fn type_fault(
+/// The broken rules of the declaration of a type or subtype. Memory is the only refusal.
+pub fn type_faults(
     alloc: Global,
     scope: &Scope,
     declaration: &TypeDeclaration,
-) -> Result<Option<Fault>, AllocError>
-    ensures { IfOk result (λ f. f ≡ least (type_faults scope.now (type_tree declaration.now))) }
+    found: &mut Findings,
+) -> Result<(), AllocError>
+    ensures { OnOk result (found.new ≡ noted found.old (type_faults scope.now (type_tree declaration.now))) }
 {
-    least_by_parts();
-    let inside = definition_fault(alloc, scope, &declaration.definition)?;
-    Ok(sooner(inside, declared_twice(scope, &declaration.name)))
+    noted_by_parts();
+    definition_faults(alloc, scope, &declaration.definition, found)?;
+    note_declared_twice(scope, &declaration.name, found);
+    Ok(())
 }
 
 // The type with the next number, of this form.

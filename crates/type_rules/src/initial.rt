@@ -2,11 +2,11 @@
 ghost use Rattle.std.specs.Prelude.{◌≡◌, ◌++◌, [], option_map};
 ghost use Rattle.ada_tree.specs.ExpressionTree.{argument_trees, expr_tree, selector_trees};
 ghost use Rattle.types.specs.Entities.{entity_value};
-ghost use Rattle.types.specs.Evaluations.{Val};
 ghost use Rattle.types.specs.Statics.{static_form, static_value, start_of};
 ghost use Rattle.expr_rules.specs.Faults.{least};
+ghost use Rattle.expr_rules.specs.Findings.{noted};
 ghost use Rattle.expr_rules.specs.StaticRules.{form_rule, value_rule};
-ghost use Rattle.type_rules.specs.ObjectRules.{called_faults, called_scalar, computed_faults, counted, fixed_faults, fixed_scalar, fixed_value, is_clock, is_clock_entity, known_scalar, scalar_if_unbroken, scalar_of, single_argument, single_expression, span_by, span_call, span_faults, span_rule, span_value};
+ghost use Rattle.type_rules.specs.ObjectRules.{computed_faults, counted, fixed_faults, fixed_scalar, fixed_value, is_clock, is_clock_entity, scalar_of, single_argument, single_expression, span_by, span_call, span_faults, span_rule, span_value};
 
 use crate::names::{named_entity, wanted_by};
 use ada_tree::laws::{arguments_by_parts, chains_by_parts, names_by_parts};
@@ -14,8 +14,10 @@ use ada_tree::{Argument, Expr, Selector};
 use base::Checked;
 use base::arithmetic::multiply;
 use base::faults::{NOT_STATIC, WRONG_STATIC_VALUE};
-use expr_rules::laws::{least_by_parts, least_is_least};
-use expr_rules::{Wanted, expression_fault, rule, sooner, static_fault, static_scalar};
+use expr_rules::laws::{found_is_all, least_is_least, noted_by_parts};
+use expr_rules::{
+    Findings, Wanted, expression_fault, expression_faults, static_faults, static_scalar,
+};
 use lexer::Fault;
 use types::{
     Entity, PredefinedOperation, Scope, StaticForm, Subtype, Value, start_of, static_value,
@@ -111,21 +113,22 @@ fn span_value(scope: &Scope, operation: PredefinedOperation, argument: &Expr) ->
     }
 }
 
-fn span_rule(place: u32, span: Option<Checked>) -> Option<Fault>
-    ensures { result ≡ least (span_rule place (counted span)) }
+fn span_rule(place: u32, span: Option<Checked>, found: &mut Findings)
+    ensures { found.new ≡ noted found.old (span_rule place (counted span)) }
 {
     match span {
-        Some(Err(_)) => rule(WRONG_STATIC_VALUE, place, true),
-        _ => None,
+        Some(Err(_)) => found.note_rule(WRONG_STATIC_VALUE, place, true),
+        _ => {}
     }
 }
 
-fn raised_rule(scope: &Scope, place: u32, argument: &Expr) -> Option<Fault>
-    ensures { result ≡ least (value_rule place None (static_form scope.now (expr_tree argument.now)) (static_value scope.now (expr_tree argument.now))) }
+fn raised_rule(scope: &Scope, place: u32, argument: &Expr, found: &mut Findings)
+    ensures { found.new ≡ noted found.old (value_rule place None (static_form scope.now (expr_tree argument.now))
+        (static_value scope.now (expr_tree argument.now))) }
 {
     match static_value(scope, argument) {
-        Ok(_) => None,
-        Err(fault) => rule(
+        Ok(_) => {}
+        Err(fault) => found.note_rule(
             WRONG_STATIC_VALUE,
             place,
             fault.number == WRONG_STATIC_VALUE,
@@ -134,61 +137,79 @@ fn raised_rule(scope: &Scope, place: u32, argument: &Expr) -> Option<Fault>
 }
 
 // What is broken only where the call is legal: the argument raises, or the span overflows.
-fn computed_fault(
+fn computed_faults(
     scope: &Scope,
     place: u32,
     operation: PredefinedOperation,
     argument: &Expr,
-) -> Option<Fault>
-    ensures { result ≡ least (computed_faults scope.now place operation (expr_tree argument.now)) }
+    found: &mut Findings,
+)
+    ensures { found.new ≡ noted found.old (computed_faults scope.now place operation (expr_tree argument.now)) }
 {
-    least_by_parts();
-    sooner(
-        raised_rule(scope, place, argument),
-        span_rule(place, span_value(scope, operation, argument)),
-    )
+    noted_by_parts();
+    raised_rule(scope, place, argument, found);
+    span_rule(place, span_value(scope, operation, argument), found);
 }
 
-fn form_rule(place: u32, form: StaticForm) -> Option<Fault>
-    ensures { result ≡ least (form_rule place form) }
+fn form_rule(place: u32, form: StaticForm, found: &mut Findings)
+    ensures { found.new ≡ noted found.old (form_rule place form) }
 {
     match form {
-        StaticForm::NotStatic => rule(NOT_STATIC, place, true),
-        _ => None,
+        StaticForm::NotStatic => found.note_rule(NOT_STATIC, place, true),
+        _ => {}
     }
 }
 
-fn span_fault(
+fn span_faults(
     scope: &Scope,
     subtype: Option<Subtype>,
     e: &Expr,
     operation: PredefinedOperation,
     argument: &Expr,
-) -> Option<Fault>
-    ensures { result ≡ least (span_faults scope.now subtype (expr_tree e.now) operation (expr_tree argument.now)) }
+    found: &mut Findings,
+)
+    ensures { found.new ≡ noted found.old (span_faults scope.now subtype (expr_tree e.now) operation (expr_tree argument.now)) }
 {
-    least_by_parts();
     least_is_least();
-    let form = form_rule(start_of(e), scope.static_form(argument));
-    let computed = computed_fault(scope, start_of(e), operation, argument);
-    match expression_fault(scope, wanted_by(subtype), e) {
-        None => sooner(form, computed),
-        Some(fault) => sooner(Some(fault), form),
+    let place = start_of(e);
+    let form = scope.static_form(argument);
+    let wanted = wanted_by(subtype);
+    match expression_fault(scope, wanted, e) {
+        None => {
+            form_rule(place, form, found);
+            computed_faults(scope, place, operation, argument, found);
+        }
+        Some(_) => {
+            expression_faults(scope, wanted, e, found);
+            form_rule(place, form, found);
+        }
     }
 }
 
-/// The least fault of an initial value that must be static: of an object of the package or of a task body, or of a component of a protected object.
-pub fn fixed_fault(scope: &Scope, subtype: Option<Subtype>, e: &Expr) -> Option<Fault>
-    ensures { result ≡ least (fixed_faults scope.now subtype (expr_tree e.now)) }
+/// The broken rules of an initial value that must be static: of an object of the package or of a task body, or of a component of a protected object.
+pub fn fixed_faults(scope: &Scope, subtype: Option<Subtype>, e: &Expr, found: &mut Findings)
+    ensures { found.new ≡ noted found.old (fixed_faults scope.now subtype (expr_tree e.now)) }
 {
     if is_clock(scope, e) {
-        expression_fault(scope, wanted_by(subtype), e)
+        expression_faults(scope, wanted_by(subtype), e, found);
     } else {
         match span_call(scope, e) {
-            Some((operation, argument)) => span_fault(scope, subtype, e, operation, argument),
-            None => static_fault(scope, wanted_by(subtype), subtype, e),
+            Some((operation, argument)) => {
+                span_faults(scope, subtype, e, operation, argument, found);
+            }
+            None => static_faults(scope, wanted_by(subtype), subtype, e, found),
         }
     }
+}
+
+// The least fault of an initial value that must be static.
+fn fixed_fault(scope: &Scope, subtype: Option<Subtype>, e: &Expr) -> Option<Fault>
+    ensures { result ≡ least (fixed_faults scope.now subtype (expr_tree e.now)) }
+{
+    found_is_all();
+    let mut found = Findings::new();
+    fixed_faults(scope, subtype, e, &mut found);
+    found.least()
 }
 
 fn number_of(span: Option<Checked>) -> Option<Value>

@@ -8,16 +8,17 @@ mod objects;
 mod profiles;
 mod ranges;
 
-pub use definitions::{declare_type, type_fault};
-pub use initial::{fixed_fault, fixed_scalar};
+pub use definitions::{declare_type, type_faults};
+pub use initial::{fixed_faults, fixed_scalar};
 pub use names::{
-    declare, declared_twice, end_rule, named_entity, subtype_fault, subtype_of, wanted_by,
+    declare, named_entity, note_declared_twice, note_end_name, subtype_faults, subtype_of,
+    wanted_by,
 };
 pub use objects::{
-    declare_local_object, declare_package_object, fixed_object_fault, local_object_fault,
+    declare_local_object, declare_package_object, fixed_object_faults, local_object_faults,
     object_entity,
 };
 pub use profiles::{
-    declare_subprogram, formal_parameters, formals_fault, profile_fault, profile_with,
-    subprogram_fault,
+    declare_subprogram, formal_parameters, formals_faults, profile_faults, profile_with,
+    subprogram_faults,
 };

@@ -1,14 +1,13 @@
 //! New names, names after `end`, and names of subtypes (RM 8.3, 7.1, 3.2).
 ghost use Rattle.std.specs.Prelude.{◌≡◌, option_map, OnErr, OnOk};
-ghost use Rattle.types.specs.Entities.{entity_value, form_value};
+ghost use Rattle.types.specs.Entities.{entity_value};
 ghost use Rattle.types.specs.Scopes.{with_name};
-ghost use Rattle.expr_rules.specs.Faults.{least};
-ghost use Rattle.type_rules.specs.SubtypeNames.{declared_twice, end_rule, entity_at_or_none, if_integer, is_composite, is_composite_form, is_other, named_entity, subtype_faults, subtype_in, subtype_of, subtype_rule, wanted_by};
+ghost use Rattle.expr_rules.specs.Findings.{noted};
+ghost use Rattle.type_rules.specs.SubtypeNames.{declared_twice, end_rule, if_integer, is_other, named_entity, subtype_faults, subtype_in, subtype_of, subtype_rule, wanted_by};
 
 use ada_tree::Identifier;
 use base::faults::{DECLARED_TWICE, NAME_NOT_VISIBLE, NO_MEANING, WRONG_END_NAME};
-use expr_rules::{Own, Wanted, is_integral, rule};
-use lexer::Fault;
+use expr_rules::{Findings, Own, Wanted, is_integral};
 use std::alloc::AllocError;
 use types::{Entity, Scope, Subtype};
 
@@ -22,26 +21,26 @@ pub fn named_entity<'a>(scope: &'a Scope, name: &Identifier) -> Option<&'a Entit
     }
 }
 
-/// Fault 11 where the name is visible already (RM 8.3).
-pub fn declared_twice(scope: &Scope, name: &Identifier) -> Option<Fault>
-    ensures { result ≡ least (declared_twice scope.now name.now) }
+/// Rule 11, broken where the name is visible already (RM 8.3).
+pub fn note_declared_twice(scope: &Scope, name: &Identifier, found: &mut Findings)
+    ensures { found.new ≡ noted found.old (declared_twice scope.now name.now) }
 {
-    rule(
+    found.note_rule(
         DECLARED_TWICE,
         name.place,
         scope.number_of(&name.name).is_some(),
-    )
+    );
 }
 
-/// Fault 22 where the name after an `end` is not that of what ends there (RM 7.1).
-pub fn end_rule(name: &Identifier, end_name: &Identifier) -> Option<Fault>
-    ensures { result ≡ least (end_rule name.now end_name.now) }
+/// Rule 22, broken where the name after an `end` is not that of what ends there (RM 7.1).
+pub fn note_end_name(name: &Identifier, end_name: &Identifier, found: &mut Findings)
+    ensures { found.new ≡ noted found.old (end_rule name.now end_name.now) }
 {
-    rule(
+    found.note_rule(
         WRONG_END_NAME,
         end_name.place,
         !(name.name.as_bytes() == end_name.name.as_bytes()),
-    )
+    );
 }
 
 /// Makes the name visible, unless one like it is: the first keeps the name. Memory is the only refusal, and leaves the scope as it was.
@@ -70,23 +69,23 @@ pub fn subtype_of(scope: &Scope, name: &Identifier) -> Option<Subtype>
     subtype_in(named_entity(scope, name))
 }
 
-fn subtype_rule(place: u32, entity: Option<&Entity>) -> Option<Fault>
-    ensures { result ≡ least (subtype_rule place (option_map (λ e. entity_value e.now) entity.entry)) }
+fn note_subtype_rule(place: u32, entity: Option<&Entity>, found: &mut Findings)
+    ensures { found.new ≡ noted found.old (subtype_rule place (option_map (λ e. entity_value e.now) entity.entry)) }
 {
     match entity {
-        None => rule(NAME_NOT_VISIBLE, place, true),
-        Some(Entity::Type(_, _)) => None,
-        Some(Entity::Subtype(_)) => None,
-        Some(Entity::Doubtful) => None,
-        Some(_) => rule(NO_MEANING, place, true),
+        None => found.note_rule(NAME_NOT_VISIBLE, place, true),
+        Some(Entity::Type(_, _)) => {}
+        Some(Entity::Subtype(_)) => {}
+        Some(Entity::Doubtful) => {}
+        Some(_) => found.note_rule(NO_MEANING, place, true),
     }
 }
 
-/// The fault of a name that is to be one of a subtype: 10 where it is not visible, 12 where it stands for something else.
-pub fn subtype_fault(scope: &Scope, name: &Identifier) -> Option<Fault>
-    ensures { result ≡ least (subtype_faults scope.now name.now) }
+/// The rules of a name that is to be one of a subtype: 10 where it is not visible, 12 where it stands for something else.
+pub fn subtype_faults(scope: &Scope, name: &Identifier, found: &mut Findings)
+    ensures { found.new ≡ noted found.old (subtype_faults scope.now name.now) }
 {
-    subtype_rule(name.place, named_entity(scope, name))
+    note_subtype_rule(name.place, named_entity(scope, name), found);
 }
 
 /// What is expected of a value for an object of the subtype.

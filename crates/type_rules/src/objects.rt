@@ -2,17 +2,16 @@
 ghost use Rattle.std.specs.Prelude.{◌≡◌, ◌++◌, OnErr, OnOk};
 ghost use Rattle.ada_tree.specs.StatementTree.{object_tree};
 ghost use Rattle.types.specs.Entities.{entity_value};
-ghost use Rattle.expr_rules.specs.Faults.{least};
+ghost use Rattle.expr_rules.specs.Findings.{noted};
 ghost use Rattle.type_rules.specs.SubtypeNames.{subtype_of};
 ghost use Rattle.type_rules.specs.ObjectRules.{constant_entity, fixed_initial_faults, fixed_object_faults, initial_scalar, package_object_entity, package_object_scope, local_initial_faults, local_object_faults, local_object_scope, object_entity, role_of};
 
-use crate::initial::{fixed_fault, fixed_scalar};
-use crate::names::{declare, declared_twice, subtype_fault, subtype_of, wanted_by};
+use crate::initial::{fixed_faults, fixed_scalar};
+use crate::names::{declare, note_declared_twice, subtype_faults, subtype_of, wanted_by};
 use ada_tree::ObjectDeclaration;
 use base::faults::NOT_STATIC;
-use expr_rules::laws::least_by_parts;
-use expr_rules::{expression_fault, rule, sooner};
-use lexer::Fault;
+use expr_rules::laws::noted_by_parts;
+use expr_rules::{Findings, expression_faults};
 use std::alloc::AllocError;
 use types::{Entity, Role, Scope, Subtype, Value};
 
@@ -36,29 +35,26 @@ pub fn object_entity(role: Role, subtype: Option<Subtype>) -> Entity
     }
 }
 
-fn local_initial_fault(scope: &Scope, object: &ObjectDeclaration) -> Option<Fault>
-    ensures { result ≡ least (local_initial_faults scope.now (object_tree object.now)) }
+fn local_initial_faults(scope: &Scope, object: &ObjectDeclaration, found: &mut Findings)
+    ensures { found.new ≡ noted found.old (local_initial_faults scope.now (object_tree object.now)) }
 {
     match &object.value {
         Some(e) => {
             let wanted = wanted_by(subtype_of(scope, &object.subtype));
-            expression_fault(scope, wanted, e)
+            expression_faults(scope, wanted, e, found);
         }
-        None => rule(NOT_STATIC, object.name.place, object.constant),
+        None => found.note_rule(NOT_STATIC, object.name.place, object.constant),
     }
 }
 
-/// The least fault of an object of a subprogram, an entry or a block.
-pub fn local_object_fault(scope: &Scope, object: &ObjectDeclaration) -> Option<Fault>
-    ensures { result ≡ least (local_object_faults scope.now (object_tree object.now)) }
+/// The broken rules of an object of a subprogram, an entry or a block.
+pub fn local_object_faults(scope: &Scope, object: &ObjectDeclaration, found: &mut Findings)
+    ensures { found.new ≡ noted found.old (local_object_faults scope.now (object_tree object.now)) }
 {
-    least_by_parts();
-    let subtype = subtype_fault(scope, &object.subtype);
-    let initial = local_initial_fault(scope, object);
-    sooner(
-        sooner(subtype, initial),
-        declared_twice(scope, &object.name),
-    )
+    noted_by_parts();
+    subtype_faults(scope, &object.subtype, found);
+    local_initial_faults(scope, object, found);
+    note_declared_twice(scope, &object.name, found);
 }
 
 /// Makes an object of a body or block visible. Memory is the only refusal, and leaves the scope as it was.
@@ -71,26 +67,23 @@ pub fn declare_local_object(scope: &mut Scope, object: &ObjectDeclaration) -> Re
     declare(scope, &object.name, entity)
 }
 
-fn fixed_initial_fault(scope: &Scope, object: &ObjectDeclaration) -> Option<Fault>
-    ensures { result ≡ least (fixed_initial_faults scope.now (object_tree object.now)) }
+fn fixed_initial_faults(scope: &Scope, object: &ObjectDeclaration, found: &mut Findings)
+    ensures { found.new ≡ noted found.old (fixed_initial_faults scope.now (object_tree object.now)) }
 {
     match &object.value {
-        Some(e) => fixed_fault(scope, subtype_of(scope, &object.subtype), e),
-        None => rule(NOT_STATIC, object.name.place, object.constant),
+        Some(e) => fixed_faults(scope, subtype_of(scope, &object.subtype), e, found),
+        None => found.note_rule(NOT_STATIC, object.name.place, object.constant),
     }
 }
 
-/// The least fault of an object of the package or of a task body, whose initial value is static.
-pub fn fixed_object_fault(scope: &Scope, object: &ObjectDeclaration) -> Option<Fault>
-    ensures { result ≡ least (fixed_object_faults scope.now (object_tree object.now)) }
+/// The broken rules of an object of the package or of a task body, whose initial value is static.
+pub fn fixed_object_faults(scope: &Scope, object: &ObjectDeclaration, found: &mut Findings)
+    ensures { found.new ≡ noted found.old (fixed_object_faults scope.now (object_tree object.now)) }
 {
-    least_by_parts();
-    let subtype = subtype_fault(scope, &object.subtype);
-    let initial = fixed_initial_fault(scope, object);
-    sooner(
-        sooner(subtype, initial),
-        declared_twice(scope, &object.name),
-    )
+    noted_by_parts();
+    subtype_faults(scope, &object.subtype, found);
+    fixed_initial_faults(scope, object, found);
+    note_declared_twice(scope, &object.name, found);
 }
 
 fn constant_entity(subtype: Option<Subtype>, value: Option<Value>) -> Entity

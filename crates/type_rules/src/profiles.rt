@@ -3,62 +3,62 @@ ghost use Rattle.std.specs.Prelude.{◌≡◌, ◌++◌, ◌||◌, [], IfOk, OnE
 ghost use Rattle.ada_tree.specs.StatementTree.{subprogram_tree};
 ghost use Rattle.types.specs.Entities.{entity_value, form_value, profile_value};
 ghost use Rattle.types.specs.Scopes.{is_visible};
-ghost use Rattle.expr_rules.specs.Faults.{least, rule};
+ghost use Rattle.expr_rules.specs.Faults.{rule};
+ghost use Rattle.expr_rules.specs.Findings.{noted};
 ghost use Rattle.type_rules.specs.SubtypeNames.{is_composite, is_composite_form, subtype_faults};
-ghost use Rattle.type_rules.specs.ProfileRules.{formal_parameters, formals_faults, function_faults, given_profile, has_wrong_formal, is_in, is_wrong_formal, profile_entity, profile_faults, profile_with, result_faults, subprogram_faults, subprogram_scope};
+ghost use Rattle.type_rules.specs.ProfileRules.{formal_parameters, formals_faults, function_faults, has_wrong_formal, is_in, is_wrong_formal, profile_entity, profile_faults, profile_with, result_faults, subprogram_faults, subprogram_scope};
 
-use crate::names::{declare, declared_twice, subtype_fault, subtype_of};
+use crate::names::{declare, note_declared_twice, subtype_faults, subtype_of};
 use ada_tree::{Formal, Identifier, Mode, Subprogram};
 use base::faults::{DECLARED_TWICE, LIMIT_PASSED, WRONG_FUNCTION};
 use base::limits::FORMALS;
-use expr_rules::laws::{least_by_parts, sooner_associates};
-use expr_rules::{rule, sooner};
-use lexer::Fault;
+use expr_rules::Findings;
+use expr_rules::laws::noted_by_parts;
 use std::alloc::{AllocError, Global};
 use types::{Entity, FormalParameter, Profile, Scope, SeenNames, Subtype, TypeForm};
 
 // A formal parameter behind so many, of which this says whether one before it has its name.
-fn formal_fault(scope: &Scope, before: usize, is_second: bool, formal: &Formal) -> Option<Fault>
-    ensures { result ≡ least (rule DECLARED_TWICE formal.now.name.place (is_visible scope.now formal.now.name.name || is_second) ++ rule LIMIT_PASSED
-        formal.now.name.place (nat_le FORMALS before) ++ subtype_faults scope.now formal.now.subtype) }
+fn formal_faults(
+    scope: &Scope,
+    before: usize,
+    is_second: bool,
+    formal: &Formal,
+    found: &mut Findings,
+)
+    ensures { found.new ≡ noted found.old (rule DECLARED_TWICE formal.now.name.place (is_visible scope.now formal.now.name.name || is_second)
+        ++ rule LIMIT_PASSED formal.now.name.place (nat_le FORMALS before) ++ subtype_faults scope.now formal.now.subtype) }
 {
-    least_by_parts();
+    noted_by_parts();
     let place = formal.name.place;
     let hides = scope.number_of(&formal.name.name).is_some() || is_second;
-    sooner(
-        sooner(
-            rule(DECLARED_TWICE, place, hides),
-            rule(LIMIT_PASSED, place, FORMALS <= before),
-        ),
-        subtype_fault(scope, &formal.subtype),
-    )
+    found.note_rule(DECLARED_TWICE, place, hides);
+    found.note_rule(LIMIT_PASSED, place, FORMALS <= before);
+    subtype_faults(scope, &formal.subtype, found);
 }
 
-/// The least fault of formal parameters. Memory is the only refusal.
-pub fn formals_fault(
+/// The broken rules of formal parameters. Memory is the only refusal.
+pub fn formals_faults(
     alloc: Global,
     scope: &Scope,
     formals: &[Formal],
-) -> Result<Option<Fault>, AllocError>
-    ensures { IfOk result (λ f. f ≡ least (formals_faults scope.now [] formals.now)) }
+    found: &mut Findings,
+) -> Result<(), AllocError>
+    ensures { OnOk result (found.new ≡ noted found.old (formals_faults scope.now [] formals.now)) }
 {
-    least_by_parts();
-    sooner_associates();
     let mut names = SeenNames::new(alloc);
-    let mut fault = None;
     for (index, formal) in formals.iter().enumerate() {
         let is_second = names.see(&formal.name.name)?;
-        fault = sooner(fault, formal_fault(scope, index, is_second, formal));
+        formal_faults(scope, index, is_second, formal, found);
     }
-    Ok(fault)
+    Ok(())
 }
 
-fn result_fault(scope: &Scope, given: Option<&Identifier>) -> Option<Fault>
-    ensures { result ≡ least (result_faults scope.now (option_map (λ n. n.now) given.entry)) }
+fn result_faults(scope: &Scope, given: Option<&Identifier>, found: &mut Findings)
+    ensures { found.new ≡ noted found.old (result_faults scope.now (option_map (λ n. n.now) given.entry)) }
 {
     match given {
-        Some(name) => subtype_fault(scope, name),
-        None => None,
+        Some(name) => subtype_faults(scope, name, found),
+        None => {}
     }
 }
 
@@ -102,54 +102,58 @@ fn has_wrong_formal(scope: &Scope, formals: &[Formal]) -> bool
     formals.iter().any(|formal| is_wrong_formal(scope, formal))
 }
 
-fn function_fault(
+fn function_faults(
     scope: &Scope,
     name: &Identifier,
     formals: &[Formal],
     given: Option<&Identifier>,
-) -> Option<Fault>
-    ensures { result ≡ least (function_faults scope.now name.now formals.now (option_map (λ n. n.now) given.entry)) }
+    found: &mut Findings,
+)
+    ensures { found.new ≡ noted found.old (function_faults scope.now name.now formals.now (option_map (λ n. n.now) given.entry)) }
 {
     match given {
         Some(given) => {
             let composite = is_composite(scope, subtype_of(scope, given));
-            rule(
+            found.note_rule(
                 WRONG_FUNCTION,
                 name.place,
                 composite || has_wrong_formal(scope, formals),
-            )
+            );
         }
-        None => None,
+        None => {}
     }
 }
 
-/// The least fault of the formals and the result of a procedure or function. Memory is the only refusal.
-pub fn profile_fault(
+/// The broken rules of the formals and the result of a procedure or function. Memory is the only refusal.
+pub fn profile_faults(
     alloc: Global,
     scope: &Scope,
     subprogram: &Subprogram,
-) -> Result<Option<Fault>, AllocError>
-    ensures { IfOk result (λ f. f ≡ least (profile_faults scope.now (subprogram_tree subprogram.now))) }
+    found: &mut Findings,
+) -> Result<(), AllocError>
+    ensures { OnOk result (found.new ≡ noted found.old (profile_faults scope.now (subprogram_tree subprogram.now))) }
 {
-    least_by_parts();
+    noted_by_parts();
     let given = subprogram.result.as_ref();
-    let formals = formals_fault(alloc, scope, &subprogram.formals)?;
-    let named = sooner(formals, result_fault(scope, given));
-    let function = function_fault(scope, &subprogram.name, &subprogram.formals, given);
-    Ok(sooner(named, function))
+    formals_faults(alloc, scope, &subprogram.formals, found)?;
+    result_faults(scope, given, found);
+    function_faults(scope, &subprogram.name, &subprogram.formals, given, found);
+    Ok(())
 }
 
-/// The least fault of the declaration of a procedure or function, its body aside. Memory is the only refusal.
-pub fn subprogram_fault(
+/// The broken rules of the declaration of a procedure or function, its body aside. Memory is the only refusal.
+pub fn subprogram_faults(
     alloc: Global,
     scope: &Scope,
     subprogram: &Subprogram,
-) -> Result<Option<Fault>, AllocError>
-    ensures { IfOk result (λ f. f ≡ least (subprogram_faults scope.now (subprogram_tree subprogram.now))) }
+    found: &mut Findings,
+) -> Result<(), AllocError>
+    ensures { OnOk result (found.new ≡ noted found.old (subprogram_faults scope.now (subprogram_tree subprogram.now))) }
 {
-    least_by_parts();
-    let profile = profile_fault(alloc, scope, subprogram)?;
-    Ok(sooner(profile, declared_twice(scope, &subprogram.name)))
+    noted_by_parts();
+    profile_faults(alloc, scope, subprogram, found)?;
+    note_declared_twice(scope, &subprogram.name, found);
+    Ok(())
 }
 
 /// The formal parameters, where the subtype of each is known.

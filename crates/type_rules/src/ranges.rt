@@ -3,14 +3,13 @@ ghost use Rattle.std.specs.Prelude.{◌≡◌, ◌++◌, option_map};
 ghost use Rattle.ada_tree.specs.ExpressionTree.{expr_tree};
 ghost use Rattle.ada_tree.specs.StatementTree.{range_tree};
 ghost use Rattle.types.specs.Values.{value_of};
-ghost use Rattle.expr_rules.specs.Faults.{least};
+ghost use Rattle.expr_rules.specs.Findings.{noted};
 ghost use Rattle.type_rules.specs.TypeRules.{bounded, null_rule, range_faults, range_subtype, static_whole, whole_of};
 
 use ada_tree::{Expr, Range};
 use base::faults::WRONG_STATIC_VALUE;
-use expr_rules::laws::least_by_parts;
-use expr_rules::{Wanted, rule, sooner, static_fault, static_scalar};
-use lexer::Fault;
+use expr_rules::laws::noted_by_parts;
+use expr_rules::{Findings, Wanted, static_faults, static_scalar};
 use types::{Scope, Subtype, Value, start_of};
 
 fn whole_of(value: Option<Value>) -> Option<i64>
@@ -29,32 +28,33 @@ fn static_whole(scope: &Scope, wanted: Wanted, within: Option<Subtype>, e: &Expr
     whole_of(static_scalar(scope, wanted, within, e))
 }
 
-fn null_rule(place: u32, first: Option<i64>, last: Option<i64>) -> Option<Fault>
-    ensures { result ≡ least (null_rule place first last) }
+fn null_rule(place: u32, first: Option<i64>, last: Option<i64>, found: &mut Findings)
+    ensures { found.new ≡ noted found.old (null_rule place first last) }
 {
     match (first, last) {
-        (Some(first), Some(last)) => rule(WRONG_STATIC_VALUE, place, !(first <= last)),
-        _ => None,
+        (Some(first), Some(last)) => {
+            found.note_rule(WRONG_STATIC_VALUE, place, !(first <= last));
+        }
+        _ => {}
     }
 }
 
-/// The least fault of a range whose bounds are of what is expected, and lie in the subtype, if there is one.
-pub(crate) fn range_fault(
+/// The broken rules of a range whose bounds are of what is expected, and lie in the subtype, if there is one.
+pub(crate) fn range_faults(
     scope: &Scope,
     wanted: Wanted,
     within: Option<Subtype>,
     range: &Range,
-) -> Option<Fault>
-    ensures { result ≡ least (range_faults scope.now wanted within (range_tree range.now)) }
+    found: &mut Findings,
+)
+    ensures { found.new ≡ noted found.old (range_faults scope.now wanted within (range_tree range.now)) }
 {
-    least_by_parts();
-    let bounds = sooner(
-        static_fault(scope, wanted, within, &range.first),
-        static_fault(scope, wanted, within, &range.last),
-    );
+    noted_by_parts();
+    static_faults(scope, wanted, within, &range.first, found);
+    static_faults(scope, wanted, within, &range.last, found);
     let first = static_whole(scope, wanted, within, &range.first);
     let last = static_whole(scope, wanted, within, &range.last);
-    sooner(bounds, null_rule(start_of(&range.first), first, last))
+    null_rule(start_of(&range.first), first, last, found);
 }
 
 fn bounded(type_number: usize, first: Option<i64>, last: Option<i64>) -> Option<Subtype>

@@ -5,22 +5,34 @@ use Rattle.legality.specs.MainRules.{main_faults}
 use Rattle.size_rules.specs.ProgramSizes.{size_faults}
 use Rattle.declaring.specs.PackageNames.{program_scope}
 use Rattle.expr_rules.specs.Faults.{least}
+use Rattle.checking.specs.FoundFaults.{found_faults}
 use Rattle.checking.specs.ProgramLayouts.{HaveRoom}
 use Rattle.checking.specs.ProgramRules.{package_part_faults, program_faults}
 use Rattle.checking.proofs.Room.{both_empty}
+use Rattle.checking.proofs.SameFaults.{least_broken, least_noted, none_broken}
 use Rattle.checking.proofs.checked.check.Goals as goal
+
+pub laid_out-requires-clause-legal : goal.laid_out-requires-clause-legal
+laid_out-requires-clause-legal c =
+    let t = program_tree c.args.parsed in
+    let one = least_noted c.found_is_all.ensures (found_faults (program_tree c.program.result.now)) c.new-found.result c.judge.new.found c.least.result
+    c.new-found.ensures c.in_ok-scope.ensures.found c.least.ensures
+    ∙ ap (λ p. least (found_faults (program_tree p))) c.program.ensures.same in
+    none_broken c.check_finds_what_is_broken.ensures t (c.least_is_least.ensures.none (found_faults t) (sym c.in-None.is ∙ one))
 
 pub laid_out-requires-clause-room : goal.laid_out-requires-clause-room
 laid_out-requires-clause-room c =
     let t = program_tree c.args.parsed in
-    let found = c.in_ok-fault.ensures.fault ∙ ap (λ p. least (program_faults (program_tree p))) c.program.ensures.same in
-    let none : program_faults t ≡ [] = c.least_is_least.ensures.none (program_faults t) (sym c.in-None.is ∙ found) in
+    let none : program_faults t ≡ [] = laid_out-requires-clause-legal c in
     let rest = package_part_faults standard t.package_ ++ main_faults t.package_ t.main in
-    let scope = c.in_ok-fault.ensures.scope ∙ ap (λ p. program_scope (program_tree p)) c.program.ensures.same in
+    let scope = c.in_ok-scope.ensures.scope ∙ ap (λ p. program_scope (program_tree p)) c.program.ensures.same in
     subst HaveRoom (sym scope) (c.words_have_room.ensures t (both_empty rest (size_faults t) none).1)
 
 pub returns-in-Some-clause-refused : goal.returns-in-Some-clause-refused
 returns-in-Some-clause-refused c =
-    let faults = program_faults (program_tree c.args.parsed) in
-    let found = c.in_ok-fault.ensures.fault ∙ ap (λ p. least (program_faults (program_tree p))) c.program.ensures.same in
-    inr (c.least_is_least.ensures.some faults c.in-Some.fault (sym c.in-Some.is ∙ found))
+    let t = program_tree c.args.parsed in
+    let one = least_noted c.found_is_all.ensures (found_faults (program_tree c.program.result.now)) c.new-found.result c.judge.new.found c.least.result
+    c.new-found.ensures c.in_ok-scope.ensures.found c.least.ensures
+    ∙ ap (λ p. least (found_faults (program_tree p))) c.program.ensures.same in
+    inr (least_broken c.check_finds_what_is_broken.ensures t c.in-Some.fault
+    (c.least_is_least.ensures.some (found_faults t) c.in-Some.fault (sym c.in-Some.is ∙ one)))
