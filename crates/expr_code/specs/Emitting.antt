@@ -1,5 +1,5 @@
 -- What methods that add the code of expressions promise.
-use Rattle.std.specs.Prelude.{◌≡◌, ℕ, ◌+◌, ◌*◌, ◌≤◌, List, [], ◌∷◌, Bool, true, false, ◌||◌, Option, Some, ⊤}
+use Rattle.std.specs.Prelude.{◌≡◌, ℕ, ◌+◌, ◌*◌, ◌≤◌, ◌<◌, List, [], ◌∷◌, Bool, true, false, ◌||◌, Option, Some, ⊤}
 use Rattle.image.specs.Sections.{Sections}
 use Rattle.ada_tree.specs.declared.expression.Operand.{Operand}
 use Rattle.ada_tree.specs.ExpressionTree.{ExprTree, chain_tree, expr_tree}
@@ -59,11 +59,11 @@ AreLegalOperands s [] = ⊤
 AreLegalOperands s (o ∷ rest) = IsLegalExpression s (expr_tree o.value) × AreLegalOperands s rest
 
 -- The code that was added computes the expression, in every image that holds it and wherever a frame stands for the place of evaluation; it keeps the rules
--- of images; and it has at most 20 instructions for each part of the expression. It finds so many words on the operand stack, and leaves those of the value, so
--- many, above them.
+-- of images; and it has fewer than 20 instructions for each part of the expression, so that the step that raises an exception is one of 20. It finds so many
+-- words on the operand stack, and leaves those of the value, so many, above them.
 pub record EmitsExpression (v : Visible) (old : Code) (depth width : ℕ) (e : ExprTree) (new : Code) : Type 0 where
   pub extends : Extends old new
-  pub sized : here new ≤ here old + 20 * expr_size e
+  pub sized : here new < here old + 20 * expr_size e
   pub computes : (i : Sections) → Holds i (here old) new → (g : Package) → Computes i (library_of g) (Sees g v) (here old) (here new) e
   pub flows : Flows (Suits v) old depth new (depth + width)
 

@@ -1,5 +1,5 @@
 -- How many steps the evaluation of an expression takes at most, by the tokens of the expression (RM 4).
-use Rattle.std.specs.Prelude.{◌≡◌, ◌*◌, ℕ, ℤ, List, length}
+use Rattle.std.specs.Prelude.{◌≡◌, ◌*◌, ◌-◌, ℕ, ℤ, List, length}
 use Rattle.base.specs.declared.schedule.ScheduleLine.{ScheduleLine}
 use Rattle.kernel.specs.Calm.{Calm}
 use Rattle.kernel.specs.State.{Kernel}
@@ -21,8 +21,8 @@ use Rattle.expr_code.specs.declared.code.Code.{Code}
 use Rattle.expr_code.specs.declared.visible.Visible.{Visible}
 
 -- In every frame that represents the place of evaluation, code that was added for an expression pushes the words of its value and reaches the place after
--- them, in at most 20 steps of this frame for each token of the expression; or it raises the exception of the expression at one of its places, after at most so
--- many steps of this frame.
+-- them, in fewer than 20 steps of this frame for each token of the expression; or it raises the exception of the expression at one of its places, within 20
+-- steps of this frame for each token, the step that raises it among them.
 abbrev pub EvaluationsWithinTokens : Type 0
 EvaluationsWithinTokens =
     (v : Visible) (old : Code) (depth width : ℕ) (e : ExprTree) (new : Code)
@@ -37,4 +37,4 @@ EvaluationsWithinTokens =
     → Calm k t
     → Sees g v p (view_of i schedule k t m f fs)
     → left ≡ frames_above k t fs
-    → Comes i schedule k t m (placed f (here old) base) fs (20 * length tokens) (here new) (on base) (value_with calls p e)
+    → Comes i schedule k t m (placed f (here old) base) fs (20 * length tokens - 1) (here new) (on base) (value_with calls p e)

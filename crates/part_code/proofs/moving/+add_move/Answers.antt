@@ -1,4 +1,5 @@
 use Rattle.std.proofs.Common.{◌≡◌, ◌∷◌, [], map, true, false, refl, sym, ap, ◌∙◌, rules, subst, arith}
+use Rattle.std.proofs.Math.Nat.{le_of_lt}
 use Rattle.std.proofs.lemmas.Result.{IfErr-weaker, on_ok_weaker}
 use Rattle.ada_tree.specs.declared.expression.Expr as expressions
 use Rattle.ada_tree.specs.ExpressionTree.{expr_tree}
@@ -52,7 +53,7 @@ add_branch-returns-in_err-of_width-clause-refused t c =
 pub add_branch-returns-in_err-test-clause-refused : goal.add_branch-returns-in_err-test-clause-refused
 add_branch-returns-in_err-test-clause-refused t c =
     let whole = test_refuses c.args.visible.now (expr_tree c.args.condition.now) (expr_tree c.args.value.now) c.args.code.now c.in_err-test.field-0.0
-    c.of_width.new.self c.in_ok-of_width.ensures.emits.sized c.in_err-test.ensures.refused in
+    c.of_width.new.self (le_of_lt c.in_ok-of_width.ensures.emits.sized) c.in_err-test.ensures.refused in
     search (rules, whole)
 
 pub add_branch-returns-in_err-add_move-clause-refused : goal.add_branch-returns-in_err-add_move-clause-refused

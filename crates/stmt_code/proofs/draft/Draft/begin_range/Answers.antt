@@ -1,4 +1,5 @@
 use Rattle.std.proofs.Common.{◌+◌, refl, rules, arith, subst, sym}
+use Rattle.std.proofs.Math.Nat.{le_of_lt}
 use Rattle.part_code.specs.Providing.{HasWhatCodeNeeds}
 use Rattle.stmt_code.proofs.CoveredScopes.{covered_loop}
 use Rattle.stmt_code.proofs.FirstTurns.{starts_same}
@@ -62,7 +63,7 @@ returns-in_err-of_width-clause-refused c =
 pub returns-in_err-of_width-2-clause-refused : goal.returns-in_err-of_width-2-clause-refused
 returns-in_err-of_width-2-clause-refused c =
     let whole = last_refused c.args.visible.now c.args.self.now c.args.parameter.now c.args.reversed (range_tree c.args.range.now)
-    c.in_err-of_width-2.field-0.0 c.of_width.new.self c.in_ok-of_width.ensures.emits.sized c.in_err-of_width-2.ensures.refused in
+    c.in_err-of_width-2.field-0.0 c.of_width.new.self (le_of_lt c.in_ok-of_width.ensures.emits.sized) c.in_err-of_width-2.ensures.refused in
     search (rules, whole)
 
 pub returns-clause-stays : goal.returns-clause-stays

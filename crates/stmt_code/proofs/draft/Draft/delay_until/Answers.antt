@@ -1,4 +1,5 @@
 use Rattle.std.proofs.Common.{◌≡◌, true, refl, rules, subst}
+use Rattle.std.proofs.Math.Nat.{le_of_lt}
 use Rattle.types.specs.Scopes.{integer}
 use Rattle.expr_soundness.specs.BoundsLaw.{is_inside}
 use Rattle.std.proofs.lemmas.Result.{IfErr-weaker, on_ok_weaker}
@@ -39,7 +40,7 @@ returns-in_err-of_width-clause-refused c =
 pub returns-clause-refused : goal.returns-clause-refused
 returns-clause-refused c =
     let next = added_here c.args.self.now.code c.emit.new.self 0 op.CheckBlocking c.in_ok-emit.ensures.adds in
-    let long = c.in_ok-of_width.ensures.emits.sized in
+    let long = le_of_lt c.in_ok-of_width.ensures.emits.sized in
     IfErr-weaker _ _ _
     (λ why r.
     delay_refused c.args.visible.now c.args.self.now c.args.place (expr_tree c.args.until.now) c.emit.new.self c.of_width.new.self why next long r)

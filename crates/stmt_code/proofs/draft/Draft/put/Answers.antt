@@ -1,4 +1,5 @@
 use Rattle.std.proofs.Common.{refl, rules, sym}
+use Rattle.std.proofs.Math.Nat.{le_of_lt}
 use Rattle.stmt_code.proofs.LeavesStay.{line_stays}
 use Rattle.stmt_code.proofs.PartsRefused.{labels_refused, line_refused, written_refused}
 use Rattle.std.proofs.lemmas.Result.{IfErr-weaker, on_ok_weaker}
@@ -57,7 +58,7 @@ returns-in_err-number-in-Some-clause-refused c =
 
 pub returns-clause-refused : goal.returns-clause-refused
 returns-clause-refused c =
-    let long = c.in_ok-of_width-in-Some.ensures.emits.sized in
+    let long = le_of_lt c.in_ok-of_width-in-Some.ensures.emits.sized in
     IfErr-weaker _ _ _
     (λ why r.
     written_refused c.args.visible.now c.args.self.now why (name_tree c.args.name.now)

@@ -1,5 +1,6 @@
 -- What refuses the code of expressions, answered for the methods that add it.
 use Rattle.std.proofs.Common.{inr, ◌≡◌, ◌||◌, Some, ◌+◌, ◌*◌, None, arith, map, rules, refl, sym, ap, ◌∙◌, ◌≤◌, ◌∷◌, [], subst, ◌<◌, length}
+use Rattle.std.proofs.Math.Nat.{le_of_lt}
 use Rattle.ada_tree.specs.declared.expression.Expr as expressions
 use Rattle.ada_tree.specs.ExpressionTree.{argument_trees, Arguments, expr_tree, MoreSelectors, Named, NoSelectors, selector_tree, selector_trees}
 use Rattle.expr_code.specs.Branches.{AddsBranches, branch_of}
@@ -54,7 +55,7 @@ expression-returns-in_err-operand-in-Chain-clause-refused t c =
     let first = subst (λ e. EmitsExpression v c.args.self.now c.args.depth 1 (expr_tree e) c.of_width-in-Chain.new.self) c.deref-in-Chain.ensures
     c.in_ok-of_width-in-Chain.ensures.emits in
     let whole = second_refused v (expr_tree c.args.e.now) _ c.in-Chain.second.value c.in-Chain.more.items tree c.args.self.now c.args.depth
-    c.in_err-operand-in-Chain.field-0.0 c.of_width-in-Chain.new.self first.sized
+    c.in_err-operand-in-Chain.field-0.0 c.of_width-in-Chain.new.self (le_of_lt first.sized)
     (subst (λ o. RefusesOperands v c.of_width-in-Chain.new.self c.args.depth (o ∷ []) c.in_err-operand-in-Chain.field-0.0) c.deref-in-Chain-2.ensures
     c.in_err-operand-in-Chain.ensures.refused) in
     search (rules, whole)
@@ -68,7 +69,7 @@ expression-returns-in_err-operands-in-Chain-clause-refused t c =
     let second = subst (λ o. here c.operand.new.self ≤ here c.of_width-in-Chain.new.self + 20 * operands_size (o ∷ [])) c.deref-in-Chain-2.ensures
     c.in_ok-operand-in-Chain.ensures.sized in
     let whole = more_refused v (expr_tree c.args.e.now) _ c.in-Chain.second.value c.in-Chain.more.items tree c.args.self.now c.args.depth
-    c.in_err-operands-in-Chain.field-0.0 c.of_width-in-Chain.new.self c.operand.new.self first.sized second
+    c.in_err-operands-in-Chain.field-0.0 c.of_width-in-Chain.new.self c.operand.new.self (le_of_lt first.sized) second
     (subst (λ all. RefusesOperands v c.operand.new.self c.args.depth all c.in_err-operands-in-Chain.field-0.0) c.deref-in-Chain-3.ensures.value
     c.in_err-operands-in-Chain.ensures.refused) in
     search (rules, whole)

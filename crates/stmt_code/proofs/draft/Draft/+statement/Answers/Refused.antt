@@ -1,5 +1,6 @@
 -- What refuses the code of parts of statements and of whole ones, answered for the methods that add it.
 use Rattle.std.proofs.Common.{◌≡◌, ◌∷◌, [], arith, map, refl, sym, ap, ◌∙◌, rules, subst}
+use Rattle.std.proofs.Math.Nat.{le_of_lt}
 use Rattle.std.specs.Prelude.{IfErr}
 use Rattle.std.proofs.lemmas.Result.{IfErr-weaker, err_from_is_err_and}
 use Rattle.ada_tree.specs.ExpressionTree.{expr_tree}
@@ -29,7 +30,7 @@ branch-returns-in_err-of_width-clause-refused t c =
 pub branch-returns-in_err-test-clause-refused : goal.branch-returns-in_err-test-clause-refused
 branch-returns-in_err-test-clause-refused t c =
     let whole = test_refused c.args.visible.now c.args.self.now c.in_err-test.field-0.0
-    (expr_tree c.args.condition.now) (stmt_trees c.args.body.now) c.of_width.new.self c.in_ok-of_width.ensures.emits.sized c.in_err-test.ensures.refused in
+    (expr_tree c.args.condition.now) (stmt_trees c.args.body.now) c.of_width.new.self (le_of_lt c.in_ok-of_width.ensures.emits.sized) c.in_err-test.ensures.refused in
     search (rules, whole)
 
 pub branch-returns-in_err-statements-clause-refused : goal.branch-returns-in_err-statements-clause-refused
@@ -69,7 +70,7 @@ guarded-returns-in_err-test-clause-refused t c =
     let e = expr_tree c.args.condition.now in
     let body = stmt_trees c.args.body.now in
     let whole = first_refuses v c.args.self.now why c.args.place e body NoElsifs NoStmts
-    (test_refused v c.args.self.now why e body c.of_width.new.self c.in_ok-of_width.ensures.emits.sized c.in_err-test.ensures.refused) in
+    (test_refused v c.args.self.now why e body c.of_width.new.self (le_of_lt c.in_ok-of_width.ensures.emits.sized) c.in_err-test.ensures.refused) in
     search (rules, whole)
 
 pub guarded-returns-in_err-statements-clause-refused : goal.guarded-returns-in_err-statements-clause-refused
@@ -186,7 +187,7 @@ pub case-returns-in_err-alternatives-clause-refused : goal.case-returns-in_err-a
 case-returns-in_err-alternatives-clause-refused t c =
     let valued : Draft = record c.args.self.now { code = c.of_width.new.self } in
     let whole = alternatives_refused c.args.visible.now c.args.self.now c.in_err-alternatives.field-0.0
-    c.args.place (expr_tree c.args.value.now) (alternative_trees c.args.alternatives.now) valued refl refl c.in_ok-of_width.ensures.emits.sized
+    c.args.place (expr_tree c.args.value.now) (alternative_trees c.args.alternatives.now) valued refl refl (le_of_lt c.in_ok-of_width.ensures.emits.sized)
     c.in_err-alternatives.ensures.refused in
     search (rules, whole)
 
