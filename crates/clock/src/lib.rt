@@ -6,7 +6,7 @@ mod faults;
 mod heap;
 mod heap_delays;
 mod list_delays;
-mod reading;
+pub mod reading;
 mod schedule;
 
 pub use base::ScheduleLine;

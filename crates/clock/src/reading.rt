@@ -1,4 +1,4 @@
-//! Reading a line of a schedule off the front of a text.
+//! Reading numbers, and lines of a schedule, off the front of a text.
 ghost use Rattle.std.specs.Prelude.{◌≡◌, IfSome, ℕ, pos, ◌≤◌, ◌*◌, ◌+◌, ◌-◌, length, option_map};
 ghost use Rattle.std.specs.List.{prefix_len};
 ghost use Rattle.base.specs.Arithmetic.{is_in_base_range};
@@ -63,9 +63,9 @@ fn capped_value(digits: &[u8]) -> u64
     value
 }
 
-// The number at the front of a text, and what stands behind it.
+/// The number at the front of a text, and what stands behind it: 0, or digits without a leading zero. One that is too large is the greatest of 64 bits.
 #[tactic(auto, unfolding(crate::specs::Texts::number_at))]
-fn number(text: &[u8]) -> Option<(u64, &[u8])>
+pub fn number(text: &[u8]) -> Option<(u64, &[u8])>
     ensures { option_map (λ read. (read.0, read.1.now)) result ≡ capped_number (number_at text.now) }
 {
     let (digits, behind) = text.split_at(count_digits(text));
@@ -93,9 +93,9 @@ fn negative(magnitude: u64) -> Option<i64>
     Some(-1 - (magnitude - 1).cast_signed())
 }
 
-// The value at the front, if it has 64 bits, and what stands behind it.
+/// The value at the front, if it has 64 bits, and what stands behind it: a number, or `-` before one that isn't 0.
 #[tactic(auto, unfolding(crate::specs::Texts::value_at))]
-fn value(text: &[u8]) -> Option<(i64, &[u8])>
+pub fn value(text: &[u8]) -> Option<(i64, &[u8])>
     ensures { option_map (λ read. (read.0, read.1.now)) result ≡ ranged_value (value_at text.now) }
 {
     let [first, rest @ ..] = text else {
@@ -110,8 +110,8 @@ fn value(text: &[u8]) -> Option<(i64, &[u8])>
     }
 }
 
-// What stands behind this byte, if it stands at the front.
-fn behind(byte: u8, text: &[u8]) -> Option<&[u8]>
+/// What stands behind this byte, if it stands at the front.
+pub fn behind(byte: u8, text: &[u8]) -> Option<&[u8]>
     ensures { option_map (λ rest. rest.now) result ≡ behind_byte byte text.now }
 {
     match text {
@@ -120,8 +120,8 @@ fn behind(byte: u8, text: &[u8]) -> Option<&[u8]>
     }
 }
 
-// The channel, if it is one of 1 to 8.
-fn channel(number: u64) -> Option<u8>
+/// The channel of this number, if it is one of 1 to 8.
+pub fn channel(number: u64) -> Option<u8>
     ensures { (n : ℕ) → number ≡ capped n → result ≡ known_channel n }
 {
     let number = u8::try_from(number).ok()?;

@@ -1,6 +1,6 @@
 //! Schedules of input values.
-ghost use Rattle.std.specs.Prelude.{◌≡◌, ◌+◌, ◌≤◌, Some, IfErr, IfOk};
-ghost use Rattle.base.specs.Schedule.{input};
+ghost use Rattle.std.specs.Prelude.{◌≡◌, ◌+◌, ◌≤◌, Some, IfErr, IfOk, IsTrue};
+ghost use Rattle.base.specs.Schedule.{input, is_schedule};
 ghost use Rattle.clock.specs.Capped.{IsNext};
 ghost use Rattle.clock.specs.Schedules.{IsScheduleText, RefusesSchedule, heard_line, next_fault};
 
@@ -74,6 +74,14 @@ impl Schedule {
             rest = behind;
         }
         Ok(Schedule { lines })
+    }
+
+    /// The schedule of these lines.
+    pub fn of_lines(lines: Vec<ScheduleLine>) -> Schedule
+        requires { IsTrue (is_schedule lines.items) }
+        ensures { result ≡ lines.items }
+    {
+        Schedule { lines }
     }
 
     /// The lines, in the order of their times.

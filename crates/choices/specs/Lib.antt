@@ -1,0 +1,10 @@
+pub mod Slots
+pub mod Places
+pub mod Texts
+pub mod Faults
+pub mod Shapes
+pub mod Stepping
+pub mod Filling
+pub mod Sets
+pub mod Writing
+pub mod Counting

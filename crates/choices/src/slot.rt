@@ -1,0 +1,24 @@
+//! Slots of time with alternatives.
+use std::marker::Model;
+
+/// The most alternatives of a slot.
+pub const ALTERNATIVES: usize = 4_096;
+
+/// A time at which a channel may change, and what there is to choose from. Contracts see a record of the same fields (specs/Slots).
+#[derive(Drop)]
+pub struct Slot {
+    /// In microseconds since the start.
+    pub(crate) time: i64,
+    /// From 1 to 8.
+    pub(crate) channel: u8,
+    /// The values that the channel may have from then on, in the order in which they are tried; None leaves it as it is.
+    pub(crate) alternatives: Vec<Option<i64>>,
+}
+
+impl Model for Slot {
+    ghost use Rattle.choices.specs.Slots.{Slot as Row};
+
+    ghost Value = { Row };
+
+    ghost view = { λ s. record { time = s.time; channel = s.channel; alternatives = s.alternatives.items } };
+}

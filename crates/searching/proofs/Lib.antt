@@ -1,0 +1,4 @@
+pub mod Onward
+pub mod Late
+mod Standing
+mod Through

@@ -1,0 +1,4 @@
+pub mod Sights
+pub mod Searches
+pub mod Judging
+pub mod Reports

@@ -1,0 +1,54 @@
+-- What a search answers of the code of an image: of one schedule, and of all of a set.
+use Rattle.std.specs.Prelude.{◌≡◌, ◌⊎◌, ℕ, ◌+◌, ℤ, ◌<ℤ◌, ◌≤ℤ◌, List, Option, Some, None}
+use Rattle.base.specs.declared.schedule.ScheduleLine.{ScheduleLine}
+use Rattle.choices.specs.Slots.{IsInSet, Slot}
+use Rattle.image.specs.Code.{code}
+use Rattle.image.specs.Sections.{Sections}
+use Rattle.kernel.specs.State.{Kernel, Outcome}
+use Rattle.searching.specs.Sights.{IsWanted, ShowsSight, Sighting, sight_of}
+use Rattle.searching.specs.declared.one.Answer.{Answer}
+use Rattle.searching.specs.declared.one.Answer.TheVariants as answers
+use Rattle.searching.specs.declared.sight.Wanted.{Wanted}
+use Rattle.searching.specs.declared.whole.Searched.{Searched}
+use Rattle.searching.specs.declared.whole.Searched.TheVariants as searched
+
+-- a run, by its kernels after each number of steps, comes to this
+pub record ComesTo (until : ℤ) (sight : Sighting) (kernel : ℕ → Kernel) : Type 0 where
+  pub steps : ℕ
+  pub shows : ShowsSight until sight (kernel steps)
+
+-- it never comes to what is wanted
+abbrev pub NeverComes : (until : ℤ) → Wanted → (kernel : ℕ → Kernel) → Type 0
+NeverComes until wanted kernel = (sight : Sighting) → IsWanted wanted sight → ComesTo until sight kernel → ⊥
+
+-- and that is no run which stands still: it comes to an outcome, or its clock passes the end of the search
+pub record IsFollowedOn (until : ℤ) (kernel : ℕ → Kernel) : Type 0 where
+  pub steps : ℕ
+  pub over : (until <ℤ (kernel steps).now) ⊎ ((o : Outcome) × ((kernel steps).outcome ≡ Some o))
+
+-- more steps than the limit are taken at one time: so many of them lead to the same time, and there is no outcome yet
+pub record TakesMore (until : ℤ) (limit : ℕ) (time : ℤ) (kernel : ℕ → Kernel) : Type 0 where
+  pub steps : ℕ
+  pub before : (kernel steps).now ≡ time
+  pub after : (kernel (steps + limit)).now ≡ time
+  pub goes_on : (kernel (steps + limit)).outcome ≡ None
+  pub within : time ≤ℤ until
+
+abbrev pub kernels : Sections → List ScheduleLine → ℕ → Kernel
+kernels i schedule n = (code i schedule n).kernel
+
+-- of one schedule
+abbrev pub AnswersRun : Sections → List ScheduleLine → (until : ℤ) → (limit : ℕ) → Wanted → Answer → Type 0
+AnswersRun i schedule until limit wanted (answers.Found finding) =
+    IsWanted wanted (sight_of i finding) × ComesTo until (sight_of i finding) (kernels i schedule)
+AnswersRun i schedule until limit wanted answers.Nothing = NeverComes until wanted (kernels i schedule) × IsFollowedOn until (kernels i schedule)
+AnswersRun i schedule until limit wanted (answers.TooLong time) = TakesMore until limit time (kernels i schedule)
+
+-- of all schedules of a set
+abbrev pub Searches : Sections → List Slot → (until : ℤ) → (limit : ℕ) → Wanted → Searched → Type 0
+Searches i slots until limit wanted (searched.Found schedule finding) =
+    IsInSet slots schedule × AnswersRun i schedule until limit wanted (answers.Found finding)
+Searches i slots until limit wanted searched.Nothing =
+    (schedule : List ScheduleLine) → IsInSet slots schedule → AnswersRun i schedule until limit wanted answers.Nothing
+Searches i slots until limit wanted (searched.TooLong schedule time) =
+    IsInSet slots schedule × AnswersRun i schedule until limit wanted (answers.TooLong time)

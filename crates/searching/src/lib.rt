@@ -1,0 +1,12 @@
+//! Searching the schedules of a set for one under which an image stops, waits forever or writes a line.
+#![tactic(auto)]
+
+mod one;
+mod reporting;
+mod sight;
+mod whole;
+
+pub use one::{Answer, search_run};
+pub use reporting::report;
+pub use sight::{Finding, Wanted};
+pub use whole::{Searched, search};
