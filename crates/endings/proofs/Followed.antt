@@ -21,7 +21,7 @@ StepsTo h next told =
     (m : ℕ) → HoldsWorld h (code h.image h.schedule m)
     → HoldsWorld next (code h.image h.schedule (m + 1)) × ShowsText h.image (code h.image h.schedule m).kernel (code h.image h.schedule (m + 1)).kernel told
 
-stepped : (i : Sections) (schedule : List ScheduleLine) (n : ℕ) (h next : HeldWorld) (told : Event) → h.image ≡ i → h.schedule ≡ schedule → StepsTo h next told
+pub stepped : (i : Sections) (schedule : List ScheduleLine) (n : ℕ) (h next : HeldWorld) (told : Event) → h.image ≡ i → h.schedule ≡ schedule → StepsTo h next told
     → HoldsWorld h (code i schedule n) → HoldsWorld next (code i schedule (suc n))
 stepped i schedule n h next told image same steps =
     let e : n + 1 ≡ suc n = omega arith in

@@ -1,1 +1,2 @@
+pub mod LastSteps
 pub mod Sources

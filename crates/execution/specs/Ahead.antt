@@ -1,4 +1,4 @@
--- The exception that the next step of a run raises.
+-- The next step of a run: the address of its instruction, and the exception that it raises.
 use Rattle.std.specs.Prelude.{ℕ, List, Option, Some, None}
 use Rattle.base.specs.declared.schedule.ScheduleLine.{ScheduleLine}
 use Rattle.kernel.specs.State.{Outcome}
@@ -16,3 +16,12 @@ raising_by i schedule w None (Some t) = raising_ahead i schedule w.kernel t (sol
 
 abbrev pub next_raising : Sections → List ScheduleLine → CodeWorld → Option Raising
 next_raising i schedule w = raising_by i schedule w w.kernel.outcome w.kernel.running
+
+-- the address of the instruction of the frame that runs, by the outcome, and who runs
+abbrev pub address_by : CodeWorld → Option Outcome → Option ℕ → Option ℕ
+address_by w (Some o) running = None
+address_by w None None = None
+address_by w None (Some t) = Some (w.rest.tasks t).frame.place
+
+abbrev pub next_address : CodeWorld → Option ℕ
+next_address w = address_by w w.kernel.outcome w.kernel.running

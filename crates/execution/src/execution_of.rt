@@ -5,7 +5,7 @@ ghost use Rattle.image_laws.specs.Whole.{IsWhole};
 ghost use Rattle.kernel.specs.Calm.{IsRunner};
 ghost use Rattle.kernel.specs.State.{Line as KernelLine, Outcome as KernelOutcome};
 ghost use Rattle.tasking.specs.Held.{kernel_of};
-ghost use Rattle.execution.specs.Ahead.{next_raising};
+ghost use Rattle.execution.specs.Ahead.{next_address, next_raising};
 ghost use Rattle.execution.specs.Held.{Leads, lines_of, world_of, world_with};
 
 use crate::line::Line;
@@ -149,6 +149,14 @@ impl<'a, R: Ready, D: Delays> Execution<'a, R, D> {
     {
         let task = self.runner()?;
         self.state.raising_ahead(task)
+    }
+
+    /// The address of the instruction that the next step does, unless there is an outcome; nothing changes.
+    pub fn address_ahead(&self) -> Option<u16>
+        ensures { result ≡ next_address (world_of self.now) }
+    {
+        let task = self.runner()?;
+        Some(self.state.address(task))
     }
 
     /// The image that runs.

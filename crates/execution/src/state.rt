@@ -187,6 +187,20 @@ impl<'a, R: Ready, D: Delays> State<'a, R, D> {
             &self.memory,
         )
     }
+
+    /// The address of the running frame's instruction, of the task that runs.
+    pub(crate) fn address(&self, task: u8) -> u16
+        requires whole { IsWhole self.now.image (world_of self.now) }
+        requires runs { IsRunner (kernel_of self.now.tasking) task }
+        ensures { result ≡ (tasks_of self.now task).frame.place }
+    {
+        let _handler = self.tasking.handler();
+        let row = self.row(task);
+        let Some(state) = self.tasks.get(row) else {
+            unreachable!()
+        };
+        state.place()
+    }
 }
 
 // The tasks at the first instruction of their bodies.

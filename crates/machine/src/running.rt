@@ -8,7 +8,7 @@ ghost use Rattle.kernel.specs.Text.{line_text as text_line, lines_text};
 ghost use Rattle.image.specs.Code.{code, code_text};
 ghost use Rattle.image.specs.Steps.{is_open};
 ghost use Rattle.image.specs.Texts.{names_of};
-ghost use Rattle.execution.specs.Ahead.{next_raising};
+ghost use Rattle.execution.specs.Ahead.{next_address, next_raising};
 ghost use Rattle.execution.specs.Held.{line_of, world_of, world_with};
 ghost use Rattle.machine.specs.Exclusion.{Excludes, observed};
 ghost use Rattle.machine.specs.Stands.{EndsBy, IsLast, ShowsText, HoldsWorld, kernel_outcome};
@@ -300,6 +300,13 @@ impl<'a, R: Ready, D: Delays> Machine<'a, R, D> {
         ensures { (lines : List KernelLine) → result ≡ next_raising self.now.image self.now.schedule (world_with lines self.now) }
     {
         self.execution.raising_ahead()
+    }
+
+    /// The address of the instruction that the next step does, unless there is an outcome; nothing changes.
+    pub fn address_ahead(&self) -> Option<u16>
+        ensures { result ≡ next_address (world_of self.now) }
+    {
+        self.execution.address_ahead()
     }
 
     // The text of a line.

@@ -1,0 +1,14 @@
+use Rattle.std.proofs.Common.{◌≡◌, None, Some, sym, ap, ◌∙◌}
+use Rattle.image.specs.Code.{CodeWorld}
+use Rattle.execution.specs.Ahead.{address_by}
+use Rattle.execution.specs.Held.{HeldWorld, tasks_of, world_of}
+use Rattle.execution.proofs.execution_of.Execution.address_ahead.Goals as goal
+
+pub returns : goal.returns
+returns g c =
+    let h : HeldWorld = c.args.self.now in
+    let w : CodeWorld = world_of h in
+    let task = c.in_ok-task.task in
+    let runs = c.in_ok-task.ensures.runs in
+    ap Some (c.address.ensures ∙ ap {A = HeldWorld} (λ q. (tasks_of q task).frame.place) c.self.view_is)
+    ∙ sym (ap (λ o. address_by w o w.kernel.running) runs.on ∙ ap (address_by w None) runs.running)
