@@ -1,12 +1,16 @@
-//! What to write instead, and what is open where an `end` is wrong or missing.
+//! What to write instead, what is declared with a name like one that isn't visible, and what is open where an `end` is wrong or missing.
 ghost use Rattle.std.specs.Prelude.{◌≡◌, ◌++◌, drop, IfOk, OnOk, slice_get};
-ghost use Rattle.hints.specs.Hinted.{AreHintsAt, AreHintsOf, HintsOfTokensOrNone, behind_empty, closing_part, construct_lines, hint_line, opened_part, opening_line, opening_lines, start_of, stray_lines, unclosed_lines};
-ghost use Rattle.remedies.specs.Recognition.{construct_at};
+ghost use Rattle.hints.specs.Hinted.{AreHintsAt, AreHintsOf, HintsOfTokensOrNone, advice_lines, behind_empty, closing_part, declared_part, hint_line, like_line, like_lines, like_words, name_or_none, opened_part, opening_line, opening_lines, start_of, stray_lines, unclosed_lines};
+ghost use Rattle.remedies.specs.Likeness.{name_of};
+ghost use Rattle.remedies.specs.Recognition.{construct_at, kind_at};
 
 use crate::others::put_place;
-use base::faults::{MEMORY_REFUSED, STRAY_CHARACTER, UNEXPECTED_TOKEN};
-use lexer::{Token, tokens};
-use remedies::{Construct, Opening, closing_of, construct_at, of_byte, part_of, unclosed_at};
+use base::faults::{MEMORY_REFUSED, NAME_NOT_VISIBLE, STRAY_CHARACTER, UNEXPECTED_TOKEN};
+use lexer::{Token, TokenKind, tokens};
+use remedies::{
+    Construct, Like, Opening, closing_of, construct_at, like_at, name_text, of_byte, part_of,
+    unclosed_at,
+};
 use std::alloc::{AllocError, Global};
 
 fn put_hint_line(out: &mut Vec<u8>, words: &str) -> Result<(), AllocError>
@@ -15,15 +19,6 @@ fn put_hint_line(out: &mut Vec<u8>, words: &str) -> Result<(), AllocError>
     out.extend_from_slice(b"hint: ")?;
     out.extend_from_slice(words.as_bytes())?;
     out.extend_from_slice(b"\n")
-}
-
-fn put_construct_lines(out: &mut Vec<u8>, construct: Option<Construct>) -> Result<(), AllocError>
-    ensures { OnOk result (out.new.items ≡ out.old.items ++ construct_lines construct) }
-{
-    match construct {
-        Some(construct) => put_hint_line(out, construct.text()),
-        None => Ok(()),
-    }
 }
 
 // Where the token with so many in front begins; 0 where there is none.
@@ -103,6 +98,108 @@ fn put_unclosed_lines(
     }
 }
 
+// The name of an identifier; none of another token.
+fn name_or_none(number: usize, list: &[Token]) -> &[u8]
+    ensures { result.now ≡ name_or_none (name_of (kind_at number list.now)) }
+{
+    match list.get(number) {
+        Some(
+            Token {
+                kind: TokenKind::Identifier(name),
+                ..
+            },
+        ) => name.as_bytes(),
+        _ => &[],
+    }
+}
+
+#[tactic(auto, unfolding(crate::specs::Hinted::declared_part))]
+fn put_declared_part(
+    out: &mut Vec<u8>,
+    text: &[u8],
+    list: &[Token],
+    number: usize,
+) -> Result<(), AllocError>
+    ensures { OnOk result (out.new.items ≡ out.old.items ++ declared_part text.now list.now number) }
+{
+    out.extend_from_slice(name_or_none(number, list))?;
+    out.extend_from_slice(b" is declared at ")?;
+    put_place(out, text, start_at(number, list))
+}
+
+fn put_like_words(
+    out: &mut Vec<u8>,
+    text: &[u8],
+    list: &[Token],
+    like: Like,
+) -> Result<(), AllocError>
+    ensures { OnOk result (out.new.items ≡ out.old.items ++ like_words text.now list.now like) }
+{
+    match like {
+        Like::DeclaredLater(number) => {
+            put_declared_part(out, text, list, number)?;
+            out.extend_from_slice(b", after this place.")
+        }
+        Like::Declared(number) => {
+            put_declared_part(out, text, list, number)?;
+            out.extend_from_slice(b": a name like this one.")
+        }
+        Like::Predefined(name) => {
+            out.extend_from_slice(name_text(name))?;
+            out.extend_from_slice(b" is a name of the language, like this one.")
+        }
+    }
+}
+
+fn put_like_line(
+    out: &mut Vec<u8>,
+    text: &[u8],
+    list: &[Token],
+    like: Option<Like>,
+) -> Result<(), AllocError>
+    ensures { OnOk result (out.new.items ≡ out.old.items ++ like_line text.now list.now like) }
+{
+    let Some(like) = like else {
+        return Ok(());
+    };
+    out.extend_from_slice(b"hint: ")?;
+    put_like_words(out, text, list, like)?;
+    out.extend_from_slice(b"\n")
+}
+
+fn put_like_lines(
+    out: &mut Vec<u8>,
+    number: u64,
+    place: u32,
+    text: &[u8],
+    list: &[Token],
+) -> Result<(), AllocError>
+    ensures { OnOk result (out.new.items ≡ out.old.items ++ like_lines number place text.now list.now) }
+{
+    if number == u64::from(NAME_NOT_VISIBLE) {
+        put_like_line(out, text, list, like_at(place, list))
+    } else {
+        Ok(())
+    }
+}
+
+// Of the construct that is recognized at the place; where none is, of a like name.
+fn put_advice_lines(
+    out: &mut Vec<u8>,
+    number: u64,
+    place: u32,
+    text: &[u8],
+    list: &[Token],
+    construct: Option<Construct>,
+) -> Result<(), AllocError>
+    ensures { OnOk result (out.new.items ≡ out.old.items ++ advice_lines number place text.now list.now construct) }
+{
+    match construct {
+        Some(construct) => put_hint_line(out, construct.text()),
+        None => put_like_lines(out, number, place, text, list),
+    }
+}
+
 // The lines behind an empty one, if there are any.
 fn behind_empty(alloc: Global, lines: &[u8]) -> Result<Vec<u8>, AllocError>
     ensures { IfOk result (λ told. told.items ≡ behind_empty lines.now) }
@@ -122,11 +219,12 @@ fn hints_of_tokens(
     text: &[u8],
     list: &[Token],
 ) -> Result<Vec<u8>, AllocError>
-    ensures { IfOk result (λ told. told.items ≡ behind_empty
-        (construct_lines (construct_at number place list.now) ++ unclosed_lines number place text.now list.now)) }
+    ensures { IfOk result (λ told. told.items ≡ behind_empty (advice_lines number place text.now list.now (construct_at number place list.now)
+        ++ unclosed_lines number place text.now list.now)) }
 {
     let mut lines = Vec::new(alloc);
-    put_construct_lines(&mut lines, construct_at(alloc, number, place, list)?)?;
+    let construct = construct_at(alloc, number, place, list)?;
+    put_advice_lines(&mut lines, number, place, text, list, construct)?;
     put_unclosed_lines(alloc, &mut lines, number, place, text, list)?;
     behind_empty(alloc, &lines)
 }
@@ -168,8 +266,8 @@ fn hints_of(alloc: Global, number: u64, place: u32, text: &[u8]) -> Result<Vec<u
     }
 }
 
-/// What to write instead where the text's fault has the number and this place, and what is open there where an `end` is wrong or missing: lines behind an empty
-/// one, or nothing. Without a place, by which the text has another fault or none, nothing.
+/// What to write instead where the text's fault has the number and this place, what is declared with a name like one that isn't visible there, and what is open
+/// there where an `end` is wrong or missing: lines after an empty one, or nothing. Without a place, by which the text has another fault or none, nothing.
 ///
 /// # Errors
 /// Where memory was refused.

@@ -4,3 +4,4 @@ pub mod Remedies
 pub mod Recognition
 pub mod Closings
 pub mod Strays
+pub mod Likeness

@@ -3,6 +3,7 @@
 
 mod closing;
 mod construct;
+mod likeness;
 mod name;
 mod opening;
 mod openings;
@@ -13,6 +14,8 @@ mod stray;
 
 pub use closing::{closing_of, part_of};
 pub use construct::Construct;
+pub use likeness::{Like, like_at};
+pub use name::{Name, name_text};
 pub use opening::{Opened, Opening};
 pub use recognition::{construct_at, unclosed_at};
 pub use stray::of_byte;

@@ -105,10 +105,22 @@ pub enum Name {
     Value,
     /// `Downto`
     Downto,
+    /// `Integer`
+    Integer,
+    /// `Natural`
+    Natural,
+    /// `Positive`
+    Positive,
+    /// `Boolean`
+    Boolean,
+    /// `Constraint_Error`
+    ConstraintError,
+    /// `Program_Error`
+    ProgramError,
 }
 
 /// The letters of the name, in upper case.
-pub(crate) fn name_text(name: Name) -> &'static [u8]
+pub fn name_text(name: Name) -> &'static [u8]
     ensures { result.now ≡ name_text name }
 {
     match name {
@@ -162,5 +174,11 @@ pub(crate) fn name_text(name: Name) -> &'static [u8]
         Name::Max => b"MAX",
         Name::Value => b"VALUE",
         Name::Downto => b"DOWNTO",
+        Name::Integer => b"INTEGER",
+        Name::Natural => b"NATURAL",
+        Name::Positive => b"POSITIVE",
+        Name::Boolean => b"BOOLEAN",
+        Name::ConstraintError => b"CONSTRAINT_ERROR",
+        Name::ProgramError => b"PROGRAM_ERROR",
     }
 }

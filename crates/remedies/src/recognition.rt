@@ -27,7 +27,7 @@ fn first_fitting(
     None
 }
 
-fn count_before(place: u32, tokens: &[Token]) -> usize
+pub(crate) fn count_before(place: u32, tokens: &[Token]) -> usize
     ensures count { result ≡ count_before place tokens.now }
     ensures most { result ≤ length tokens.now }
 {

@@ -1,0 +1,238 @@
+//! What is declared with a name like one that isn't visible.
+ghost use Rattle.std.specs.Prelude.{◌≡◌, ◌≤◌, ◌-◌, length, option_map};
+ghost use Rattle.remedies.specs.Likeness.{are_exchanged, declares_near, first_predefined, first_where, introduces, introduces_same, is_changed, is_colon, is_like, is_near, is_same, kind_before, like_at, like_later, like_near, name_of, near_declared};
+
+use crate::name::{Name, name_text};
+use crate::recognition::count_before;
+use crate::row::kind_at;
+use lexer::{Delimiter, Token, TokenKind, Word};
+
+/// What is declared with a name like one that isn't visible. Tokens are told by how many are before them.
+#[derive(Clone, Copy)]
+pub enum Like {
+    /// The same name is introduced by a word at this token, after the place.
+    DeclaredLater(usize),
+    /// This token declares a name with one letter more, less or other, or with two exchanged.
+    Declared(usize),
+    /// The language declares such a name.
+    Predefined(Name),
+}
+
+/// Names of fewer letters are like too many others.
+pub const LEAST_LETTERS: usize = 3;
+
+/// The names of the language that are written most.
+pub const PREDEFINED: [Name; 15] = [
+    Name::Integer,
+    Name::Natural,
+    Name::Positive,
+    Name::Boolean,
+    Name::Time,
+    Name::TimeSpan,
+    Name::Clock,
+    Name::Milliseconds,
+    Name::Microseconds,
+    Name::ControlIo,
+    Name::RealTime,
+    Name::Put,
+    Name::Read,
+    Name::ConstraintError,
+    Name::ProgramError,
+];
+
+// Whether the first two letters are exchanged, and nothing else.
+fn are_exchanged(first: u8, second: u8, rest: &[u8], other: &[u8]) -> bool
+    ensures { result ≡ are_exchanged first second rest.now other.now }
+{
+    match (rest, other) {
+        ([third, rest @ ..], [fourth, other @ ..]) => {
+            first == *fourth && second == *third && rest == other
+        }
+        _ => false,
+    }
+}
+
+// Whether the first letter is another one, is missing in one of both, or is exchanged with the next, and nothing else.
+fn is_changed(name: &[u8], other: &[u8]) -> bool
+    ensures { result ≡ is_changed name.now other.now }
+{
+    match (name, other) {
+        ([], [_]) | ([_], []) => true,
+        ([first, rest @ ..], [second, behind @ ..]) => {
+            rest == behind
+                || rest == other
+                || name == behind
+                || are_exchanged(*first, *second, rest, behind)
+        }
+        _ => false,
+    }
+}
+
+// Whether one name is the other one with one change.
+fn is_like(name: &[u8], other: &[u8]) -> bool
+    ensures { result ≡ is_like name.now other.now }
+{
+    let mut same = 0;
+    while same < name.len() && same < other.len() && name[same] == other[same] {
+        same += 1;
+    }
+    is_changed(&name[same..], &other[same..])
+}
+
+// The name of an identifier.
+fn name_of(kind: Option<&TokenKind>) -> Option<&[u8]>
+    ensures { option_map (λ n. n.now) result ≡ name_of (option_map (λ k. k.now) kind.entry) }
+{
+    match kind {
+        Some(TokenKind::Identifier(name)) => Some(name.as_bytes()),
+        _ => None,
+    }
+}
+
+// Whether a name that follows is declared by this word, or has its body there.
+fn introduces(kind: Option<&TokenKind>) -> bool
+    ensures { result ≡ introduces (option_map (λ k. k.now) kind.entry) }
+{
+    matches!(
+        kind,
+        Some(TokenKind::Word(
+            Word::Procedure
+                | Word::Function
+                | Word::Entry
+                | Word::Task
+                | Word::Protected
+                | Word::Package
+                | Word::Type
+                | Word::Subtype
+        ))
+    )
+}
+
+fn is_colon(kind: Option<&TokenKind>) -> bool
+    ensures { result ≡ is_colon (option_map (λ k. k.now) kind.entry) }
+{
+    matches!(kind, Some(TokenKind::Delimiter(Delimiter::Colon)))
+}
+
+// The kind of the token before the one with so many before it.
+fn kind_before(number: usize, tokens: &[Token]) -> Option<&TokenKind>
+    ensures { option_map (λ k. k.now) result ≡ kind_before number tokens.now }
+{
+    if number == 0 {
+        None
+    } else {
+        kind_at(number - 1, tokens)
+    }
+}
+
+fn is_same(name: &[u8], other: Option<&[u8]>) -> bool
+    ensures { result ≡ is_same name.now (option_map (λ n. n.now) other.entry) }
+{
+    match other {
+        Some(other) => name == other,
+        None => false,
+    }
+}
+
+fn is_near(name: &[u8], other: Option<&[u8]>) -> bool
+    ensures { result ≡ is_near name.now (option_map (λ n. n.now) other.entry) }
+{
+    match other {
+        Some(other) => is_like(name, other),
+        None => false,
+    }
+}
+
+// Whether the token with so many before it is this name, which a word introduces.
+fn introduces_same(name: &[u8], tokens: &[Token], number: usize) -> bool
+    ensures { result ≡ introduces_same name.now tokens.now number }
+{
+    is_same(name, name_of(kind_at(number, tokens))) && introduces(kind_before(number, tokens))
+}
+
+// Whether it is a name like this one, which a word introduces, or which a colon follows.
+fn declares_near(name: &[u8], tokens: &[Token], number: usize) -> bool
+    requires { number ≤ length tokens.now }
+    ensures { result ≡ declares_near name.now tokens.now number }
+{
+    is_near(name, name_of(kind_at(number, tokens)))
+        && (introduces(kind_before(number, tokens)) || is_colon(kind_at(number + 1, tokens)))
+}
+
+// The first token from this one on that is the name, and introduced by a word.
+fn first_same(name: &[u8], tokens: &[Token], from: usize) -> Option<usize>
+    ensures { result ≡ first_where (introduces_same name.now tokens.now) from (length tokens.now - from) }
+{
+    let mut number = from;
+    while number < tokens.len() {
+        if introduces_same(name, tokens, number) {
+            return Some(number);
+        }
+        number += 1;
+    }
+    None
+}
+
+// The first token that declares a name like this one.
+fn first_near(name: &[u8], tokens: &[Token]) -> Option<usize>
+    ensures { result ≡ first_where (declares_near name.now tokens.now) 0 (length tokens.now) }
+{
+    let mut number = 0;
+    while number < tokens.len() {
+        if declares_near(name, tokens, number) {
+            return Some(number);
+        }
+        number += 1;
+    }
+    None
+}
+
+// The first of these names of the language that is like it.
+fn first_predefined(names: &[Name], name: &[u8]) -> Option<Name>
+    ensures { result ≡ first_predefined names.now name.now }
+{
+    for known in names {
+        if is_like(name, name_text(*known)) {
+            return Some(*known);
+        }
+    }
+    None
+}
+
+fn near_declared(name: &[u8], declared: Option<usize>) -> Option<Like>
+    ensures { result ≡ near_declared name.now declared }
+{
+    match declared {
+        Some(number) => Some(Like::Declared(number)),
+        None => Some(Like::Predefined(first_predefined(&PREDEFINED, name)?)),
+    }
+}
+
+fn like_near(name: &[u8], tokens: &[Token]) -> Option<Like>
+    ensures { result ≡ like_near name.now tokens.now }
+{
+    if name.len() >= LEAST_LETTERS {
+        near_declared(name, first_near(name, tokens))
+    } else {
+        None
+    }
+}
+
+fn like_later(name: &[u8], tokens: &[Token], later: Option<usize>) -> Option<Like>
+    ensures { result ≡ like_later name.now tokens.now later }
+{
+    match later {
+        Some(number) => Some(Like::DeclaredLater(number)),
+        None => like_near(name, tokens),
+    }
+}
+
+/// What is declared with a name like the one at this place of a text with these tokens: the same name, which a word introduces after the place; else the first
+/// one with a letter more, less or other, or two exchanged, of the text or of the language; None where there is no name at the place, or none like it.
+pub fn like_at(place: u32, tokens: &[Token]) -> Option<Like>
+    ensures { result ≡ like_at place tokens.now }
+{
+    let number = count_before(place, tokens);
+    let name = name_of(kind_at(number, tokens))?;
+    like_later(name, tokens, first_same(name, tokens, number))
+}
