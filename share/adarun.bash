@@ -3,9 +3,11 @@ _adarun() {
     local word=${COMP_WORDS[COMP_CWORD]}
     COMPREPLY=()
     if [ "$COMP_CWORD" = 1 ]; then
-        mapfile -t COMPREPLY < <(compgen -W "simulate go trace compile list run explain manual version" -- "$word")
+        mapfile -t COMPREPLY < <(compgen -W "simulate check go trace search compile list run explain manual version" -- "$word")
     elif [ "${COMP_WORDS[1]}" = trace ] && [ "$COMP_CWORD" = 2 ] && [[ $word == -* ]]; then
         COMPREPLY=(--vcd)
+    elif [ "${COMP_WORDS[1]}" = search ] && [ "$COMP_CWORD" = 6 ]; then
+        mapfile -t COMPREPLY < <(compgen -W "unhandled waits line" -- "$word")
     fi
 }
 complete -o bashdefault -o default -F _adarun adarun

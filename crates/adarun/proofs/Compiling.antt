@@ -146,7 +146,7 @@ misspelled numbers text fault (inl broken) least =
     }))
 
 -- the tree of the program that was read, of which another one is a copy
-read_tree : (text : List ℕ) (tokens list : List Token) (read copy : Program)
+pub read_tree : (text : List ℕ) (tokens list : List Token) (read copy : Program)
     → Spells text tokens → list ≡ tokens → Derives (program_tree read) list → copy ≡ read → IsTreeOf (program_tree copy) text
 read_tree text tokens list read copy spells same derives is = record {
   tokens = tokens;

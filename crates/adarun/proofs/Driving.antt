@@ -1,6 +1,7 @@
 -- What the work over files leaves.
-use Rattle.std.proofs.Common.{◌≡◌, ◌<◌, ℕ, List, Option, Bool, true, false, cond, inr, refl, sym, ap, subst, Ok, Err}
-use Rattle.std.specs.Prelude.{nat_eq}
+use Rattle.std.proofs.Common.{◌≡◌, ◌<◌, ℕ, arith, List, Option, Bool, true, false, cond, inr, refl, sym, ap, subst, Ok, Err}
+use Rattle.std.specs.Prelude.{◌⊎◌, nat_eq}
+use denote.Enum.Declared.{tag_of}
 use Rattle.ada_link.specs.stmt_code.specs.declared.tables.PlaceRow.{PlaceRow}
 use Rattle.base.specs.declared.faults.TheConstants.{MEMORY_REFUSED}
 use Rattle.base.specs.declared.schedule.ScheduleLine.{ScheduleLine}
@@ -20,8 +21,10 @@ use Rattle.adarun.specs.Driving.{Contents, HasRun, HasRunImage, HasTraced, IsCon
 use Rattle.adarun.specs.Origins.{origin_in}
 use Rattle.adarun.specs.declared.going.GoFault.{GoFault}
 use Rattle.adarun.specs.declared.going.GoFault.TheVariants as faults
+use Rattle.adarun.specs.contracts.program.Status as status_type
 use Rattle.adarun.specs.declared.program.Status.{Status}
 use Rattle.adarun.specs.declared.program.TraceForm.{TraceForm}
+use Rattle.adarun.specs.declared.program.Status.TheVariants as statuses
 use Rattle.adarun.specs.declared.program.Status.TheVariants.{Failed, SourceRefused, ScheduleRefused, NoMemory}
 use Rattle.adarun.proofs.Running.{meant}
 
@@ -140,3 +143,17 @@ module _ (form : TraceForm) (contents : Contents) (source schedule : List ℕ) (
 
   pub trace_leaves : (status : Status) (outcome : Outcome) → status ≡ status_of outcome → HasTraced form contents source schedule limit (status_of outcome) old new → LeavesTrace form contents source schedule limit status old new
   trace_leaves status outcome e h = subst (λ s. LeavesTrace form contents source schedule limit s old new) (sym e) (has_traced outcome h)
+
+-- where the status has the number 1, the sink is as it was, or a write failed
+pub failed : (status : Status) (Same : Type 0) (before after : ℕ) → KeepsSink status Same before after → tag_of status_type.the_type status ≡ 1
+    → Same ⊎ (before < after)
+failed statuses.Failed Same before after h e = h.1.1.1.0 refl
+failed statuses.Done Same before after h e = absurd (omega (arith, e))
+failed statuses.SourceRefused Same before after h e = absurd (omega (arith, e))
+failed statuses.Unhandled Same before after h e = absurd (omega (arith, e))
+failed statuses.WaitsForever Same before after h e = absurd (omega (arith, e))
+failed statuses.StepLimit Same before after h e = absurd (omega (arith, e))
+failed statuses.ImageFault Same before after h e = absurd (omega (arith, e))
+failed statuses.ScheduleRefused Same before after h e = absurd (omega (arith, e))
+failed statuses.NoMemory Same before after h e = absurd (omega (arith, e))
+failed statuses.LineFound Same before after h e = absurd (omega (arith, e))

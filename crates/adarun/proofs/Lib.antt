@@ -1,4 +1,3 @@
-mod Onward
 mod Between
 mod Counting
 mod Calling
@@ -8,6 +7,10 @@ mod CodeTold
 mod Named
 mod Reported
 mod Running
+mod Searching
 mod Driving
+mod SearchCommand
 mod Refuted
 mod Explaining
+mod Every
+mod LastReports

@@ -12,7 +12,7 @@ use Rattle.ada_link.specs.meaning.specs.Works.{Store, TaskWork}
 use Rattle.machine.specs.declared.reports.Outcome.TheVariants.{StepLimit}
 use Rattle.adarun.specs.Headline.{WritesItsMeaning, WritesSource}
 use Rattle.adarun.specs.Progress.{enough_steps}
-use Rattle.adarun.proofs.Onward.{IsAhead, begins_ahead, le_both, run_onward}
+use Rattle.searching.proofs.Onward.{IsAhead, begins_ahead, le_both, run_onward}
 
 -- `procedure M is begin null; end M;`
 abbrev small : ProgramTree

@@ -29,11 +29,11 @@ use Rattle.machine.specs.declared.reports.Outcome as machine
 use Rattle.adarun.specs.Accepted.{Compiles}
 use Rattle.adarun.specs.Headline.{ComesToTheSame, Runs, WritesItsMeaning, WritesSource}
 use Rattle.adarun.proofs.Between.{ShowsAs, reached, shown}
-use Rattle.adarun.proofs.Onward.{IsAhead, begins_ahead}
+use Rattle.searching.proofs.Onward.{IsAhead, begins_ahead}
 use Rattle.adarun.proofs.Reaching.{ImageLaws, source_far}
 
 module _ (p : ProgramTree) (i : Sections) (schedule : List ScheduleLine) (lawful : is_schedule schedule ≡ true) (means : SameMeaning p i) where
-  same_names : names_of i ≡ source_names p
+  pub same_names : names_of i ≡ source_names p
   same_names = λ j. record { task = λ t. means.names.tasks t j; exception = λ x. means.names.exceptions x j }
 
   -- two kernels that have come to the same outcome have the same text

@@ -1,8 +1,10 @@
 -- What the program's work over files leaves, by what is asked for and by its exit status.
-use Rattle.std.specs.Prelude.{◌≡◌, ◌≢◌, ◌<◌, ◌⊎◌, ◌++◌, ℕ, List, [], Option, Some, None, true, ⊤}
+use Rattle.std.specs.Prelude.{◌≡◌, ◌≢◌, ◌<◌, ◌⊎◌, ◌++◌, ℕ, ℤ, List, [], Option, Some, None, true, ⊤}
 use Rattle.std.specs.Io.KnownBytes.{Appends}
 use Rattle.base.specs.declared.faults.TheConstants.{MEMORY_REFUSED}
 use Rattle.base.specs.declared.schedule.ScheduleLine.{ScheduleLine}
+use Rattle.choices.specs.Faults.{RefusesChoicesText}
+use Rattle.choices.specs.declared.faults.ChoicesFault.{ChoicesFault}
 use Rattle.clock.specs.Schedules as schedules
 use Rattle.clock.specs.declared.schedule.ScheduleFault.{ScheduleFault}
 use Rattle.explanations.specs.Explained.{explanation_of}
@@ -22,22 +24,31 @@ use Rattle.machine.specs.Stands.{EndsBy}
 use Rattle.machine.specs.Written.{AppendsBeginning}
 use Rattle.machine.specs.declared.reports.Outcome.{Outcome}
 use Rattle.machine.specs.declared.reports.Outcome.TheVariants as outcomes
+use Rattle.searching.specs.declared.sight.Wanted.{Wanted}
+use Rattle.searching.specs.declared.sight.Wanted.TheVariants as wanted
 use Rattle.tracing.specs.Traces.{trace_text}
 use Rattle.tracing.specs.declared.origin.Origin.{Origin}
 use Rattle.waveforms.specs.Waves.{waves_text}
-use Rattle.command_line.specs.Words.{Command, CompileText, DumpText, ExplainFault, ExplainText, GoText, ListImage, Nothing, RunImage, ShowManual, ShowVersion, SimulateText, TraceText, asked, is_told}
+use Rattle.command_line.specs.Words.{CheckText, Command, CompileText, DumpText, ExplainFault, ExplainText, GoText, ListImage, Nothing, RunImage, ShowManual, ShowVersion, SearchText, SimulateText, TraceText, asked, is_told}
+use Rattle.command_line.specs.Words as words_of
 use Rattle.adarun.specs.Accepted.{Compiles, RefusesText}
 use Rattle.adarun.specs.CodeTold.{IsCodeTold}
 use Rattle.adarun.specs.Headline.{Runs, WritesBeginning, WritesItsMeaning}
 use Rattle.adarun.specs.Naming.{object_names}
 use Rattle.adarun.specs.Origins.{origin_in}
+use Rattle.adarun.specs.Searching.{BeginsReport, WritesReport}
 use Rattle.adarun.specs.Stopping.{HasImage}
+use Rattle.adarun.specs.TextFaults.{AreTextFaults}
+use Rattle.adarun.specs.Reporting.{IsFaultReport}
+use Rattle.ada_link.specs.expr_rules.specs.Faults.{Faults}
+use Rattle.adarun.specs.declared.exploring.SearchOutcome.{SearchOutcome}
+use Rattle.adarun.specs.declared.exploring.SearchOutcome.TheVariants as searches
 use Rattle.adarun.specs.declared.files.ReadError.{ReadError}
 use Rattle.adarun.specs.declared.files.ReadError.TheVariants as errors
 use Rattle.adarun.specs.declared.program.Status.{Status}
 use Rattle.adarun.specs.declared.program.TraceForm.{TraceForm}
 use Rattle.adarun.specs.declared.program.TraceForm.TheVariants as forms
-use Rattle.adarun.specs.declared.program.Status.TheVariants.{Done, Failed, SourceRefused, Unhandled, WaitsForever, StepLimit, ImageFault, ScheduleRefused, NoMemory}
+use Rattle.adarun.specs.declared.program.Status.TheVariants.{Done, Failed, SourceRefused, Unhandled, WaitsForever, StepLimit, ImageFault, ScheduleRefused, NoMemory, LineFound}
 
 -- contents of files by their names, where they are known
 abbrev pub Contents : Type 0
@@ -295,6 +306,35 @@ LeavesExplainText contents source number NoMemory old new = new ≡ old
 LeavesExplainText contents source number Failed old new = (new ≡ old) ⊎ HasBegunExplainingText contents source number old new
 LeavesExplainText contents source number status old new = ⊥
 
+-- ---- `check`, which writes to standard error
+
+-- the source was read and has no fault, and nothing was written
+pub record HasNoFault (contents : Contents) (source : List ℕ) (old new : Option (List ℕ)) : Type 0 where
+  pub text : List ℕ
+  pub source_read : IsContentRead (contents source) text
+  pub no_faults : AreTextFaults text []
+  pub unwritten : new ≡ old
+
+-- the source was read, and the report of all its faults was written
+pub record HasReportedFaults (contents : Contents) (source : List ℕ) (old new : Option (List ℕ)) : Type 0 where
+  pub text : List ℕ
+  pub source_read : IsContentRead (contents source) text
+  pub faults : Faults
+  pub are_faults : AreTextFaults text faults
+  pub are_any : faults ≢ []
+  pub report : List ℕ
+  pub is_report : IsFaultReport source text faults report
+  pub written : Appends old new report
+
+-- What `check` wrote to standard error, by the exit status. Where it failed or memory was refused, the line that says so, or a beginning of the report, is
+-- tested.
+abbrev pub LeavesCheck : Contents → List ℕ → Status → Option (List ℕ) → Option (List ℕ) → Type 0
+LeavesCheck contents source Done old new = HasNoFault contents source old new
+LeavesCheck contents source SourceRefused old new = HasReportedFaults contents source old new
+LeavesCheck contents source Failed old new = ⊤
+LeavesCheck contents source NoMemory old new = ⊤
+LeavesCheck contents source status old new = ⊥
+
 -- ---- `run`
 
 -- the image was loaded, the second file is a schedule, and the image's run had an outcome of this status
@@ -370,6 +410,70 @@ LeavesCompile before after source name NoMemory old new = (new ≡ old) × AreKe
 LeavesCompile before after source name Failed old new = (new ≡ old) × AreKeptUntilWritten before after source name
 LeavesCompile before after source name status old new = ⊥
 
+-- ---- `search`
+
+-- what the words look for, of what the search was given
+abbrev pub looks_for : Wanted → words_of.Wanted
+looks_for wanted.UnhandledOrWaits = words_of.UnhandledOrWaits
+looks_for wanted.Unhandled = words_of.Unhandled
+looks_for wanted.WaitsForever = words_of.WaitsForever
+looks_for (wanted.Line label) = words_of.LineOf label.now
+
+-- the exit status of a search (docs/FORMATS.md, "Search")
+abbrev pub search_status : SearchOutcome → Status
+search_status searches.Unhandled = Unhandled
+search_status searches.WaitsForever = WaitsForever
+search_status searches.Line = LineFound
+search_status searches.TooLong = StepLimit
+search_status searches.Nothing = Done
+
+-- both files were read, and the answer of the search was written, of this status
+pub record HasSearched (contents : Contents) (source choices : List ℕ) (until : ℤ) (limit : ℕ) (sought : words_of.Wanted) (status : Status)
+    (old new : Option (List ℕ)) : Type 0 where
+  pub text : List ℕ
+  pub source_read : IsContentRead (contents source) text
+  pub input : List ℕ
+  pub input_read : IsContentRead (contents choices) input
+  pub given : Wanted
+  pub given_is : looks_for given ≡ sought
+  pub outcome : SearchOutcome
+  pub status_is : status ≡ search_status outcome
+  pub writes : WritesReport text input until limit given outcome old new
+
+-- both files were read, the source compiles, and the set of schedules was refused for its own sake
+pub record HasRefusedChoices (contents : Contents) (source choices : List ℕ) (until : ℤ) (old new : Option (List ℕ)) : Type 0 where
+  pub text : List ℕ
+  pub source_read : IsContentRead (contents source) text
+  pub input : List ℕ
+  pub input_read : IsContentRead (contents choices) input
+  pub compiles : HasImage text
+  pub fault : ChoicesFault
+  pub refused : RefusesChoicesText until input fault
+  pub not_memory : fault.number ≢ MEMORY_REFUSED
+  pub unwritten : new ≡ old
+
+-- a beginning of an answer was written
+pub record HasBegunReport (contents : Contents) (source choices : List ℕ) (until : ℤ) (limit : ℕ) (sought : words_of.Wanted)
+    (old new : Option (List ℕ)) : Type 0 where
+  pub text : List ℕ
+  pub source_read : IsContentRead (contents source) text
+  pub input : List ℕ
+  pub input_read : IsContentRead (contents choices) input
+  pub given : Wanted
+  pub given_is : looks_for given ≡ sought
+  pub begins : BeginsReport text input until limit given old new
+
+-- what `search` wrote to standard output, by the exit status
+abbrev pub LeavesSearch : Contents → (source choices : List ℕ) → (until : ℤ) → (limit : ℕ) → words_of.Wanted → Status → Option (List ℕ) → Option (List ℕ)
+    → Type 0
+LeavesSearch contents source choices until limit sought SourceRefused old new = HasRefusedSource contents source old new
+LeavesSearch contents source choices until limit sought ScheduleRefused old new = HasRefusedChoices contents source choices until old new
+LeavesSearch contents source choices until limit sought NoMemory old new = new ≡ old
+LeavesSearch contents source choices until limit sought Failed old new =
+    (new ≡ old) ⊎ HasBegunReport contents source choices until limit sought old new
+LeavesSearch contents source choices until limit sought ImageFault old new = ⊥
+LeavesSearch contents source choices until limit sought status old new = HasSearched contents source choices until limit sought status old new
+
 -- ---- all
 
 -- what was written to standard output and to files
@@ -386,11 +490,19 @@ LeavesWritten (DumpText source schedule limit) before after status old new = Are
 LeavesWritten (ExplainFault number) before after status old new = AreFilesKept before after × LeavesExplain number status old new
 LeavesWritten (ExplainText number source) before after status old new = AreFilesKept before after
     × LeavesExplainText before source number status old new
+LeavesWritten (CheckText source) before after status old new = AreFilesKept before after × (new ≡ old)
 LeavesWritten (SimulateText source schedule limit) before after status old new = AreFilesKept before after
     × LeavesGo before source (input_of before schedule) limit status old new
+LeavesWritten (SearchText source choices until limit sought) before after status old new = AreFilesKept before after
+    × LeavesSearch before source choices until limit sought status old new
 LeavesWritten ShowManual before after status old new = AreFilesKept before after × LeavesShown MANUAL.now status old new
 LeavesWritten ShowVersion before after status old new = AreFilesKept before after × LeavesShown VERSION.now status old new
 LeavesWritten Nothing before after status old new = AreFilesKept before after × ((new ≡ old) × ((status ≡ Failed) ⊎ (status ≡ NoMemory)))
+
+-- what was written to standard error: of `check` the report, and of other commands what contracts don't say
+abbrev pub LeavesReport : Command → Contents → Status → Option (List ℕ) → Option (List ℕ) → Type 0
+LeavesReport (CheckText source) before status old new = LeavesCheck before source status old new
+LeavesReport work before status old new = ⊤
 
 -- the number of an exit status
 abbrev pub number_of : Status → ℕ
@@ -403,16 +515,18 @@ number_of StepLimit = 5
 number_of ImageFault = 6
 number_of ScheduleRefused = 7
 number_of NoMemory = 8
+number_of LineFound = 9
 
--- Words behind `trace --vcd`, and words of which none begins with `-`, ask for what the table of commands says, or memory was refused as they were read.
--- What other words ask for is tested.
+-- Words behind `search` and `trace --vcd`, and words of which none begins with `-`, ask for what the table of commands says, or memory was refused as they were
+-- read. What other words ask for is tested.
 abbrev pub IsAskedFor : List (List ℕ) → Command → Status → Type 0
 IsAskedFor words work status = is_told words ≡ true → (work ≡ asked words) ⊎ ((work ≡ Nothing) × (status ≡ NoMemory))
 
--- the answer is the number of a status, with what it leaves for what was asked for
-pub record AnswersStatus (words : List (List ℕ)) (before after : Contents) (answer : ℕ) (old new : Option (List ℕ)) : Type 0 where
+-- the answer is the number of a status, with what it leaves on standard output (old, new) and standard error (old_err, new_err) for what was asked for
+pub record AnswersStatus (words : List (List ℕ)) (before after : Contents) (answer : ℕ) (old new old_err new_err : Option (List ℕ)) : Type 0 where
   pub work : Command
   pub status : Status
   pub answer_is : answer ≡ number_of status
   pub asked_for : IsAskedFor words work status
   pub leaves : LeavesWritten work before after status old new
+  pub reports : LeavesReport work before status old_err new_err

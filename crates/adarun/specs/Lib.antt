@@ -4,8 +4,11 @@ pub mod Origins
 pub mod Progress
 pub mod Headline
 pub mod Stopping
+pub mod TextFaults
 pub mod Joined
 pub mod CodeTold
+pub mod LastReports
+pub mod Reporting
+pub mod Searching
 pub mod Driving
 pub mod Explaining
-pub mod Reporting

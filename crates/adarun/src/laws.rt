@@ -1,5 +1,5 @@
 //! The laws of the whole: each is what a function without work ensures.
-ghost use Rattle.adarun.specs.Explaining.{ScheduleFaultsExplained, TextFaultsExplained};
+ghost use Rattle.adarun.specs.Explaining.{ChoicesFaultsExplained, ScheduleFaultsExplained, TextFaultsExplained};
 ghost use Rattle.adarun.specs.Joined.{RunsAsItsSource};
 
 use fault_numbers::{grammar_numbers, legality_numbers, restriction_numbers, spelling_numbers};
@@ -18,10 +18,11 @@ pub fn loaded_image_runs_as_its_source(image: &Image)
     comes_back(image);
 }
 
-/// What a text or a schedule is refused with has a number that is explained.
+/// What a text, a schedule or a set of schedules is refused with has a number that is explained.
 pub fn refusals_are_explained()
     ensures texts { TextFaultsExplained }
     ensures schedules { ScheduleFaultsExplained }
+    ensures choices { ChoicesFaultsExplained }
 {
     spelling_numbers();
     grammar_numbers();

@@ -3,15 +3,22 @@
 
 mod code_told;
 mod compilation;
+mod exploring;
 mod files;
 mod going;
+mod last_reports;
 pub mod laws;
 mod naming;
 mod origins;
 mod program;
 mod reporting;
+mod rules;
+mod search_command;
 
 pub use compilation::compile;
+pub use exploring::{SearchFault, SearchOutcome, search};
 pub use files::{FileStore, ReadError, WriteError};
 pub use going::{GoFault, go};
 pub use program::{Status, drive};
+pub use rules::text_faults;
+pub use searching::Wanted;

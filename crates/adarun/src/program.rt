@@ -2,7 +2,7 @@
 ghost use Rattle.std.specs.Prelude.{◌≡◌, ◌≢◌, ◌<◌, ◌⊎◌, ℕ, Err, IfOk, List, OnOk, Option, map, nat_eq, option_map, if◌then◌else◌};
 ghost use Rattle.base.specs.declared.faults.TheConstants.{MEMORY_REFUSED};
 ghost use Rattle.adarun.specs.Driving as driving;
-ghost use Rattle.adarun.specs.Driving.{AnswersStatus, IsContentRead, IsFaultPlace, IsWholeTold, KeepsSink, LeavesCompile, LeavesExplain, LeavesExplainText, LeavesGo, LeavesList, LeavesRun, LeavesShown, LeavesTrace, input_of, text_of};
+ghost use Rattle.adarun.specs.Driving.{AnswersStatus, IsContentRead, IsFaultPlace, IsWholeTold, KeepsSink, LeavesCheck, LeavesCompile, LeavesExplain, LeavesExplainText, LeavesGo, LeavesList, LeavesRun, LeavesShown, LeavesTrace, input_of, text_of};
 ghost use Rattle.image.specs.Code.{code};
 ghost use Rattle.machine.specs.Stands.{EndsBy};
 ghost use Rattle.machine.specs.Written.{AppendsBeginning};
@@ -13,7 +13,9 @@ use crate::compilation::{compile, compile_named};
 use crate::files::{FileStore, ReadError, WriteError};
 use crate::going::{GoFault, go};
 use crate::origins::{Statements, position};
-use crate::reporting::{Unhandled, raise_report, schedule_refusal, source_refusal};
+use crate::reporting::{fault_report, outcome_report, schedule_refusal, source_refusal};
+use crate::rules::text_faults;
+use crate::search_command::drive_search;
 use base::faults::MEMORY_REFUSED;
 use clock::{Schedule, ScheduleFault};
 use command_line::{Request, WordsError, request_of};
@@ -43,6 +45,7 @@ pub enum Status {
     ImageFault = 6,
     ScheduleRefused = 7,
     NoMemory = 8,
+    LineFound = 9,
 }
 
 /// The form in which a run is told.
@@ -55,12 +58,13 @@ pub(crate) enum TraceForm {
 }
 
 /// Does what the words, without the program's name, ask for: reads files, writes one of them or to `out`, and where it stops early one line to `err`, or of
-/// `simulate` several. It answers the exit status. Where a run came to an outcome, `out` was given its text (`go`, `simulate`, `run`), or its trace in the form
-/// that was asked for (`trace`); where an image was listed, its listing; where a fault was explained, its explanation; where the manual or the version was
-/// asked for, this; and no write to `out` failed under any status but 1. Where a text, an image or a schedule was refused or memory was wanting, nothing was
-/// written; where a write to `out` failed, a beginning of what was to be written. `compile` writes the image's file, and nothing to `out`: that file stays as
-/// it was unless the bytes of the source's image were there to be written, and no other file changes. The steps of runs and traces are counted, among them
-/// those of a second run, by which `simulate` says where an exception came from.
+/// `simulate` several; `check` writes to `err` alone, which was given the report of every fault of the source under status 2, and nothing under status 0.
+/// It answers the exit status. Where a run came to an outcome, `out` was given its text (`go`, `simulate`, `run`), or its trace in the form that was asked
+/// for (`trace`); of `search` its answer; where an image was listed, its listing; where a fault was explained, its explanation; where the manual or the
+/// version was asked for, this; and no write to `out` failed under any status but 1. Where a text, an image or a schedule was refused or memory was wanting,
+/// nothing was written; where a write to `out` failed, a beginning of what was to be written. `compile` writes the image's file, and nothing to `out`: that
+/// file stays as it was unless the bytes of the source's image were there to be written, and no other file changes. The steps of runs, searches and traces
+/// are counted, among them those of a second run, by which `simulate` says where an exception came from.
 pub fn drive<F: FileStore, O: Sink, E: Sink, L: Ledger>(
     alloc: Global,
     words: &[&str],
@@ -69,7 +73,8 @@ pub fn drive<F: FileStore, O: Sink, E: Sink, L: Ledger>(
     err: &mut E,
     steps: &mut Steps<L>,
 ) -> u8
-    ensures answers { AnswersStatus (map (λ w. w.now) words.now) (F.contents files.old) (F.contents files.new) result (O.bytes out.old) (O.bytes out.new) }
+    ensures answers { AnswersStatus (map (λ w. w.now) words.now) (F.contents files.old) (F.contents files.new) result (O.bytes out.old) (O.bytes out.new)
+        (E.bytes err.old) (E.bytes err.new) }
     ensures source { result ≡ 2 → out.new ≡ out.old }
     ensures schedule { result ≡ 7 → out.new ≡ out.old }
     ensures memory { result ≡ 8 → out.new ≡ out.old }
@@ -131,6 +136,7 @@ pub fn drive<F: FileStore, O: Sink, E: Sink, L: Ledger>(
         Ok(Request::ExplainText { number, source }) => {
             drive_explain_text(alloc, files, number, source, out, err)
         }
+        Ok(Request::Check { source }) => drive_check(alloc, files, source, err),
         Ok(
             Request::Simulate {
                 source,
@@ -138,6 +144,17 @@ pub fn drive<F: FileStore, O: Sink, E: Sink, L: Ledger>(
                 limit,
             },
         ) => drive_simulate(alloc, files, source, schedule, limit, out, err, steps),
+        Ok(
+            Request::Search {
+                source,
+                choices,
+                until,
+                limit,
+                wanted,
+            },
+        ) => drive_search(
+            alloc, files, source, choices, until, limit, wanted, out, err, steps,
+        ),
         Ok(Request::Manual) => show(MANUAL, out, err),
         Ok(Request::Version) => show(VERSION, out, err),
         Err(WordsError::Usage) => usage(err),
@@ -282,6 +299,31 @@ fn drive_go<F: FileStore, O: Sink, E: Sink, L: Ledger>(
         Err(GoFault::Schedule(fault)) => refuse_schedule(err, &fault),
         Err(GoFault::Run(RunFault::Memory)) => no_memory(err),
         Err(GoFault::Run(RunFault::Write)) => cannot_write(err),
+    }
+}
+
+// Reports every fault of the source to standard error.
+fn drive_check<F: FileStore, E: Sink>(alloc: Global, files: &F, source: &str, err: &mut E) -> Status
+    ensures leaves { LeavesCheck (F.contents files.now) source.now result (E.bytes err.old) (E.bytes err.new) }
+{
+    let text = match files.read(alloc, source) {
+        Ok(text) => text,
+        Err(error) => return unread(err, error, source),
+    };
+    let faults = match text_faults(alloc, &text) {
+        Ok(faults) => faults,
+        Err(_) => return no_memory(err),
+    };
+    if faults.is_empty() {
+        return Status::Done;
+    }
+    let report = match fault_report(alloc, source, &text, &faults) {
+        Ok(report) => report,
+        Err(_) => return no_memory(err),
+    };
+    match write_all(err, &report) {
+        Ok(()) => Status::SourceRefused,
+        Err(_) => Status::Failed,
     }
 }
 
@@ -516,7 +558,7 @@ fn status_of(outcome: &Outcome) -> Status
 }
 
 // Writes the pieces and the end of the line. A failure isn't told anywhere else.
-fn tell<E: Sink>(err: &mut E, status: Status, pieces: &[&[u8]]) -> Status
+pub(crate) fn tell<E: Sink>(err: &mut E, status: Status, pieces: &[&[u8]]) -> Status
     ensures { result ≡ status }
 {
     for piece in pieces {
@@ -532,19 +574,19 @@ fn usage<E: Sink>(err: &mut E) -> Status
     tell(err, Status::Failed, &[b"usage"])
 }
 
-fn no_memory<E: Sink>(err: &mut E) -> Status
+pub(crate) fn no_memory<E: Sink>(err: &mut E) -> Status
     ensures { result ≡ Status.NoMemory }
 {
     tell(err, Status::NoMemory, &[b"no memory"])
 }
 
-fn cannot_write<E: Sink>(err: &mut E) -> Status
+pub(crate) fn cannot_write<E: Sink>(err: &mut E) -> Status
     ensures { result ≡ Status.Failed }
 {
     tell(err, Status::Failed, &[b"cannot write"])
 }
 
-fn unread<E: Sink>(err: &mut E, error: ReadError, name: &str) -> Status
+pub(crate) fn unread<E: Sink>(err: &mut E, error: ReadError, name: &str) -> Status
     ensures { result ≡ driving.unread error }
 {
     match error {
@@ -553,7 +595,7 @@ fn unread<E: Sink>(err: &mut E, error: ReadError, name: &str) -> Status
     }
 }
 
-fn refuse_source<E: Sink>(err: &mut E, text: &[u8], fault: &Fault) -> Status
+pub(crate) fn refuse_source<E: Sink>(err: &mut E, text: &[u8], fault: &Fault) -> Status
     ensures { result ≡ (if nat_eq fault.now.number MEMORY_REFUSED then Status.NoMemory else Status.SourceRefused) }
 {
     if fault.number == MEMORY_REFUSED {
@@ -596,7 +638,7 @@ fn report_source<E: Sink>(
     }
 }
 
-// Tells where the exception came from that stopped a run, where that is known.
+// Writes what is said of how a run came to its end.
 fn report_outcome<E: Sink, L: Ledger>(
     alloc: Global,
     err: &mut E,
@@ -607,20 +649,7 @@ fn report_outcome<E: Sink, L: Ledger>(
     outcome: &Outcome,
     steps: &mut Steps<L>,
 ) {
-    let Outcome::Unhandled {
-        exception,
-        task,
-        ..
-    } = *outcome
-    else {
-        return;
-    };
-    let run = Unhandled {
-        limit,
-        task,
-        exception,
-    };
-    if let Ok(Some(report)) = raise_report(alloc, file, text, lines, &run, steps) {
+    if let Ok(Some(report)) = outcome_report(alloc, file, text, lines, limit, outcome, steps) {
         let _ = write_all(err, &report);
     }
 }

@@ -1,17 +1,19 @@
-//! What is said in words of a source or a schedule that is refused, and of an exception that stops a run.
+//! What is said in words of a source or a schedule that is refused, of every fault of a source, and of how a run came to its end.
 ghost use Rattle.std.specs.Prelude.{◌≡◌, ◌++◌, drop, IfOk, OnOk, option_map};
-ghost use Rattle.adarun.specs.Reporting.{IsRaiseReport, IsScheduleRefusal, IsSourceRefusal, raise_place, raise_report};
+ghost use Rattle.adarun.specs.Reporting.{AddsRefusal, IsFaultReport, IsOutcomeReport, IsRaiseReport, IsScheduleRefusal, IsSourceRefusal, count_line, raise_place, raise_report};
 ghost use Rattle.endings.specs.Sources.{raised_from};
 ghost use Rattle.image.specs.Texts.{text_from_one};
 
 use crate::code_told::told_of_limit;
 use crate::compilation::{Named, compile_named};
+use crate::last_reports::{limit_report, wait_report};
 use clock::{Schedule, ScheduleFault};
 use endings::raised_from;
 use explanations::explanation;
 use hints::remarks_at;
+use itoa::Buffer;
 use lexer::Fault;
-use machine::{Steps, exception_name};
+use machine::{Outcome, Steps, exception_name};
 use source_report::{put_place_report, put_schedule_report, put_source_report};
 use std::alloc::{AllocError, Global};
 use std::sync::ledger::Ledger;
@@ -58,6 +60,54 @@ pub(crate) fn source_refusal(
     let code = told_of_limit(alloc, number, Some(fault.place), text)?;
     put_told(&mut report, &code)?;
     Ok(Some(report))
+}
+
+// Adds what is said of a fault of a source, or nothing where the number is that of no fault.
+fn put_refusal(
+    alloc: Global,
+    out: &mut Vec<u8>,
+    file: &str,
+    text: &[u8],
+    fault: &Fault,
+) -> Result<(), AllocError>
+    ensures { OnOk result (AddsRefusal file.now text.now fault.now out.old.items out.new.items) }
+{
+    match source_refusal(alloc, file, text, fault)? {
+        Some(report) => out.extend_from_slice(&report),
+        None => Ok(()),
+    }
+}
+
+// Adds how many faults there are.
+fn put_count(out: &mut Vec<u8>, count: usize) -> Result<(), AllocError>
+    ensures { OnOk result (out.new.items ≡ out.old.items ++ count_line count) }
+{
+    out.extend_from_slice(Buffer::new().format(count).as_bytes())?;
+    if count == 1 {
+        out.extend_from_slice(b" fault\n")
+    } else {
+        out.extend_from_slice(b" faults\n")
+    }
+}
+
+/// What is said of every fault of a source: of each what `source_refusal` gives, and how many there are.
+///
+/// # Errors
+/// Where memory was refused.
+pub(crate) fn fault_report(
+    alloc: Global,
+    file: &str,
+    text: &[u8],
+    faults: &[Fault],
+) -> Result<Vec<u8>, AllocError>
+    ensures { IfOk result (λ report. IsFaultReport file.now text.now faults.now report.items) }
+{
+    let mut report = Vec::new(alloc);
+    for fault in faults {
+        put_refusal(alloc, &mut report, file, text, fault)?;
+    }
+    put_count(&mut report, faults.len())?;
+    Ok(report)
 }
 
 /// What is said of a schedule that is refused: the line and the rule; None where the number is that of no fault.
@@ -147,19 +197,16 @@ fn raised_in<L: Ledger>(
     raised_here(alloc, file, text, name, place)
 }
 
-/// A run that an exception stopped which nothing handled: its limit on steps, the task that it left, and which it was.
+// A run that an exception stopped which nothing handled: its limit on steps, the task that it left, and which it was.
 #[derive(Clone, Copy, PartialEq, Eq, Debug)]
-pub(crate) struct Unhandled {
-    pub(crate) limit: u64,
-    pub(crate) task: u8,
-    pub(crate) exception: u16,
+struct Unhandled {
+    limit: u64,
+    task: u8,
+    exception: u16,
 }
 
-/// What is said of the exception that stopped a run of the text: the statement from which it came; None where that isn't known.
-///
-/// # Errors
-/// Where memory was refused, or the text isn't compiled or the schedule isn't one.
-pub(crate) fn raise_report<L: Ledger>(
+// What is said of the exception that stopped a run of the text: the statement from which it came; None where that isn't known.
+fn raise_report<L: Ledger>(
     alloc: Global,
     file: &str,
     text: &[u8],
@@ -176,4 +223,43 @@ pub(crate) fn raise_report<L: Ledger>(
         return Err(AllocError);
     };
     raised_in(alloc, file, text, &named, &schedule, run, steps)
+}
+
+/// What is said of how a run of the text came to its end: where the exception came from that stopped it, where that is known; of one that waits forever the
+/// tasks that wait; of one that is cut by its limit on steps who was running, and whether the clock moved at last. None of one that ended.
+///
+/// # Errors
+/// Where memory was refused, or the text isn't compiled or the schedule isn't one.
+pub(crate) fn outcome_report<L: Ledger>(
+    alloc: Global,
+    file: &str,
+    text: &[u8],
+    lines: &[u8],
+    limit: u64,
+    outcome: &Outcome,
+    steps: &mut Steps<L>,
+) -> Result<Option<Vec<u8>>, AllocError>
+    ensures { IfOk result (λ report. IsOutcomeReport file.now text.now lines.now limit outcome.now (option_map (λ bytes. bytes.items) report)) }
+{
+    match *outcome {
+        Outcome::Unhandled {
+            exception,
+            task,
+            ..
+        } => {
+            let run = Unhandled {
+                limit,
+                task,
+                exception,
+            };
+            raise_report(alloc, file, text, lines, &run, steps)
+        }
+        Outcome::WaitsForever { .. } => Ok(Some(wait_report(
+            alloc, file, text, lines, limit, steps,
+        )?)),
+        Outcome::StepLimit { .. } => Ok(Some(limit_report(
+            alloc, file, text, lines, limit, steps,
+        )?)),
+        Outcome::Ended { .. } | Outcome::ImageFault { .. } => Ok(None),
+    }
 }

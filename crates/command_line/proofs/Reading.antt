@@ -90,9 +90,6 @@ level_by s names words has_subcommand below wrong end w e =
 abbrev pub leaf : Text → List Text → Shape
 leaf name ids = built_leaf (inherited (with_leaf_noted (marked_built program_shape)) (command_app name ids).top)
 
-abbrev pub one_id : List Text
-one_id = codes "IMG" ∷ []
-
 abbrev pub no_ids : List Text
 no_ids = []
 
@@ -157,30 +154,32 @@ module _ (name : Text) where
   pub two_found : (a b : Text) → asked_in (codes "compile") (λ id. first_of id (finished s.rules (reading (rows_two a) (codes "IMG") b))) ≡ CompileText a b
   two_found a b = refl
 
-module _ (name : Text) where
+-- a command with one argument
+module _ (name id : Text) where
   abbrev pub l : Shape
-  l = leaf name one_id
+  l = leaf name (id ∷ [])
 
-  pub end_one : (a : Text) → IsNoFlag a → walk l.rules [] nothing_held (a ∷ []) ≡ at (reading [] (codes "IMG") a) 2
+  pub end_one : (a : Text) → IsNoFlag a → walk l.rules [] nothing_held (a ∷ []) ≡ at (reading [] id a) 2
   end_one a na = walked_plain l.rules [] 1 a nothing_held na refl
 
   pub wrong_one : (a : Text) (more : List Text) → IsNoFlag a
-      → walk_fault l [] (at nothing_held 1) (a ∷ more) ≡ walk_fault l [] (at (reading [] (codes "IMG") a) 2) more
+      → walk_fault l [] (at nothing_held 1) (a ∷ more) ≡ walk_fault l [] (at (reading [] id a) 2) more
   wrong_one a more na = fault_plain l [] 1 a nothing_held more na refl
 
   pub one_refused_none : IsRefusal (level_fault l [] nothing_held [] false [])
   unfolding clap_on_literals
   one_refused_none = Refuses
 
-  pub one_taken : (a : Text) → IsNoFlag a → level_fault l [] nothing_held (a ∷ []) false [] ≡ []
-  unfolding clap_on_literals
-  one_taken a na = level_by l [] (a ∷ []) false [] [] _ (wrong_one a [] na) (ap (λ w. w.held) (end_one a na))
+  -- where nothing is wrong with what was read
+  pub one_taken : (a : Text) → IsNoFlag a → level_at l false [] (reading [] id a) [] ≡ [] → level_fault l [] nothing_held (a ∷ []) false [] ≡ []
+  unfolding walk_fault
+  one_taken a na right = level_by l [] (a ∷ []) false [] [] _ (wrong_one a [] na) (ap (λ w. w.held) (end_one a na)) ∙ right
 
   pub one_refused_more : (a b : Text) (more : List Text) → IsNoFlag a → IsNoFlag b → IsRefusal (level_fault l [] nothing_held (a ∷ b ∷ more) false [])
   one_refused_more a b more na nb =
       subst IsRefusal (sym (level_by l [] (a ∷ b ∷ more) false [] _ _ (wrong_one a (b ∷ more) na ∙ fault_plain l [] 2 b _ more nb refl) refl)) Refuses
 
-  pub one_rows : (a : Text) → IsNoFlag a → rows_after l.rules [] (a ∷ []) ≡ finished l.rules (reading [] (codes "IMG") a)
+  pub one_rows : (a : Text) → IsNoFlag a → rows_after l.rules [] (a ∷ []) ≡ finished l.rules (reading [] id a)
   one_rows a na = ap (λ w. finished l.rules w.held) (end_one a na)
 
 abbrev pub x : Shape

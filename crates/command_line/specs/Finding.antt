@@ -3,7 +3,7 @@ use Rattle.std.specs.Prelude.{ℕ, true, false, List, [], ◌∷◌, map, Option
 use Rattle.clap.specs.Words.{App, Row, Rule, Shape, Text, first_of, new_rule}
 use Rattle.clap.specs.Simple.{new_shape}
 use Rattle.command_line.specs.declared.TheConstants.{SIMULATED_STEPS}
-use Rattle.command_line.specs.Words.{Command, CompileText, ExplainFault, ExplainText, GoText, ListImage, Nothing, RunImage, ShowManual, ShowVersion, SimulateText, TraceText, numeral_of, within}
+use Rattle.command_line.specs.Words.{CheckText, Command, CompileText, ExplainFault, ExplainText, GoText, ListImage, Nothing, RunImage, ShowManual, ShowVersion, SimulateText, TraceText, numeral_of, within}
 
 -- an argument that has to be given
 abbrev pub required_rule : Text → Rule
@@ -34,7 +34,7 @@ bare_app = record { top = record (new_shape (codes "adarun")) { no_binary_name =
 abbrev pub program_shape : Shape
 program_shape = record (new_shape (codes "adarun")) { no_binary_name = true; subcommand_required = true; is_leaf = false }
 
--- the nine commands
+-- the ten commands
 abbrev pub program_app : App
 program_app = record {
   top = program_shape;
@@ -44,6 +44,7 @@ program_app = record {
       ∷ (command_app (codes "go") (codes "SRC" ∷ codes "SCHED" ∷ codes "LIMIT" ∷ [])).top
       ∷ (command_app (codes "trace") (codes "SRC" ∷ codes "SCHED" ∷ codes "LIMIT" ∷ [])).top
       ∷ explain_app.top
+      ∷ (command_app (codes "check") (codes "SRC" ∷ [])).top
       ∷ simulate_app.top
       ∷ (command_app (codes "manual") []).top
       ∷ (command_app (codes "version") []).top
@@ -86,10 +87,11 @@ asked_in name value =
     else (if bytes_eq name (codes "go") then of_three GoText (value (codes "SRC")) (value (codes "SCHED")) (value (codes "LIMIT"))
     else (if bytes_eq name (codes "trace") then of_three TraceText (value (codes "SRC")) (value (codes "SCHED")) (value (codes "LIMIT"))
     else (if bytes_eq name (codes "explain") then of_explain (value (codes "NUMBER")) (value (codes "SRC"))
+    else (if bytes_eq name (codes "check") then of_one CheckText (value (codes "SRC"))
     else (if bytes_eq name (codes "simulate") then of_simulate (value (codes "SRC")) (value (codes "SCHED")) (value (codes "LIMIT"))
     else (if bytes_eq name (codes "manual") then ShowManual
     else (if bytes_eq name (codes "version") then ShowVersion
-    else Nothing))))))))
+    else Nothing)))))))))
 
 -- what the command that clap found asks for, by its name and its matches
 abbrev pub asked_by : Option (Text × List Row) → Command

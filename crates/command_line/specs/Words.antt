@@ -1,12 +1,19 @@
 -- Which words ask for what (docs/FORMATS.md, "Commands").
-use Rattle.std.specs.Prelude.{◌≡◌, ◌&&◌, ◌||◌, ◌^◌, ℕ, Bool, true, not, List, [], ◌∷◌, length, Option, Some, None, Result, Ok, Err, if◌then◌else◌, bytes_eq, codes, is_some, nat_eq, nat_le, nat_lt, option_map, ⊤}
+use Rattle.std.specs.Prelude.{◌≡◌, ◌&&◌, ◌||◌, ◌^◌, ℕ, ℤ, pos, Bool, true, not, List, [], ◌∷◌, length, Option, Some, None, Result, Ok, Err, if◌then◌else◌, bytes_eq, codes, is_some, nat_eq, nat_le, nat_lt, option_map, ⊤}
 use Rattle.std.specs.List.{list_all}
 use Rattle.std.specs.Str.Parse.{digits_value}
 use Rattle.command_line.specs.declared.TheConstants.{SIMULATED_STEPS}
 use Rattle.command_line.specs.declared.Request.{Request}
 use Rattle.command_line.specs.declared.Request.TheVariants as requests
+use Rattle.command_line.specs.declared.Sought.{Sought}
+use Rattle.command_line.specs.declared.Sought.TheVariants as sought
 use Rattle.command_line.specs.declared.WordsError.{WordsError}
 use Rattle.command_line.specs.declared.WordsError.TheVariants as errors
+
+-- what a search looks for
+pub data Wanted : Type 0 where
+  UnhandledOrWaits Unhandled WaitsForever : Wanted
+  LineOf : (label : List ℕ) → Wanted
 
 -- what is asked for: names are those of files, a number is that of a fault or of none
 pub data Command : Type 0 where
@@ -16,8 +23,11 @@ pub data Command : Type 0 where
   GoText TraceText DumpText : (source schedule : List ℕ) (limit : ℕ) → Command
   ExplainFault : (number : ℕ) → Command
   ExplainText : (number : ℕ) (source : List ℕ) → Command
+  CheckText : (source : List ℕ) → Command
   -- the schedule is empty where none is named
   SimulateText : (source : List ℕ) (schedule : Option (List ℕ)) (limit : ℕ) → Command
+  -- a time in microseconds up to which is searched, and a limit on the steps at one time
+  SearchText : (source choices : List ℕ) (until : ℤ) (limit : ℕ) → Wanted → Command
   ShowManual ShowVersion Nothing : Command
 
 abbrev pub is_digit : ℕ → Bool
@@ -45,7 +55,8 @@ asked_plainly (name ∷ []) = asked_alone name
 asked_plainly (name ∷ word ∷ []) =
     if bytes_eq name (codes "list") then ListImage word
     else (if bytes_eq name (codes "explain") then within ExplainFault (numeral_of word)
-    else (if bytes_eq name (codes "simulate") then SimulateText word None SIMULATED_STEPS else Nothing))
+    else (if bytes_eq name (codes "check") then CheckText word
+    else (if bytes_eq name (codes "simulate") then SimulateText word None SIMULATED_STEPS else Nothing)))
 asked_plainly (name ∷ first ∷ second ∷ []) =
     if bytes_eq name (codes "compile") then CompileText first second
     else (if bytes_eq name (codes "explain") then within (λ number. ExplainText number second) (numeral_of first)
@@ -79,12 +90,77 @@ abbrev pub asked_among : List (List ℕ) → Option (List (List ℕ)) → Comman
 asked_among words (Some rest) = dump_asked rest
 asked_among words None = asked_plainly words
 
+-- ---- `search`
+
+-- the words behind `search`
+abbrev pub behind_search : List (List ℕ) → Option (List (List ℕ))
+behind_search [] = None
+behind_search (name ∷ rest) = if bytes_eq name (codes "search") then Some rest else None
+
+-- none of them begins with `-`, or a word `--` in front of them lets them
+abbrev pub unmarked : List (List ℕ) → Option (List (List ℕ))
+unmarked [] = Some []
+unmarked (first ∷ rest) =
+    if bytes_eq first (codes "--") then Some rest
+    else (if is_plain first && list_all is_plain rest then Some (first ∷ rest) else None)
+
+abbrev pub up_to_end : Option ℕ → Option ℤ
+up_to_end None = None
+up_to_end (Some time) = if nat_lt time (2 ^ 63) then Some (pos time) else None
+
+-- the time that one or more decimal digits are, where it is below 2 ^ 63
+abbrev pub time_of : List ℕ → Option ℤ
+time_of digits = up_to_end (numeral_of digits)
+
+-- what these words look for
+abbrev pub wanted_in : List (List ℕ) → Option Wanted
+wanted_in [] = Some UnhandledOrWaits
+wanted_in (word ∷ []) =
+    if bytes_eq word (codes "unhandled") then Some Unhandled else (if bytes_eq word (codes "waits") then Some WaitsForever else None)
+wanted_in (word ∷ label ∷ []) = if bytes_eq word (codes "line") then Some (LineOf label) else None
+wanted_in words = None
+
+abbrev pub search_for : (source choices : List ℕ) → Option ℤ → Option ℕ → Option Wanted → Command
+search_for source choices (Some until) (Some limit) (Some wanted) = SearchText source choices until limit wanted
+search_for source choices until limit wanted = Nothing
+
+abbrev pub search_in : List (List ℕ) → Command
+search_in (source ∷ choices ∷ until ∷ limit ∷ wanted) = search_for source choices (time_of until) (numeral_of limit) (wanted_in wanted)
+search_in words = Nothing
+
+abbrev pub search_among : Option (List (List ℕ)) → Command
+search_among (Some words) = search_in words
+search_among None = Nothing
+
+-- what the words behind `search` ask for
+abbrev pub search_asked : List (List ℕ) → Command
+search_asked words = search_among (unmarked words)
+
+-- ---- all
+
+-- what words without `search` in front ask for
+abbrev pub asked_besides : List (List ℕ) → Command
+asked_besides words = asked_among words (behind_option words)
+
+abbrev pub asked_by_search : List (List ℕ) → Option (List (List ℕ)) → Command
+asked_by_search words (Some rest) = search_asked rest
+asked_by_search words None = asked_besides words
+
 abbrev pub asked : List (List ℕ) → Command
-asked words = asked_among words (behind_option words)
+asked words = asked_by_search words (behind_search words)
+
+abbrev pub is_told_besides : List (List ℕ) → Bool
+is_told_besides words = is_some (behind_option words) || list_all is_plain words
 
 -- words of which `asked` tells what they ask for
 abbrev pub is_told : List (List ℕ) → Bool
-is_told words = is_some (behind_option words) || list_all is_plain words
+is_told words = is_some (behind_search words) || is_told_besides words
+
+abbrev pub wanted_of : Sought → Wanted
+wanted_of sought.UnhandledOrWaits = UnhandledOrWaits
+wanted_of sought.Unhandled = Unhandled
+wanted_of sought.WaitsForever = WaitsForever
+wanted_of (sought.Line label) = LineOf label.now
 
 abbrev pub command_of : Request → Command
 command_of (requests.Compile source image) = CompileText source.now image.now
@@ -95,7 +171,9 @@ command_of (requests.Trace source schedule limit) = TraceText source.now schedul
 command_of (requests.Dump source schedule limit) = DumpText source.now schedule.now limit
 command_of (requests.Explain number) = ExplainFault number
 command_of (requests.ExplainText number source) = ExplainText number source.now
+command_of (requests.Check source) = CheckText source.now
 command_of (requests.Simulate source schedule limit) = SimulateText source.now (option_map (λ name. name.now) schedule) limit
+command_of (requests.Search source choices until limit wanted) = SearchText source.now choices.now until limit (wanted_of wanted)
 command_of requests.Manual = ShowManual
 command_of requests.Version = ShowVersion
 

@@ -5,10 +5,13 @@ ghost use Rattle.std.specs.Prelude.{◌≡◌, ◌&&◌, if◌then◌else◌, tr
 ghost use Rattle.std.specs.List.{list_all};
 ghost use Rattle.clap.specs.Words.{App, app_of, first_value, found_of, kind_of, subcommand_rows_of};
 ghost use Rattle.clap.specs.declared.builder.command.Command.TheViews.{out-Command};
-ghost use Rattle.command_line.specs.Words.{AnswersWords, DumpText, Nothing, asked, asked_plainly, dump_asked, is_digit, is_told, within};
+ghost use Rattle.command_line.specs.Words.{AnswersWords, DumpText, Nothing, asked, asked_besides, asked_plainly, dump_asked, is_digit, is_told, is_told_besides, within};
 ghost use Rattle.command_line.specs.Finding.{asked_by, asked_in, bare_app, command_app, explain_app, of_simulate, program_app, simulate_app};
 ghost use Rattle.command_line.specs.Words as words_of;
 
+mod search;
+
+use crate::search::{behind_search, search_request};
 use clap::error::ErrorKind;
 use clap::{Arg, ArgMatches, Command, Error};
 use std::alloc::{AllocError, Global};
@@ -61,16 +64,41 @@ pub enum Request<'a> {
         number: u64,
         source: &'a str,
     },
+    /// Report every rule that a source breaks.
+    Check {
+        source: &'a str,
+    },
     /// Compile a source and run it on a schedule, or on the empty one, for at most this many steps, and say in words what goes wrong, and where.
     Simulate {
         source: &'a str,
         schedule: Option<&'a str>,
         limit: u64,
     },
+    /// Compile a source and search the schedules of a set up to a time (microseconds since the start), with at most so many steps at one time.
+    Search {
+        source: &'a str,
+        choices: &'a str,
+        until: i64,
+        limit: u64,
+        wanted: Sought<'a>,
+    },
     /// Show the manual.
     Manual,
     /// Show the number of this version.
     Version,
+}
+
+/// What a search looks for.
+#[derive(Clone, Copy, PartialEq, Eq, Debug)]
+pub enum Sought<'a> {
+    /// An exception that nothing handles, or waiting forever.
+    UnhandledOrWaits,
+    /// An exception that nothing handles.
+    Unhandled,
+    /// Waiting forever.
+    WaitsForever,
+    /// A line with this label.
+    Line(&'a str),
 }
 
 /// Why a command line was not understood.
@@ -88,8 +116,18 @@ pub enum WordsError {
 /// Usage for other words than a request's, those that ask for help among them, and for a limit or a number that isn't one or more decimal
 /// digits of a value below 2**64; Memory where memory was refused.
 pub fn request_of<'a>(alloc: Global, words: &'a [&'a str]) -> Result<Request<'a>, WordsError>
-    // Words behind `trace --vcd`, and words of which none begins with `-`, ask for just what the table of commands says.
+    // Words behind `search` and `trace --vcd`, and words of which none begins with `-`, ask for just what the table of commands says.
     ensures { is_told (map (λ w. w.now) words.now) ≡ true → AnswersWords (asked (map (λ w. w.now) words.now)) result }
+{
+    match behind_search(words) {
+        Some(rest) => search_request(rest),
+        None => request_besides(alloc, words),
+    }
+}
+
+// What words without `search` in front ask for.
+fn request_besides<'a>(alloc: Global, words: &'a [&'a str]) -> Result<Request<'a>, WordsError>
+    ensures { is_told_besides (map (λ w. w.now) words.now) ≡ true → AnswersWords (asked_besides (map (λ w. w.now) words.now)) result }
 {
     match behind_option(words) {
         Some(rest) => dump_request(rest),
@@ -220,6 +258,9 @@ fn request_in<'a>(name: &str, found: &ArgMatches<'a>) -> Result<Request<'a>, Wor
                 None => Ok(Request::Explain { number }),
             }
         }
+        "check" => Ok(Request::Check {
+            source: word(found, "SRC")?,
+        }),
         "simulate" => simulate_request(
             found.get_str("SRC"),
             found.get_str("SCHED"),
@@ -315,6 +356,7 @@ fn command<'a>(alloc: Global) -> Result<Command<'a>, AllocError>
         .subcommand(command_with(alloc, "go", &["SRC", "SCHED", "LIMIT"])?)?
         .subcommand(command_with(alloc, "trace", &["SRC", "SCHED", "LIMIT"])?)?
         .subcommand(explain_command(alloc)?)?
+        .subcommand(command_with(alloc, "check", &["SRC"])?)?
         .subcommand(simulate_command(alloc)?)?
         .subcommand(command_with(alloc, "manual", &[])?)?
         .subcommand(command_with(alloc, "version", &[])?)

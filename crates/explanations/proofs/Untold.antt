@@ -3,7 +3,7 @@ use Rattle.std.proofs.Common.{◌≡◌, ℕ, Bool, true, false, cond, Option, S
 use Rattle.std.proofs.lemmas.Bool.{true≢false}
 use Rattle.std.specs.Prelude.{◌||◌, nat_eq}
 use Rattle.explanations.specs.declared.memory.TheConstants as memory
-use Rattle.explanations.specs.Explained.{explanation_of, is_fault_number, is_from, of_handlers, of_images, of_restrictions, of_rules, of_schedules, of_spelling}
+use Rattle.explanations.specs.Explained.{explanation_of, is_fault_number, is_from, of_choices, of_handlers, of_images, of_restrictions, of_rules, of_schedules, of_spelling}
 
 -- where neither a test nor those behind it hold
 neither : {X : Type 0} (a rest : Bool) (x y : Option X) → (a || rest) ≡ false → (rest ≡ false → y ≡ None) → cond a x y ≡ None
@@ -18,4 +18,6 @@ none_told n none =
     neither (is_from 30 39 n) _ (of_restrictions n) _ e2 (λ e3.
     neither (is_from 40 47 n) _ (of_images n) _ e3 (λ e4.
     neither (is_from 50 53 n) _ (of_schedules n) _ e4 (λ e5.
-    neither (nat_eq n 60) _ (Some memory.MEMORY_REFUSED.now) _ e5 (λ e6. ap (λ b. cond b (of_handlers n) None) e6)))))))
+    neither (nat_eq n 60) _ (Some memory.MEMORY_REFUSED.now) _ e5 (λ e6.
+    neither (is_from 70 73 n) _ (of_handlers n) _ e6 (λ e7.
+    neither (nat_eq n 80) _ (of_choices n) _ e7 (λ e8. ap (λ b. cond b (of_choices n) None) e8)))))))))

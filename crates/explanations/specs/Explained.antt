@@ -7,15 +7,20 @@ use Rattle.explanations.specs.declared.restrictions.TheConstants as restrictions
 use Rattle.explanations.specs.declared.images.TheConstants as images
 use Rattle.explanations.specs.declared.schedules.TheConstants as schedules
 use Rattle.explanations.specs.declared.handlers.TheConstants as handlers
+use Rattle.explanations.specs.declared.choices.TheConstants as choices
 
 -- from the first of two numbers to the second one
 abbrev pub is_from : ℕ → ℕ → ℕ → Bool
 is_from first last n = nat_le first n && nat_le n last
 
--- the numbers of faults: of spelling and grammar, of rules, of restrictions, of images, of schedules, that of memory, and of handlers of interrupts
+-- the numbers of faults: of spelling and grammar, of rules, of restrictions, of images, of schedules, that of memory, of handlers of interrupts, and of sets of
+-- schedules
 abbrev pub is_fault_number : ℕ → Bool
 is_fault_number n =
-    is_from 1 7 n || (is_from 10 23 n || (is_from 30 39 n || (is_from 40 47 n || (is_from 50 53 n || (nat_eq n 60 || is_from 70 73 n)))))
+    is_from 1 7 n
+    || (is_from 10 23 n
+    || (is_from 30 39 n
+    || (is_from 40 47 n || (is_from 50 53 n || (nat_eq n 60 || (is_from 70 73 n || (nat_eq n 80 || is_from 82 86 n)))))))
 
 abbrev pub of_spelling : ℕ → Option (List ℕ)
 of_spelling n =
@@ -88,6 +93,16 @@ of_handlers n =
     else (if nat_eq n 73 then Some handlers.HANDLER_CEILING.now
     else None)))
 
+abbrev pub of_choices : ℕ → Option (List ℕ)
+of_choices n =
+    if nat_eq n 80 then Some choices.WRONG_CHOICES_LINE.now
+    else (if nat_eq n 82 then Some choices.UNKNOWN_CHANNEL.now
+    else (if nat_eq n 83 then Some choices.TOO_MANY_SLOTS.now
+    else (if nat_eq n 84 then Some choices.TOO_MANY_ALTERNATIVES.now
+    else (if nat_eq n 85 then Some choices.SAME_ALTERNATIVE.now
+    else (if nat_eq n 86 then Some choices.SLOT_TOO_LATE.now
+    else None)))))
+
 -- what is told of the fault of this number
 abbrev pub explanation_of : ℕ → Option (List ℕ)
 explanation_of n =
@@ -98,4 +113,6 @@ explanation_of n =
     else (if is_from 50 53 n then of_schedules n
     else (if nat_eq n 60 then Some memory.MEMORY_REFUSED.now
     else (if is_from 70 73 n then of_handlers n
-    else None))))))
+    else (if nat_eq n 80 then of_choices n
+    else (if is_from 82 86 n then of_choices n
+    else None))))))))

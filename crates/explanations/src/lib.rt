@@ -4,6 +4,7 @@
 ghost use Rattle.std.specs.Prelude.{◌≡◌, is_some, option_map};
 ghost use Rattle.explanations.specs.Explained.{explanation_of, is_fault_number};
 
+mod choices;
 mod handlers;
 mod images;
 mod memory;
@@ -27,6 +28,8 @@ pub fn explanation(number: u64) -> Option<&'static str>
         50..=53 => schedules::explanation(number),
         60 => Some(MEMORY_REFUSED),
         70..=73 => handlers::explanation(number),
+        80 => choices::explanation(number),
+        82..=86 => choices::explanation(number),
         _ => None,
     }
 }

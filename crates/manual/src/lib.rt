@@ -16,6 +16,8 @@ COMMANDS
         compiles a source and runs it; what is wrong is told with its line, its rule and a hint
     adarun go SRC SCHED LIMIT
         the same, and what is wrong is told by its number and its place alone, for scripts
+    adarun check SRC
+        reports every rule that a source breaks, with its line, its rule and a hint
     adarun trace SRC SCHED LIMIT
         tells the run row by row: who runs, waits, is preempted, enters and leaves objects,
         queues and is served, what is raised and where, and what is refused
@@ -27,6 +29,9 @@ COMMANDS
         lists an image
     adarun run IMG SCHED LIMIT
         runs an image
+    adarun search SRC CHOICES UNTIL LIMIT [unhandled | waits | line LABEL]
+        searches the schedules of a set for one under which an exception stops the run or it
+        waits forever, or, as the last word says, for one of these or a line with this label
     adarun explain NUMBER [SRC]
         explains the fault of this number, and what is told of a source that has it
     adarun manual
@@ -41,6 +46,9 @@ WORDS
     SCHED   the file of a schedule; /dev/null is the empty one, and so is none for simulate
     LIMIT   the most steps of the run, in decimal digits alone, without underlines or an
             exponent: 0 to 18446744073709551615; simulate takes 1000000 where it is left out
+    CHOICES the file of a set of schedules
+    UNTIL   the microsecond up to which is searched: 0 to 9223372036854775807; the LIMIT of a
+            search is the most steps at one time
     NUMBER  the number of a fault
 
     A name that begins with a hyphen stands behind the word --, as in
@@ -51,6 +59,9 @@ FORMATS
     A schedule has a line `TIME CHANNEL VALUE` for each change of an input: the microsecond, a
     channel from 1 to 8, and the value from then on, with single spaces, in the order of times.
         8000 1 72
+    A set of schedules has such lines with alternatives; `-` is no change.
+        0..40000/10000 1 20|50|60..64|-
+    A search writes a schedule and a last line `found: ..`, or `none of N schedules`.
     A run writes a line `TIME TASK LABEL VALUE` for each call of Put, with the virtual time in
     microseconds, and last how it came to its end: `ended at T`, `waits forever at T`,
     `unhandled NAME in TASK at T`, `step limit at T` or `image fault at T`.
@@ -59,13 +70,15 @@ FORMATS
 
 STATUSES
 
-    0   the run ended; what was asked for is done
+    0   the run ended; a source that is checked has no fault; a search found nothing; what was
+        asked for is done
     1   wrong words, or a file that can't be read or written
     2   the source is refused
     3   an exception that nothing handles stopped the run
     4   the run waits forever
     5   the limit on steps was reached
     6   the image is refused, or its run was at fault
-    7   the schedule is refused
+    7   the schedule or the set of schedules is refused
     8   there was not enough memory
+    9   a search found the line
 ";

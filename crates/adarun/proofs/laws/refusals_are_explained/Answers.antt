@@ -1,5 +1,5 @@
 use Rattle.adarun.proofs.Compiling.{of_text}
-use Rattle.adarun.proofs.Explaining.{schedule_number, text_number}
+use Rattle.adarun.proofs.Explaining.{choices_number, schedule_number, text_number}
 use Rattle.adarun.proofs.laws.refusals_are_explained.Goals as goal
 
 pub returns-clause-texts : goal.returns-clause-texts
@@ -8,3 +8,6 @@ returns-clause-texts c text fault refused =
 
 pub returns-clause-schedules : goal.returns-clause-schedules
 returns-clause-schedules c = schedule_number
+
+pub returns-clause-choices : goal.returns-clause-choices
+returns-clause-choices c = choices_number

@@ -1,13 +1,14 @@
-use Rattle.std.proofs.Common.{inl, inr, refl, rules}
+use Rattle.std.proofs.Common.{◌≡◌, inl, inr, of_z, refl, rules, subst, to_z, w64}
 use Rattle.std.specs.Prelude.{option_map}
-use Rattle.command_line.specs.Words.{CompileText, DumpText, ExplainFault, ExplainText, GoText, ListImage, Nothing, RunImage, ShowManual, ShowVersion, SimulateText, TraceText}
+use Rattle.command_line.specs.Words.{CheckText, CompileText, DumpText, ExplainFault, ExplainText, GoText, ListImage, Nothing, RunImage, SearchText, ShowManual, ShowVersion, SimulateText, TraceText, wanted_of}
+use Rattle.adarun.specs.Driving.{LeavesSearch}
 use Rattle.adarun.specs.declared.program.Status.TheVariants.{Failed, NoMemory}
-use Rattle.adarun.proofs.Driving.{asked_as, asked_nothing}
+use Rattle.adarun.proofs.Driving.{asked_as, asked_nothing, failed}
 use Rattle.adarun.proofs.program.drive.Goals as goal
 
 pub returns-in-Err-Memory-clause-answers : goal.returns-in-Err-Memory-clause-answers
 returns-in-Err-Memory-clause-answers g c =
-    rw c.no_memory-status.ensures (record { work = Nothing; status = NoMemory; answer_is = refl; asked_for = λ plain. inr (refl, refl); leaves = (λ name. refl, (refl, inr refl)) })
+    rw c.no_memory-status.ensures (record { work = Nothing; status = NoMemory; answer_is = refl; asked_for = λ plain. inr (refl, refl); leaves = (λ name. refl, (refl, inr refl)); reports = tt })
 
 pub returns-in-Ok-Compile-clause-answers : goal.returns-in-Ok-Compile-clause-answers
 returns-in-Ok-Compile-clause-answers g c = record {
@@ -16,6 +17,7 @@ returns-in-Ok-Compile-clause-answers g c = record {
   answer_is = search rules;
   asked_for = λ plain. inl (asked_as _ _ _ c.in-Ok-Compile.field-0-is (c.in-Ok-Compile.ensures plain));
   leaves = c.drive_compile-status.ensures.leaves (g.O.Sink.bytes c.args.out.now);
+  reports = tt;
 }
 
 pub returns-in-Ok-List-clause-answers : goal.returns-in-Ok-List-clause-answers
@@ -25,6 +27,7 @@ returns-in-Ok-List-clause-answers g c = record {
   answer_is = search rules;
   asked_for = λ plain. inl (asked_as _ _ _ c.in-Ok-List.field-0-is (c.in-Ok-List.ensures plain));
   leaves = (λ name. refl, c.drive_list-status.ensures.leaves);
+  reports = tt;
 }
 
 pub returns-in-Ok-Run-clause-answers : goal.returns-in-Ok-Run-clause-answers
@@ -34,6 +37,7 @@ returns-in-Ok-Run-clause-answers g c = record {
   answer_is = search rules;
   asked_for = λ plain. inl (asked_as _ _ _ c.in-Ok-Run.field-0-is (c.in-Ok-Run.ensures plain));
   leaves = (λ name. refl, c.drive_run-status.ensures.leaves);
+  reports = tt;
 }
 
 pub returns-in-Ok-Go-clause-answers : goal.returns-in-Ok-Go-clause-answers
@@ -43,6 +47,7 @@ returns-in-Ok-Go-clause-answers g c = record {
   answer_is = search rules;
   asked_for = λ plain. inl (asked_as _ _ _ c.in-Ok-Go.field-0-is (c.in-Ok-Go.ensures plain));
   leaves = (λ name. refl, c.drive_go-status.ensures.leaves);
+  reports = tt;
 }
 
 pub returns-in-Ok-Trace-clause-answers : goal.returns-in-Ok-Trace-clause-answers
@@ -52,6 +57,7 @@ returns-in-Ok-Trace-clause-answers g c = record {
   answer_is = search rules;
   asked_for = λ plain. inl (asked_as _ _ _ c.in-Ok-Trace.field-0-is (c.in-Ok-Trace.ensures plain));
   leaves = (λ name. refl, c.drive_trace-status.ensures.leaves);
+  reports = tt;
 }
 
 pub returns-in-Ok-Dump-clause-answers : goal.returns-in-Ok-Dump-clause-answers
@@ -61,6 +67,7 @@ returns-in-Ok-Dump-clause-answers g c = record {
   answer_is = search rules;
   asked_for = λ plain. inl (asked_as _ _ _ c.in-Ok-Dump.field-0-is (c.in-Ok-Dump.ensures plain));
   leaves = (λ name. refl, c.drive_trace-status-in-Ok-Dump.ensures.leaves);
+  reports = tt;
 }
 
 pub returns-in-Ok-Explain-clause-answers : goal.returns-in-Ok-Explain-clause-answers
@@ -70,6 +77,7 @@ returns-in-Ok-Explain-clause-answers g c = record {
   answer_is = search rules;
   asked_for = λ plain. inl (asked_as _ _ _ c.in-Ok-Explain.field-0-is (c.in-Ok-Explain.ensures plain));
   leaves = (λ name. refl, c.drive_explain-status.ensures.leaves);
+  reports = tt;
 }
 
 pub returns-in-Ok-ExplainText-clause-answers : goal.returns-in-Ok-ExplainText-clause-answers
@@ -79,6 +87,7 @@ returns-in-Ok-ExplainText-clause-answers g c = record {
   answer_is = search rules;
   asked_for = λ plain. inl (asked_as _ _ _ c.in-Ok-ExplainText.field-0-is (c.in-Ok-ExplainText.ensures plain));
   leaves = (λ name. refl, c.drive_explain_text-status.ensures.leaves);
+  reports = tt;
 }
 
 pub returns-in-Ok-Simulate-clause-answers : goal.returns-in-Ok-Simulate-clause-answers
@@ -88,7 +97,36 @@ returns-in-Ok-Simulate-clause-answers g c = record {
   answer_is = search rules;
   asked_for = λ plain. inl (asked_as _ _ _ c.in-Ok-Simulate.field-0-is (c.in-Ok-Simulate.ensures plain));
   leaves = (λ name. refl, c.drive_simulate-status.ensures.leaves);
+  reports = tt;
 }
+
+pub returns-in-Ok-Check-clause-answers : goal.returns-in-Ok-Check-clause-answers
+returns-in-Ok-Check-clause-answers g c = record {
+  work = CheckText c.in-Ok-Check.source.now;
+  status = c.drive_check-status.result;
+  answer_is = search rules;
+  asked_for = λ plain. inl (asked_as _ _ _ c.in-Ok-Check.field-0-is (c.in-Ok-Check.ensures plain));
+  leaves = (λ name. refl, refl);
+  reports = c.drive_check-status.ensures.leaves;
+}
+
+pub returns-in-Ok-Search-clause-answers : goal.returns-in-Ok-Search-clause-answers
+returns-in-Ok-Search-clause-answers g c =
+    let until = c.in-Ok-Search.until in
+    let u : to_z w64 (of_z w64 until) ≡ until = search rules in
+    let leaves =
+    subst
+    (λ z. LeavesSearch (g.F.FileStore.contents c.args.files.now) c.in-Ok-Search.source.now c.in-Ok-Search.choices.now z c.in-Ok-Search.limit
+    (wanted_of c.in-Ok-Search.wanted) c.drive_search-status.result (g.O.Sink.bytes c.args.out.now) (g.O.Sink.bytes c.drive_search-status.new.out))
+    u c.drive_search-status.ensures.leaves in
+    record {
+      work = SearchText c.in-Ok-Search.source.now c.in-Ok-Search.choices.now until c.in-Ok-Search.limit (wanted_of c.in-Ok-Search.wanted);
+      status = c.drive_search-status.result;
+      answer_is = search rules;
+      asked_for = λ plain. inl (asked_as _ _ _ c.in-Ok-Search.field-0-is (c.in-Ok-Search.ensures plain));
+      leaves = (λ name. refl, leaves);
+      reports = tt;
+    }
 
 pub returns-in-Ok-Manual-clause-answers : goal.returns-in-Ok-Manual-clause-answers
 returns-in-Ok-Manual-clause-answers g c = record {
@@ -97,6 +135,7 @@ returns-in-Ok-Manual-clause-answers g c = record {
   answer_is = search rules;
   asked_for = λ plain. inl (asked_as _ _ _ c.in-Ok-Manual.field-0-is (c.in-Ok-Manual.ensures plain));
   leaves = (λ name. refl, c.show-status.ensures.leaves);
+  reports = tt;
 }
 
 pub returns-in-Ok-Version-clause-answers : goal.returns-in-Ok-Version-clause-answers
@@ -106,8 +145,14 @@ returns-in-Ok-Version-clause-answers g c = record {
   answer_is = search rules;
   asked_for = λ plain. inl (asked_as _ _ _ c.in-Ok-Version.field-0-is (c.in-Ok-Version.ensures plain));
   leaves = (λ name. refl, c.show-status-in-Ok-Version.ensures.leaves);
+  reports = tt;
 }
 
 pub returns-in-Err-Usage-clause-answers : goal.returns-in-Err-Usage-clause-answers
 returns-in-Err-Usage-clause-answers g c =
-    rw c.usage-status.ensures (record { work = Nothing; status = Failed; answer_is = refl; asked_for = λ plain. inl (asked_nothing _ _ c.in-Err-Usage.field-0-is (c.in-Err-Usage.ensures plain)); leaves = (λ name. refl, (refl, inl refl)) })
+    rw c.usage-status.ensures (record { work = Nothing; status = Failed; answer_is = refl; asked_for = λ plain. inl (asked_nothing _ _ c.in-Err-Usage.field-0-is (c.in-Err-Usage.ensures plain)); leaves = (λ name. refl, (refl, inl refl)); reports = tt })
+
+pub returns-in-Ok-Explain-clause-failed : goal.returns-in-Ok-Explain-clause-failed
+returns-in-Ok-Explain-clause-failed g c =
+    failed c.drive_explain-status.result (c.drive_explain-status.new.out ≡ c.args.out.now) (g.O.Sink.failures c.args.out.now)
+    (g.O.Sink.failures c.drive_explain-status.new.out) c.drive_explain-status.ensures.sink

@@ -1,0 +1,24 @@
+use Rattle.std.proofs.lemmas.Result.{IfOk-weaker}
+use Rattle.adarun.proofs.LastReports.{all_of_it}
+use Rattle.adarun.proofs.last_reports.limit_report.Goals as goal
+
+pub returns : goal.returns
+returns g c =
+    let told = c.running_in.ensures in
+    IfOk-weaker c.running_in.result _ _
+    (λ report says. record {
+      left = record {
+        image = c.in-Ok.named.image;
+        objects = c.in-Ok.named.objects.items;
+        places = c.in-Ok.named.places;
+        compiles = c.in-Ok.ensures.means;
+        lines = c.in-Ok-read.schedule;
+        is_schedule = c.in-Ok-read.ensures.read;
+        last = c.in_ok-last.last;
+        is_last = c.in_ok-last.ensures;
+      };
+      moved = says.0;
+      few = says.1.0;
+      still = says.1.1;
+    })
+    (all_of_it c.running_in.result _ _ _ _ _ _ _ told.moved told.few told.still)

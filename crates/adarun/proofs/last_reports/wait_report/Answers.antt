@@ -1,0 +1,20 @@
+use Rattle.std.proofs.lemmas.Result.{IfOk-weaker}
+use Rattle.adarun.proofs.last_reports.wait_report.Goals as goal
+
+pub returns : goal.returns
+returns g c =
+    IfOk-weaker c.waiting_in.result _ _
+    (λ report is. record {
+      left = record {
+        image = c.in-Ok.named.image;
+        objects = c.in-Ok.named.objects.items;
+        places = c.in-Ok.named.places;
+        compiles = c.in-Ok.ensures.means;
+        lines = c.in-Ok-read.schedule;
+        is_schedule = c.in-Ok-read.ensures.read;
+        last = c.in_ok-last.last;
+        is_last = c.in_ok-last.ensures;
+      };
+      report_is = is;
+    })
+    c.waiting_in.ensures

@@ -1,0 +1,139 @@
+//! Searching the schedules of a set for one under which a source stops, waits forever or writes a line.
+ghost use Rattle.std.specs.Prelude.{◌≡◌, ◌<◌, Err, IfErr, IfOk, OnOk};
+ghost use Rattle.std.specs.Io.KnownBytes.{Appends};
+ghost use Rattle.ada_link.specs.ada_tree.specs.ProgramTree.{ProgramTree};
+ghost use Rattle.machine.specs.Written.{AppendsBeginning};
+ghost use Rattle.searching.specs.Reports.{report_text};
+ghost use Rattle.adarun.specs.Accepted.{IsAccepted, RefusesAccepted};
+ghost use Rattle.adarun.specs.Searching.{BeginsReport, RefusesSearching, WritesReport};
+ghost use Rattle.adarun.specs.Searching as searches;
+
+use crate::compilation::compile;
+use choices::{Choices, ChoicesFault};
+use image::Image;
+use image_laws::outcome_stays;
+use lexer::Fault;
+use machine::{RunFault, Sink, Steps, write_all};
+use searching::{Finding, Searched, Wanted, report};
+use std::alloc::Global;
+use std::sync::ledger::Ledger;
+use thiserror::Error;
+
+/// What a search has come to.
+#[derive(Clone, Copy, PartialEq, Eq, Debug)]
+pub enum SearchOutcome {
+    /// Under a schedule an exception leaves the body of a task.
+    Unhandled,
+    /// Under a schedule all wait forever.
+    WaitsForever,
+    /// Under a schedule the line is written.
+    Line,
+    /// Under a schedule more steps than the limit are taken at one time.
+    TooLong,
+    /// No schedule leads to what is wanted.
+    Nothing,
+}
+
+/// Why a source text was not searched to an answer.
+#[derive(Clone, Copy, PartialEq, Eq, Debug, Error)]
+pub enum SearchFault {
+    /// The source text was refused.
+    #[error(transparent)]
+    Source(Fault),
+    /// The text of the set of schedules was refused.
+    #[error(transparent)]
+    Choices(ChoicesFault),
+    /// The search stopped early.
+    #[error(transparent)]
+    Run(RunFault),
+}
+
+// What the image's search has come to.
+fn outcome_of(searched: &Searched) -> SearchOutcome
+    ensures { result ≡ searches.outcome_by searched.now }
+{
+    match searched {
+        Searched::Found(_, Finding::Unhandled { .. }) => SearchOutcome::Unhandled,
+        Searched::Found(_, Finding::WaitsForever { .. }) => SearchOutcome::WaitsForever,
+        Searched::Found(_, Finding::Line(_)) => SearchOutcome::Line,
+        Searched::Nothing => SearchOutcome::Nothing,
+        Searched::TooLong(_, _) => SearchOutcome::TooLong,
+    }
+}
+
+// Writes what the image's search has come to.
+fn write_report<S: Sink>(
+    alloc: Global,
+    image: &Image,
+    choices: &Choices,
+    limit: u64,
+    searched: &Searched,
+    sink: &mut S,
+) -> Result<SearchOutcome, RunFault>
+    ensures outcome { IfOk result (λ outcome. outcome ≡ searches.outcome_by searched.now) }
+    ensures text { OnOk result (Appends (S.bytes sink.old) (S.bytes sink.new) (report_text image.now choices.now limit searched.now)) }
+    ensures kept { OnOk result (S.failures sink.new ≡ S.failures sink.old) }
+    ensures memory { result ≡ Err RunFault.Memory → sink.new ≡ sink.old }
+    ensures failed { result ≡ Err RunFault.Write → S.failures sink.old < S.failures sink.new }
+    ensures beginning { result ≡ Err RunFault.Write → AppendsBeginning (S.bytes sink.old) (S.bytes sink.new)
+        (report_text image.now choices.now limit searched.now) }
+{
+    let Ok(text) = report(alloc, image, choices, limit, searched) else {
+        return Err(RunFault::Memory);
+    };
+    match write_all(sink, &text) {
+        Ok(()) => Ok(outcome_of(searched)),
+        Err(_) => Err(RunFault::Write),
+    }
+}
+
+/// Compiles a source text, reads a set of schedules, and runs the image on its schedules, in the order of alternatives, up to `until` (microseconds since the
+/// start) and with `limit` steps at one time at most, until a run comes to what is wanted. It writes the schedule under which this is so and what the run
+/// comes to, or that there is none (docs/FORMATS.md, "Search"). The steps of all runs are counted.
+///
+/// # Errors
+/// As `compile` and `Choices::read`, in this order; then where memory was refused or a write failed. Nothing was written then, but a beginning of the answer
+/// where a write failed.
+pub fn search<S: Sink, L: Ledger>(
+    alloc: Global,
+    source: &[u8],
+    choices: &[u8],
+    until: i64,
+    limit: u64,
+    wanted: Wanted<'_>,
+    sink: &mut S,
+    steps: &mut Steps<L>,
+) -> Result<SearchOutcome, SearchFault>
+    // What is found the source comes to under the schedule that is written; where there is nothing it comes to it under none of the set.
+    ensures answers { IfOk result (λ outcome. WritesReport source.now choices.now until limit wanted.entry outcome (S.bytes sink.old) (S.bytes sink.new)) }
+    ensures kept { OnOk result (S.failures sink.new ≡ S.failures sink.old) }
+    // A refusal is that of the call it comes from, where the calls before it gave their answers.
+    ensures refused { IfErr result (RefusesSearching source.now choices.now until) }
+    ensures accepted { (tree : ProgramTree) (fault : Fault) → IsAccepted tree source.now → result ≡ Err (SearchFault.Source fault) → RefusesAccepted
+        source.now tree fault }
+    ensures source { (fault : Fault) → result ≡ Err (SearchFault.Source fault) → sink.new ≡ sink.old }
+    ensures choices { (fault : ChoicesFault) → result ≡ Err (SearchFault.Choices fault) → sink.new ≡ sink.old }
+    ensures memory { result ≡ Err (SearchFault.Run RunFault.Memory) → sink.new ≡ sink.old }
+    ensures failed { result ≡ Err (SearchFault.Run RunFault.Write) → S.failures sink.old < S.failures sink.new }
+    ensures beginning { result ≡ Err (SearchFault.Run RunFault.Write) → BeginsReport source.now choices.now until limit wanted.entry (S.bytes sink.old)
+        (S.bytes sink.new) }
+{
+    outcome_stays();
+    let image = match compile(alloc, source) {
+        Ok(image) => image,
+        Err(fault) => return Err(SearchFault::Source(fault)),
+    };
+    let choices = match Choices::read(alloc, choices, until) {
+        Ok(choices) => choices,
+        Err(fault) => return Err(SearchFault::Choices(fault)),
+    };
+    let _slots = choices.slots();
+    let Ok(searched) = searching::search(alloc, &image, &choices, until, limit, wanted, steps)
+    else {
+        return Err(SearchFault::Run(RunFault::Memory));
+    };
+    match write_report(alloc, &image, &choices, limit, &searched, sink) {
+        Ok(outcome) => Ok(outcome),
+        Err(fault) => Err(SearchFault::Run(fault)),
+    }
+}
