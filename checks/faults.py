@@ -17,7 +17,7 @@ def examples(lines):
     number, text, mistakes = None, [], False
     for line in lines:
         heading = re.match(r"##(?:# (\d+))? ", line)
-        fault = re.match(r"`((?:schedule |image )?fault \d+ at .*)`$", line)
+        fault = re.match(r"`((?:schedule |image |choices )?fault \d+ at .*)`$", line)
         if heading or line.startswith("### "):
             if text and number is None:
                 yield None, "\n".join(text), None
