@@ -70,13 +70,17 @@ class Checker:
         return "\n".join(lines[1]) + "\n"
 
     def commands(self, lines, written):
-        """Each command of the program, with names in the place of the words in capitals."""
+        """Each command of the program, with names in the place of the words in capitals; of alternatives in brackets none, and each."""
         image = os.path.join(self.scratch, "tank.img")
-        names = {"SRC": SOURCE, "SCHED": SCHEDULE, "LIMIT": "1000000", "IMG": image, "NUMBER": "6"}
+        choices = self.file("choices.txt", "10000 1 20|50|90\n")
+        names = {"SRC": SOURCE, "SCHED": SCHEDULE, "LIMIT": "1000000", "IMG": image, "NUMBER": "6", "CHOICES": choices, "UNTIL": "60000", "LABEL": "nobody"}
         for line in lines:
-            words = re.split(r"  +", line)[0].split()
-            status, out, err = self.called([self.program, *(names.get(word.strip("[]"), word) for word in words[1:])])
-            self.is_so(" ".join(words), status == 0 and err == "" and (out == written or words[1] not in ("go", "run", "simulate")) and (out == "") == (words[1] == "compile"), (status, out, err))
+            shown, _, group = re.fullmatch(r"(.*?)( \[([^]]*\|[^]]*)\])?", re.split(r"  +", line)[0]).groups()
+            for form in [shown] if group is None else [shown, *(f"{shown} {words.strip()}" for words in group.split("|"))]:
+                words = form.split()
+                status, out, err = self.called([self.program, *(names.get(word.strip("[]"), word) for word in words[1:])])
+                writes = out == written if words[1] in ("go", "run", "simulate") else (out == "") == (words[1] in ("compile", "check"))
+                self.is_so(form, status == 0 and err == "" and writes, (status, out, err))
 
     def build(self):
         """`./build`, which gives the program that stands there already."""
@@ -96,7 +100,7 @@ class Checker:
         words = [line.strip() for line in manual.splitlines() if line.strip()]
         has_all = words == [re.sub(r"^\.SH ", "", line).strip() for line in shown.splitlines() if line.strip() and not re.match(r"\.(TH|nf|fi)", line)]
         completed = self.called(["bash", "-c", f". {prefix}/share/bash-completion/completions/adarun; COMP_WORDS=(adarun s); COMP_CWORD=1; _adarun; echo ${{COMPREPLY[@]}}"])
-        self.is_so("./build --install", (status, out) == (0, "") and manual != "" and has_all and completed == (0, "simulate\n", ""), (err[-1000:], completed))
+        self.is_so("./build --install", (status, out) == (0, "") and manual != "" and has_all and completed == (0, "simulate search\n", ""), (err[-1000:], completed))
 
     def run_of(self, words):
         """`./run` with as few words as it takes, and with all."""
