@@ -128,7 +128,7 @@ fn is_meant_as_name(behind: &[Token], continuations: &[Continuation]) -> bool
     has_identifier(continuations) && (continuations.len() == 1 || begins_behind_name(behind))
 }
 
-// Of a reserved word that is meant as a name.
+// Appends the line that reports a reserved word meant as a name, where one is.
 fn put_reserved_line(
     alloc: Global,
     out: &mut Vec<u8>,

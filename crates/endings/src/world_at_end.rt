@@ -87,8 +87,8 @@ fn waiting_in<R: Ready, D: Delays>(
     Ok(waiting)
 }
 
-/// Of a run of an image, for at most `limit` steps: who runs in its last world, who waits in which queue since when, by which call, and whether the clock moved
-/// at last. The steps of a machine, at most `limit`, are counted.
+/// The end of a run of an image, for at most `limit` steps: the task that runs, each that waits in a queue, since when and by which call, and whether the
+/// clock moved at last. The steps of a machine, at most `limit`, are counted.
 ///
 /// # Errors
 /// Where memory was refused.

@@ -69,7 +69,7 @@ impl Findings {
         self.count
     }
 
-    /// Those for which there was room, in the order in which they were found.
+    /// The faults for which there was room, in the order in which they were found.
     pub fn into_kept(self, alloc: Global) -> Vec<Fault>
         ensures { result.items ≡ self.kept }
     {

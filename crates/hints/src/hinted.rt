@@ -183,7 +183,7 @@ fn put_like_lines(
     }
 }
 
-// Of the construct that is recognized at the place; where none is, of a like name.
+// Appends the hint for the construct that is recognized at the place of a fault; where none is, the one that names a like name.
 fn put_advice_lines(
     out: &mut Vec<u8>,
     number: u64,
@@ -244,7 +244,7 @@ fn hints_of_text(alloc: Global, number: u64, place: u32, text: &[u8]) -> Result<
     }
 }
 
-// Of the byte at the place.
+// The hint for a byte that begins no token (RM 2.2).
 fn hints_of_byte(alloc: Global, rest: &[u8]) -> Result<Vec<u8>, AllocError>
     ensures { IfOk result (λ told. told.items ≡ behind_empty (stray_lines rest.now)) }
 {

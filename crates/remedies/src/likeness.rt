@@ -10,7 +10,7 @@ use lexer::{Delimiter, Token, TokenKind, Word};
 /// What is declared with a name like one that isn't visible. Tokens are told by how many are before them.
 #[derive(Clone, Copy)]
 pub enum Like {
-    /// The same name is introduced by a word at this token, after the place.
+    /// The declaration of the same name, after the place of the fault: the token of the word that introduces it.
     DeclaredLater(usize),
     /// This token declares a name with one letter more, less or other, or with two exchanged.
     Declared(usize),
