@@ -1,0 +1,4 @@
+pub mod Choices
+pub mod Numbers
+pub mod Schedules
+pub mod Sources

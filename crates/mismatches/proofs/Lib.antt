@@ -1,0 +1,8 @@
+mod Noted
+mod Times
+mod Chains
+mod Compound
+mod Objects
+mod Broken
+mod BrokenStatements
+mod BrokenBodies

@@ -1,0 +1,217 @@
+//! What is said of types that don't match: which types these are, and where they are declared.
+ghost use Rattle.std.specs.Prelude.{◌≡◌, IfOk, map, option_map};
+ghost use Rattle.ada_tree.specs.ProgramTree.{body_item_tree, item_tree, package_tree, program_tree};
+ghost use Rattle.types.specs.Entities.{form_value};
+ghost use Rattle.mismatches.specs.Remarks.{body_item_place, body_items_place, conflict_remark, declared_place, declared_type, item_place, items_place, named_type, operands_remark, own_named, package_remark, place_if, remark_at, type_of_form, unexpected_remark, wanted_named};
+
+use crate::conflict::{Conflict, Search};
+use crate::package::package_mismatches;
+use ada_tree::{BodyItem, Item, Package, Program};
+use expr_rules::{Own, Wanted};
+use std::alloc::{AllocError, Global};
+use types::{Scope, Subtype, TypeForm};
+
+/// A type of the language (RM A.1, D.8).
+#[derive(Clone, Copy, Debug, PartialEq, Eq)]
+pub enum PredefinedType {
+    Integer,
+    Boolean,
+    Time,
+    TimeSpan,
+}
+
+/// The type of an expression, or the one that is expected of it.
+#[derive(Clone, Copy, Debug, PartialEq, Eq)]
+pub enum NamedType {
+    /// The type whose name is declared at this place: a byte of the text, from 0 on.
+    Declared(u32),
+    Predefined(PredefinedType),
+    /// Each integer type.
+    AnyInteger,
+    /// That of a number, which is of each integer type that is expected (RM 3.4.1).
+    UniversalInteger,
+}
+
+/// What is said of types that don't match.
+#[derive(Clone, Copy, Debug, PartialEq, Eq)]
+pub enum Remark {
+    /// The type that is expected, and the one that is found.
+    Unexpected(NamedType, NamedType),
+    /// The types of the left and of the right operand of an operator, which has no meaning for them (RM 4.5).
+    Operands(NamedType, NamedType),
+    /// The actual parameter for a formal one of mode `out` or `in out` is no object (RM 6.4.1).
+    NoVariable,
+}
+
+fn place_if(number: usize, own: Option<usize>, place: u32) -> Option<u32>
+    ensures { result ≡ place_if number own place }
+{
+    match own {
+        Some(own) => { if own == number { Some(place) } else { None } }
+        None => None,
+    }
+}
+
+fn item_place(scope: &Scope, number: usize, item: &Item) -> Option<u32>
+    ensures { result ≡ item_place scope.now number (item_tree item.now) }
+{
+    match item {
+        Item::Type(declaration) => {
+            let name = &declaration.name;
+            place_if(number, scope.number_of(&name.name), name.place)
+        }
+        _ => None,
+    }
+}
+
+fn items_place(scope: &Scope, number: usize, items: &[Item]) -> Option<u32>
+    ensures { result ≡ items_place scope.now number (map item_tree items.now) }
+{
+    for item in items {
+        if let Some(place) = item_place(scope, number, item) {
+            return Some(place);
+        }
+    }
+    None
+}
+
+fn body_item_place(scope: &Scope, number: usize, item: &BodyItem) -> Option<u32>
+    ensures { result ≡ body_item_place scope.now number (body_item_tree item.now) }
+{
+    match item {
+        BodyItem::Item(item) => item_place(scope, number, item),
+        _ => None,
+    }
+}
+
+fn body_items_place(scope: &Scope, number: usize, items: &[BodyItem]) -> Option<u32>
+    ensures { result ≡ body_items_place scope.now number (map body_item_tree items.now) }
+{
+    for item in items {
+        if let Some(place) = body_item_place(scope, number, item) {
+            return Some(place);
+        }
+    }
+    None
+}
+
+fn declared_place(scope: &Scope, number: usize, package_: &Package) -> Option<u32>
+    ensures { result ≡ declared_place scope.now number (package_tree package_.now) }
+{
+    match items_place(scope, number, &package_.declaration.items) {
+        Some(place) => Some(place),
+        None => body_items_place(scope, number, &package_.body.items),
+    }
+}
+
+fn declared_type(place: Option<u32>) -> Option<NamedType>
+    ensures { result ≡ declared_type place }
+{
+    match place {
+        Some(place) => Some(NamedType::Declared(place)),
+        None => None,
+    }
+}
+
+fn type_of_form(form: Option<&TypeForm>, place: Option<u32>) -> Option<NamedType>
+    ensures { result ≡ type_of_form (option_map (λ f. form_value f.now) form.entry) place }
+{
+    match form {
+        Some(TypeForm::Boolean) => Some(NamedType::Predefined(PredefinedType::Boolean)),
+        Some(TypeForm::Time) => Some(NamedType::Predefined(PredefinedType::Time)),
+        Some(TypeForm::TimeSpan) => Some(NamedType::Predefined(PredefinedType::TimeSpan)),
+        _ => declared_type(place),
+    }
+}
+
+fn named_type(scope: &Scope, package_: &Package, number: usize) -> Option<NamedType>
+    ensures { result ≡ named_type scope.now (package_tree package_.now) number }
+{
+    if number == Subtype::INTEGER.type_number {
+        Some(NamedType::Predefined(PredefinedType::Integer))
+    } else {
+        type_of_form(scope.form(number), declared_place(scope, number, package_))
+    }
+}
+
+fn own_named(scope: &Scope, package_: &Package, own: Own) -> Option<NamedType>
+    ensures { result ≡ own_named scope.now (package_tree package_.now) own }
+{
+    match own {
+        Own::Typed(number) => named_type(scope, package_, number),
+        Own::Universal => Some(NamedType::UniversalInteger),
+        Own::Unknown => None,
+    }
+}
+
+fn wanted_named(scope: &Scope, package_: &Package, wanted: Wanted) -> Option<NamedType>
+    ensures { result ≡ wanted_named scope.now (package_tree package_.now) wanted }
+{
+    match wanted {
+        Wanted::OfType(number) => named_type(scope, package_, number),
+        Wanted::AnyInteger => Some(NamedType::AnyInteger),
+        Wanted::Anything => None,
+    }
+}
+
+fn unexpected_remark(expected: Option<NamedType>, found: Option<NamedType>) -> Option<Remark>
+    ensures { result ≡ unexpected_remark expected found }
+{
+    match (expected, found) {
+        (Some(expected), Some(found)) => Some(Remark::Unexpected(expected, found)),
+        _ => None,
+    }
+}
+
+fn operands_remark(left: Option<NamedType>, right: Option<NamedType>) -> Option<Remark>
+    ensures { result ≡ operands_remark left right }
+{
+    match (left, right) {
+        (Some(left), Some(right)) => Some(Remark::Operands(left, right)),
+        _ => None,
+    }
+}
+
+fn conflict_remark(scope: &Scope, package_: &Package, conflict: Option<Conflict>) -> Option<Remark>
+    ensures { result ≡ conflict_remark scope.now (package_tree package_.now) conflict }
+{
+    match conflict {
+        Some(Conflict::Unexpected(wanted, own)) => unexpected_remark(
+            wanted_named(scope, package_, wanted),
+            own_named(scope, package_, own),
+        ),
+        Some(Conflict::Operands(left, right)) => operands_remark(
+            own_named(scope, package_, left),
+            own_named(scope, package_, right),
+        ),
+        Some(Conflict::NoVariable) => Some(Remark::NoVariable),
+        None => None,
+    }
+}
+
+#[tactic(auto, using(crate::proofs::Noted::found_first))]
+fn package_remark(
+    alloc: Global,
+    package_: &Package,
+    place: u32,
+) -> Result<Option<Remark>, AllocError>
+    ensures { IfOk result (λ r. r ≡ package_remark (package_tree package_.now) place) }
+{
+    let mut search = Search::new(place);
+    let scope = package_mismatches(alloc, package_, &mut search)?;
+    Ok(conflict_remark(&scope, package_, search.found))
+}
+
+/// What is said of the first types at this place of the program that don't match: the place of a fault 12. None where both types aren't known, or none are
+/// expected: of a name that has no type, of the values of an if expression, in aspects.
+///
+/// # Errors
+/// Where memory was refused.
+pub fn remark_at(alloc: Global, program: &Program, place: u32) -> Result<Option<Remark>, AllocError>
+    ensures { IfOk result (λ r. r ≡ remark_at (program_tree program.now) place) }
+{
+    match &program.package_ {
+        Some(package_) => package_remark(alloc, package_, place),
+        None => Ok(None),
+    }
+}
