@@ -3,6 +3,9 @@ counted from 1, with K.wrong. What `adarun explain N` says of a number is N.expl
 below the line of its place is K.shown, and what `adarun explain 6` tells besides of a text with a fault 6, K.mistake or 6.text, is K.mistake.told or 6.text.told.
 
     faults.py FAULTS.md FOLDER
+    faults.py --write PROGRAM FAULTS.md
+
+With --write the lines of each section that has a number are made of what the program says of this number (crates/explanations has these texts by hand).
 
 A text whose first line begins with `$` is what that command writes. The text of an image's fault is changes of the image whose bytes stand under "## Images".
 """
@@ -43,6 +46,36 @@ def explanations(lines):
     return {number: "\n".join(section).rstrip("\n") + "\n" for number, section in found.items()}
 
 
+def section_of(explanation):
+    """The lines of a section, of what the program says of its number: the heading and the line that the program writes with their marks."""
+    heading, *lines = explanation.rstrip("\n").split("\n")
+    return ["### " + heading, *(re.sub(r"^([a-z ]*fault \d+ at .*)$", r"`\1`", line) for line in lines), ""]
+
+
+def with_sections(lines, explained):
+    """The lines, those of each section that has a number as it is explained."""
+    made, skipped = [], False
+    for line in lines:
+        if line.startswith("##"):
+            heading = re.match(r"### (\d+) ", line)
+            skipped = bool(heading)
+            if heading:
+                made += section_of(explained(heading[1]))
+        if not skipped:
+            made.append(line)
+    return made
+
+
+def write_sections(program, source):
+    def explained(number):
+        return subprocess.run([program, "explain", number], capture_output=True, text=True, check=True).stdout
+
+    with open(source, encoding="utf-8") as file:
+        lines = file.read().split("\n")
+    with open(source, "w", encoding="utf-8") as file:
+        file.write("\n".join(with_sections(lines, explained)).rstrip("\n") + "\n")
+
+
 def told(lines):
     """What is told of each text of a source, in the order of these texts: hints and what is open, and what could stand at the place."""
     found = []
@@ -74,6 +107,9 @@ def content_of(image, text, fault):
     return "text", text.encode()
 
 
+if sys.argv[1] == "--write":
+    write_sections(*sys.argv[2:])
+    sys.exit()
 source, folder = sys.argv[1:]
 with open(source, encoding="utf-8") as file:
     lines = file.read().split("\n")

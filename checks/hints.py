@@ -2,6 +2,9 @@
 """Gives the program what the tables of docs/FAULTS.md, "What to write instead", have in their first columns, and compares what it says with the second ones.
 
     hints.py PROGRAM FAULTS.md SCRATCH
+    hints.py --write PROGRAM FAULTS.md SCRATCH
+
+With --write the second columns are made of what the program says (crates/remedies has these texts by hand).
 
 Each is put into a text by the heading of its table. `simulate` refuses the text, and of the lines that it writes the only one that begins with `hint: ` goes on
 with what the second column says.
@@ -22,9 +25,9 @@ FRAMES = {
 
 
 def rows_of(lines):
-    """What each row of the tables has written in its text, and what is to be said of it."""
+    """The number of the line of each row of the tables, what the row has written in its text, and what is to be said of it."""
     frame = None
-    for line in lines:
+    for number, line in enumerate(lines):
         heading = re.match(r"\| (\w+) \| what to write \|$", line)
         row = re.match(r"\| `(.*?)` \| (.*) \|$", line)
         if heading:
@@ -32,23 +35,42 @@ def rows_of(lines):
         elif not line.startswith("|"):
             frame = None
         elif row and frame:
-            yield frame.replace("{}", row[1]), row[2]
+            yield number, frame.replace("{}", row[1]), row[2]
+
+
+def said_of(program, source, text):
+    """The status of the program on a text, the hints that it gives, and all that it says."""
+    with open(source, "w", encoding="utf-8") as file:
+        file.write(text)
+    run = subprocess.run([program, "simulate", source], capture_output=True, text=True, check=False)
+    return run.returncode, [line.removeprefix("hint: ") for line in run.stderr.split("\n") if line.startswith("hint: ")], run.stderr.strip()
+
+
+def write_rows(program, faults, source):
+    with open(faults, encoding="utf-8") as file:
+        lines = file.read().split("\n")
+    for number, text, expected in rows_of(lines):
+        _status, hints, _said = said_of(program, source, text)
+        lines[number] = lines[number].removesuffix(f"{expected} |") + f"{' '.join(hints)} |"
+    with open(faults, "w", encoding="utf-8") as file:
+        file.write("\n".join(lines))
 
 
 def main():
-    program, faults, scratch = sys.argv[1:]
+    words = [word for word in sys.argv[1:] if word != "--write"]
+    program, faults, scratch = words
     source = os.path.join(scratch, "hinted.adb")
+    if len(words) < len(sys.argv) - 1:
+        write_rows(program, faults, source)
+        return 0
     with open(faults, encoding="utf-8") as file:
         rows = list(rows_of(file.read().split("\n")))
     wrong = 0
-    for text, expected in rows:
-        with open(source, "w", encoding="utf-8") as file:
-            file.write(text)
-        run = subprocess.run([program, "simulate", source], capture_output=True, text=True, check=False)
-        hints = [line.removeprefix("hint: ") for line in run.stderr.split("\n") if line.startswith("hint: ")]
-        if run.returncode != 2 or hints != [expected]:
+    for _number, text, expected in rows:
+        status, hints, said = said_of(program, source, text)
+        if status != 2 or hints != [expected]:
             wrong += 1
-            print(f"hints: {expected!r} was expected, {run.stderr.strip()} was told of\n{text}", file=sys.stderr)
+            print(f"hints: {expected!r} was expected, {said} was said of\n{text}", file=sys.stderr)
     print(f"hints: of {len(rows) - wrong} of {len(rows)} texts it is told what to write instead")
     return 1 if wrong or not rows else 0
 

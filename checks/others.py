@@ -42,8 +42,10 @@ def main():
             subprocess.run([program, *words], capture_output=True, text=True, check=False)
             for words in (["explain", number], ["explain", number, source], ["go", source, "/dev/null", "1000"])
         )
-        expected = alone.stdout + (f"\nthe other one is at {other}\n" if other else "")
-        if (told.stdout, told.returncode, run.stderr) != (expected, 0, f"fault {number} at {place}\n"):
+        behind = told.stdout.removeprefix(alone.stdout).split("\n")
+        said = [line for line in behind if line and not line.startswith("hint: ")]
+        expected = [f"the other one is at {other}"] if other else []
+        if not told.stdout.startswith(alone.stdout) or (said, told.returncode, run.stderr) != (expected, 0, f"fault {number} at {place}\n"):
             wrong += 1
             print(f"others: {number} at {place}, and {other} was expected, {run.stderr.strip()}, {told.stdout[len(alone.stdout):].strip()} was told of\n{text}", file=sys.stderr)
     print(f"others: of {len(rows) - wrong} of {len(rows)} texts the other place is told as it should be")

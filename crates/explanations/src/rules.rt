@@ -92,8 +92,9 @@ where it stands (RM 4.5, 8.6).
 
 fault 12 at 8:45
 
-The place is the expression, which for an operator is the whole operation. Convert between integer \
-types: `N := Integer (Digit);`.
+The place is the expression, which for an operator is the whole operation; `adarun explain 12 SRC` \
+gives the type that is expected and the one that is found, and where they are declared. Convert \
+between integer types: `N := Integer (Digit);`.
 ";
 
 const NOT_A_VARIABLE: &str = "\
@@ -187,7 +188,8 @@ a value.
 
 fault 16 at 7:36
 
-The place is the name that is called. Write `Twice (3)`; there are no default values.
+The place is the name that is called; `adarun explain 16 SRC` says how many actual and formal \
+parameters there are. Write `Twice (3)`; there are no default values.
 ";
 
 const WRONG_CHOICES: &str = "\
@@ -239,9 +241,9 @@ a body.
 
 fault 18 at 4:14
 
-The place is the name in the declaration where the body is missing, and else the name of the body: \
-then `adarun explain 18 SRC` tells where the declaration is, or the body in front that has the \
-name. Write the body of `Walk`.
+The place is the name in the declaration where the body is missing, and else the name of the body; \
+`adarun explain 18 SRC` says which of these cases it is, and where the declaration is, or the \
+earlier body that has the name. Write the body of `Walk`.
 ";
 
 const MISPLACED_STATEMENT: &str = "\
@@ -333,7 +335,8 @@ Behind the `end` of a body, a specification, a task or a protected object stands
 
 fault 22 at 2:35
 
-The place is the name behind `end`. Write `end Main;`.
+The place is the name behind `end`; `adarun explain 22 SRC` gives the name that is wanted. Write \
+`end Main;`.
 ";
 
 const LIMIT_PASSED: &str = "\

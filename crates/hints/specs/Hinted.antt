@@ -3,7 +3,6 @@
 use Rattle.std.specs.Prelude.{◌≡◌, ◌≢◌, ◌⊎◌, ℕ, List, [], ◌∷◌, ◌++◌, Option, Some, None, codes, drop, if◌then◌else◌, nat_eq, slice_get}
 use Rattle.base.specs.declared.faults.TheConstants.{NAME_NOT_VISIBLE, STRAY_CHARACTER, UNEXPECTED_TOKEN}
 use Rattle.lexer.specs.Spelling.{Spells}
-use Rattle.lexer.specs.declared.token.Token.{Token}
 use Rattle.ada_tree.specs.Language.{Tokens}
 use Rattle.remedies.specs.Closings.{closing_of, part_of}
 use Rattle.remedies.specs.Likeness.{like_at, name_of}
@@ -15,16 +14,11 @@ use Rattle.remedies.specs.declared.construct.Construct.{Construct}
 use Rattle.remedies.specs.declared.likeness.Like.{Like}
 use Rattle.remedies.specs.declared.likeness.Like.TheVariants as likes
 use Rattle.remedies.specs.declared.opening.Opening.{Opening}
-use Rattle.hints.specs.Places.{place_text}
+use Rattle.hints.specs.Places.{behind_empty, name_or_none, place_text, start_of}
 use Rattle.hints.specs.Told.{IsToldAt, IsUnspelled}
 
 abbrev pub hint_line : List ℕ → List ℕ
 hint_line words = codes "hint: " ++ words ++ codes "\n"
-
--- where the token with so many in front begins; 0 where there is none
-abbrev pub start_of : Option Token → ℕ
-start_of (Some t) = t.start
-start_of None = 0
 
 -- what is open, and where the token begins that opened it
 unfoldable pub opened_part : (text : List ℕ) → Opening → (place : ℕ) → List ℕ
@@ -40,11 +34,6 @@ opening_line text o place = codes "open here: " ++ opened_part text o place ++ c
 abbrev pub opening_lines : (text : List ℕ) → Tokens → Option Opening → List ℕ
 opening_lines text ts (Some o) = opening_line text o (start_of (slice_get ts o.before))
 opening_lines text ts None = []
-
--- the name of an identifier; none of another token
-abbrev pub name_or_none : Option (List ℕ) → List ℕ
-name_or_none (Some name) = name
-name_or_none None = []
 
 -- the name of the token with so many before it, and where it is
 unfoldable pub declared_part : (text : List ℕ) → Tokens → ℕ → List ℕ
@@ -72,11 +61,6 @@ advice_lines number place text ts None = like_lines number place text ts
 abbrev pub stray_lines : List ℕ → List ℕ
 stray_lines [] = []
 stray_lines (c ∷ rest) = hint_line (of_byte c)
-
--- lines that are not none stand behind an empty one
-abbrev pub behind_empty : List ℕ → List ℕ
-behind_empty [] = []
-behind_empty (c ∷ lines) = 10 ∷ c ∷ lines
 
 -- of a fault of the grammar alone it is said what is open
 abbrev pub unclosed_lines : (number place : ℕ) → (text : List ℕ) → Tokens → List ℕ

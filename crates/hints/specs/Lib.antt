@@ -1,5 +1,11 @@
 pub mod Places
-pub mod Told
+pub mod Calls
+pub mod Found
+pub mod EndNames
+pub mod BodyFaults
 pub mod Stopped
+pub mod Mismatched
+pub mod Told
+pub mod ParsedTexts
 pub mod Hinted
 pub mod Explained

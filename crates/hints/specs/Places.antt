@@ -1,5 +1,6 @@
 -- Places of a text, and telling one of them.
 use Rattle.std.specs.Prelude.{ℕ, suc, List, [], ◌∷◌, ◌++◌, Option, Some, None, codes, decimal, if◌then◌else◌, nat_eq, take}
+use Rattle.lexer.specs.declared.token.Token.{Token}
 use Rattle.lexer.specs.declared.token.TokenKind.{TokenKind}
 use Rattle.lexer.specs.declared.token.TokenKind.TheVariants as kinds
 use Rattle.ada_tree.specs.Language.{Tokens}
@@ -14,14 +15,24 @@ abbrev pub column_from : ℕ → List ℕ → ℕ
 column_from column [] = column
 column_from column (c ∷ rest) = column_from (if nat_eq c 10 then 1 else suc column) rest
 
+-- where the last line begins of a text that begins at this place, where the line that it begins on starts
+abbrev pub line_start : (start at : ℕ) → List ℕ → ℕ
+line_start start at [] = start
+line_start start at (c ∷ rest) = line_start (if nat_eq c 10 then suc at else start) (suc at) rest
+
 -- the line and the column of a place, both from 1 and in bytes
 abbrev pub place_text : List ℕ → ℕ → List ℕ
 place_text text place = decimal (line_from 1 (take place text)) ++ codes ":" ++ decimal (column_from 1 (take place text))
 
--- the line that tells of the other place of a fault, behind an empty one; nothing where there is none
+-- the line that gives the other place of a fault; nothing where there is none
 abbrev pub other_line : List ℕ → Option ℕ → List ℕ
-other_line text (Some place) = codes "\nthe other one is at " ++ place_text text place ++ codes "\n"
+other_line text (Some place) = codes "the other one is at " ++ place_text text place ++ codes "\n"
 other_line text None = []
+
+-- an empty line, and behind it these lines; nothing where there are none
+abbrev pub behind_empty : List ℕ → List ℕ
+behind_empty [] = []
+behind_empty (c ∷ lines) = 10 ∷ c ∷ lines
 
 -- the name of the identifier that begins at the place, if one does
 abbrev pub name_of_kind : TokenKind → Option (List ℕ)
@@ -31,3 +42,13 @@ name_of_kind kind = None
 abbrev pub name_at : ℕ → Tokens → Option (List ℕ)
 name_at place [] = None
 name_at place (t ∷ tokens) = if nat_eq t.start place then name_of_kind t.kind else name_at place tokens
+
+-- where the token with so many in front begins; 0 where there is none
+abbrev pub start_of : Option Token → ℕ
+start_of (Some t) = t.start
+start_of None = 0
+
+-- the name of an identifier; none of another token
+abbrev pub name_or_none : Option (List ℕ) → List ℕ
+name_or_none (Some name) = name
+name_or_none None = []

@@ -1,12 +1,13 @@
 //! What to write instead, what is declared with a name like one that isn't visible, and what is open where an `end` is wrong or missing.
-ghost use Rattle.std.specs.Prelude.{◌≡◌, ◌++◌, drop, IfOk, OnOk, slice_get};
-ghost use Rattle.hints.specs.Hinted.{AreHintsAt, AreHintsOf, HintsOfTokensOrNone, advice_lines, behind_empty, closing_part, declared_part, hint_line, like_line, like_lines, like_words, name_or_none, opened_part, opening_line, opening_lines, start_of, stray_lines, unclosed_lines};
-ghost use Rattle.remedies.specs.Likeness.{name_of};
-ghost use Rattle.remedies.specs.Recognition.{construct_at, kind_at};
+ghost use Rattle.std.specs.Prelude.{◌≡◌, ◌++◌, drop, IfOk, OnOk};
+ghost use Rattle.hints.specs.Hinted.{AreHintsAt, AreHintsOf, HintsOfTokensOrNone, advice_lines, closing_part, declared_part, hint_line, like_line, like_lines, like_words, opened_part, opening_line, opening_lines, stray_lines, unclosed_lines};
+ghost use Rattle.hints.specs.Places.{behind_empty};
+ghost use Rattle.remedies.specs.Recognition.{construct_at};
 
-use crate::others::put_place;
-use base::faults::{MEMORY_REFUSED, NAME_NOT_VISIBLE, STRAY_CHARACTER, UNEXPECTED_TOKEN};
-use lexer::{Token, TokenKind, tokens};
+use crate::parsed_text::ParsedText;
+use crate::places::{behind_empty, name_or_none, put_place, start_at};
+use base::faults::{NAME_NOT_VISIBLE, STRAY_CHARACTER, UNEXPECTED_TOKEN};
+use lexer::Token;
 use remedies::{
     Construct, Like, Opening, closing_of, construct_at, like_at, name_text, of_byte, part_of,
     unclosed_at,
@@ -19,16 +20,6 @@ fn put_hint_line(out: &mut Vec<u8>, words: &str) -> Result<(), AllocError>
     out.extend_from_slice(b"hint: ")?;
     out.extend_from_slice(words.as_bytes())?;
     out.extend_from_slice(b"\n")
-}
-
-// Where the token with so many in front begins; 0 where there is none.
-fn start_at(number: usize, list: &[Token]) -> u32
-    ensures { result ≡ start_of (slice_get list.now number) }
-{
-    match list.get(number) {
-        Some(token) => token.start,
-        None => 0,
-    }
 }
 
 #[tactic(auto, unfolding(crate::specs::Hinted::opened_part))]
@@ -95,21 +86,6 @@ fn put_unclosed_lines(
         put_opening_lines(out, text, list, unclosed_at(alloc, place, list)?)
     } else {
         Ok(())
-    }
-}
-
-// The name of an identifier; none of another token.
-fn name_or_none(number: usize, list: &[Token]) -> &[u8]
-    ensures { result.now ≡ name_or_none (name_of (kind_at number list.now)) }
-{
-    match list.get(number) {
-        Some(
-            Token {
-                kind: TokenKind::Identifier(name),
-                ..
-            },
-        ) => name.as_bytes(),
-        _ => &[],
     }
 }
 
@@ -200,18 +176,6 @@ fn put_advice_lines(
     }
 }
 
-// The lines behind an empty one, if there are any.
-fn behind_empty(alloc: Global, lines: &[u8]) -> Result<Vec<u8>, AllocError>
-    ensures { IfOk result (λ told. told.items ≡ behind_empty lines.now) }
-{
-    let mut told = Vec::new(alloc);
-    if !lines.is_empty() {
-        told.extend_from_slice(b"\n")?;
-        told.extend_from_slice(lines)?;
-    }
-    Ok(told)
-}
-
 fn hints_of_tokens(
     alloc: Global,
     number: u64,
@@ -229,18 +193,17 @@ fn hints_of_tokens(
     behind_empty(alloc, &lines)
 }
 
-fn hints_of_text(alloc: Global, number: u64, place: u32, text: &[u8]) -> Result<Vec<u8>, AllocError>
+fn hints_of_text(
+    alloc: Global,
+    number: u64,
+    place: u32,
+    text: &ParsedText,
+) -> Result<Vec<u8>, AllocError>
     ensures { IfOk result (λ told. HintsOfTokensOrNone number place text.now told.items) }
 {
-    match tokens(alloc, text) {
-        Ok(list) => hints_of_tokens(alloc, number, place, text, &list),
-        Err(fault) => {
-            if fault.number == MEMORY_REFUSED {
-                Err(AllocError)
-            } else {
-                Ok(Vec::new(alloc))
-            }
-        }
+    match text.tokens() {
+        Some(list) => hints_of_tokens(alloc, number, place, text.text(), list),
+        None => Ok(Vec::new(alloc)),
     }
 }
 
@@ -256,10 +219,16 @@ fn hints_of_byte(alloc: Global, rest: &[u8]) -> Result<Vec<u8>, AllocError>
     behind_empty(alloc, &lines)
 }
 
-fn hints_of(alloc: Global, number: u64, place: u32, text: &[u8]) -> Result<Vec<u8>, AllocError>
+fn hints_of(
+    alloc: Global,
+    number: u64,
+    place: u32,
+    text: &ParsedText,
+) -> Result<Vec<u8>, AllocError>
     ensures { IfOk result (λ told. AreHintsOf number place text.now told.items) }
 {
     if number == u64::from(STRAY_CHARACTER) {
+        let text = text.text();
         hints_of_byte(alloc, &text[(place as usize).min(text.len())..])
     } else {
         hints_of_text(alloc, number, place, text)
@@ -275,7 +244,7 @@ pub fn hints_at(
     alloc: Global,
     number: u64,
     place: Option<u32>,
-    text: &[u8],
+    text: &ParsedText,
 ) -> Result<Vec<u8>, AllocError>
     ensures { IfOk result (λ told. AreHintsAt number place text.now told.items) }
 {

@@ -1,15 +1,18 @@
 //! What is told of one text.
 ghost use Rattle.std.specs.Prelude.{option_map, IfOk};
+ghost use Rattle.lexer.specs.Spelling.{Spells};
+ghost use Rattle.parser.specs.Parsing.{IsFaulty};
 ghost use Rattle.hints.specs.Explained.{IsExplained};
 ghost use Rattle.hints.specs.Told.{IsToldAt, IsToldOf, TellsAt, TellsOrNot};
 
 use crate::hinted::hints_at;
-use crate::others::{Pair, told_of_other};
-use base::faults::{DECLARED_TWICE, MEMORY_REFUSED, UNEXPECTED_TOKEN, UNMATCHED_BODY};
+use crate::parsed_text::{ParsedText, Reading};
+use crate::subjects::{subject_of, told_of_subject};
+use base::faults::UNEXPECTED_TOKEN;
 use continuations::told;
 use explanations::explanation;
-use lexer::{Token, tokens};
-use parser::{longest_beginning, parse};
+use lexer::{Fault, Token};
+use parser::longest_beginning;
 use std::alloc::{AllocError, Global};
 
 // Of tokens without a tree: what could stand at the first place where no derivation goes on.
@@ -21,42 +24,40 @@ fn told_of_tokens(alloc: Global, list: &[Token]) -> Result<Vec<u8>, AllocError>
     told(alloc, front, back)
 }
 
-// Of a text with a token that cannot stand where it does; nothing of another one.
-fn told_of_text(alloc: Global, text: &[u8]) -> Result<Vec<u8>, AllocError>
+// What could stand at the place of the fault of these tokens, which spell the text; nothing of another fault than a token that cannot stand where it does.
+fn told_of_fault(
+    alloc: Global,
+    text: &ParsedText,
+    list: &[Token],
+    fault: &Fault,
+) -> Result<Vec<u8>, AllocError>
+    requires spells { Spells text.now list.now }
+    requires faulty { IsFaulty list.now fault.now }
     ensures { IfOk result (λ told. TellsOrNot text.now told.items) }
 {
-    let list = match tokens(alloc, text) {
-        Ok(list) => list,
-        Err(fault) => {
-            if fault.number == MEMORY_REFUSED {
-                return Err(AllocError);
-            }
-            return Ok(Vec::new(alloc));
-        }
-    };
-    match parse(alloc, &list) {
-        Ok(_) => Ok(Vec::new(alloc)),
-        Err(fault) => {
-            if fault.number == MEMORY_REFUSED {
-                Err(AllocError)
-            } else if fault.number == UNEXPECTED_TOKEN {
-                told_of_tokens(alloc, &list)
-            } else {
-                Ok(Vec::new(alloc))
-            }
-        }
+    if fault.number == UNEXPECTED_TOKEN {
+        told_of_tokens(alloc, list)
+    } else {
+        Ok(Vec::new(alloc))
     }
 }
 
-fn told_of(alloc: Global, number: u64, place: u32, text: &[u8]) -> Result<Vec<u8>, AllocError>
+fn told_of_text(alloc: Global, text: &ParsedText) -> Result<Vec<u8>, AllocError>
+    ensures { IfOk result (λ told. TellsOrNot text.now told.items) }
+{
+    match text.reading() {
+        Reading::Treeless { tokens, fault } => told_of_fault(alloc, text, tokens, fault),
+        Reading::Misspelled | Reading::Derived { .. } => Ok(Vec::new(alloc)),
+    }
+}
+
+fn told_of(alloc: Global, number: u64, place: u32, text: &ParsedText) -> Result<Vec<u8>, AllocError>
     ensures { IfOk result (λ told. IsToldOf number place text.now told.items) }
 {
     if number == u64::from(UNEXPECTED_TOKEN) {
         told_of_text(alloc, text)
-    } else if number == u64::from(DECLARED_TWICE) {
-        told_of_other(alloc, Pair::Declarations, text, place)
-    } else if number == u64::from(UNMATCHED_BODY) {
-        told_of_other(alloc, Pair::Bodies, text, place)
+    } else if let Some(subject) = subject_of(number) {
+        told_of_subject(alloc, subject, text, place)
     } else {
         Ok(Vec::new(alloc))
     }
@@ -71,7 +72,7 @@ pub fn told_at(
     alloc: Global,
     number: u64,
     place: Option<u32>,
-    text: &[u8],
+    text: &ParsedText,
 ) -> Result<Vec<u8>, AllocError>
     ensures { IfOk result (λ told. IsToldAt number place text.now told.items) }
 {
@@ -98,10 +99,11 @@ pub fn explained(
     let Some(explanation) = explanation(number) else {
         return Ok(None);
     };
+    let text = ParsedText::read(alloc, text)?;
     let mut whole = explanation.as_bytes().to_vec(alloc)?;
-    let hints = hints_at(alloc, number, place, text)?;
+    let hints = hints_at(alloc, number, place, &text)?;
     whole.extend_from_slice(&hints)?;
-    let told = told_at(alloc, number, place, text)?;
+    let told = told_at(alloc, number, place, &text)?;
     whole.extend_from_slice(&told)?;
     Ok(Some(whole))
 }

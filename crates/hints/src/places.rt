@@ -1,8 +1,12 @@
 //! Places of a text.
-ghost use Rattle.std.specs.Prelude.{◌≡◌, option_map};
-ghost use Rattle.hints.specs.Places.{column_from, line_from, name_at, name_of_kind};
+ghost use Rattle.std.specs.Prelude.{◌≡◌, ◌≤◌, ◌++◌, IfOk, length, OnOk, option_map, slice_get};
+ghost use Rattle.hints.specs.Places.{behind_empty, column_from, line_from, line_start, name_at, name_of_kind, name_or_none, place_text, start_of};
+ghost use Rattle.remedies.specs.Likeness.{name_of};
+ghost use Rattle.remedies.specs.Recognition.{kind_at};
 
+use itoa::Buffer;
 use lexer::{Text, Token, TokenKind};
+use std::alloc::{AllocError, Global};
 
 fn name_of_kind(kind: &TokenKind) -> Option<&Text>
     ensures { option_map (λ name. name.now) result ≡ name_of_kind kind.now }
@@ -38,17 +42,77 @@ pub fn line_behind(text: &[u8]) -> usize
     line
 }
 
+/// Where the line begins on which the text ends.
+pub fn line_start(text: &[u8]) -> usize
+    ensures start { result ≡ line_start 0 0 text.now }
+    ensures most { result ≤ length text.now }
+{
+    let mut start = text.len();
+    while start > 0 {
+        if text[start - 1] == b'\n' {
+            return start;
+        }
+        start -= 1;
+    }
+    0
+}
+
 /// The column behind the text, from 1 and in bytes.
 pub fn column_behind(text: &[u8]) -> usize
     ensures { result ≡ column_from 1 text.now }
 {
-    let mut column = 1usize;
-    for c in text {
-        if *c == b'\n' {
-            column = 1;
-        } else {
-            column += 1;
-        }
+    text.len() - line_start(text) + 1
+}
+
+/// Adds the line and the column of a place of the text.
+///
+/// # Errors
+/// Where memory was refused.
+pub fn put_place(out: &mut Vec<u8>, text: &[u8], place: u32) -> Result<(), AllocError>
+    ensures { OnOk result (out.new.items ≡ out.old.items ++ place_text text.now place) }
+{
+    let front = &text[..(place as usize).min(text.len())];
+    out.extend_from_slice(Buffer::new().format(line_behind(front)).as_bytes())?;
+    out.extend_from_slice(b":")?;
+    out.extend_from_slice(Buffer::new().format(column_behind(front)).as_bytes())
+}
+
+/// An empty line, and behind it the lines; nothing where there are none.
+///
+/// # Errors
+/// Where memory was refused.
+pub(crate) fn behind_empty(alloc: Global, lines: &[u8]) -> Result<Vec<u8>, AllocError>
+    ensures { IfOk result (λ told. told.items ≡ behind_empty lines.now) }
+{
+    let mut told = Vec::new(alloc);
+    if !lines.is_empty() {
+        told.extend_from_slice(b"\n")?;
+        told.extend_from_slice(lines)?;
     }
-    column
+    Ok(told)
+}
+
+/// Where the token with so many in front begins; 0 where there is none.
+pub(crate) fn start_at(number: usize, list: &[Token]) -> u32
+    ensures { result ≡ start_of (slice_get list.now number) }
+{
+    match list.get(number) {
+        Some(token) => token.start,
+        None => 0,
+    }
+}
+
+/// The name of an identifier; none of another token.
+pub(crate) fn name_or_none(number: usize, list: &[Token]) -> &[u8]
+    ensures { result.now ≡ name_or_none (name_of (kind_at number list.now)) }
+{
+    match list.get(number) {
+        Some(
+            Token {
+                kind: TokenKind::Identifier(name),
+                ..
+            },
+        ) => name.as_bytes(),
+        _ => &[],
+    }
 }

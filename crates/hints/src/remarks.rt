@@ -4,6 +4,7 @@ ghost use Rattle.hints.specs.Hinted.{AreRemarksAt};
 
 use crate::hinted::hints_at;
 use crate::hints::told_at;
+use crate::parsed_text::ParsedText;
 use std::alloc::{AllocError, Global};
 
 // Adds the lines but for the first one, which is empty.
@@ -25,7 +26,7 @@ pub fn remarks_at(
     alloc: Global,
     number: u64,
     place: Option<u32>,
-    text: &[u8],
+    text: &ParsedText,
 ) -> Result<Vec<u8>, AllocError>
     ensures { IfOk result (λ remarks. AreRemarksAt number place text.now remarks.items) }
 {

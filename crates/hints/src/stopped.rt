@@ -2,8 +2,7 @@
 ghost use Rattle.std.specs.Prelude.{◌≡◌, ◌++◌, decimal, IfOk, OnOk};
 ghost use Rattle.hints.specs.Stopped.{frame_line, instructions_line, named_place, rows_line};
 
-use crate::others::put_place;
-use crate::places::name_at;
+use crate::places::{name_at, put_place};
 use base::limits::{FRAME_WORDS, INSTRUCTIONS, ROWS};
 use itoa::Buffer;
 use lexer::Token;

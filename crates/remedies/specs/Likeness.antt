@@ -64,11 +64,11 @@ kind_before (suc n) ts = kind_at n ts
 
 -- the token with so many before it is this name, which a word introduces
 abbrev pub introduces_same : List ℕ → List Token → ℕ → Bool
-introduces_same name ts n = is_same name (name_of (kind_at n ts)) && introduces (kind_before n ts)
+introduces_same name ts n = introduces (kind_before n ts) && is_same name (name_of (kind_at n ts))
 
 -- it is a name like this one, which a word introduces, or which a colon follows
 abbrev pub declares_near : List ℕ → List Token → ℕ → Bool
-declares_near name ts n = is_near name (name_of (kind_at n ts)) && (introduces (kind_before n ts) || is_colon (kind_at (suc n) ts))
+declares_near name ts n = (introduces (kind_before n ts) || is_colon (kind_at (suc n) ts)) && is_near name (name_of (kind_at n ts))
 
 -- the first of so many numbers from this one on of which it is so
 abbrev pub first_where : (ℕ → Bool) → (from count : ℕ) → Option ℕ

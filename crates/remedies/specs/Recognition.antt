@@ -66,12 +66,16 @@ abbrev pub kind_in_front : Option Opening → List Token → Option TokenKind
 kind_in_front (Some o) ts = if nat_lt 0 o.before then kind_at (o.before - 1) ts else None
 kind_in_front None ts = None
 
--- a fault of this number between two parts of a text's tokens, where this is open
-abbrev pub fits : Row → (fault : ℕ) → (front back : List Token) → Option Opening → Bool
-fits r fault front back o =
-    nat_eq r.fault fault && is_in r.region o && is_part r.opener (kind_in_front o front)
+-- a fault of this number between two parts of a text's tokens, by the tokens next to it alone
+abbrev pub fits_tokens : Row → (fault : ℕ) → (front back : List Token) → Bool
+fits_tokens r fault front back =
+    nat_eq r.fault fault
     && is_part r.third_last (kind_from_end 2 front) && is_part r.second_last (kind_from_end 1 front) && is_part r.last (kind_from_end 0 front)
     && is_part r.here (kind_at 0 back) && is_part r.second (kind_at 1 back) && is_part r.third (kind_at 2 back)
+
+-- a fault of this number between two parts of a text's tokens, where this is open
+abbrev pub fits : Row → (fault : ℕ) → (front back : List Token) → Option Opening → Bool
+fits r fault front back o = fits_tokens r fault front back && is_in r.region o && is_part r.opener (kind_in_front o front)
 
 abbrev pub first_fitting : List Row → (fault : ℕ) → (front back : List Token) → Option Opening → Option Construct
 first_fitting [] fault front back o = None

@@ -221,6 +221,22 @@ pub enum Construct {
     Requeue,
     /// A case without others (RM 5.4).
     CaseWithoutOthers,
+    /// Another spelling of `elsif`.
+    ElsifWord,
+    /// An `exit` with `if` (RM 5.7).
+    ExitCondition,
+    /// A colon after a choice (RM 5.4, 11.2).
+    ArrowMissing,
+    /// The word `range` in a loop (RM 5.5).
+    RangeAfterIn,
+    /// The word `do` before the statements of a loop.
+    LoopForDo,
+    /// The mode `in out` as one word (RM 6.1).
+    InOutWords,
+    /// A message of a raised exception (RM 11.3).
+    RaiseMessage,
+    /// A declaration that begins with the type, as in C.
+    TypeFirst,
 }
 
 impl Construct {
@@ -337,6 +353,14 @@ impl Construct {
             Construct::Abort => ABORT,
             Construct::Requeue => REQUEUE,
             Construct::CaseWithoutOthers => CASE_WITHOUT_OTHERS,
+            Construct::ElsifWord => ELSIF_WORD,
+            Construct::ExitCondition => EXIT_CONDITION,
+            Construct::ArrowMissing => ARROW_MISSING,
+            Construct::RangeAfterIn => RANGE_AFTER_IN,
+            Construct::LoopForDo => LOOP_FOR_DO,
+            Construct::InOutWords => IN_OUT_WORDS,
+            Construct::RaiseMessage => RAISE_MESSAGE,
+            Construct::TypeFirst => TYPE_FIRST,
         }
     }
 }
@@ -711,3 +735,28 @@ There is no requeue: let the caller call again.";
 const CASE_WITHOUT_OTHERS: &str = "\
 A `case` ends with `when others =>`, also where the other choices have all values: write `when \
 others => null;`.";
+
+const ELSIF_WORD: &str = "\
+The word is `elsif`: write `elsif N = 2 then`.";
+
+const EXIT_CONDITION: &str = "\
+Write `exit when N > 2;`, or `if N > 2 then exit; end if;`.";
+
+const ARROW_MISSING: &str = "\
+An arrow follows a choice: write `when 1 =>`, `when others =>`.";
+
+const RANGE_AFTER_IN: &str = "\
+The bounds follow `in`: write `for I in 1 .. 3 loop`.";
+
+const LOOP_FOR_DO: &str = "\
+The statements of a loop are between `loop` and `end loop;`: write `loop` for `do`.";
+
+const IN_OUT_WORDS: &str = "\
+The mode has two words: write `in out`.";
+
+const RAISE_MESSAGE: &str = "\
+An exception has no message: write `raise Bad;`, before it `Put (\"bad\", 1);` for what is \
+to be written.";
+
+const TYPE_FIRST: &str = "\
+The name comes first: write `Count : Integer := 3;`.";

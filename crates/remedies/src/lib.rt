@@ -14,8 +14,9 @@ mod stray;
 
 pub use closing::{closing_of, part_of};
 pub use construct::Construct;
-pub use likeness::{Like, like_at};
+pub use likeness::{Like, first_same, like_at, name_of};
 pub use name::{Name, name_text};
 pub use opening::{Opened, Opening};
-pub use recognition::{construct_at, unclosed_at};
+pub use recognition::{construct_at, count_before, unclosed_at};
+pub use row::kind_at;
 pub use stray::of_byte;

@@ -79,8 +79,8 @@ fn is_like(name: &[u8], other: &[u8]) -> bool
     is_changed(&name[same..], &other[same..])
 }
 
-// The name of an identifier.
-fn name_of(kind: Option<&TokenKind>) -> Option<&[u8]>
+/// The name of an identifier; None of another token.
+pub fn name_of(kind: Option<&TokenKind>) -> Option<&[u8]>
     ensures { option_map (λ n. n.now) result ≡ name_of (option_map (λ k. k.now) kind.entry) }
 {
     match kind {
@@ -147,7 +147,7 @@ fn is_near(name: &[u8], other: Option<&[u8]>) -> bool
 fn introduces_same(name: &[u8], tokens: &[Token], number: usize) -> bool
     ensures { result ≡ introduces_same name.now tokens.now number }
 {
-    is_same(name, name_of(kind_at(number, tokens))) && introduces(kind_before(number, tokens))
+    introduces(kind_before(number, tokens)) && is_same(name, name_of(kind_at(number, tokens)))
 }
 
 // Whether it is a name like this one, which a word introduces, or which a colon follows.
@@ -155,12 +155,13 @@ fn declares_near(name: &[u8], tokens: &[Token], number: usize) -> bool
     requires { number ≤ length tokens.now }
     ensures { result ≡ declares_near name.now tokens.now number }
 {
-    is_near(name, name_of(kind_at(number, tokens)))
-        && (introduces(kind_before(number, tokens)) || is_colon(kind_at(number + 1, tokens)))
+    (introduces(kind_before(number, tokens)) || is_colon(kind_at(number + 1, tokens)))
+        && is_near(name, name_of(kind_at(number, tokens)))
 }
 
-// The first token from this one on that is the name, and introduced by a word.
-fn first_same(name: &[u8], tokens: &[Token], from: usize) -> Option<usize>
+/// The first token from the one with so many before it on that is the name, and introduced by a word as `procedure` or `task`: where it is declared, or has
+/// its body; None where there is none.
+pub fn first_same(name: &[u8], tokens: &[Token], from: usize) -> Option<usize>
     ensures { result ≡ first_where (introduces_same name.now tokens.now) from (length tokens.now - from) }
 {
     let mut number = from;

@@ -117,6 +117,12 @@ pub enum Name {
     ConstraintError,
     /// `Program_Error`
     ProgramError,
+    /// `Elseif`
+    Elseif,
+    /// `Elif`
+    Elif,
+    /// `Inout`
+    Inout,
 }
 
 /// The letters of the name, in upper case.
@@ -180,5 +186,8 @@ pub fn name_text(name: Name) -> &'static [u8]
         Name::Boolean => b"BOOLEAN",
         Name::ConstraintError => b"CONSTRAINT_ERROR",
         Name::ProgramError => b"PROGRAM_ERROR",
+        Name::Elseif => b"ELSEIF",
+        Name::Elif => b"ELIF",
+        Name::Inout => b"INOUT",
     }
 }

@@ -1,11 +1,12 @@
 //! Recognizing what a fault is about, by the tokens around its place.
 ghost use Rattle.std.specs.Prelude.{◌≡◌, ◌≤◌, IfOk, length, option_map};
-ghost use Rattle.remedies.specs.Recognition.{begins_unit, construct_at, construct_between, count_before, first_fitting, is_end, is_missing, open_at, unclosed_at, unclosed_between, wants_end, without_end};
+ghost use Rattle.std.specs.List.{list_any};
+ghost use Rattle.remedies.specs.Recognition.{begins_unit, construct_at, construct_between, count_before, first_fitting, fits_tokens, is_end, is_missing, open_at, unclosed_at, unclosed_between, wants_end, without_end};
 
 use crate::construct::Construct;
 use crate::opening::Opening;
 use crate::openings::open_behind;
-use crate::row::{Region, Row, fits, is_in, kind_at, kind_from_end};
+use crate::row::{Region, Row, fits, fits_tokens, is_in, kind_at, kind_from_end};
 use crate::rows::ROWS;
 use lexer::{Token, TokenKind, Word};
 use std::alloc::{AllocError, Global};
@@ -27,7 +28,20 @@ fn first_fitting(
     None
 }
 
-pub(crate) fn count_before(place: u32, tokens: &[Token]) -> usize
+// Whether a row fits the tokens next to the fault.
+fn some_fits_tokens(rows: &[Row], fault: u64, front: &[Token], back: &[Token]) -> bool
+    ensures { result ≡ list_any (λ r. fits_tokens r fault front.now back.now) rows.now }
+{
+    for row in rows {
+        if fits_tokens(row, fault, front, back) {
+            return true;
+        }
+    }
+    false
+}
+
+/// How many of the tokens begin before the place.
+pub fn count_before(place: u32, tokens: &[Token]) -> usize
     ensures count { result ≡ count_before place tokens.now }
     ensures most { result ≤ length tokens.now }
 {
@@ -61,6 +75,24 @@ fn open_at(alloc: Global, front: &[Token]) -> Result<Option<Opening>, AllocError
     open_behind(alloc, without_end(front))
 }
 
+// The construct of the first row that fits. What is open is looked for where some row fits the tokens next to the fault.
+fn first_fitting_at(
+    alloc: Global,
+    rows: &[Row],
+    fault: u64,
+    front: &[Token],
+    back: &[Token],
+) -> Result<Option<Construct>, AllocError>
+    ensures { IfOk result (λ construct. construct ≡ first_fitting rows.now fault front.now back.now (open_at front.now)) }
+{
+    if some_fits_tokens(rows, fault, front, back) {
+        let opening = open_at(alloc, front)?;
+        Ok(first_fitting(rows, fault, front, back, opening))
+    } else {
+        Ok(None)
+    }
+}
+
 #[tactic(auto, unfolding(crate::specs::Recognition::construct_between))]
 fn construct_between(
     alloc: Global,
@@ -70,8 +102,7 @@ fn construct_between(
 ) -> Result<Option<Construct>, AllocError>
     ensures { IfOk result (λ construct. construct ≡ construct_between fault front.now back.now) }
 {
-    let opening = open_at(alloc, front)?;
-    Ok(first_fitting(&ROWS, fault, front, back, opening))
+    first_fitting_at(alloc, &ROWS, fault, front, back)
 }
 
 /// The construct at the place of a fault of this number, in a text of these tokens; None where none is recognized.

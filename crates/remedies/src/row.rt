@@ -1,6 +1,6 @@
 //! Rows of the table of constructs, and whether one fits a place.
 ghost use Rattle.std.specs.Prelude.{◌≡◌, option_map};
-ghost use Rattle.remedies.specs.Recognition.{fits, is_in, is_part, kind_at, kind_from_end, kind_in_front};
+ghost use Rattle.remedies.specs.Recognition.{fits, fits_tokens, is_in, is_part, kind_at, kind_from_end, kind_in_front};
 
 use crate::construct::Construct;
 use crate::name::{Name, name_text};
@@ -92,8 +92,8 @@ pub(crate) fn is_in(region: Region, opening: Option<Opening>) -> bool
     }
 }
 
-// The kind of the token with so many in front.
-pub(crate) fn kind_at(number: usize, tokens: &[Token]) -> Option<&TokenKind>
+/// The kind of the token with so many before it; None where there are no more.
+pub fn kind_at(number: usize, tokens: &[Token]) -> Option<&TokenKind>
     ensures { option_map (λ k. k.now) result ≡ kind_at number tokens.now }
 {
     match tokens.get(number) {
@@ -123,6 +123,19 @@ fn kind_in_front(opening: Option<Opening>, tokens: &[Token]) -> Option<&TokenKin
     }
 }
 
+/// Whether the row fits a fault of this number between two parts of a text's tokens, by the tokens next to it alone.
+pub(crate) fn fits_tokens(row: &Row, fault: u64, front: &[Token], back: &[Token]) -> bool
+    ensures { result ≡ fits_tokens row.now fault front.now back.now }
+{
+    u64::from(row.fault) == fault
+        && is_part(row.third_last, kind_from_end(2, front))
+        && is_part(row.second_last, kind_from_end(1, front))
+        && is_part(row.last, kind_from_end(0, front))
+        && is_part(row.here, kind_at(0, back))
+        && is_part(row.second, kind_at(1, back))
+        && is_part(row.third, kind_at(2, back))
+}
+
 /// Whether the row fits a fault of this number between two parts of a text's tokens, where this is open.
 pub(crate) fn fits(
     row: &Row,
@@ -133,13 +146,7 @@ pub(crate) fn fits(
 ) -> bool
     ensures { result ≡ fits row.now fault front.now back.now opening }
 {
-    u64::from(row.fault) == fault
+    fits_tokens(row, fault, front, back)
         && is_in(row.region, opening)
         && is_part(row.opener, kind_in_front(opening, front))
-        && is_part(row.third_last, kind_from_end(2, front))
-        && is_part(row.second_last, kind_from_end(1, front))
-        && is_part(row.last, kind_from_end(0, front))
-        && is_part(row.here, kind_at(0, back))
-        && is_part(row.second, kind_at(1, back))
-        && is_part(row.third, kind_at(2, back))
 }

@@ -1,5 +1,6 @@
 -- How a place of a text is shown: its line, with a mark below the place.
 use Rattle.std.specs.Prelude.{ℕ, zero, suc, ◌+◌, ◌-◌, ◌&&◌, ◌||◌, Bool, List, [], ◌∷◌, ◌++◌, codes, drop, if◌then◌else◌, length, map, nat_eq, nat_le, nat_lt, take}
+use Rattle.hints.specs.Places.{line_start}
 use Rattle.source_report.specs.declared.marked.TheConstants.{SIDE, WIDTH}
 
 -- how many bytes stand in front of the first of this value, or all where there is none
@@ -14,11 +15,6 @@ up_to value text = take (count_to value text) text
 abbrev pub behind : ℕ → List ℕ → List ℕ
 behind value [] = []
 behind value (c ∷ rest) = if nat_eq c value then rest else behind value rest
-
--- the place behind the last line feed of a text that begins at this place, or where its line begins
-abbrev pub line_start : ℕ → ℕ → List ℕ → ℕ
-line_start start at [] = start
-line_start start at (c ∷ rest) = line_start (if nat_eq c 10 then suc at else start) (suc at) rest
 
 -- what stands on the line behind which the text ends
 abbrev pub last_line : List ℕ → List ℕ

@@ -1,7 +1,9 @@
 //! Pieces of texts: what stands on a line, in front of a byte, behind one.
 ghost use Rattle.std.specs.Prelude.{◌≡◌, ◌≤◌, length};
-ghost use Rattle.source_report.specs.Marked.{behind, count_to, first_line, last_line, line_start, up_to};
+ghost use Rattle.source_report.specs.Marked.{behind, count_to, first_line, last_line, up_to};
 ghost use Rattle.source_report.specs.Reports.{behind_lines, numbered_line};
+
+use hints::line_start;
 
 // How many bytes stand in front of the first of this value, or all where there is none.
 fn count_to(value: u8, text: &[u8]) -> usize
@@ -33,20 +35,6 @@ pub(crate) fn behind(value: u8, text: &[u8]) -> &[u8]
         }
     }
     &[]
-}
-
-// The place behind the last line feed, or the beginning where there is none.
-fn line_start(text: &[u8]) -> usize
-    ensures start { result ≡ line_start 0 0 text.now }
-    ensures most { result ≤ length text.now }
-{
-    let mut start = 0;
-    for (index, c) in text.iter().enumerate() {
-        if *c == b'\n' {
-            start = index + 1;
-        }
-    }
-    start
 }
 
 /// What stands on the line behind which the text ends.
