@@ -4,9 +4,9 @@
     failing_writes.py PROGRAM WRITING SCRATCH
 
 WRITING is what makes a write go wrong, and tells that it did (streams.c). Where the nth write fails, or takes nothing, the program says `cannot write` and ends with
-status 1, and standard output has a beginning of what the call writes, nothing where n is 1; the beginnings grow with n, up to the first n that no call comes to,
+status 1 (`simulate` says nothing), and standard output has a beginning of what the call writes, nothing where n is 1; the beginnings grow with n, up to the first n that no call comes to,
 whose call writes all. Where the nth write takes one byte, or each of them does, all of it is written. Where nobody reads the pipe that standard output is, it says
-`cannot write` too.
+the same.
 """
 import errno
 import os
@@ -19,6 +19,7 @@ from rows import row_of
 FAILING = [str(number) for number in (errno.ENOSPC, errno.EIO, errno.EPIPE, errno.EAGAIN, errno.EFBIG)] + ["none"]
 MOST = 1_000
 CANNOT_WRITE = (b"cannot write\n", 1)
+SILENT = (b"", 1)
 ROWS = [
     ("programs", "a sign takes a whole term, mod and rem keep to their signs, division cuts towards zero"),
     ("entries", "who is served runs as soon as the active priority falls below its own"),
@@ -32,8 +33,8 @@ ROWS = [
 class Call:
     """A call of the program in a folder: its words, and what it writes and its status where each write is taken."""
 
-    def __init__(self, name, words, ample):
-        self.name, self.words, self.ample, self.wrong, self.calls = name, words, ample, [], 0
+    def __init__(self, name, words, ample, failed=CANNOT_WRITE):
+        self.name, self.words, self.ample, self.failed, self.wrong, self.calls = name, words, ample, failed, [], 0
 
     def with_write(self, program, writing, folder, number, how):
         """What the call leaves where this write goes wrong, 0 for each of them, and whether it came to it."""
@@ -58,7 +59,7 @@ class Call:
                 self.expect(left == self.ample and number > 1, number, how, left)
                 return number - 1
             is_beginning = self.ample[0].startswith(left[0]) and len(written) <= len(left[0]) < len(self.ample[0])
-            self.expect(is_beginning and left[1:] == CANNOT_WRITE and (number > 1 or not left[0]), number, how, left)
+            self.expect(is_beginning and left[1:] == self.failed and (number > 1 or not left[0]), number, how, left)
             written = left[0]
         self.expect(False, MOST, how, left)
         return MOST
@@ -76,7 +77,7 @@ class Call:
         run = subprocess.run([program, *self.words], cwd=folder, stdout=writer, stderr=subprocess.PIPE, check=False)
         os.close(writer)
         self.calls += 1
-        self.expect((run.stderr, run.returncode) == CANNOT_WRITE, "any", "unread", (b"", run.stderr, run.returncode))
+        self.expect((run.stderr, run.returncode) == self.failed, "any", "unread", (b"", run.stderr, run.returncode))
 
 
 def write(folder, name, data):
@@ -92,6 +93,8 @@ def calls_of(folder):
         write(folder, f"{number}.adb", source)
         write(folder, f"{number}.schedule", schedule)
         found.append(Call(f"go: {row[1]}", ["go", f"{number}.adb", f"{number}.schedule", limit], tuple(ample)))
+        if tuple(ample)[1:] == (b"", 0):
+            found.append(Call(f"simulate: {row[1]}", ["simulate", f"{number}.adb", f"{number}.schedule", limit], tuple(ample), SILENT))
     write(folder, "thousand.img", mnemonics.image_of("thousand"))
     write(folder, "empty", b"")
     found.append(Call("run", ["run", "thousand.img", "empty", "3"], (b"0 MAIN x 1000\nended at 0\n", b"", 0)))

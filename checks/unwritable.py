@@ -131,14 +131,19 @@ def try_unreadable(folder):
 
 
 def try_endless(folder):
-    """A file without end takes all memory that there is, which is told; nothing is written."""
+    """An image without end takes all memory that there is, which is reported; nothing is written. Of a source or a schedule so much is read as decides."""
 
     def confine():
         resource.setrlimit(resource.RLIMIT_AS, (ROOM, ROOM))
 
     folder.write("kept.img", OLD)
-    for words in (["compile", "/dev/zero", "kept.img"], ["go", "/dev/zero", "main.adb", "9"], ["go", "main.adb", "/dev/zero", "9"], ["list", "/dev/zero"], ["run", "/dev/zero", "main.adb", "9"]):
-        folder.call("a file without end", words, NO_MEMORY, {"kept.img": OLD}, preexec_fn=confine)
+    for words in (["list", "/dev/zero"], ["run", "/dev/zero", "main.adb", "9"]):
+        folder.call("an image without end", words, NO_MEMORY, {"kept.img": OLD}, preexec_fn=confine)
+    refused = (b"", b"fault 2 at 1:1\n", 2)
+    for words in (["compile", "/dev/zero", "kept.img"], ["go", "/dev/zero", "main.adb", "9"]):
+        folder.call("a source without end", words, refused, {"kept.img": OLD}, preexec_fn=confine)
+    wrong_line = (b"", b"schedule fault 50 at line 1\n", 7)
+    folder.call("a schedule without end", ["go", "main.adb", "/dev/zero", "9"], wrong_line, {"kept.img": OLD}, preexec_fn=confine)
 
 
 def image_of(folder):

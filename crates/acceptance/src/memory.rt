@@ -10,7 +10,7 @@ use std::sync::ledger::{Blank, Ledger};
 /// A name with the content of the file.
 pub(crate) type Entry<'a> = (&'a str, &'a [u8]);
 
-/// Files by their names; a name that isn't there can't be read, and one that begins with '/' can't be written.
+/// Files by their names, of which one named `-` is standard input; a name that isn't there can't be read, and one that begins with '/' can't be written.
 #[derive(Drop)]
 pub(crate) struct Files<'a> {
     alloc: Global,
@@ -21,13 +21,26 @@ pub(crate) struct Files<'a> {
 impl<'a> FileStore for Files<'a> {
     ghost contents = { λ _ _. None };
 
-    fn read(&self, alloc: Global, name: &str) -> Result<Vec<u8>, ReadError> {
+    ghost standard_input = { λ _. None };
+
+    fn read_whole(&self, alloc: Global, name: &str) -> Result<Vec<u8>, ReadError> {
+        self.read(alloc, name, usize::MAX)
+    }
+
+    fn read(&self, alloc: Global, name: &str, most: usize) -> Result<Vec<u8>, ReadError> {
         for (known, content) in self.entries {
             if *known == name {
-                return content.to_vec(alloc).map_err(|_| ReadError::Memory);
+                let length = most.min(content.len());
+                return content[..length]
+                    .to_vec(alloc)
+                    .map_err(|_| ReadError::Memory);
             }
         }
         Err(ReadError::Unreadable)
+    }
+
+    fn read_input(&self, alloc: Global, most: usize) -> Result<Vec<u8>, ReadError> {
+        self.read(alloc, "-", most)
     }
 
     fn write(&mut self, name: &str, bytes: &[u8]) -> Result<(), WriteError> {

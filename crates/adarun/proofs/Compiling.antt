@@ -23,7 +23,7 @@ use Rattle.ada_link.specs.package_code.specs.Places.{PlacesTell}
 use Rattle.ada_link.specs.expr_code.specs.Coming.{most_steps}
 use Rattle.ada_link.specs.Compiled.{IsBounded, KeepsTokenCounts}
 use Rattle.source_laws.specs.Limits.{SmallIsUnlimited}
-use Rattle.adarun.specs.Naming.{CompilesNamed, object_names}
+use Rattle.adarun.specs.Naming.{CompilesNamed, objects_of}
 use Rattle.adarun.specs.declared.compilation.Named.{Named}
 use Rattle.adarun.specs.Accepted.{CompilesAccepted, IsJudged, IsTextFault, IsTreeOf, RefusesAccepted, RefusesText, RefusesTree}
 
@@ -36,7 +36,7 @@ pub compiles : {E : Type 0} (r : Result Named E) (text : List ℕ) (tokens list 
     → IfOk r (λ n. IsBounded (program_tree checked) n.image)
     → IfOk r (λ n. KeepsTokenCounts (program_tree checked) n.image)
     → IfOk r (λ n. IsWellFormed n.image)
-    → IfOk r (λ n. n.objects.items ≡ object_names (program_tree checked))
+    → IfOk r (λ n. n.objects.items ≡ objects_of (program_tree checked))
     → IfOk r (λ n. PlacesTell (program_tree checked) n.image n.places)
     → IfOk r (λ n. CompilesNamed text n.image n.objects.items n.places)
 compiles (Ok n) text tokens list read spells same derives checked is legal restricted means counted bounded within well_formed names placed =

@@ -9,6 +9,7 @@ use Rattle.image.specs.Sections.{Sections}
 use Rattle.lexer.specs.declared.fault.Fault.{Fault}
 use Rattle.machine.specs.declared.reports.Outcome.{Outcome}
 use Rattle.machine.specs.declared.reports.Outcome.TheVariants as outcomes
+use Rattle.file_limits.specs.declared.TheConstants.{SCHEDULE_BYTES, SOURCE_BYTES}
 use Rattle.clock.specs.declared.schedule.ScheduleFault.{ScheduleFault}
 use Rattle.command_line.specs.Words.{AnswersWords, Command, Nothing, command_of}
 use Rattle.command_line.specs.declared.Request.{Request}
@@ -17,8 +18,9 @@ use Rattle.command_line.specs.declared.WordsError.TheVariants.{Usage}
 use Rattle.adarun.specs.Accepted.{RefusesText}
 use Rattle.adarun.specs.Headline.{Runs}
 use Rattle.adarun.specs.Stopping.{RefusesRunning}
-use Rattle.adarun.specs.Driving.{Contents, HasRun, HasRunImage, HasTraced, IsContentRead, KeepsSink, LeavesGo, LeavesRun, LeavesTrace, status_of, text_of}
+use Rattle.adarun.specs.Driving.{HasRun, HasRunImage, HasTraced, KeepsSink, LeavesGo, LeavesRun, LeavesTrace, status_of, text_of}
 use Rattle.adarun.specs.Origins.{origin_in}
+use Rattle.adarun.specs.Reading.{Contents, IsBeginningRead}
 use Rattle.adarun.specs.declared.going.GoFault.{GoFault}
 use Rattle.adarun.specs.declared.going.GoFault.TheVariants as faults
 use Rattle.adarun.specs.contracts.program.Status as status_type
@@ -26,6 +28,7 @@ use Rattle.adarun.specs.declared.program.Status.{Status}
 use Rattle.adarun.specs.declared.program.TraceForm.{TraceForm}
 use Rattle.adarun.specs.declared.program.Status.TheVariants as statuses
 use Rattle.adarun.specs.declared.program.Status.TheVariants.{Failed, SourceRefused, ScheduleRefused, NoMemory}
+use Rattle.adarun.proofs.Reading.{begun, schedule_whole, source_whole}
 use Rattle.adarun.proofs.Running.{meant}
 
 module _ (contents : Contents) (source : List ℕ) (known : Option (List ℕ)) (limit : ℕ) (old new : Option (List ℕ)) where
@@ -37,15 +40,15 @@ module _ (contents : Contents) (source : List ℕ) (known : Option (List ℕ)) (
   has_run (outcomes.ImageFault time) h = h
 
   pub run_leaves : (status : Status) (outcome : Outcome) (text lent given input : List ℕ)
-      → status ≡ status_of outcome → IsContentRead (contents source) text → lent ≡ text → IsContentRead known given → input ≡ given → Runs lent input limit outcome old new
+      → status ≡ status_of outcome → IsBeginningRead (contents source) SOURCE_BYTES text → lent ≡ text → IsBeginningRead known SCHEDULE_BYTES given → input ≡ given → Runs lent input limit outcome old new
       → LeavesGo contents source known limit status old new
   run_leaves status outcome text lent given input e read same read_too same_too runs =
       subst (λ s. LeavesGo contents source known limit s old new) (sym e)
       (has_run outcome (record {
         text = lent;
-        source_read = subst (IsContentRead (contents source)) (sym same) read;
+        source_read = source_whole (contents source) text lent same runs.tree read runs.accepted.is_tree;
         input = input;
-        input_read = subst (IsContentRead known) (sym same_too) read_too;
+        input_read = schedule_whole known given input same_too runs.schedule read_too runs.is_schedule;
         outcome = outcome;
         status_is = refl;
         meaning = meant lent input limit outcome old new runs;
@@ -53,12 +56,12 @@ module _ (contents : Contents) (source : List ℕ) (known : Option (List ℕ)) (
       }))
 
   refusal_leaves : (b : Bool) (fault : Fault) (text lent : List ℕ)
-      → nat_eq fault.number MEMORY_REFUSED ≡ b → IsContentRead (contents source) text → lent ≡ text → RefusesText lent fault → new ≡ old
+      → nat_eq fault.number MEMORY_REFUSED ≡ b → IsBeginningRead (contents source) SOURCE_BYTES text → lent ≡ text → RefusesText lent fault → new ≡ old
       → LeavesGo contents source known limit (cond b NoMemory SourceRefused) old new
   refusal_leaves true fault text lent e read same refused unwritten = unwritten
   refusal_leaves false fault text lent e read same refused unwritten = record {
     text = lent;
-    source_read = subst (IsContentRead (contents source)) (sym same) read;
+    source_read = begun (contents source) text lent same SOURCE_BYTES read;
     fault = fault;
     refused = refused;
     not_memory = λ h. let is = ap (λ n. nat_eq n MEMORY_REFUSED) h in absurd cc;
@@ -66,20 +69,22 @@ module _ (contents : Contents) (source : List ℕ) (known : Option (List ℕ)) (
   }
 
   pub refused_leaves : (status : Status) (fault : Fault) (text lent : List ℕ)
-      → status ≡ cond (nat_eq fault.number MEMORY_REFUSED) NoMemory SourceRefused → IsContentRead (contents source) text → lent ≡ text → RefusesText lent fault → new ≡ old
+      → status ≡ cond (nat_eq fault.number MEMORY_REFUSED) NoMemory SourceRefused → IsBeginningRead (contents source) SOURCE_BYTES text → lent ≡ text → RefusesText lent fault → new ≡ old
       → LeavesGo contents source known limit status old new
   refused_leaves status fault text lent e read same refused unwritten =
       subst (λ s. LeavesGo contents source known limit s old new) (sym e) (refusal_leaves (nat_eq fault.number MEMORY_REFUSED) fault text lent refl read same refused unwritten)
 
   unscheduled : (b : Bool) (x : GoFault) (fault : ScheduleFault) (text lent given input : List ℕ)
-      → nat_eq fault.number MEMORY_REFUSED ≡ b → IsContentRead (contents source) text → lent ≡ text → IsContentRead known given → input ≡ given → x ≡ faults.Schedule fault → RefusesRunning lent input x → new ≡ old
+      → nat_eq fault.number MEMORY_REFUSED ≡ b → IsBeginningRead (contents source) SOURCE_BYTES text → lent ≡ text → IsBeginningRead known SCHEDULE_BYTES given → input ≡ given → x ≡ faults.Schedule fault → RefusesRunning lent input x → new ≡ old
       → LeavesGo contents source known limit (cond b NoMemory ScheduleRefused) old new
   unscheduled true x fault text lent given input e read same read_too same_too is refused unwritten = unwritten
   unscheduled false x fault text lent given input e read same read_too same_too is refused unwritten = record {
     text = lent;
-    source_read = subst (IsContentRead (contents source)) (sym same) read;
+    source_read =
+        (let compiles = (subst (RefusesRunning lent input) is refused).0.compiles in
+        source_whole (contents source) text lent same compiles.tree read compiles.accepted.is_tree);
     input = input;
-    input_read = subst (IsContentRead known) (sym same_too) read_too;
+    input_read = begun known given input same_too SCHEDULE_BYTES read_too;
     compiles = (subst (RefusesRunning lent input) is refused).0;
     fault = fault;
     refused = (subst (RefusesRunning lent input) is refused).1;
@@ -88,7 +93,7 @@ module _ (contents : Contents) (source : List ℕ) (known : Option (List ℕ)) (
   }
 
   pub schedule_leaves : (status : Status) (x : GoFault) (fault : ScheduleFault) (text lent given input : List ℕ)
-      → status ≡ cond (nat_eq fault.number MEMORY_REFUSED) NoMemory ScheduleRefused → IsContentRead (contents source) text → lent ≡ text → IsContentRead known given → input ≡ given → x ≡ faults.Schedule fault → RefusesRunning lent input x → new ≡ old
+      → status ≡ cond (nat_eq fault.number MEMORY_REFUSED) NoMemory ScheduleRefused → IsBeginningRead (contents source) SOURCE_BYTES text → lent ≡ text → IsBeginningRead known SCHEDULE_BYTES given → input ≡ given → x ≡ faults.Schedule fault → RefusesRunning lent input x → new ≡ old
       → LeavesGo contents source known limit status old new
   schedule_leaves status x fault text lent given input e read same read_too same_too is refused unwritten =
       subst (λ s. LeavesGo contents source known limit s old new) (sym e)

@@ -14,3 +14,4 @@ mod Refuted
 mod Explaining
 mod Every
 mod LastReports
+mod Reading

@@ -9,8 +9,9 @@ use Rattle.ada_link.specs.ada_tree.specs.declared.program.BodyItem.{BodyItem}
 use Rattle.ada_link.specs.meaning.specs.Programs.{items_among}
 use Rattle.ada_link.specs.package_code.proofs.Declared.{among_both}
 use Rattle.ada_link.specs.part_code.proofs.Lists.{mapped_next}
-use Rattle.adarun.specs.Naming.{declared_objects, imaged}
+use Rattle.adarun.specs.Naming.{declared_objects, entry_among, imaged}
 use Rattle.adarun.specs.declared.compilation.Named.{Named}
+use Rattle.adarun.specs.declared.naming.ObjectNames.{ObjectNames}
 
 pub declared_both : (xs ys : List ItemTree) → declared_objects (xs ++ ys) ≡ declared_objects xs ++ declared_objects ys
 declared_both [] ys = refl
@@ -19,22 +20,22 @@ declared_both (OfObject d ∷ xs) ys = declared_both xs ys
 declared_both (OfException d ∷ xs) ys = declared_both xs ys
 declared_both (OfSubprogram d ∷ xs) ys = declared_both xs ys
 declared_both (OfTask d ∷ xs) ys = declared_both xs ys
-declared_both (OfProtected d ∷ xs) ys = ap (λ l. d.name.name ∷ l) (declared_both xs ys)
+declared_both (OfProtected d ∷ xs) ys = ap (λ l. record { object = d.name.name; entry = entry_among d.operations } ∷ l) (declared_both xs ys)
 
 -- names of declarations are added to others
-abbrev pub Adds : List (List ℕ) → List ItemTree → List (List ℕ) → Type 0
+abbrev pub Adds : List ObjectNames → List ItemTree → List ObjectNames → Type 0
 Adds old items new = new ≡ old ++ declared_objects items
 
-pub adds_both : (old middle new : List (List ℕ)) (xs ys : List ItemTree) → Adds old xs middle → Adds middle ys new → Adds old (xs ++ ys) new
+pub adds_both : (old middle new : List ObjectNames) (xs ys : List ItemTree) → Adds old xs middle → Adds middle ys new → Adds old (xs ++ ys) new
 adds_both old middle new xs ys one two =
     two ∙ ap (λ l. l ++ declared_objects ys) one ∙ append_assoc old (declared_objects xs) (declared_objects ys) ∙ ap (λ l. old ++ l) (sym (declared_both xs ys))
 
-pub item_next : (old middle new : List (List ℕ)) (all : List Item) (n : ℕ) (x : Item) → n < length all → x ≡ get_or all n x
+pub item_next : (old middle new : List ObjectNames) (all : List Item) (n : ℕ) (x : Item) → n < length all → x ≡ get_or all n x
     → Adds old (map item_tree (take n all)) middle → Adds middle (item_tree x ∷ []) new → Adds old (map item_tree (take (n + 1) all)) new
 item_next old middle new all n x less is one two =
     subst (λ l. Adds old l new) (sym (mapped_next item_tree all n x less is)) (adds_both old middle new (map item_tree (take n all)) (item_tree x ∷ []) one two)
 
-pub body_item_next : (old middle new : List (List ℕ)) (all : List BodyItem) (n : ℕ) (x : BodyItem) → n < length all → x ≡ get_or all n x
+pub body_item_next : (old middle new : List ObjectNames) (all : List BodyItem) (n : ℕ) (x : BodyItem) → n < length all → x ≡ get_or all n x
     → Adds old (items_among (map body_item_tree (take n all))) middle → Adds middle (items_among (body_item_tree x ∷ [])) new
     → Adds old (items_among (map body_item_tree (take (n + 1) all))) new
 body_item_next old middle new all n x less is one two =

@@ -8,6 +8,7 @@ use Rattle.choices.specs.declared.faults.ChoicesFault.{ChoicesFault}
 use Rattle.clock.specs.Schedules as schedules
 use Rattle.clock.specs.declared.schedule.ScheduleFault.{ScheduleFault}
 use Rattle.explanations.specs.Explained.{explanation_of}
+use Rattle.file_limits.specs.declared.TheConstants.{CHOICES_BYTES, SCHEDULE_BYTES, SOURCE_BYTES}
 use Rattle.ada_link.specs.package_code.specs.Places.{PlacesTell}
 use Rattle.ada_link.specs.stmt_code.specs.declared.tables.PlaceRow.{PlaceRow}
 use Rattle.hints.specs.Explained.{IsExplained}
@@ -25,7 +26,7 @@ use Rattle.machine.specs.Written.{AppendsBeginning}
 use Rattle.machine.specs.declared.reports.Outcome.{Outcome}
 use Rattle.machine.specs.declared.reports.Outcome.TheVariants as outcomes
 use Rattle.searching.specs.declared.sight.Wanted.{Wanted}
-use Rattle.searching.specs.declared.sight.Wanted.TheVariants as wanted
+use Rattle.searching.specs.declared.sight.Wanted.TheVariants as sights
 use Rattle.tracing.specs.Traces.{trace_text}
 use Rattle.tracing.specs.declared.origin.Origin.{Origin}
 use Rattle.waveforms.specs.Waves.{waves_text}
@@ -36,6 +37,7 @@ use Rattle.adarun.specs.CodeTold.{IsCodeTold}
 use Rattle.adarun.specs.Headline.{Runs, WritesBeginning, WritesItsMeaning}
 use Rattle.adarun.specs.Naming.{object_names}
 use Rattle.adarun.specs.Origins.{origin_in}
+use Rattle.adarun.specs.Reading.{Contents, IsBeginningRead, IsContentRead, with_input}
 use Rattle.adarun.specs.Searching.{BeginsReport, WritesReport}
 use Rattle.adarun.specs.Stopping.{HasImage}
 use Rattle.adarun.specs.TextFaults.{AreTextFaults}
@@ -49,15 +51,6 @@ use Rattle.adarun.specs.declared.program.Status.{Status}
 use Rattle.adarun.specs.declared.program.TraceForm.{TraceForm}
 use Rattle.adarun.specs.declared.program.TraceForm.TheVariants as forms
 use Rattle.adarun.specs.declared.program.Status.TheVariants.{Done, Failed, SourceRefused, Unhandled, WaitsForever, StepLimit, ImageFault, ScheduleRefused, NoMemory, LineFound}
-
--- contents of files by their names, where they are known
-abbrev pub Contents : Type 0
-Contents = List ℕ → Option (List ℕ)
-
--- what was read is the content, where that is known
-abbrev pub IsContentRead : Option (List ℕ) → List ℕ → Type 0
-IsContentRead None text = ⊤
-IsContentRead (Some content) text = text ≡ content
 
 -- the exit status of a run's outcome (docs/FORMATS.md, "Exit statuses")
 abbrev pub status_of : Outcome → Status
@@ -93,10 +86,10 @@ pub record HasRun (contents : Contents) (source : List ℕ) (given : Option (Lis
   pub meaning : WritesItsMeaning text input limit outcome old new
   pub runs : Runs text input limit outcome old new
 
--- the source was read, and refused for its own sake
+-- the beginning of the source was read that decides, and refused for its own sake
 pub record HasRefusedSource (contents : Contents) (source : List ℕ) (old new : Option (List ℕ)) : Type 0 where
   pub text : List ℕ
-  pub source_read : IsContentRead (contents source) text
+  pub source_read : IsBeginningRead (contents source) SOURCE_BYTES text
   pub fault : Fault
   pub refused : RefusesText text fault
   pub not_memory : fault.number ≢ MEMORY_REFUSED
@@ -107,7 +100,7 @@ pub record HasRefusedSchedule (contents : Contents) (source : List ℕ) (given :
   pub text : List ℕ
   pub source_read : IsContentRead (contents source) text
   pub input : List ℕ
-  pub input_read : IsContentRead given input
+  pub input_read : IsBeginningRead given SCHEDULE_BYTES input
   pub compiles : HasImage text
   pub fault : ScheduleFault
   pub refused : schedules.RefusesSchedule input fault
@@ -287,7 +280,7 @@ IsWholeTold number text (Some whole) = HasWholeTold number text whole
 -- the source was read, and the explanation was written with what is told of this source behind it
 pub record HasExplainedText (contents : Contents) (source : List ℕ) (number : ℕ) (old new : Option (List ℕ)) : Type 0 where
   pub text : List ℕ
-  pub source_read : IsContentRead (contents source) text
+  pub source_read : IsBeginningRead (contents source) SOURCE_BYTES text
   pub whole : List ℕ
   pub told : IsWholeTold number text (Some whole)
   pub written : Appends old new whole
@@ -295,7 +288,7 @@ pub record HasExplainedText (contents : Contents) (source : List ℕ) (number : 
 -- a beginning of that was written
 pub record HasBegunExplainingText (contents : Contents) (source : List ℕ) (number : ℕ) (old new : Option (List ℕ)) : Type 0 where
   pub text : List ℕ
-  pub source_read : IsContentRead (contents source) text
+  pub source_read : IsBeginningRead (contents source) SOURCE_BYTES text
   pub whole : List ℕ
   pub told : IsWholeTold number text (Some whole)
   pub begins : AppendsBeginning old new whole
@@ -318,7 +311,7 @@ pub record HasNoFault (contents : Contents) (source : List ℕ) (old new : Optio
 -- the source was read, and the report of all its faults was written
 pub record HasReportedFaults (contents : Contents) (source : List ℕ) (old new : Option (List ℕ)) : Type 0 where
   pub text : List ℕ
-  pub source_read : IsContentRead (contents source) text
+  pub source_read : IsBeginningRead (contents source) SOURCE_BYTES text
   pub faults : Faults
   pub are_faults : AreTextFaults text faults
   pub are_any : faults ≢ []
@@ -352,7 +345,7 @@ pub record HasRefusedScheduleOfImage (contents : Contents) (name schedule : List
   pub image : Sections
   pub loaded : HasLoaded contents name image
   pub input : List ℕ
-  pub read : IsContentRead (contents schedule) input
+  pub read : IsBeginningRead (contents schedule) SCHEDULE_BYTES input
   pub fault : ScheduleFault
   pub refused : schedules.RefusesSchedule input fault
   pub not_memory : fault.number ≢ MEMORY_REFUSED
@@ -414,10 +407,10 @@ LeavesCompile before after source name status old new = ⊥
 
 -- what the words look for, of what the search was given
 abbrev pub looks_for : Wanted → words_of.Wanted
-looks_for wanted.UnhandledOrWaits = words_of.UnhandledOrWaits
-looks_for wanted.Unhandled = words_of.Unhandled
-looks_for wanted.WaitsForever = words_of.WaitsForever
-looks_for (wanted.Line label) = words_of.LineOf label.now
+looks_for sights.UnhandledOrWaits = words_of.UnhandledOrWaits
+looks_for sights.Unhandled = words_of.Unhandled
+looks_for sights.WaitsForever = words_of.WaitsForever
+looks_for (sights.Line label) = words_of.LineOf label.now
 
 -- the exit status of a search (docs/FORMATS.md, "Search")
 abbrev pub search_status : SearchOutcome → Status
@@ -427,25 +420,25 @@ search_status searches.Line = LineFound
 search_status searches.TooLong = StepLimit
 search_status searches.Nothing = Done
 
--- both files were read, and the answer of the search was written, of this status
-pub record HasSearched (contents : Contents) (source choices : List ℕ) (until : ℤ) (limit : ℕ) (sought : words_of.Wanted) (status : Status)
+-- both were read, and the answer of the search was written, of this status
+pub record HasSearched (contents : Contents) (source : List ℕ) (given : Option (List ℕ)) (until : ℤ) (limit : ℕ) (sought : words_of.Wanted) (status : Status)
     (old new : Option (List ℕ)) : Type 0 where
   pub text : List ℕ
   pub source_read : IsContentRead (contents source) text
   pub input : List ℕ
-  pub input_read : IsContentRead (contents choices) input
-  pub given : Wanted
-  pub given_is : looks_for given ≡ sought
+  pub input_read : IsContentRead given input
+  pub wanted : Wanted
+  pub wanted_is : looks_for wanted ≡ sought
   pub outcome : SearchOutcome
   pub status_is : status ≡ search_status outcome
-  pub writes : WritesReport text input until limit given outcome old new
+  pub writes : WritesReport text input until limit wanted outcome old new
 
--- both files were read, the source compiles, and the set of schedules was refused for its own sake
-pub record HasRefusedChoices (contents : Contents) (source choices : List ℕ) (until : ℤ) (old new : Option (List ℕ)) : Type 0 where
+-- both were read, the source compiles, and the set of schedules was refused for its own sake
+pub record HasRefusedChoices (contents : Contents) (source : List ℕ) (given : Option (List ℕ)) (until : ℤ) (old new : Option (List ℕ)) : Type 0 where
   pub text : List ℕ
   pub source_read : IsContentRead (contents source) text
   pub input : List ℕ
-  pub input_read : IsContentRead (contents choices) input
+  pub input_read : IsBeginningRead given CHOICES_BYTES input
   pub compiles : HasImage text
   pub fault : ChoicesFault
   pub refused : RefusesChoicesText until input fault
@@ -453,56 +446,57 @@ pub record HasRefusedChoices (contents : Contents) (source choices : List ℕ) (
   pub unwritten : new ≡ old
 
 -- a beginning of an answer was written
-pub record HasBegunReport (contents : Contents) (source choices : List ℕ) (until : ℤ) (limit : ℕ) (sought : words_of.Wanted)
+pub record HasBegunReport (contents : Contents) (source : List ℕ) (given : Option (List ℕ)) (until : ℤ) (limit : ℕ) (sought : words_of.Wanted)
     (old new : Option (List ℕ)) : Type 0 where
   pub text : List ℕ
   pub source_read : IsContentRead (contents source) text
   pub input : List ℕ
-  pub input_read : IsContentRead (contents choices) input
-  pub given : Wanted
-  pub given_is : looks_for given ≡ sought
-  pub begins : BeginsReport text input until limit given old new
+  pub input_read : IsContentRead given input
+  pub wanted : Wanted
+  pub wanted_is : looks_for wanted ≡ sought
+  pub begins : BeginsReport text input until limit wanted old new
 
 -- what `search` wrote to standard output, by the exit status
-abbrev pub LeavesSearch : Contents → (source choices : List ℕ) → (until : ℤ) → (limit : ℕ) → words_of.Wanted → Status → Option (List ℕ) → Option (List ℕ)
-    → Type 0
-LeavesSearch contents source choices until limit sought SourceRefused old new = HasRefusedSource contents source old new
-LeavesSearch contents source choices until limit sought ScheduleRefused old new = HasRefusedChoices contents source choices until old new
-LeavesSearch contents source choices until limit sought NoMemory old new = new ≡ old
-LeavesSearch contents source choices until limit sought Failed old new =
-    (new ≡ old) ⊎ HasBegunReport contents source choices until limit sought old new
-LeavesSearch contents source choices until limit sought ImageFault old new = ⊥
-LeavesSearch contents source choices until limit sought status old new = HasSearched contents source choices until limit sought status old new
+abbrev pub LeavesSearch : Contents → (source : List ℕ) → (given : Option (List ℕ)) → (until : ℤ) → (limit : ℕ) → words_of.Wanted → Status
+    → Option (List ℕ) → Option (List ℕ) → Type 0
+LeavesSearch contents source given until limit sought SourceRefused old new = HasRefusedSource contents source old new
+LeavesSearch contents source given until limit sought ScheduleRefused old new = HasRefusedChoices contents source given until old new
+LeavesSearch contents source given until limit sought NoMemory old new = new ≡ old
+LeavesSearch contents source given until limit sought Failed old new =
+    (new ≡ old) ⊎ HasBegunReport contents source given until limit sought old new
+LeavesSearch contents source given until limit sought ImageFault old new = ⊥
+LeavesSearch contents source given until limit sought status old new = HasSearched contents source given until limit sought status old new
 
 -- ---- all
 
 -- what was written to standard output and to files
-abbrev pub LeavesWritten : Command → Contents → Contents → Status → Option (List ℕ) → Option (List ℕ) → Type 0
-LeavesWritten (CompileText source image) before after status old new = LeavesCompile before after source image status old new
-LeavesWritten (ListImage image) before after status old new = AreFilesKept before after × LeavesList before image status old new
-LeavesWritten (RunImage image schedule limit) before after status old new = AreFilesKept before after × LeavesRun before image schedule limit status old new
-LeavesWritten (GoText source schedule limit) before after status old new = AreFilesKept before after
+abbrev pub LeavesWritten : Command → (standard_input : Option (List ℕ)) → Contents → Contents → Status → Option (List ℕ) → Option (List ℕ) → Type 0
+LeavesWritten (CompileText source image) standard_input before after status old new = LeavesCompile before after source image status old new
+LeavesWritten (ListImage image) standard_input before after status old new = AreFilesKept before after × LeavesList before image status old new
+LeavesWritten (RunImage image schedule limit) standard_input before after status old new = AreFilesKept before after
+    × LeavesRun before image schedule limit status old new
+LeavesWritten (GoText source schedule limit) standard_input before after status old new = AreFilesKept before after
     × LeavesGo before source (before schedule) limit status old new
-LeavesWritten (TraceText source schedule limit) before after status old new = AreFilesKept before after
+LeavesWritten (TraceText source schedule limit) standard_input before after status old new = AreFilesKept before after
     × LeavesTrace forms.Rows before source schedule limit status old new
-LeavesWritten (DumpText source schedule limit) before after status old new = AreFilesKept before after
+LeavesWritten (DumpText source schedule limit) standard_input before after status old new = AreFilesKept before after
     × LeavesTrace forms.Dump before source schedule limit status old new
-LeavesWritten (ExplainFault number) before after status old new = AreFilesKept before after × LeavesExplain number status old new
-LeavesWritten (ExplainText number source) before after status old new = AreFilesKept before after
+LeavesWritten (ExplainFault number) standard_input before after status old new = AreFilesKept before after × LeavesExplain number status old new
+LeavesWritten (ExplainText number source) standard_input before after status old new = AreFilesKept before after
     × LeavesExplainText before source number status old new
-LeavesWritten (CheckText source) before after status old new = AreFilesKept before after × (new ≡ old)
-LeavesWritten (SimulateText source schedule limit) before after status old new = AreFilesKept before after
-    × LeavesGo before source (input_of before schedule) limit status old new
-LeavesWritten (SearchText source choices until limit sought) before after status old new = AreFilesKept before after
-    × LeavesSearch before source choices until limit sought status old new
-LeavesWritten ShowManual before after status old new = AreFilesKept before after × LeavesShown MANUAL.now status old new
-LeavesWritten ShowVersion before after status old new = AreFilesKept before after × LeavesShown VERSION.now status old new
-LeavesWritten Nothing before after status old new = AreFilesKept before after × ((new ≡ old) × ((status ≡ Failed) ⊎ (status ≡ NoMemory)))
+LeavesWritten (CheckText source) standard_input before after status old new = AreFilesKept before after × (new ≡ old)
+LeavesWritten (SimulateText source schedule limit) standard_input before after status old new = AreFilesKept before after
+    × LeavesGo (with_input standard_input before) source (input_of before schedule) limit status old new
+LeavesWritten (SearchText source choices until limit sought) standard_input before after status old new = AreFilesKept before after
+    × LeavesSearch (with_input standard_input before) source (before choices) until limit sought status old new
+LeavesWritten ShowManual standard_input before after status old new = AreFilesKept before after × LeavesShown MANUAL.now status old new
+LeavesWritten ShowVersion standard_input before after status old new = AreFilesKept before after × LeavesShown VERSION.now status old new
+LeavesWritten Nothing standard_input before after status old new = AreFilesKept before after × ((new ≡ old) × ((status ≡ Failed) ⊎ (status ≡ NoMemory)))
 
 -- what was written to standard error: of `check` the report, and of other commands what contracts don't say
-abbrev pub LeavesReport : Command → Contents → Status → Option (List ℕ) → Option (List ℕ) → Type 0
-LeavesReport (CheckText source) before status old new = LeavesCheck before source status old new
-LeavesReport work before status old new = ⊤
+abbrev pub LeavesReport : Command → (standard_input : Option (List ℕ)) → Contents → Status → Option (List ℕ) → Option (List ℕ) → Type 0
+LeavesReport (CheckText source) standard_input before status old new = LeavesCheck (with_input standard_input before) source status old new
+LeavesReport work standard_input before status old new = ⊤
 
 -- the number of an exit status
 abbrev pub number_of : Status → ℕ
@@ -523,10 +517,11 @@ abbrev pub IsAskedFor : List (List ℕ) → Command → Status → Type 0
 IsAskedFor words work status = is_told words ≡ true → (work ≡ asked words) ⊎ ((work ≡ Nothing) × (status ≡ NoMemory))
 
 -- the answer is the number of a status, with what it leaves on standard output (old, new) and standard error (old_err, new_err) for what was asked for
-pub record AnswersStatus (words : List (List ℕ)) (before after : Contents) (answer : ℕ) (old new old_err new_err : Option (List ℕ)) : Type 0 where
+pub record AnswersStatus (words : List (List ℕ)) (standard_input : Option (List ℕ)) (before after : Contents) (answer : ℕ)
+    (old new old_err new_err : Option (List ℕ)) : Type 0 where
   pub work : Command
   pub status : Status
   pub answer_is : answer ≡ number_of status
   pub asked_for : IsAskedFor words work status
-  pub leaves : LeavesWritten work before after status old new
-  pub reports : LeavesReport work before status old_err new_err
+  pub leaves : LeavesWritten work standard_input before after status old new
+  pub reports : LeavesReport work standard_input before status old_err new_err

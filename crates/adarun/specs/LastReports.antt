@@ -1,5 +1,5 @@
 -- What is said in words of the last world of a run: which tasks wait, and who was running.
-use Rattle.std.specs.Prelude.{◌≡◌, ◌≢◌, ◌<◌, ◌≤◌, ℕ, List, [], ◌∷◌, ◌++◌, Option, Some, None, codes}
+use Rattle.std.specs.Prelude.{◌≡◌, ◌≢◌, ◌<◌, ◌≤◌, ℕ, List, [], ◌∷◌, ◌++◌, Option, Some, None, codes, slice_get}
 use Rattle.std.specs.Fmt.{signed_decimal}
 use Rattle.ada_link.specs.stmt_code.specs.Placing.{place_at}
 use Rattle.ada_link.specs.stmt_code.specs.declared.tables.PlaceRow.{PlaceRow}
@@ -10,9 +10,10 @@ use Rattle.endings.specs.declared.world_at_end.LastWorld.{LastWorld}
 use Rattle.endings.specs.declared.world_at_end.Running.{Running}
 use Rattle.endings.specs.declared.world_at_end.Waiting.{Waiting}
 use Rattle.image.specs.Sections.{Sections}
-use Rattle.image.specs.Texts.{names_of, text_at}
+use Rattle.image.specs.Texts.{names_of}
 use Rattle.source_report.specs.Reports.{place_report}
 use Rattle.adarun.specs.Naming.{CompilesNamed}
+use Rattle.adarun.specs.declared.naming.ObjectNames.{ObjectNames}
 
 -- the words at a place of the text; where that isn't known, with the file's name alone
 abbrev pub report_at : (file text : List ℕ) → Option ℕ → (words : List ℕ) → List ℕ
@@ -22,16 +23,25 @@ report_at file text None words = file ++ codes ": " ++ words ++ codes "\n"
 abbrev pub running_words : Sections → Running → List ℕ
 running_words i r = (names_of i).task r.actor ++ codes " was running here"
 
-abbrev pub waiting_words : Sections → (objects : List (List ℕ)) → Waiting → List ℕ
+abbrev pub entry_words : Option (List ℕ) → List ℕ
+entry_words None = []
+entry_words (Some name) = codes "." ++ name
+
+-- an object's entry: OBJECT.ENTRY
+abbrev pub queue_words : Option ObjectNames → List ℕ
+queue_words None = []
+queue_words (Some names) = names.object ++ entry_words names.entry
+
+abbrev pub waiting_words : Sections → List ObjectNames → Waiting → List ℕ
 waiting_words i objects w =
-    (names_of i).task w.task ++ codes " waits at " ++ text_at objects w.object ++ codes " since " ++ signed_decimal w.call.time
+    (names_of i).task w.task ++ codes " waits at " ++ queue_words (slice_get objects w.object) ++ codes " since " ++ signed_decimal w.call.time
 
 abbrev pub still_words : List ℕ
 still_words =
     codes "the clock has not moved in the last half of the steps: "
     ++ codes "computing takes no virtual time, so a loop that waits for the clock needs a delay until\n"
 
-module _ (file text : List ℕ) (i : Sections) (objects : List (List ℕ)) (places : List PlaceRow) where
+module _ (file text : List ℕ) (i : Sections) (objects : List ObjectNames) (places : List PlaceRow) where
   -- at the statement of whose code the next instruction is
   abbrev pub running_report : Option Running → List ℕ
   running_report None = []
@@ -45,7 +55,7 @@ module _ (file text : List ℕ) (i : Sections) (objects : List (List ℕ)) (plac
 -- the run of the text's image on the schedule is left so after so many steps
 pub record IsLeft (text input : List ℕ) (limit : ℕ) : Type 0 where
   pub image : Sections
-  pub objects : List (List ℕ)
+  pub objects : List ObjectNames
   pub places : List PlaceRow
   pub compiles : CompilesNamed text image objects places
   pub lines : List ScheduleLine

@@ -10,5 +10,6 @@ pub mod CodeTold
 pub mod LastReports
 pub mod Reporting
 pub mod Searching
+pub mod Reading
 pub mod Driving
 pub mod Explaining

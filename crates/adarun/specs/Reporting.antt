@@ -18,6 +18,7 @@ use Rattle.ada_link.specs.expr_rules.specs.Faults.{Faults}
 use Rattle.adarun.specs.CodeTold.{IsCodeTold}
 use Rattle.adarun.specs.LastReports.{HasLimitReport, HasWaitReport}
 use Rattle.adarun.specs.Naming.{CompilesNamed}
+use Rattle.adarun.specs.declared.naming.ObjectNames.{ObjectNames}
 use Rattle.adarun.specs.declared.reporting.Unhandled.{Unhandled}
 
 -- The report of the fault, and behind it the lines of what to write instead, and of what is told of the text and of its code beside. (What is told of the code
@@ -85,7 +86,7 @@ raise_report file text name None = None
 -- The report of the run of the text's image on the schedule: where the last exception came from that the task had.
 pub record IsRaiseReport (file text input : List ℕ) (run : Unhandled) (report : Option (List ℕ)) : Type 0 where
   pub image : Sections
-  pub objects : List (List ℕ)
+  pub objects : List ObjectNames
   pub places : List PlaceRow
   pub compiles : CompilesNamed text image objects places
   pub lines : List ScheduleLine

@@ -71,8 +71,11 @@ fn accepted_of(alloc: Global, program: Program) -> Result<Accepted, Fault>
     restrict(alloc, checked)
 }
 
-// Of an accepted text where its code passes a limit, of another one nothing.
-fn told_of_code(alloc: Global, text: &[u8]) -> Result<Vec<u8>, AllocError>
+/// What is told of the code of a text: where it passes a limit of images, of an accepted one; nothing of another one.
+///
+/// # Errors
+/// Where memory was refused.
+pub(crate) fn told_of_code(alloc: Global, text: &[u8]) -> Result<Vec<u8>, AllocError>
     ensures { IfOk result (λ told. TellsCode text.now told.items) }
 {
     let list = match tokens(alloc, text) {

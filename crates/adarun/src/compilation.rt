@@ -6,29 +6,29 @@ ghost use Rattle.ada_link.specs.expr_code.specs.Coming.{most_steps};
 ghost use Rattle.ada_link.specs.meaning.specs.SameMeaning.{KeepsCount, SameMeaning};
 ghost use Rattle.ada_link.specs.package_code.specs.Places.{PlacesTell};
 ghost use Rattle.adarun.specs.Accepted.{Compiles, IsAccepted, CompilesAccepted, IsJudged, IsTextFault, IsTreeOf, RefusesText, RefusesTree};
-ghost use Rattle.adarun.specs.Naming.{CompilesNamed, imaged, object_names};
+ghost use Rattle.adarun.specs.Naming.{CompilesNamed, imaged, objects_of};
 ghost use Rattle.checking.specs.ProgramRules.{IsLegal};
 ghost use Rattle.image.specs.Rules.{IsWellFormed};
 ghost use Rattle.ravenscar.specs.ProgramRules.{IsRestricted};
 
-use crate::naming::object_names;
+use crate::naming::{ObjectNames, objects_of};
 use ada_link::{Compiled, Places, Refusal, compile_tree};
 use ada_tree::Parsed;
 use base::faults::LIMIT_PASSED;
 use checking::check;
 use fault_numbers::{grammar_numbers, legality_numbers, restriction_numbers, spelling_numbers};
 use image::Image;
-use lexer::{Fault, Text, tokens};
+use lexer::{Fault, tokens};
 use parser::parse;
 use ravenscar::{Accepted, restrict};
 use source_laws::laws::small_is_unlimited;
 use std::alloc::Global;
 
-/// The image of a program, the names of its protected objects, in the order of their numbers, and the places of its statements.
+/// The image of a program, the names of its protected objects and their entries, in the order of the objects' numbers, and the places of its statements.
 #[derive(Drop)]
 pub(crate) struct Named {
     pub(crate) image: Image,
-    pub(crate) objects: Vec<Text>,
+    pub(crate) objects: Vec<ObjectNames>,
     pub(crate) places: Places,
 }
 
@@ -55,21 +55,21 @@ fn compiled_of(alloc: Global, accepted: &Accepted) -> Result<Compiled, Fault>
     }
 }
 
-// The same with the names of its protected objects.
+// The image of an accepted program with the names of its protected objects and their entries, and the places of its statements.
 fn named_of(alloc: Global, accepted: &Accepted) -> Result<Named, Fault>
     ensures means { IfOk result (λ named. SameMeaning (program_tree accepted.now) named.image) }
     ensures counted { IfOk result (λ named. KeepsCount (program_tree accepted.now) named.image (most_steps named.image)) }
     ensures bounded { IfOk result (λ named. IsBounded (program_tree accepted.now) named.image) }
     ensures within { IfOk result (λ named. KeepsTokenCounts (program_tree accepted.now) named.image) }
     ensures well_formed { IfOk result (λ named. IsWellFormed named.image) }
-    ensures names { IfOk result (λ named. named.objects.items ≡ object_names (program_tree accepted.now)) }
+    ensures names { IfOk result (λ named. named.objects.items ≡ objects_of (program_tree accepted.now)) }
     ensures places { IfOk result (λ named. PlacesTell (program_tree accepted.now) named.image named.places) }
     ensures refused { IfErr result (λ fault. RefusesTree (program_tree accepted.now) fault) }
     ensures legal { IsLegal (program_tree accepted.now) }
     ensures restricted { IsRestricted (program_tree accepted.now) }
 {
     let Compiled { image, places } = compiled_of(alloc, accepted)?;
-    match object_names(alloc, accepted.program()) {
+    match objects_of(alloc, accepted.program()) {
         Ok(objects) => Ok(Named {
             image,
             objects,
@@ -79,7 +79,7 @@ fn named_of(alloc: Global, accepted: &Accepted) -> Result<Named, Fault>
     }
 }
 
-/// Compiles a source text as `compile` does, and tells the names of its protected objects and the places of its statements.
+/// Compiles a source text as `compile` does, and gives the names of its protected objects and their entries, and the places of its statements.
 ///
 /// # Errors
 /// Those of `compile`.

@@ -1,7 +1,9 @@
-//! Files by their names.
+//! Files by their names, and standard input.
 ghost use Rattle.std.specs.Prelude.{◌≡◌, ◌≢◌, ℕ, List, Option, IfOk, OnOk};
-ghost use Rattle.adarun.specs.Driving.{IsContentRead};
+ghost use Rattle.file_limits.specs.declared.TheConstants.{SOURCE_BYTES};
+ghost use Rattle.adarun.specs.Reading.{IsBeginningRead, IsContentRead, with_input};
 
+use file_limits::SOURCE_BYTES;
 use std::alloc::Global;
 
 /// Why a file was not read.
@@ -22,16 +24,33 @@ pub enum WriteError {
     Unwritable,
 }
 
-/// Where files are read and written. Its meaning is the contents of files by their names, where these are known: not for those of a system.
+/// Where files and standard input are read, and files are written. Its meaning is the contents of files by their names, and that of standard input, where these
+/// are known: not for those of a system.
 pub trait FileStore {
     ghost contents: { Self → List ℕ → Option (List ℕ) };
+
+    ghost standard_input: { Self → Option (List ℕ) };
 
     /// The content of the file of this name.
     ///
     /// # Errors
     /// Memory where memory was refused, and Unreadable for any other cause.
-    fn read(&self, alloc: Global, name: &str) -> Result<Vec<u8>, ReadError>
+    fn read_whole(&self, alloc: Global, name: &str) -> Result<Vec<u8>, ReadError>
         ensures { IfOk result (λ bytes. IsContentRead (contents self.now name.now) bytes.items) };
+
+    /// The first bytes of the file of this name, `most` of them at most: its content, where that is no longer.
+    ///
+    /// # Errors
+    /// Those of `read_whole`.
+    fn read(&self, alloc: Global, name: &str, most: usize) -> Result<Vec<u8>, ReadError>
+        ensures { IfOk result (λ bytes. IsBeginningRead (contents self.now name.now) most bytes.items) };
+
+    /// The first bytes of standard input, `most` of them at most.
+    ///
+    /// # Errors
+    /// Those of `read_whole`.
+    fn read_input(&self, alloc: Global, most: usize) -> Result<Vec<u8>, ReadError>
+        ensures { IfOk result (λ bytes. IsBeginningRead (standard_input self.now) most bytes.items) };
 
     /// Replaces the content of the file of this name, which is made where there is none.
     ///
@@ -40,4 +59,22 @@ pub trait FileStore {
     fn write(&mut self, name: &str, bytes: &[u8]) -> Result<(), WriteError>
         ensures written { OnOk result (IsContentRead (contents self.new name.now) bytes.now) }
         ensures others { (other : List ℕ) → other ≢ name.now → contents self.new other ≡ contents self.old other };
+}
+
+/// The first bytes of a source, as many as decide what becomes of it: of standard input by the name `-`, and else of the file of this name.
+///
+/// # Errors
+/// Those of `FileStore::read`.
+pub(crate) fn read_source<F: FileStore>(
+    alloc: Global,
+    files: &F,
+    source: &str,
+) -> Result<Vec<u8>, ReadError>
+    ensures { IfOk result (λ bytes. IsBeginningRead (with_input (F.standard_input files.now) (F.contents files.now) source.now) SOURCE_BYTES bytes.items) }
+{
+    if source == "-" {
+        files.read_input(alloc, SOURCE_BYTES)
+    } else {
+        files.read(alloc, source, SOURCE_BYTES)
+    }
 }

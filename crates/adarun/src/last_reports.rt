@@ -1,16 +1,14 @@
 //! What is said in words of the last world of a run: which tasks wait, and who was running.
-ghost use Rattle.std.specs.Prelude.{◌≡◌, ◌≢◌, ◌<◌, ◌≤◌, ◌++◌, IfOk, OnOk, option_map};
-ghost use Rattle.adarun.specs.LastReports.{HasLimitReport, HasWaitReport, report_at, running_report, running_words, still_words, waiting_report, waiting_words};
+ghost use Rattle.std.specs.Prelude.{◌≡◌, ◌≢◌, ◌<◌, ◌≤◌, ◌++◌, Some, IfOk, OnOk, option_map, slice_get};
+ghost use Rattle.adarun.specs.LastReports.{HasLimitReport, HasWaitReport, queue_words, report_at, running_report, running_words, still_words, waiting_report, waiting_words};
 ghost use Rattle.ada_link.specs.stmt_code.specs.Placing.{place_at};
-ghost use Rattle.adarun.specs.Naming.{CompilesNamed};
 ghost use Rattle.endings.specs.LastSteps.{IsLastWorld};
-ghost use Rattle.image.specs.Texts.{text_at};
 
-use crate::compilation::{Named, compile_named};
-use clock::Schedule;
+use crate::compilation::Named;
+use crate::inputs::{Inputs, inputs_of};
+use crate::naming::ObjectNames;
 use endings::{LastWorld, Running, Waiting, last_world};
 use itoa::Buffer;
-use lexer::Text;
 use machine::{Steps, actor_name};
 use source_report::put_place_report;
 use std::alloc::{AllocError, Global};
@@ -57,13 +55,27 @@ fn put_running(
     put_report(out, file, text, place, &words)
 }
 
-// The name of the object with this number, or none where there isn't one.
-fn object_name(objects: &[Text], number: u8) -> &[u8]
-    ensures { result.now ≡ text_at objects.now number }
+// Adds the entry of an object: OBJECT.ENTRY.
+fn put_queue(out: &mut Vec<u8>, names: &ObjectNames) -> Result<(), AllocError>
+    ensures { OnOk result (out.new.items ≡ out.old.items ++ queue_words (Some names.now)) }
+{
+    out.extend_from_slice(names.object.as_bytes())?;
+    match &names.entry {
+        None => Ok(()),
+        Some(entry) => {
+            out.extend_from_slice(b".")?;
+            out.extend_from_slice(entry.as_bytes())
+        }
+    }
+}
+
+// Adds the entry of the object with this number, or nothing where there is no such object.
+fn put_queue_of(out: &mut Vec<u8>, objects: &[ObjectNames], number: u8) -> Result<(), AllocError>
+    ensures { OnOk result (out.new.items ≡ out.old.items ++ queue_words (slice_get objects.now number)) }
 {
     match objects.get(usize::from(number)) {
-        None => &[],
-        Some(name) => name.as_bytes(),
+        None => Ok(()),
+        Some(names) => put_queue(out, names),
     }
 }
 
@@ -74,7 +86,7 @@ fn words_of(alloc: Global, named: &Named, waiting: &Waiting) -> Result<Vec<u8>, 
     let mut words = Vec::new(alloc);
     words.extend_from_slice(actor_name(&named.image, waiting.task).as_slice())?;
     words.extend_from_slice(b" waits at ")?;
-    words.extend_from_slice(object_name(&named.objects, waiting.object))?;
+    put_queue_of(&mut words, &named.objects, waiting.object)?;
     words.extend_from_slice(b" since ")?;
     words.extend_from_slice(Buffer::new().format(waiting.call.time).as_bytes())?;
     Ok(words)
@@ -102,14 +114,13 @@ fn put_waiting(
 #[inline(never)]
 fn world_of<L: Ledger>(
     alloc: Global,
-    named: &Named,
-    schedule: &Schedule,
+    inputs: &Inputs,
     limit: u64,
     steps: &mut Steps<L>,
 ) -> Result<LastWorld, AllocError>
-    ensures { IfOk result (λ last. IsLastWorld named.now.image schedule.now limit last) }
+    ensures { IfOk result (λ last. IsLastWorld inputs.now.named.image inputs.now.schedule limit last) }
 {
-    last_world(alloc, &named.image, schedule, limit, steps)
+    last_world(alloc, &inputs.named.image, &inputs.schedule, limit, steps)
 }
 
 // What is said of the tasks that wait.
@@ -170,14 +181,9 @@ pub(crate) fn wait_report<L: Ledger>(
 ) -> Result<Vec<u8>, AllocError>
     ensures { IfOk result (λ report. HasWaitReport file.now text.now lines.now limit report.items) }
 {
-    let Ok(named) = compile_named(alloc, text) else {
-        return Err(AllocError);
-    };
-    let Ok(schedule) = Schedule::read(alloc, lines) else {
-        return Err(AllocError);
-    };
-    let last = world_of(alloc, &named, &schedule, limit, steps)?;
-    waiting_in(alloc, file, text, &named, &last)
+    let inputs = inputs_of(alloc, text, lines)?;
+    let last = world_of(alloc, &inputs, limit, steps)?;
+    waiting_in(alloc, file, text, &inputs.named, &last)
 }
 
 /// What is said of a run of the text that is cut by its limit on steps: who was running and where, and that computing takes no virtual time where the clock has
@@ -195,12 +201,7 @@ pub(crate) fn limit_report<L: Ledger>(
 ) -> Result<Vec<u8>, AllocError>
     ensures { IfOk result (λ report. HasLimitReport file.now text.now lines.now limit report.items) }
 {
-    let Ok(named) = compile_named(alloc, text) else {
-        return Err(AllocError);
-    };
-    let Ok(schedule) = Schedule::read(alloc, lines) else {
-        return Err(AllocError);
-    };
-    let last = world_of(alloc, &named, &schedule, limit, steps)?;
-    running_in(alloc, file, text, &named, limit, &last)
+    let inputs = inputs_of(alloc, text, lines)?;
+    let last = world_of(alloc, &inputs, limit, steps)?;
+    running_in(alloc, file, text, &inputs.named, limit, &last)
 }

@@ -6,6 +6,7 @@ mod compilation;
 mod exploring;
 mod files;
 mod going;
+mod inputs;
 mod last_reports;
 pub mod laws;
 mod naming;

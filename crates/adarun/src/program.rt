@@ -2,16 +2,20 @@
 ghost use Rattle.std.specs.Prelude.{◌≡◌, ◌≢◌, ◌<◌, ◌⊎◌, ℕ, Err, IfOk, List, OnOk, Option, map, nat_eq, option_map, if◌then◌else◌};
 ghost use Rattle.base.specs.declared.faults.TheConstants.{MEMORY_REFUSED};
 ghost use Rattle.adarun.specs.Driving as driving;
-ghost use Rattle.adarun.specs.Driving.{AnswersStatus, IsContentRead, IsFaultPlace, IsWholeTold, KeepsSink, LeavesCheck, LeavesCompile, LeavesExplain, LeavesExplainText, LeavesGo, LeavesList, LeavesRun, LeavesShown, LeavesTrace, input_of, text_of};
+ghost use Rattle.adarun.specs.Driving.{AnswersStatus, IsFaultPlace, IsWholeTold, KeepsSink, LeavesCheck, LeavesCompile, LeavesExplain, LeavesExplainText, LeavesGo, LeavesList, LeavesRun, LeavesShown, LeavesTrace, input_of, text_of};
+ghost use Rattle.adarun.specs.Naming.{names_alone};
+ghost use Rattle.adarun.specs.Reading.{IsBeginningRead, with_input};
+ghost use Rattle.file_limits.specs.declared.TheConstants.{SCHEDULE_BYTES};
 ghost use Rattle.image.specs.Code.{code};
 ghost use Rattle.machine.specs.Stands.{EndsBy};
 ghost use Rattle.machine.specs.Written.{AppendsBeginning};
 ghost use Rattle.std.specs.Io.KnownBytes.{Appends};
 
 use crate::code_told::told_of_limit;
-use crate::compilation::{compile, compile_named};
-use crate::files::{FileStore, ReadError, WriteError};
+use crate::compilation::{Named, compile, compile_named};
+use crate::files::{FileStore, ReadError, WriteError, read_source};
 use crate::going::{GoFault, go};
+use crate::naming::names_alone;
 use crate::origins::{Statements, position};
 use crate::reporting::{fault_report, outcome_report, schedule_refusal, source_refusal};
 use crate::rules::text_faults;
@@ -20,12 +24,13 @@ use base::faults::MEMORY_REFUSED;
 use clock::{Schedule, ScheduleFault};
 use command_line::{Request, WordsError, request_of};
 use explanations::explanation;
+use file_limits::{SCHEDULE_BYTES, SOURCE_BYTES};
 use hints::explained;
-use image::{Image, ImageFault};
+use image::ImageFault;
 use image_format::{encode, list};
 use image_loading::load;
 use itoa::Buffer;
-use lexer::{Fault, Text};
+use lexer::Fault;
 use machine::{Outcome, RunFault, Sink, Steps, run, write_all};
 use manual::{MANUAL, VERSION};
 use std::alloc::{AllocError, Global};
@@ -73,8 +78,8 @@ pub fn drive<F: FileStore, O: Sink, E: Sink, L: Ledger>(
     err: &mut E,
     steps: &mut Steps<L>,
 ) -> u8
-    ensures answers { AnswersStatus (map (λ w. w.now) words.now) (F.contents files.old) (F.contents files.new) result (O.bytes out.old) (O.bytes out.new)
-        (E.bytes err.old) (E.bytes err.new) }
+    ensures answers { AnswersStatus (map (λ w. w.now) words.now) (F.standard_input files.old) (F.contents files.old) (F.contents files.new) result
+        (O.bytes out.old) (O.bytes out.new) (E.bytes err.old) (E.bytes err.new) }
     ensures source { result ≡ 2 → out.new ≡ out.old }
     ensures schedule { result ≡ 7 → out.new ≡ out.old }
     ensures memory { result ≡ 8 → out.new ≡ out.old }
@@ -189,7 +194,7 @@ fn compile_to<F: FileStore, E: Sink>(
 ) -> Status
     ensures { (written : Option (List ℕ)) → LeavesCompile (F.contents files.old) (F.contents files.new) source.now image.now result written written }
 {
-    let text = match files.read(alloc, source) {
+    let text = match files.read(alloc, source, SOURCE_BYTES) {
         Ok(text) => text,
         Err(error) => return unread(err, error, source),
     };
@@ -218,7 +223,7 @@ fn drive_list<F: FileStore, O: Sink, E: Sink>(
     ensures leaves { LeavesList (F.contents files.now) name.now result (O.bytes out.old) (O.bytes out.new) }
     ensures sink { KeepsSink result (out.new ≡ out.old) (O.failures out.old) (O.failures out.new) }
 {
-    let bytes = match files.read(alloc, name) {
+    let bytes = match files.read_whole(alloc, name) {
         Ok(bytes) => bytes,
         Err(error) => return unread(err, error, name),
     };
@@ -249,11 +254,11 @@ fn drive_run<F: FileStore, O: Sink, E: Sink, L: Ledger>(
     ensures leaves { LeavesRun (F.contents files.now) name.now schedule.now limit result (O.bytes out.old) (O.bytes out.new) }
     ensures sink { KeepsSink result (out.new ≡ out.old) (O.failures out.old) (O.failures out.new) }
 {
-    let bytes = match files.read(alloc, name) {
+    let bytes = match files.read_whole(alloc, name) {
         Ok(bytes) => bytes,
         Err(error) => return unread(err, error, name),
     };
-    let lines = match files.read(alloc, schedule) {
+    let lines = match files.read(alloc, schedule, SCHEDULE_BYTES) {
         Ok(lines) => lines,
         Err(error) => return unread(err, error, schedule),
     };
@@ -285,11 +290,11 @@ fn drive_go<F: FileStore, O: Sink, E: Sink, L: Ledger>(
     ensures leaves { LeavesGo (F.contents files.now) source.now (F.contents files.now schedule.now) limit result (O.bytes out.old) (O.bytes out.new) }
     ensures sink { KeepsSink result (out.new ≡ out.old) (O.failures out.old) (O.failures out.new) }
 {
-    let text = match files.read(alloc, source) {
+    let text = match files.read(alloc, source, SOURCE_BYTES) {
         Ok(text) => text,
         Err(error) => return unread(err, error, source),
     };
-    let lines = match files.read(alloc, schedule) {
+    let lines = match files.read(alloc, schedule, SCHEDULE_BYTES) {
         Ok(lines) => lines,
         Err(error) => return unread(err, error, schedule),
     };
@@ -304,9 +309,9 @@ fn drive_go<F: FileStore, O: Sink, E: Sink, L: Ledger>(
 
 // Reports every fault of the source to standard error.
 fn drive_check<F: FileStore, E: Sink>(alloc: Global, files: &F, source: &str, err: &mut E) -> Status
-    ensures leaves { LeavesCheck (F.contents files.now) source.now result (E.bytes err.old) (E.bytes err.new) }
+    ensures leaves { LeavesCheck (with_input (F.standard_input files.now) (F.contents files.now)) source.now result (E.bytes err.old) (E.bytes err.new) }
 {
-    let text = match files.read(alloc, source) {
+    let text = match read_source(alloc, files, source) {
         Ok(text) => text,
         Err(error) => return unread(err, error, source),
     };
@@ -333,10 +338,11 @@ fn read_schedule<F: FileStore>(
     files: &F,
     schedule: Option<&str>,
 ) -> Result<Vec<u8>, ReadError>
-    ensures { IfOk result (λ bytes. IsContentRead (input_of (F.contents files.now) (option_map (λ name. name.now) schedule.entry)) bytes.items) }
+    ensures { IfOk result (λ bytes. IsBeginningRead (input_of (F.contents files.now) (option_map (λ name. name.now) schedule.entry)) SCHEDULE_BYTES
+        bytes.items) }
 {
     match schedule {
-        Some(name) => files.read(alloc, name),
+        Some(name) => files.read(alloc, name, SCHEDULE_BYTES),
         None => Ok(Vec::new(alloc)),
     }
 }
@@ -352,12 +358,12 @@ fn drive_simulate<F: FileStore, O: Sink, E: Sink, L: Ledger>(
     err: &mut E,
     steps: &mut Steps<L>,
 ) -> Status
-    ensures leaves { LeavesGo (F.contents files.now) source.now (input_of (F.contents files.now) (option_map (λ name. name.now) schedule.entry)) limit result
-        (O.bytes out.old) (O.bytes out.new) }
+    ensures leaves { LeavesGo (with_input (F.standard_input files.now) (F.contents files.now)) source.now
+        (input_of (F.contents files.now) (option_map (λ name. name.now) schedule.entry)) limit result (O.bytes out.old) (O.bytes out.new) }
     ensures sink { KeepsSink result (out.new ≡ out.old) (O.failures out.old) (O.failures out.new) }
 {
     let named = schedule.unwrap_or("");
-    let text = match files.read(alloc, source) {
+    let text = match read_source(alloc, files, source) {
         Ok(text) => text,
         Err(error) => return unread(err, error, source),
     };
@@ -391,11 +397,11 @@ fn drive_trace<F: FileStore, O: Sink, E: Sink, L: Ledger>(
     ensures leaves { LeavesTrace form (F.contents files.now) source.now schedule.now limit result (O.bytes out.old) (O.bytes out.new) }
     ensures sink { KeepsSink result (out.new ≡ out.old) (O.failures out.old) (O.failures out.new) }
 {
-    let text = match files.read(alloc, source) {
+    let text = match files.read(alloc, source, SOURCE_BYTES) {
         Ok(text) => text,
         Err(error) => return unread(err, error, source),
     };
-    let lines = match files.read(alloc, schedule) {
+    let lines = match files.read(alloc, schedule, SCHEDULE_BYTES) {
         Ok(lines) => lines,
         Err(error) => return unread(err, error, schedule),
     };
@@ -411,17 +417,7 @@ fn drive_trace<F: FileStore, O: Sink, E: Sink, L: Ledger>(
         text: &text,
         places: &named.places,
     };
-    match write_trace(
-        alloc,
-        form,
-        &named.image,
-        &named.objects,
-        &origins,
-        &schedule,
-        limit,
-        out,
-        steps,
-    ) {
+    match write_trace(alloc, form, &named, &origins, &schedule, limit, out, steps) {
         Ok(outcome) => status_of(&outcome),
         Err(RunFault::Memory) => no_memory(err),
         Err(RunFault::Write) => cannot_write(err),
@@ -432,24 +428,37 @@ fn drive_trace<F: FileStore, O: Sink, E: Sink, L: Ledger>(
 fn write_trace<P: Origins, O: Sink, L: Ledger>(
     alloc: Global,
     form: TraceForm,
-    image: &Image,
-    objects: &[Text],
+    named: &Named,
     origins: &P,
     schedule: &Schedule,
     limit: u64,
     out: &mut O,
     steps: &mut Steps<L>,
 ) -> Result<Outcome, RunFault>
-    ensures text { OnOk result (Appends (O.bytes out.old) (O.bytes out.new) (text_of form image.now objects.now (P.origin origins.now) schedule.now limit)) }
-    ensures ends { IfOk result (λ outcome. EndsBy outcome (code image.now schedule.now limit)) }
+    ensures text { OnOk result (Appends (O.bytes out.old) (O.bytes out.new) (text_of form named.now.image (names_alone named.now.objects.items)
+        (P.origin origins.now) schedule.now limit)) }
+    ensures ends { IfOk result (λ outcome. EndsBy outcome (code named.now.image schedule.now limit)) }
     ensures kept { OnOk result (O.failures out.new ≡ O.failures out.old) }
     ensures memory { result ≡ Err RunFault.Memory → out.new ≡ out.old }
     ensures failed { result ≡ Err RunFault.Write → O.failures out.old < O.failures out.new }
-    ensures beginning { AppendsBeginning (O.bytes out.old) (O.bytes out.new) (text_of form image.now objects.now (P.origin origins.now) schedule.now limit) }
+    ensures beginning { AppendsBeginning (O.bytes out.old) (O.bytes out.new) (text_of form named.now.image (names_alone named.now.objects.items)
+        (P.origin origins.now) schedule.now limit) }
 {
+    let Ok(objects) = names_alone(alloc, &named.objects) else {
+        return Err(RunFault::Memory);
+    };
     match form {
-        TraceForm::Rows => trace(alloc, image, objects, origins, schedule, limit, out, steps),
-        TraceForm::Dump => waves(alloc, image, objects, schedule, limit, out, steps),
+        TraceForm::Rows => trace(
+            alloc,
+            &named.image,
+            &objects,
+            origins,
+            schedule,
+            limit,
+            out,
+            steps,
+        ),
+        TraceForm::Dump => waves(alloc, &named.image, &objects, schedule, limit, out, steps),
     }
 }
 
@@ -526,7 +535,7 @@ fn drive_explain_text<F: FileStore, O: Sink, E: Sink>(
     if explanation(number).is_none() {
         return usage(err);
     }
-    let text = match files.read(alloc, source) {
+    let text = match files.read(alloc, source, SOURCE_BYTES) {
         Ok(text) => text,
         Err(error) => return unread(err, error, source),
     };
@@ -558,7 +567,7 @@ fn status_of(outcome: &Outcome) -> Status
 }
 
 // Writes the pieces and the end of the line. A failure isn't told anywhere else.
-pub(crate) fn tell<E: Sink>(err: &mut E, status: Status, pieces: &[&[u8]]) -> Status
+fn tell<E: Sink>(err: &mut E, status: Status, pieces: &[&[u8]]) -> Status
     ensures { result ≡ status }
 {
     for piece in pieces {
@@ -654,38 +663,58 @@ fn report_outcome<E: Sink, L: Ledger>(
     }
 }
 
+/// Writes the line of a fault, `WHAT fault NUMBER at UNIT PLACE`, or that there is no memory where the fault says so.
+pub(crate) fn refuse<E: Sink>(
+    err: &mut E,
+    status: Status,
+    what: &str,
+    number: u8,
+    unit: &str,
+    place: u32,
+) -> Status
+    ensures { result ≡ (if nat_eq number MEMORY_REFUSED then Status.NoMemory else status) }
+{
+    if number == MEMORY_REFUSED {
+        return no_memory(err);
+    }
+    let mut numbers = Buffer::new();
+    let mut places = Buffer::new();
+    let pieces: [&[u8]; 7] = [
+        what.as_bytes(),
+        b" fault ",
+        numbers.format(number).as_bytes(),
+        b" at ",
+        unit.as_bytes(),
+        b" ",
+        places.format(place).as_bytes(),
+    ];
+    tell(err, status, &pieces)
+}
+
 fn refuse_image<E: Sink>(err: &mut E, fault: &ImageFault) -> Status
     ensures { result ≡ (if nat_eq fault.now.number MEMORY_REFUSED then Status.NoMemory else Status.ImageFault) }
 {
-    if fault.number == MEMORY_REFUSED {
-        return no_memory(err);
-    }
-    let mut number = Buffer::new();
-    let mut byte = Buffer::new();
-    let pieces: [&[u8]; 4] = [
-        b"image fault ",
-        number.format(fault.number).as_bytes(),
-        b" at byte ",
-        byte.format(fault.byte).as_bytes(),
-    ];
-    tell(err, Status::ImageFault, &pieces)
+    refuse(
+        err,
+        Status::ImageFault,
+        "image",
+        fault.number,
+        "byte",
+        fault.byte,
+    )
 }
 
 fn refuse_schedule<E: Sink>(err: &mut E, fault: &ScheduleFault) -> Status
     ensures { result ≡ (if nat_eq fault.now.number MEMORY_REFUSED then Status.NoMemory else Status.ScheduleRefused) }
 {
-    if fault.number == MEMORY_REFUSED {
-        return no_memory(err);
-    }
-    let mut number = Buffer::new();
-    let mut line = Buffer::new();
-    let pieces: [&[u8]; 4] = [
-        b"schedule fault ",
-        number.format(fault.number).as_bytes(),
-        b" at line ",
-        line.format(fault.line).as_bytes(),
-    ];
-    tell(err, Status::ScheduleRefused, &pieces)
+    refuse(
+        err,
+        Status::ScheduleRefused,
+        "schedule",
+        fault.number,
+        "line",
+        fault.line,
+    )
 }
 
 // The same in words, with the line, or as `refuse_schedule` where memory is wanting for them.

@@ -1,16 +1,18 @@
 //! What is said in words of a source or a schedule that is refused, of every fault of a source, and of how a run came to its end.
-ghost use Rattle.std.specs.Prelude.{◌≡◌, ◌++◌, drop, IfOk, OnOk, option_map};
+ghost use Rattle.std.specs.Prelude.{◌≡◌, ◌++◌, drop, IfOk, OnOk, option_map, Some};
+ghost use Rattle.adarun.specs.CodeTold.{IsCodeTold, TellsCode};
 ghost use Rattle.adarun.specs.Reporting.{AddsRefusal, IsFaultReport, IsOutcomeReport, IsRaiseReport, IsScheduleRefusal, IsSourceRefusal, count_line, raise_place, raise_report};
 ghost use Rattle.endings.specs.Sources.{raised_from};
 ghost use Rattle.image.specs.Texts.{text_from_one};
 
-use crate::code_told::told_of_limit;
-use crate::compilation::{Named, compile_named};
+use crate::code_told::{told_of_code, told_of_limit};
+use crate::inputs::{Inputs, inputs_of};
 use crate::last_reports::{limit_report, wait_report};
-use clock::{Schedule, ScheduleFault};
+use base::faults::LIMIT_PASSED;
+use clock::ScheduleFault;
 use endings::raised_from;
 use explanations::explanation;
-use hints::remarks_at;
+use hints::{ParsedText, remarks_at};
 use itoa::Buffer;
 use lexer::Fault;
 use machine::{Outcome, Steps, exception_name};
@@ -28,17 +30,16 @@ fn put_told(out: &mut Vec<u8>, told: &[u8]) -> Result<(), AllocError>
     }
 }
 
-/// What is said of a source that is refused: the place, the rule and the line, what to write instead, and what is told of the text beside; None where the
-/// number is that of no fault.
-///
-/// # Errors
-/// Where memory was refused.
-pub(crate) fn source_refusal(
+// What is said of a source that is refused: the place, the rule and the line, what to write instead, what is told of the text beside, and what is told of its
+// code; None where the number is that of no fault.
+fn refusal_of(
     alloc: Global,
     file: &str,
-    text: &[u8],
+    text: &ParsedText,
     fault: &Fault,
+    code: &[u8],
 ) -> Result<Option<Vec<u8>>, AllocError>
+    requires { IsCodeTold fault.now.number (Some fault.now.place) text.now code.now }
     ensures { IfOk result (λ report. IsSourceRefusal file.now text.now fault.now (option_map (λ bytes. bytes.items) report)) }
 {
     let number = u64::from(fault.number);
@@ -50,16 +51,45 @@ pub(crate) fn source_refusal(
     put_source_report(
         &mut report,
         file.as_bytes(),
-        text,
+        text.text(),
         rule,
         fault.number,
         fault.place,
     )?;
     let remarks = remarks_at(alloc, number, Some(fault.place), text)?;
     report.extend_from_slice(&remarks)?;
-    let code = told_of_limit(alloc, number, Some(fault.place), text)?;
-    put_told(&mut report, &code)?;
+    put_told(&mut report, code)?;
     Ok(Some(report))
+}
+
+/// What is said of a source that is refused: the place, the rule and the line, what to write instead, and what is told of the text and of its code beside; None
+/// where the number is that of no fault.
+///
+/// # Errors
+/// Where memory was refused.
+pub(crate) fn source_refusal(
+    alloc: Global,
+    file: &str,
+    text: &[u8],
+    fault: &Fault,
+) -> Result<Option<Vec<u8>>, AllocError>
+    ensures { IfOk result (λ report. IsSourceRefusal file.now text.now fault.now (option_map (λ bytes. bytes.items) report)) }
+{
+    let code = told_of_limit(alloc, u64::from(fault.number), Some(fault.place), text)?;
+    let text = ParsedText::read(alloc, text)?;
+    refusal_of(alloc, file, &text, fault, &code)
+}
+
+// What is told of the code where the fault is a limit that is passed; nothing of another fault.
+fn code_of<'a>(fault: &Fault, text: &ParsedText, code: &'a [u8]) -> &'a [u8]
+    requires { TellsCode text.now code.now }
+    ensures { IsCodeTold fault.now.number (Some fault.now.place) text.now result.now }
+{
+    if fault.number == LIMIT_PASSED {
+        code
+    } else {
+        &[]
+    }
 }
 
 // Adds what is said of a fault of a source, or nothing where the number is that of no fault.
@@ -67,12 +97,14 @@ fn put_refusal(
     alloc: Global,
     out: &mut Vec<u8>,
     file: &str,
-    text: &[u8],
+    text: &ParsedText,
     fault: &Fault,
+    code: &[u8],
 ) -> Result<(), AllocError>
+    requires { TellsCode text.now code.now }
     ensures { OnOk result (AddsRefusal file.now text.now fault.now out.old.items out.new.items) }
 {
-    match source_refusal(alloc, file, text, fault)? {
+    match refusal_of(alloc, file, text, fault, code_of(fault, text, code))? {
         Some(report) => out.extend_from_slice(&report),
         None => Ok(()),
     }
@@ -102,9 +134,11 @@ pub(crate) fn fault_report(
 ) -> Result<Vec<u8>, AllocError>
     ensures { IfOk result (λ report. IsFaultReport file.now text.now faults.now report.items) }
 {
+    let code = told_of_code(alloc, text)?;
+    let parsed = ParsedText::read(alloc, text)?;
     let mut report = Vec::new(alloc);
     for fault in faults {
-        put_refusal(alloc, &mut report, file, text, fault)?;
+        put_refusal(alloc, &mut report, file, &parsed, fault, &code)?;
     }
     put_count(&mut report, faults.len())?;
     Ok(report)
@@ -143,16 +177,22 @@ pub(crate) fn schedule_refusal(
 #[inline(never)]
 fn raise_place<L: Ledger>(
     alloc: Global,
-    named: &Named,
-    schedule: &Schedule,
+    inputs: &Inputs,
     limit: u64,
     task: u8,
     steps: &mut Steps<L>,
 ) -> Result<Option<u32>, AllocError>
-    ensures { IfOk result (λ place. place ≡ raise_place named.now.places (raised_from named.now.image schedule.now limit task)) }
+    ensures { IfOk result (λ place. place ≡ raise_place inputs.now.named.places (raised_from inputs.now.named.image inputs.now.schedule limit task)) }
 {
-    match raised_from(alloc, &named.image, schedule, limit, task, steps)? {
-        Some(address) => Ok(named.places.place_of(usize::from(address))),
+    match raised_from(
+        alloc,
+        &inputs.named.image,
+        &inputs.schedule,
+        limit,
+        task,
+        steps,
+    )? {
+        Some(address) => Ok(inputs.named.places.place_of(usize::from(address))),
         None => Ok(None),
     }
 }
@@ -178,22 +218,21 @@ fn raised_here(
     Ok(Some(report))
 }
 
-// The same of a program that is compiled.
+// What is said of the exception that stopped a run of a compiled program.
 fn raised_in<L: Ledger>(
     alloc: Global,
     file: &str,
     text: &[u8],
-    named: &Named,
-    schedule: &Schedule,
+    inputs: &Inputs,
     run: &Unhandled,
     steps: &mut Steps<L>,
 ) -> Result<Option<Vec<u8>>, AllocError>
     ensures { IfOk result (λ report. option_map (λ bytes. bytes.items) report ≡ raise_report file.now text.now
-        (text_from_one named.now.image.exceptions run.now.exception)
-        (raise_place named.now.places (raised_from named.now.image schedule.now run.now.limit run.now.task))) }
+        (text_from_one inputs.now.named.image.exceptions run.now.exception)
+        (raise_place inputs.now.named.places (raised_from inputs.now.named.image inputs.now.schedule run.now.limit run.now.task))) }
 {
-    let place = raise_place(alloc, named, schedule, run.limit, run.task, steps)?;
-    let name = exception_name(named.image.exceptions(), run.exception);
+    let place = raise_place(alloc, inputs, run.limit, run.task, steps)?;
+    let name = exception_name(inputs.named.image.exceptions(), run.exception);
     raised_here(alloc, file, text, name, place)
 }
 
@@ -216,13 +255,8 @@ fn raise_report<L: Ledger>(
 ) -> Result<Option<Vec<u8>>, AllocError>
     ensures { IfOk result (λ report. IsRaiseReport file.now text.now lines.now run.now (option_map (λ bytes. bytes.items) report)) }
 {
-    let Ok(named) = compile_named(alloc, text) else {
-        return Err(AllocError);
-    };
-    let Ok(schedule) = Schedule::read(alloc, lines) else {
-        return Err(AllocError);
-    };
-    raised_in(alloc, file, text, &named, &schedule, run, steps)
+    let inputs = inputs_of(alloc, text, lines)?;
+    raised_in(alloc, file, text, &inputs, run, steps)
 }
 
 /// What is said of how a run of the text came to its end: where the exception came from that stopped it, where that is known; of one that waits forever the

@@ -4,14 +4,14 @@ ghost use Rattle.base.specs.declared.faults.TheConstants.{MEMORY_REFUSED};
 ghost use Rattle.command_line.specs.Words as words_of;
 ghost use Rattle.adarun.specs.Driving as driving;
 ghost use Rattle.adarun.specs.Driving.{KeepsSink, LeavesSearch, looks_for};
+ghost use Rattle.adarun.specs.Reading.{with_input};
 
 use crate::exploring::{SearchFault, SearchOutcome, search};
-use crate::files::FileStore;
-use crate::program::{Status, cannot_write, no_memory, refuse_source, tell, unread};
-use base::faults::MEMORY_REFUSED;
+use crate::files::{FileStore, read_source};
+use crate::program::{Status, cannot_write, no_memory, refuse, refuse_source, unread};
 use choices::ChoicesFault;
 use command_line::Sought;
-use itoa::Buffer;
+use file_limits::CHOICES_BYTES;
 use machine::{RunFault, Sink, Steps};
 use searching::Wanted;
 use std::alloc::Global;
@@ -48,18 +48,14 @@ fn status_of(outcome: SearchOutcome) -> Status
 fn refuse_choices<E: Sink>(err: &mut E, fault: &ChoicesFault) -> Status
     ensures { result ≡ (if nat_eq fault.now.number MEMORY_REFUSED then Status.NoMemory else Status.ScheduleRefused) }
 {
-    if fault.number == MEMORY_REFUSED {
-        return no_memory(err);
-    }
-    let mut number = Buffer::new();
-    let mut line = Buffer::new();
-    let pieces: [&[u8]; 4] = [
-        b"choices fault ",
-        number.format(fault.number).as_bytes(),
-        b" at line ",
-        line.format(fault.line).as_bytes(),
-    ];
-    tell(err, Status::ScheduleRefused, &pieces)
+    refuse(
+        err,
+        Status::ScheduleRefused,
+        "choices",
+        fault.number,
+        "line",
+        fault.line,
+    )
 }
 
 /// Searches the schedules of a set for one under which the source comes to what is sought, up to `until` (microseconds since the start), with `limit` steps at
@@ -77,15 +73,15 @@ pub(crate) fn drive_search<F: FileStore, O: Sink, E: Sink, L: Ledger>(
     err: &mut E,
     steps: &mut Steps<L>,
 ) -> Status
-    ensures leaves { LeavesSearch (F.contents files.now) source.now choices.now until limit (words_of.wanted_of sought.entry) result (O.bytes out.old)
-        (O.bytes out.new) }
+    ensures leaves { LeavesSearch (with_input (F.standard_input files.now) (F.contents files.now)) source.now (F.contents files.now choices.now) until limit
+        (words_of.wanted_of sought.entry) result (O.bytes out.old) (O.bytes out.new) }
     ensures sink { KeepsSink result (out.new ≡ out.old) (O.failures out.old) (O.failures out.new) }
 {
-    let text = match files.read(alloc, source) {
+    let text = match read_source(alloc, files, source) {
         Ok(text) => text,
         Err(error) => return unread(err, error, source),
     };
-    let lines = match files.read(alloc, choices) {
+    let lines = match files.read(alloc, choices, CHOICES_BYTES) {
         Ok(lines) => lines,
         Err(error) => return unread(err, error, choices),
     };

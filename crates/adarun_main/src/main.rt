@@ -19,14 +19,37 @@ struct Files<'a> {
     system: SystemFiles<'a>,
 }
 
+// Why a file was not read, as the program is given it.
+fn read_error(error: FileError) -> ReadError {
+    match error {
+        FileError::Memory => ReadError::Memory,
+        FileError::Other => ReadError::Unreadable,
+    }
+}
+
 impl<'a> FileStore for Files<'a> {
     ghost contents = { λ _ _. None };
 
-    fn read(&self, _alloc: Global, name: &str) -> Result<Vec<u8>, ReadError> {
-        match self.system.read(name) {
+    ghost standard_input = { λ _. None };
+
+    fn read_whole(&self, _alloc: Global, name: &str) -> Result<Vec<u8>, ReadError> {
+        match self.system.read_whole(name) {
             Ok(bytes) => Ok(bytes),
-            Err(FileError::Memory) => Err(ReadError::Memory),
-            Err(FileError::Other) => Err(ReadError::Unreadable),
+            Err(error) => Err(read_error(error)),
+        }
+    }
+
+    fn read(&self, _alloc: Global, name: &str, most: usize) -> Result<Vec<u8>, ReadError> {
+        match self.system.read(name, most) {
+            Ok(bytes) => Ok(bytes),
+            Err(error) => Err(read_error(error)),
+        }
+    }
+
+    fn read_input(&self, _alloc: Global, most: usize) -> Result<Vec<u8>, ReadError> {
+        match self.system.read_input(most) {
+            Ok(bytes) => Ok(bytes),
+            Err(error) => Err(read_error(error)),
         }
     }
 

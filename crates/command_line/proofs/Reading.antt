@@ -1,4 +1,4 @@
--- What clap makes of words of which none begins with `-`, for the commands.
+-- What clap makes of words of which none but `-` begins with `-`, for the commands.
 use Rattle.std.proofs.Common.{◌≡◌, ◌∙◌, ap, sym, subst, refl, ℕ, Bool, true, false, not, List, [], ◌∷◌, Some, None, if◌then◌else◌, nat_eq, codes, bytes_eq}
 use Rattle.std.specs.Option.{option_map_or}
 use Rattle.clap.specs.Lexer.{long_of, short_of}
@@ -24,7 +24,13 @@ not_true true h = absurd (let no : false ≡ true = h in cc)
 
 pub no_flag : (word : Text) → is_plain word ≡ true → IsNoFlag word
 no_flag [] h = record { escape = refl; long = refl; short = refl }
-no_flag (c ∷ rest) h = let e : nat_eq c 45 ≡ false = not_true (nat_eq c 45) h in record { escape = rw e refl; long = rw e refl; short = rw e refl }
+no_flag (c ∷ []) h = by (nat_eq c 45) refl
+  where
+    by : (b : Bool) → nat_eq c 45 ≡ b → IsNoFlag (c ∷ [])
+    by true e = record { escape = rw e refl; long = rw e refl; short = rw e refl }
+    by false e = record { escape = rw e refl; long = rw e refl; short = rw e refl }
+no_flag (c ∷ d ∷ rest) h =
+    let e : nat_eq c 45 ≡ false = not_true (nat_eq c 45) h in record { escape = rw e refl; long = rw e refl; short = rw e refl }
 
 -- the walk over words, which nothing has stopped
 abbrev pub at : Held → ℕ → Walk

@@ -68,10 +68,11 @@ asked_plainly (name ∷ file ∷ schedule ∷ limit ∷ []) =
     else (if bytes_eq name (codes "simulate") then within (SimulateText file (Some schedule)) (numeral_of limit) else Nothing)))
 asked_plainly words = Nothing
 
--- a word that can be no option: it doesn't begin with `-`
+-- a word that can be no option: it is `-`, or doesn't begin with `-`
 abbrev pub is_plain : List ℕ → Bool
 is_plain [] = true
-is_plain (c ∷ rest) = not (nat_eq c 45)
+is_plain (c ∷ []) = true
+is_plain (c ∷ d ∷ rest) = not (nat_eq c 45)
 
 -- the words behind `trace --vcd`
 abbrev pub behind_option : List (List ℕ) → Option (List (List ℕ))
@@ -97,7 +98,7 @@ abbrev pub behind_search : List (List ℕ) → Option (List (List ℕ))
 behind_search [] = None
 behind_search (name ∷ rest) = if bytes_eq name (codes "search") then Some rest else None
 
--- none of them begins with `-`, or a word `--` in front of them lets them
+-- none of them can be an option, or a word `--` in front of them lets names begin with `-`
 abbrev pub unmarked : List (List ℕ) → Option (List (List ℕ))
 unmarked [] = Some []
 unmarked (first ∷ rest) =

@@ -116,7 +116,7 @@ pub enum WordsError {
 /// Usage for other words than a request's, those that ask for help among them, and for a limit or a number that isn't one or more decimal
 /// digits of a value below 2**64; Memory where memory was refused.
 pub fn request_of<'a>(alloc: Global, words: &'a [&'a str]) -> Result<Request<'a>, WordsError>
-    // Words behind `search` and `trace --vcd`, and words of which none begins with `-`, ask for just what the table of commands says.
+    // Words after `search` and `trace --vcd`, and words of which none but `-` begins with `-`, ask for just what the table of commands says.
     ensures { is_told (map (λ w. w.now) words.now) ≡ true → AnswersWords (asked (map (λ w. w.now) words.now)) result }
 {
     match behind_search(words) {
@@ -185,13 +185,13 @@ fn dump_of<'a>(source: &'a str, schedule: &'a str, limit: &str) -> Result<Reques
     })
 }
 
-// Whether a word can be no option: it doesn't begin with `-`.
+// Whether a word can be no option: it is `-`, or doesn't begin with `-`.
 fn is_plain(word: &str) -> bool
     ensures { result ≡ words_of.is_plain word.now }
 {
     match word.as_bytes() {
-        [] => true,
-        [first, ..] => *first != b'-',
+        [] | [_] => true,
+        [first, _, ..] => *first != b'-',
     }
 }
 

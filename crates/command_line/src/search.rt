@@ -29,7 +29,7 @@ fn are_plain(words: &[&str]) -> bool
     true
 }
 
-// The words themselves: none of them begins with `-`, or a word `--` in front of them lets them.
+// The words themselves: none of them can be an option, or a word `--` in front of them lets names begin with `-`.
 fn unmarked<'a>(words: &'a [&'a str]) -> Option<&'a [&'a str]>
     ensures { option_map (λ rest. map (λ w. w.now) rest.now) result ≡ words_of.unmarked (map (λ w. w.now) words.now) }
 {

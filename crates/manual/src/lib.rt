@@ -41,7 +41,8 @@ COMMANDS
 
 WORDS
 
-    SRC     the file of a source, at most 65536 bytes: one package and a main procedure
+    SRC     the file of a source, at most 65536 bytes: one package and a main procedure;
+            - is standard input for simulate, check and search
     IMG     the file of an image
     SCHED   the file of a schedule; /dev/null is the empty one, and so is none for simulate
     LIMIT   the most steps of the run, in decimal digits alone, without underlines or an
@@ -51,7 +52,7 @@ WORDS
             search is the most steps at one time
     NUMBER  the number of a fault
 
-    A name that begins with a hyphen stands behind the word --, as in
+    A longer name that begins with a hyphen comes after the word --, as in
     adarun go -- -main.adb /dev/null 1000000. There are no options but --vcd.
 
 FORMATS

@@ -1,7 +1,10 @@
 //! The calls of the system, each with no more of its answer than is asked for.
+ghost use Rattle.std.specs.Prelude.{◌≡◌, IfOk, IfSome, take};
+
 use crate::FileError;
+use std::alloc::Global;
 use std::fs::{self, File, Metadata, OpenOptions};
-use std::io::{Error, ErrorKind, Write};
+use std::io::{Error, ErrorKind, Read, Write};
 use std::os::fd::AsFd;
 use std::os::unix::fs::{MetadataExt, fchown};
 
@@ -39,6 +42,37 @@ pub fn identified(rt: &HostRuntime, name: &str) -> Option<Identity> {
             number: found.ino(),
         }),
         _ => None,
+    }
+}
+
+/// The first bytes that a reader gives, `most` of them at most.
+pub fn first_bytes<R: Read + Drop>(
+    alloc: Global,
+    reader: R,
+    most: u64,
+) -> Result<Vec<u8>, FileError>
+    ensures { IfOk result (λ bytes. IfSome (R.remaining reader) (λ given. bytes.items ≡ take most given)) }
+{
+    let mut bytes = Vec::new(alloc);
+    match reader.take(most).read_to_end(&mut bytes) {
+        Ok(_) => Ok(bytes),
+        Err(error) => Err(told(&error)),
+    }
+}
+
+/// The bytes of the file of this name.
+pub fn content(rt: &HostRuntime, name: &str) -> Result<Vec<u8>, FileError> {
+    match fs::read(rt, name) {
+        Ok(bytes) => Ok(bytes),
+        Err(error) => Err(told(&error)),
+    }
+}
+
+/// The first bytes of the file of this name, `most` of them at most.
+pub fn file_bytes(rt: &HostRuntime, name: &str, most: u64) -> Result<Vec<u8>, FileError> {
+    match File::open(rt, name) {
+        Ok(file) => first_bytes(rt.alloc(), file, most),
+        Err(error) => Err(told(&error)),
     }
 }
 

@@ -1,13 +1,12 @@
-//! The files of the system by their names: reading one, and replacing one whole or not at all.
+//! The files of the system by their names, and its standard input: reading the first bytes of one, and replacing a file whole or not at all.
 #![tactic(auto)]
 
 mod calls;
 mod replacing;
 
-use crate::calls::{Identity, identified};
+use crate::calls::{Identity, content, file_bytes, first_bytes, identified};
 use crate::replacing::replace;
 use std::cell::Cell;
-use std::fs;
 
 /// Why a file was not read or replaced.
 #[derive(Clone, Copy, PartialEq, Eq, Debug)]
@@ -38,12 +37,26 @@ impl<'a> SystemFiles<'a> {
     ///
     /// # Errors
     /// Memory where memory was refused, and Other for any other cause.
-    pub fn read(&self, name: &str) -> Result<Vec<u8>, FileError> {
+    pub fn read_whole(&self, name: &str) -> Result<Vec<u8>, FileError> {
         self.last_read.set(identified(self.rt, name));
-        match fs::read(self.rt, name) {
-            Ok(bytes) => Ok(bytes),
-            Err(error) => Err(calls::told(&error)),
-        }
+        content(self.rt, name)
+    }
+
+    /// The first bytes of the file of this name, `most` of them at most: its content, where that is no longer.
+    ///
+    /// # Errors
+    /// Those of `read_whole`.
+    pub fn read(&self, name: &str, most: usize) -> Result<Vec<u8>, FileError> {
+        self.last_read.set(identified(self.rt, name));
+        file_bytes(self.rt, name, most as u64)
+    }
+
+    /// The next bytes of standard input up to its end, `most` of them at most.
+    ///
+    /// # Errors
+    /// Memory where memory was refused, and Other for any other cause.
+    pub fn read_input(&self, most: usize) -> Result<Vec<u8>, FileError> {
+        first_bytes(self.rt.alloc(), self.rt.stdin(), most as u64)
     }
 
     /// Replaces the content of the file of this name, which is made where there is none. A regular file is replaced whole or not at all, by one that is

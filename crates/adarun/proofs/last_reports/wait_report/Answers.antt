@@ -6,12 +6,12 @@ returns g c =
     IfOk-weaker c.waiting_in.result _ _
     (λ report is. record {
       left = record {
-        image = c.in-Ok.named.image;
-        objects = c.in-Ok.named.objects.items;
-        places = c.in-Ok.named.places;
-        compiles = c.in-Ok.ensures.means;
-        lines = c.in-Ok-read.schedule;
-        is_schedule = c.in-Ok-read.ensures.read;
+        image = c.in_ok-inputs.inputs.named.image;
+        objects = c.in_ok-inputs.inputs.named.objects.items;
+        places = c.in_ok-inputs.inputs.named.places;
+        compiles = c.in_ok-inputs.ensures.means;
+        lines = c.in_ok-inputs.inputs.schedule;
+        is_schedule = c.in_ok-inputs.ensures.read;
         last = c.in_ok-last.last;
         is_last = c.in_ok-last.ensures;
       };

@@ -2,6 +2,7 @@ use Rattle.std.proofs.Common.{◌≡◌, inl, inr, of_z, refl, rules, subst, to_
 use Rattle.std.specs.Prelude.{option_map}
 use Rattle.command_line.specs.Words.{CheckText, CompileText, DumpText, ExplainFault, ExplainText, GoText, ListImage, Nothing, RunImage, SearchText, ShowManual, ShowVersion, SimulateText, TraceText, wanted_of}
 use Rattle.adarun.specs.Driving.{LeavesSearch}
+use Rattle.adarun.specs.Reading.{with_input}
 use Rattle.adarun.specs.declared.program.Status.TheVariants.{Failed, NoMemory}
 use Rattle.adarun.proofs.Driving.{asked_as, asked_nothing, failed}
 use Rattle.adarun.proofs.program.drive.Goals as goal
@@ -116,7 +117,7 @@ returns-in-Ok-Search-clause-answers g c =
     let u : to_z w64 (of_z w64 until) ≡ until = search rules in
     let leaves =
     subst
-    (λ z. LeavesSearch (g.F.FileStore.contents c.args.files.now) c.in-Ok-Search.source.now c.in-Ok-Search.choices.now z c.in-Ok-Search.limit
+    (λ z. LeavesSearch (with_input (g.F.FileStore.standard_input c.args.files.now) (g.F.FileStore.contents c.args.files.now)) c.in-Ok-Search.source.now (g.F.FileStore.contents c.args.files.now c.in-Ok-Search.choices.now) z c.in-Ok-Search.limit
     (wanted_of c.in-Ok-Search.wanted) c.drive_search-status.result (g.O.Sink.bytes c.args.out.now) (g.O.Sink.bytes c.drive_search-status.new.out))
     u c.drive_search-status.ensures.leaves in
     record {

@@ -1,8 +1,8 @@
-use Rattle.std.proofs.Common.{Err, ap, inr, subst, sym, ◌∙◌}
-use Rattle.adarun.specs.Driving.{IsContentRead}
+use Rattle.std.proofs.Common.{Err, ap, inr, subst, ◌∙◌}
 use Rattle.adarun.specs.Stopping.{RefusesRunning}
 use Rattle.adarun.specs.declared.going.GoFault.TheVariants as faults
 use Rattle.adarun.proofs.Driving.{failed_keeps, refused_leaves, run_leaves, schedule_leaves}
+use Rattle.adarun.proofs.Reading.{schedule_whole, source_whole}
 use Rattle.adarun.proofs.program.drive_go.Goals as goal
 
 pub returns-in-Ok-go-clause-leaves : goal.returns-in-Ok-go-clause-leaves
@@ -23,11 +23,12 @@ returns-clause-sink g c =
 
 pub returns-clause-leaves : goal.returns-clause-leaves
 returns-clause-leaves g c =
+    let begins = c.in-Err-Run-Write.ensures.beginning (ap Err (c.in-Err-Run-Write.field-0-is ∙ ap faults.Run c.in-Err-Run-Write.field-0-0-is)) in
     rw c.cannot_write.ensures
     (inr (record {
       text = c.deref.result.now;
-      source_read = subst (IsContentRead (g.F.FileStore.contents c.args.files.now c.args.source.now)) (sym c.deref.ensures.value) c.in-Ok.ensures;
+      source_read = source_whole _ _ _ c.deref.ensures.value begins.compiles.tree c.in-Ok.ensures begins.compiles.accepted.is_tree;
       input = c.deref-2.result.now;
-      input_read = subst (IsContentRead (g.F.FileStore.contents c.args.files.now c.args.schedule.now)) (sym c.deref-2.ensures.value) c.in-Ok-read.ensures;
-      begins = c.in-Err-Run-Write.ensures.beginning (ap Err (c.in-Err-Run-Write.field-0-is ∙ ap faults.Run c.in-Err-Run-Write.field-0-0-is));
+      input_read = schedule_whole _ _ _ c.deref-2.ensures.value begins.schedule c.in-Ok-read.ensures begins.is_schedule;
+      begins = begins;
     }))

@@ -1,7 +1,7 @@
 use Rattle.std.proofs.Common.{Err, ap, inr, refl, subst}
-use Rattle.clock.specs.Schedules.{IsScheduleText}
 use Rattle.image_loading.specs.Loaded.{IsLoaded}
 use Rattle.adarun.proofs.Driving.{failed_keeps, image_run_leaves}
+use Rattle.adarun.proofs.Reading.{schedule_whole}
 use Rattle.adarun.proofs.program.drive_run.Goals as goal
 
 pub returns-in-Ok-run-clause-leaves : goal.returns-in-Ok-run-clause-leaves
@@ -10,7 +10,7 @@ returns-in-Ok-run-clause-leaves g c =
     (record {
       image = c.in-Ok-load.image;
       loaded = record { bytes = c.in-Ok.bytes.items; read = c.in-Ok.ensures; loaded = subst (λ bytes. IsLoaded bytes c.in-Ok-load.image) c.deref.ensures.value c.in-Ok-load.ensures.loaded };
-      given = record { input = c.in-Ok-read.lines.items; read = c.in-Ok-read.ensures; lines = c.in-Ok-read-2.schedule; is_schedule = subst (λ input. IsScheduleText input c.in-Ok-read-2.schedule) c.deref-2.ensures.value c.in-Ok-read-2.ensures.read };
+      given = record { input = c.deref-2.result.now; read = schedule_whole _ _ _ c.deref-2.ensures.value c.in-Ok-read-2.schedule c.in-Ok-read.ensures c.in-Ok-read-2.ensures.read; lines = c.in-Ok-read-2.schedule; is_schedule = c.in-Ok-read-2.ensures.read };
       outcome = c.in-Ok-run.outcome;
       status_is = refl;
       written = c.in-Ok-run.ensures.text;
@@ -23,7 +23,7 @@ returns-clause-leaves g c =
     (inr (record {
       image = c.in-Ok-load.image;
       loaded = record { bytes = c.in-Ok.bytes.items; read = c.in-Ok.ensures; loaded = subst (λ bytes. IsLoaded bytes c.in-Ok-load.image) c.deref.ensures.value c.in-Ok-load.ensures.loaded };
-      given = record { input = c.in-Ok-read.lines.items; read = c.in-Ok-read.ensures; lines = c.in-Ok-read-2.schedule; is_schedule = subst (λ input. IsScheduleText input c.in-Ok-read-2.schedule) c.deref-2.ensures.value c.in-Ok-read-2.ensures.read };
+      given = record { input = c.deref-2.result.now; read = schedule_whole _ _ _ c.deref-2.ensures.value c.in-Ok-read-2.schedule c.in-Ok-read.ensures c.in-Ok-read-2.ensures.read; lines = c.in-Ok-read-2.schedule; is_schedule = c.in-Ok-read-2.ensures.read };
       begins = c.in-Err-Write.ensures.beginning;
     }))
 

@@ -1,10 +1,10 @@
-use Rattle.std.proofs.Common.{Err, ap, inr, refl, subst, sym, ◌∙◌}
+use Rattle.std.proofs.Common.{Err, ap, inr, refl, sym, ◌∙◌}
 use Rattle.std.specs.Io.KnownBytes.{Appends}
 use Rattle.machine.specs.Written.{AppendsBeginning}
-use Rattle.clock.specs.Schedules.{IsScheduleText}
-use Rattle.adarun.specs.Driving.{IsContentRead}
+use Rattle.adarun.specs.Naming.{names_alone}
 use Rattle.adarun.specs.declared.going.GoFault.TheVariants as faults
 use Rattle.adarun.proofs.Driving.{failed_keeps, schedule_leaves, told_alike, trace_leaves, unscheduled_trace}
+use Rattle.adarun.proofs.Reading.{schedule_whole, source_whole}
 use Rattle.adarun.proofs.program.drive_trace.Goals as goal
 
 pub returns-in-Ok-write_trace-clause-leaves : goal.returns-in-Ok-write_trace-clause-leaves
@@ -12,17 +12,17 @@ returns-in-Ok-write_trace-clause-leaves g c =
     trace_leaves _ _ _ _ _ _ _ _ _ c.status_of.ensures.is
     (record {
       text = c.deref.result.now;
-      source_read = subst (IsContentRead (g.F.FileStore.contents c.args.files.now c.args.source.now)) (sym c.deref.ensures.value) c.in-Ok.ensures;
+      source_read = source_whole _ _ _ c.deref.ensures.value c.in-Ok-compile_named.ensures.means.compiles.tree c.in-Ok.ensures c.in-Ok-compile_named.ensures.means.compiles.accepted.is_tree;
       image = c.in-Ok-compile_named.named.image;
       compiles = c.in-Ok-compile_named.ensures.means.compiles;
-      given = record { input = c.in-Ok-read.lines.items; read = c.in-Ok-read.ensures; lines = c.in-Ok-read-2.schedule; is_schedule = subst (λ input. IsScheduleText input c.in-Ok-read-2.schedule) c.deref-2.ensures.value c.in-Ok-read-2.ensures.read };
+      given = record { input = c.deref-2.result.now; read = schedule_whole _ _ _ c.deref-2.ensures.value c.in-Ok-read-2.schedule c.in-Ok-read.ensures c.in-Ok-read-2.ensures.read; lines = c.in-Ok-read-2.schedule; is_schedule = c.in-Ok-read-2.ensures.read };
       places = c.in-Ok-compile_named.named.places;
       placed = c.in-Ok-compile_named.ensures.means.placed;
       outcome = c.in-Ok-write_trace.outcome;
       status_is = refl;
       written = told_alike c.args.form (Appends (g.O.Sink.bytes c.args.out.now) (g.O.Sink.bytes c.write_trace.new.out)) c.in-Ok-compile_named.named.image
           c.in-Ok-compile_named.named.places c.in-Ok-read-2.schedule c.args.limit _ _ _ _
-          (c.deref-4.ensures.value ∙ c.in-Ok-compile_named.ensures.means.names) (c.deref-3.ensures.value ∙ sym c.deref.ensures.value) c.in-Ok-write_trace.ensures.text;
+          (ap names_alone c.in-Ok-compile_named.ensures.means.names) (c.deref-3.ensures.value ∙ sym c.deref.ensures.value) c.in-Ok-write_trace.ensures.text;
       ends = c.in-Ok-write_trace.ensures.ends;
     })
 
@@ -37,15 +37,15 @@ returns-clause-leaves g c =
     rw c.cannot_write.ensures
     (inr (record {
       text = c.deref.result.now;
-      source_read = subst (IsContentRead (g.F.FileStore.contents c.args.files.now c.args.source.now)) (sym c.deref.ensures.value) c.in-Ok.ensures;
+      source_read = source_whole _ _ _ c.deref.ensures.value c.in-Ok-compile_named.ensures.means.compiles.tree c.in-Ok.ensures c.in-Ok-compile_named.ensures.means.compiles.accepted.is_tree;
       image = c.in-Ok-compile_named.named.image;
       compiles = c.in-Ok-compile_named.ensures.means.compiles;
-      given = record { input = c.in-Ok-read.lines.items; read = c.in-Ok-read.ensures; lines = c.in-Ok-read-2.schedule; is_schedule = subst (λ input. IsScheduleText input c.in-Ok-read-2.schedule) c.deref-2.ensures.value c.in-Ok-read-2.ensures.read };
+      given = record { input = c.deref-2.result.now; read = schedule_whole _ _ _ c.deref-2.ensures.value c.in-Ok-read-2.schedule c.in-Ok-read.ensures c.in-Ok-read-2.ensures.read; lines = c.in-Ok-read-2.schedule; is_schedule = c.in-Ok-read-2.ensures.read };
       places = c.in-Ok-compile_named.named.places;
       placed = c.in-Ok-compile_named.ensures.means.placed;
       begins = told_alike c.args.form (AppendsBeginning (g.O.Sink.bytes c.args.out.now) (g.O.Sink.bytes c.write_trace.new.out)) c.in-Ok-compile_named.named.image
           c.in-Ok-compile_named.named.places c.in-Ok-read-2.schedule c.args.limit _ _ _ _
-          (c.deref-4.ensures.value ∙ c.in-Ok-compile_named.ensures.means.names) (c.deref-3.ensures.value ∙ sym c.deref.ensures.value) c.in-Err-Write.ensures.beginning;
+          (ap names_alone c.in-Ok-compile_named.ensures.means.names) (c.deref-3.ensures.value ∙ sym c.deref.ensures.value) c.in-Err-Write.ensures.beginning;
     }))
 
 pub returns-clause-sink : goal.returns-clause-sink

@@ -5,12 +5,12 @@ pub returns : goal.returns
 returns g c =
     IfOk-weaker c.raised_in.result _ _
     (λ report is. record {
-      image = c.in-Ok.named.image;
-      objects = c.in-Ok.named.objects.items;
-      places = c.in-Ok.named.places;
-      compiles = c.in-Ok.ensures.means;
-      lines = c.in-Ok-read.schedule;
-      is_schedule = c.in-Ok-read.ensures.read;
+      image = c.in_ok-inputs.inputs.named.image;
+      objects = c.in_ok-inputs.inputs.named.objects.items;
+      places = c.in_ok-inputs.inputs.named.places;
+      compiles = c.in_ok-inputs.ensures.means;
+      lines = c.in_ok-inputs.inputs.schedule;
+      is_schedule = c.in_ok-inputs.ensures.read;
       report_is = is;
     })
     c.raised_in.ensures

@@ -1,20 +1,18 @@
-use Rattle.std.proofs.Common.{Some, ap, rules, subst, sym, ◌∙◌}
-use Rattle.explanations.specs.Explained.{explanation_of}
-use Rattle.hints.specs.Hinted.{AreRemarksAt}
+use Rattle.std.proofs.Common.{Some, subst, sym}
+use Rattle.std.specs.Prelude.{IfOk, option_map}
 use Rattle.adarun.specs.CodeTold.{IsCodeTold}
-use Rattle.adarun.proofs.Reported.{whole_report}
+use Rattle.adarun.specs.Reporting.{IsSourceRefusal}
 use Rattle.adarun.proofs.reporting.source_refusal.Goals as goal
 
 pub returns : goal.returns
 returns c =
-    record {
-      explanation = c.in-Some.rule.now;
-      explained = sym (c.in-Some.ensures.explained ∙ ap explanation_of c.from-number.ensures);
-      remarks = c.in_ok-remarks.remarks.items;
-      are_remarks = subst (λ n. AreRemarksAt n (Some c.args.fault.now.place) c.args.text.now c.in_ok-remarks.remarks.items) c.from-number.ensures
-          c.in_ok-remarks.ensures;
-      code = c.in_ok-code.code.items;
-      is_code = subst (λ n. IsCodeTold n (Some c.args.fault.now.place) c.args.text.now c.in_ok-code.code.items) c.from-number.ensures c.in_ok-code.ensures;
-      report_is = whole_report _ _ _ c.args.text.now _ _ _ _ _ _ _ _ _ c.args.fault.now.number c.args.fault.now.place c.new-report.ensures.items c.as_bytes.ensures.value c.as_bytes-rule.ensures.value
-          c.deref.ensures.value c.deref-2.ensures.value c.in_ok-put_source_report.ensures c.in_ok-extend_from_slice.ensures.items c.in_ok-put_told.ensures;
-    }
+    subst (λ t. IfOk c.refusal_of.result (λ report. IsSourceRefusal c.args.file.now t c.args.fault.now (option_map (λ bytes. bytes.items) report)))
+    c.in_ok-text.ensures
+    c.refusal_of.ensures
+
+pub refusal_of-requires : goal.refusal_of-requires
+refusal_of-requires c =
+    let place = Some c.args.fault.now.place in
+    subst (λ t. IsCodeTold c.args.fault.now.number place t c.deref.result.now) (sym c.in_ok-text.ensures)
+    (subst (IsCodeTold c.args.fault.now.number place c.args.text.now) (sym c.deref.ensures.value)
+    (subst (λ n. IsCodeTold n place c.args.text.now c.in_ok-code.code.items) c.from.ensures c.in_ok-code.ensures))

@@ -1,0 +1,27 @@
+use Rattle.std.proofs.Common.{◌≡◌, ◌∙◌, ap, subst}
+use Rattle.std.specs.Prelude.{OnOk}
+use Rattle.std.specs.Io.KnownBytes.{Appends}
+use Rattle.machine.specs.Written.{AppendsBeginning}
+use Rattle.tracing.specs.Traces.{trace_text}
+use Rattle.adarun.specs.Naming.{names_alone}
+use Rattle.adarun.proofs.program.write_trace.Goals as goal
+
+pub returns-in-Rows-clause-text : goal.returns-in-Rows-clause-text
+returns-in-Rows-clause-text g c =
+    let same : c.deref-in-Rows.result.now ≡ names_alone c.args.named.now.objects.items =
+    c.deref-in-Rows.ensures.value ∙ c.in-Ok.ensures ∙ ap names_alone c.deref.ensures.value in
+    rw c.in-Rows.is
+    (subst
+    (λ objects. OnOk c.trace.result (Appends (g.O.Sink.bytes c.args.out.now) (g.O.Sink.bytes c.trace.new.sink)
+    (trace_text c.args.named.now.image objects (g.P.Origins.origin c.args.origins.now) c.args.schedule.now c.args.limit)))
+    same c.trace.ensures.text)
+
+pub returns-in-Rows-clause-beginning : goal.returns-in-Rows-clause-beginning
+returns-in-Rows-clause-beginning g c =
+    let same : c.deref-in-Rows.result.now ≡ names_alone c.args.named.now.objects.items =
+    c.deref-in-Rows.ensures.value ∙ c.in-Ok.ensures ∙ ap names_alone c.deref.ensures.value in
+    rw c.in-Rows.is
+    (subst
+    (λ objects. AppendsBeginning (g.O.Sink.bytes c.args.out.now) (g.O.Sink.bytes c.trace.new.sink)
+    (trace_text c.args.named.now.image objects (g.P.Origins.origin c.args.origins.now) c.args.schedule.now c.args.limit))
+    same c.trace.ensures.beginning)
