@@ -6,8 +6,8 @@
 
 With --write the second columns are made of what the program says (crates/remedies has these texts by hand).
 
-Each is put into a text by the heading of its table. `simulate` refuses the text, and of the lines that it writes the only one that begins with `hint: ` goes on
-with what the second column says.
+Each is put into a text by the heading of its table. `simulate` refuses the text, and what the lines that begin with `hint: ` go on
+with, in their order with a blank between them, is the second column.
 """
 import os
 import re
@@ -68,7 +68,7 @@ def main():
     wrong = 0
     for _number, text, expected in rows:
         status, hints, said = said_of(program, source, text)
-        if status != 2 or hints != [expected]:
+        if status != 2 or " ".join(hints) != expected:
             wrong += 1
             print(f"hints: {expected!r} was expected, {said} was said of\n{text}", file=sys.stderr)
     print(f"hints: of {len(rows) - wrong} of {len(rows)} texts it is told what to write instead")

@@ -64,7 +64,7 @@ def main():
             for words in (["explain", "12"], ["explain", "12", source], ["go", source, "/dev/null", "1000"])
         )
         lines = lines_of(written, text)
-        behind = told.stdout[len(alone.stdout):]
+        behind = re.sub(r"^hint: .*\n", "", told.stdout[len(alone.stdout):], flags=re.MULTILINE)
         if run.stderr != f"fault 12 at {place}\n" or not told.stdout.startswith(alone.stdout) or not behind.endswith(lines) or (not lines and "type" in behind):
             wrong += 1
             print(f"mismatches: 12 at {place} and {lines!r} were expected, {run.stderr.strip()} and {behind!r} are written of\n{text}", file=sys.stderr)

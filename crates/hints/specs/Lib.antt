@@ -4,6 +4,7 @@ pub mod Found
 pub mod EndNames
 pub mod BodyFaults
 pub mod Stopped
+pub mod Conversions
 pub mod Mismatched
 pub mod Told
 pub mod ParsedTexts

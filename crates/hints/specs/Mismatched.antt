@@ -1,4 +1,4 @@
--- What is said of types that don't match at the place of a fault: which these are, and where they are declared.
+-- What is said of types that don't match at the place of a fault: which these are, where they are declared, and what to write instead.
 use Rattle.std.specs.Prelude.{ℕ, List, [], ◌++◌, Option, Some, None, codes}
 use Rattle.ada_tree.specs.Language.{Tokens}
 use Rattle.mismatches.specs.declared.remark.NamedType.{NamedType}
@@ -7,6 +7,8 @@ use Rattle.mismatches.specs.declared.remark.PredefinedType.{PredefinedType}
 use Rattle.mismatches.specs.declared.remark.PredefinedType.TheVariants as predefined
 use Rattle.mismatches.specs.declared.remark.Remark.{Remark}
 use Rattle.mismatches.specs.declared.remark.Remark.TheVariants as remark
+use Rattle.hints.specs.declared.conversion.Conversion.{Conversion}
+use Rattle.hints.specs.Conversions.{conversion_of, conversion_text}
 use Rattle.hints.specs.Places.{name_at, place_text}
 use Rattle.hints.specs.Stopped.{or_nameless}
 
@@ -50,7 +52,17 @@ remark_lines text ts (remark.Unexpected expected found) = unexpected_lines text 
 remark_lines text ts (remark.Operands left right) = operands_lines text ts left right
 remark_lines text ts remark.NoVariable = no_variable_line
 
+unfoldable pub advice_line : Conversion → List ℕ
+advice_line conversion = codes "hint: " ++ conversion_text conversion ++ codes "\n"
+
+abbrev pub conversion_lines : Option Conversion → List ℕ
+conversion_lines (Some conversion) = advice_line conversion
+conversion_lines None = []
+
+abbrev pub advised_lines : (text : List ℕ) → Tokens → Remark → List ℕ
+advised_lines text ts r = remark_lines text ts r ++ conversion_lines (conversion_of r ts)
+
 -- nothing where there is no remark
 abbrev pub mismatch_lines : (text : List ℕ) → Tokens → Option Remark → List ℕ
-mismatch_lines text ts (Some r) = remark_lines text ts r
+mismatch_lines text ts (Some r) = advised_lines text ts r
 mismatch_lines text ts None = []

@@ -4,15 +4,17 @@ use Rattle.lexer.specs.Spelling.{Spells}
 use Rattle.ada_tree.specs.Language.{Tokens}
 use Rattle.ada_tree.specs.ProgramTree.{program_tree}
 use Rattle.parser.specs.Parsing.{Derives, IsFaulty}
+use Rattle.mismatches.specs.Listed.{AreRemarksOf}
 use Rattle.hints.specs.Told.{IsUnspelled}
 use Rattle.hints.specs.declared.parsed_text.Reading.{Reading}
 use Rattle.hints.specs.declared.parsed_text.Reading.TheVariants as readings
 
--- the text breaks a rule of spelling; or tokens spell it, and these have a fault of the grammar, or a tree derives them
+-- the text breaks a rule of spelling; or tokens spell it, and these have a fault of the grammar, or a tree derives them, of whose types these remarks are
 abbrev pub IsReadingOf : (text : List ℕ) → Reading → Type 0
 IsReadingOf text readings.Misspelled = IsUnspelled text
 IsReadingOf text (readings.Treeless tokens fault) = Spells text tokens.items × IsFaulty tokens.items fault
-IsReadingOf text (readings.Derived tokens program) = Spells text tokens.items × Derives (program_tree program) tokens.items
+IsReadingOf text (readings.Derived tokens program remarks) =
+    Spells text tokens.items × (Derives (program_tree program) tokens.items × AreRemarksOf (program_tree program) remarks)
 
 -- the tokens that spell a text; none of one that breaks a rule of spelling
 abbrev pub AreTokensOf : (text : List ℕ) → Option Tokens → Type 0

@@ -3,6 +3,7 @@
 
 mod body_faults;
 mod calls;
+mod conversion;
 mod end_names;
 mod hinted;
 mod hints;

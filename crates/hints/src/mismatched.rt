@@ -1,7 +1,9 @@
-//! What is said of types that don't match: which these are, and where they are declared.
+//! What is said of types that don't match: which these are, where they are declared, and what to write instead.
 ghost use Rattle.std.specs.Prelude.{◌≡◌, ◌++◌, OnOk};
-ghost use Rattle.hints.specs.Mismatched.{declared_text, left_part, mismatch_lines, no_variable_line, operands_lines, predefined_name, predefined_text, remark_lines, right_part, type_text, unexpected_lines};
+ghost use Rattle.hints.specs.Conversions.{conversion_of, conversion_text};
+ghost use Rattle.hints.specs.Mismatched.{advice_line, advised_lines, conversion_lines, declared_text, left_part, mismatch_lines, no_variable_line, operands_lines, predefined_name, predefined_text, remark_lines, right_part, type_text, unexpected_lines};
 
+use crate::conversion::{Conversion, conversion_of, conversion_text};
 use crate::places::{name_at, put_place};
 use lexer::Token;
 use mismatches::{NamedType, PredefinedType, Remark};
@@ -159,7 +161,38 @@ fn put_remark(
     }
 }
 
-/// What is said of the types that don't match at a place.
+#[tactic(auto, unfolding(crate::specs::Mismatched::advice_line))]
+fn put_advice(out: &mut Vec<u8>, conversion: Conversion) -> Result<(), AllocError>
+    ensures { OnOk result (out.new.items ≡ out.old.items ++ advice_line conversion) }
+{
+    out.extend_from_slice(b"hint: ")?;
+    out.extend_from_slice(conversion_text(conversion).as_bytes())?;
+    out.extend_from_slice(b"\n")?;
+    Ok(())
+}
+
+fn put_conversion(out: &mut Vec<u8>, conversion: Option<Conversion>) -> Result<(), AllocError>
+    ensures { OnOk result (out.new.items ≡ out.old.items ++ conversion_lines conversion) }
+{
+    match conversion {
+        Some(conversion) => put_advice(out, conversion),
+        None => Ok(()),
+    }
+}
+
+fn put_remark_and_advice(
+    out: &mut Vec<u8>,
+    text: &[u8],
+    list: &[Token],
+    remark: Remark,
+) -> Result<(), AllocError>
+    ensures { OnOk result (out.new.items ≡ out.old.items ++ advised_lines text.now list.now remark) }
+{
+    put_remark(out, text, list, remark)?;
+    put_conversion(out, conversion_of(remark, list))
+}
+
+/// What is said of the types that don't match at a place, and what to write instead.
 ///
 /// # Errors
 /// Where memory was refused.
@@ -172,7 +205,7 @@ pub(crate) fn put_mismatch_lines(
     ensures { OnOk result (out.new.items ≡ out.old.items ++ mismatch_lines text.now list.now remark) }
 {
     match remark {
-        Some(remark) => put_remark(out, text, list, remark),
+        Some(remark) => put_remark_and_advice(out, text, list, remark),
         None => Ok(()),
     }
 }

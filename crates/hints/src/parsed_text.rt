@@ -6,6 +6,7 @@ ghost use Rattle.hints.specs.ParsedTexts.{AreTokensOf, IsReadingOf};
 use ada_tree::Program;
 use base::faults::MEMORY_REFUSED;
 use lexer::{Fault, Token, tokens};
+use mismatches::Remarks;
 use parser::parse;
 use std::alloc::{AllocError, Global};
 use std::marker::Model;
@@ -20,10 +21,11 @@ pub(crate) enum Reading {
         tokens: Vec<Token>,
         fault: Fault,
     },
-    /// Its tokens, and the tree that derives them.
+    /// Its tokens, the tree that derives them, and what is said of types in it that don't match.
     Derived {
         tokens: Vec<Token>,
         program: Program,
+        remarks: Remarks,
     },
 }
 
@@ -50,7 +52,14 @@ fn reading_of_tokens(alloc: Global, text: &[u8], tokens: Vec<Token>) -> Result<R
     ensures { IfOk result (λ reading. IsReadingOf text.now reading) }
 {
     match parse(alloc, &tokens) {
-        Ok(program) => Ok(Reading::Derived { tokens, program }),
+        Ok(program) => {
+            let remarks = Remarks::of(alloc, &program)?;
+            Ok(Reading::Derived {
+                tokens,
+                program,
+                remarks,
+            })
+        }
         Err(fault) => {
             if fault.number == MEMORY_REFUSED {
                 Err(AllocError)

@@ -22,6 +22,7 @@ fn put_lines(out: &mut Vec<u8>, lines: &[u8]) -> Result<(), AllocError>
 ///
 /// # Errors
 /// Where memory was refused.
+#[tactic(auto, unfolding(crate::specs::Hinted::AreRemarksAt))]
 pub fn remarks_at(
     alloc: Global,
     number: u64,

@@ -1,6 +1,7 @@
 //! What the tree of a text says of a fault.
 ghost use Rattle.std.specs.Prelude.{◌≡◌, ◌++◌, IfOk, OnOk};
 ghost use Rattle.ada_tree.specs.ProgramTree.{program_tree};
+ghost use Rattle.mismatches.specs.Remarks.{remark_at};
 ghost use Rattle.hints.specs.Places.{other_line};
 ghost use Rattle.hints.specs.Told.{other_of, other_place, subject_lines, subject_of, TellsOfSubject};
 
@@ -16,7 +17,7 @@ use base::faults::{
 };
 use counterparts::{twice_other, unmatched_other};
 use lexer::Token;
-use mismatches::remark_at;
+use mismatches::Remark;
 use std::alloc::{AllocError, Global};
 
 /// What a fault is about of which the tree says something.
@@ -85,15 +86,17 @@ fn put_other_line(out: &mut Vec<u8>, text: &[u8], place: Option<u32>) -> Result<
     }
 }
 
+// The remark is that of the types at the place.
 fn put_subject_lines(
-    alloc: Global,
     out: &mut Vec<u8>,
     subject: Subject,
     text: &[u8],
     list: &[Token],
     program: &Program,
     place: u32,
+    remark: Option<Remark>,
 ) -> Result<(), AllocError>
+    requires remark { remark ≡ remark_at (program_tree program.now) place }
     ensures { OnOk result (out.new.items ≡ out.old.items ++ subject_lines subject text.now list.now (program_tree program.now) place) }
 {
     match subject {
@@ -106,10 +109,7 @@ fn put_subject_lines(
         }
         Subject::EndNames => put_end_name_lines(out, text, ended_at(place, program)),
         Subject::Calls => put_call_lines_at(out, text, list, place),
-        Subject::Types => {
-            let remark = remark_at(alloc, program, place)?;
-            put_mismatch_lines(out, text, list, remark)
-        }
+        Subject::Types => put_mismatch_lines(out, text, list, remark),
     }
 }
 
@@ -127,16 +127,20 @@ pub(crate) fn told_of_subject(
     ensures { IfOk result (λ told. TellsOfSubject subject place text.now told.items) }
 {
     match text.reading() {
-        Reading::Derived { tokens, program } => {
+        Reading::Derived {
+            tokens,
+            program,
+            remarks,
+        } => {
             let mut lines = Vec::new(alloc);
             put_subject_lines(
-                alloc,
                 &mut lines,
                 subject,
                 text.text(),
                 tokens,
                 program,
                 place,
+                remarks.at(place),
             )?;
             behind_empty(alloc, &lines)
         }

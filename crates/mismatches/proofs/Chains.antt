@@ -9,9 +9,8 @@ use Rattle.types.specs.Statics.{start_of}
 use Rattle.expr_rules.specs.declared.own.Wanted.{Wanted}
 use Rattle.expr_rules.specs.Typing.{own_of}
 use Rattle.mismatches.specs.declared.conflict.Conflict.TheVariants.{NoVariable}
-use Rattle.mismatches.specs.declared.conflict.Search.{Search}
 use Rattle.mismatches.specs.declared.expressions.LeftOperand.{LeftOperand}
-use Rattle.mismatches.specs.Conflicts.{conflict_if, noted}
+use Rattle.mismatches.specs.Conflicts.{Search, conflict_if, noted}
 use Rattle.mismatches.specs.ExpressionMismatches.{actual_mismatch, binary_mismatch, condition_mismatches, elsifs_mismatches, mismatches_in}
 use Rattle.mismatches.specs.Operating.{joined, joined_mismatches, left_operand, operands_mismatches}
 use Rattle.mismatches.proofs.Noted.{noted_append, noted_turn}

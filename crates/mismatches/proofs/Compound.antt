@@ -8,8 +8,7 @@ use Rattle.expr_rules.specs.Typing.{own_of}
 use Rattle.declaring.specs.LocalRules.{locals_scope}
 use Rattle.stmt_rules.specs.declared.around.BodyKind.{BodyKind}
 use Rattle.stmt_rules.specs.CaseRules.{choices_wanted}
-use Rattle.mismatches.specs.declared.conflict.Search.{Search}
-use Rattle.mismatches.specs.Conflicts.{Mismatches, noted}
+use Rattle.mismatches.specs.Conflicts.{Mismatches, Search, noted}
 use Rattle.mismatches.specs.ExpressionMismatches.{condition_mismatches, mismatches_in}
 use Rattle.mismatches.specs.StatementMismatches.{alternatives_mismatches, elsifs_mismatches, handlers_mismatches, locals_mismatches, looped_mismatches, stmt_mismatches, stmts_mismatches}
 use Rattle.mismatches.proofs.Noted.{noted_append}

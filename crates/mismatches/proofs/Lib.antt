@@ -6,3 +6,4 @@ mod Objects
 mod Broken
 mod BrokenStatements
 mod BrokenBodies
+pub mod Listing

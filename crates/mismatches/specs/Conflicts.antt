@@ -1,5 +1,6 @@
--- Types that don't match at places of a text, and the first of them at one place.
-use Rattle.std.specs.Prelude.{◌≡◌, ◌++◌, ℕ, Bool, not, nat_eq, ◌&&◌, List, [], ◌∷◌, Option, Some, None, if◌then◌else◌}
+-- Types that don't match at places of a text, the first of them at one place, and how walks find them.
+use Rattle.std.specs.Prelude.{◌≡◌, ◌≤◌, ◌+◌, ◌-◌, ◌^◌, ◌++◌, ℕ, Bool, not, nat_eq, nat_lt, ◌&&◌, List, [], ◌∷◌, Option, Some, None, if◌then◌else◌, length, min, vec_capacity}
+use Rattle.std.specs.Global.{Vec}
 use Rattle.types.specs.Scopes.{Scope}
 use Rattle.expr_rules.specs.declared.own.Own.{Own}
 use Rattle.expr_rules.specs.declared.own.Wanted.{Wanted}
@@ -7,7 +8,6 @@ use Rattle.expr_rules.specs.Typing.{is_known, is_wanted}
 use Rattle.mismatches.specs.declared.conflict.Conflict.{Conflict}
 use Rattle.mismatches.specs.declared.conflict.Conflict.TheVariants.{Unexpected}
 use Rattle.mismatches.specs.declared.conflict.Mismatch.{Mismatch}
-use Rattle.mismatches.specs.declared.conflict.Search.{Search}
 
 -- in the order of the text
 abbrev pub Mismatches : Type 0
@@ -26,19 +26,30 @@ first_at place (m ∷ ms) = if nat_eq m.place place then Some m.conflict else fi
 abbrev pub unexpected : Scope → Wanted → Own → (place : ℕ) → Mismatches
 unexpected s wanted own place = conflict_if place (Unexpected wanted own) (is_known own && not (is_wanted s wanted own))
 
--- ---- how walks look for the first conflict at a place
+-- ---- what walks find
 
-abbrev pub begun : (place : ℕ) → Search
-begun place = record { place = place; found = None }
+pub record Search : Type 0 where
+  pub count : ℕ  -- how many were found, or 2 ^ 64 - 1 where there are more
+  pub kept : Mismatches  -- the first ones, in the order in which they were found
+  pub room : ℕ  -- how many are kept
 
-abbrev pub earlier : Option Conflict → Option Conflict → Option Conflict
-earlier (Some conflict) second = Some conflict
-earlier None second = second
+-- nothing found so far
+abbrev pub none_found : (room : ℕ) → Search
+none_found room = record { count = 0; kept = []; room = room }
 
+abbrev pub kept_with : (room : ℕ) → Mismatches → Mismatch → Mismatches
+kept_with room kept m = if nat_lt (length kept) room then kept ++ m ∷ [] else kept
+
+-- after one more was found
 abbrev pub noted_one : Search → Mismatch → Search
-noted_one search m = record search { found = earlier search.found (if nat_eq m.place search.place then Some m.conflict else None) }
+noted_one search m =
+    record {
+      count = min (search.count + 1) (2 ^ 64 - 1);
+      kept = kept_with search.room search.kept m;
+      room = search.room;
+    }
 
--- after these were seen, in this order
+-- after these were found, in this order
 abbrev pub noted : Search → Mismatches → Search
 noted search [] = search
 noted search (m ∷ ms) = noted (noted_one search m) ms
@@ -46,3 +57,15 @@ noted search (m ∷ ms) = noted (noted_one search m) ms
 -- what joined lists leave is what the second one leaves after the first one
 abbrev pub SearchGoesByParts : Type 0
 SearchGoesByParts = (search : Search) (xs ys : Mismatches) → noted search (xs ++ ys) ≡ noted (noted search xs) ys
+
+-- ---- how they are kept
+
+-- a row that keeps them, where one was made
+abbrev pub kept_mismatches : Option (Vec Mismatch) → Mismatches
+kept_mismatches (Some v) = v.items
+kept_mismatches None = []
+
+-- as many places were taken as there is room for
+abbrev pub has_places : (room : ℕ) → Option (Vec Mismatch) → Type 0
+has_places room (Some v) = room ≤ vec_capacity v
+has_places room None = room ≡ 0

@@ -6,3 +6,4 @@ pub mod StatementMismatches
 pub mod BodyMismatches
 pub mod Remarks
 pub mod Laws
+pub mod Listed

@@ -1,9 +1,11 @@
-//! Types that don't match, and the search for the first ones at one place.
-ghost use Rattle.std.specs.Prelude.{◌≡◌, ◌&&◌, None, not, nat_eq, if◌then◌else◌, Some};
+//! Types that don't match, as walks find them.
+ghost use Rattle.std.specs.Prelude.{◌≡◌, ◌&&◌, IfOk, not};
 ghost use Rattle.expr_rules.specs.Typing.{is_known, is_wanted};
-ghost use Rattle.mismatches.specs.Conflicts.{SearchGoesByParts, begun, conflict_if, earlier, noted, unexpected};
+ghost use Rattle.mismatches.specs.Conflicts.{SearchGoesByParts, conflict_if, none_found, noted, noted_one, unexpected};
 
 use expr_rules::{Own, Wanted, mismatch};
+use std::alloc::{AllocError, Global};
+use std::marker::Model;
 use types::Scope;
 
 /// Types that don't match.
@@ -24,34 +26,76 @@ pub struct Mismatch {
     pub conflict: Conflict,
 }
 
-/// What a walk over a text has found at one place: the first conflict there.
-#[derive(Clone, Copy, Debug, PartialEq, Eq)]
+/// What a walk over a text has found: how many conflicts there are, and as many of them as there is room for, in the order in which they are found. So all of a
+/// tree are found in two walks, of which neither can fail: the first counts them, the second has room for so many.
+#[derive(Drop)]
 pub(crate) struct Search {
-    pub place: u32,
-    pub found: Option<Conflict>,
+    count: usize,
+    room: usize,
+    kept: Option<Vec<Mismatch>>,
 }
 
-fn earlier(first: Option<Conflict>, second: Option<Conflict>) -> Option<Conflict>
-    ensures { result ≡ earlier first second }
-{
-    match first {
-        Some(conflict) => Some(conflict),
-        None => second,
-    }
-}
+impl Model for Search {
+    ghost use Rattle.std.specs.Prelude.{◌≡◌, ◌≤◌};
+    ghost use Rattle.mismatches.specs.Conflicts.{Search, has_places, kept_mismatches};
 
-fn conflict_where(is_here: bool, conflict: Conflict) -> Option<Conflict>
-    ensures { result ≡ (if is_here then Some conflict else None) }
-{
-    if is_here { Some(conflict) } else { None }
+    ghost Value = { Search };
+
+    ghost view = { λ s. record { count = s.count; kept = kept_mismatches s.kept; room = s.room } };
+
+    ghost invariant = { λ s. has_places s.room s.kept };
 }
 
 impl Search {
-    /// Nothing found so far at this place.
-    pub(crate) fn new(place: u32) -> Search
-        ensures { result ≡ begun place }
+    /// Nothing found so far, and room for none: how many there are will be known.
+    pub(crate) fn new() -> Search
+        ensures { result ≡ none_found 0 }
     {
-        Search { place, found: None }
+        Search {
+            count: 0,
+            room: 0,
+            kept: None,
+        }
+    }
+
+    /// Nothing found so far, and room for so many. Memory is the only refusal.
+    pub(crate) fn with_room(alloc: Global, room: usize) -> Result<Search, AllocError>
+        ensures { IfOk result (λ search. search ≡ none_found room) }
+    {
+        let kept = Vec::with_capacity(alloc, room)?;
+        Ok(Search {
+            count: 0,
+            room,
+            kept: Some(kept),
+        })
+    }
+
+    /// How many were found.
+    pub(crate) fn count(&self) -> usize
+        ensures { result ≡ self.now.count }
+    {
+        self.count
+    }
+
+    /// Those for which there was room, in the order in which they were found.
+    pub(crate) fn into_kept(self, alloc: Global) -> Vec<Mismatch>
+        ensures { result.items ≡ self.kept }
+    {
+        match self.kept {
+            Some(kept) => kept,
+            None => Vec::new(alloc),
+        }
+    }
+
+    fn note_one(&mut self, mismatch: Mismatch)
+        ensures { self.new ≡ noted_one self.old mismatch }
+    {
+        self.count = self.count.saturating_add(1);
+        if let Some(kept) = &mut self.kept {
+            if kept.len() < self.room {
+                let _ = kept.push(mismatch);
+            }
+        }
     }
 
     /// The conflict is at this place, if so.
@@ -59,8 +103,7 @@ impl Search {
         ensures { self.new ≡ noted self.old (conflict_if place conflict is_so) }
     {
         if is_so {
-            let here = conflict_where(place == self.place, conflict);
-            self.found = earlier(self.found, here);
+            self.note_one(Mismatch { place, conflict });
         }
     }
 }

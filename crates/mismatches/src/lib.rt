@@ -7,6 +7,7 @@ mod conflict;
 mod definitions;
 mod expressions;
 pub mod laws;
+mod listed;
 mod locals;
 mod operators;
 mod package;
@@ -16,4 +17,5 @@ mod simple;
 mod statements;
 
 pub use conflict::Conflict;
-pub use remark::{NamedType, PredefinedType, Remark, remark_at};
+pub use listed::{PlacedRemark, Remarks};
+pub use remark::{NamedType, PredefinedType, Remark};

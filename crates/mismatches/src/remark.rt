@@ -1,14 +1,12 @@
 //! What is said of types that don't match: which types these are, and where they are declared.
-ghost use Rattle.std.specs.Prelude.{◌≡◌, IfOk, map, option_map};
-ghost use Rattle.ada_tree.specs.ProgramTree.{body_item_tree, item_tree, package_tree, program_tree};
+ghost use Rattle.std.specs.Prelude.{◌≡◌, map, option_map};
+ghost use Rattle.ada_tree.specs.ProgramTree.{body_item_tree, item_tree, package_tree};
 ghost use Rattle.types.specs.Entities.{form_value};
-ghost use Rattle.mismatches.specs.Remarks.{body_item_place, body_items_place, conflict_remark, declared_place, declared_type, item_place, items_place, named_type, operands_remark, own_named, package_remark, place_if, remark_at, type_of_form, unexpected_remark, wanted_named};
+ghost use Rattle.mismatches.specs.Remarks.{body_item_place, body_items_place, conflict_remark, declared_place, declared_type, item_place, items_place, named_type, operands_remark, own_named, place_if, type_of_form, unexpected_remark, wanted_named};
 
-use crate::conflict::{Conflict, Search};
-use crate::package::package_mismatches;
-use ada_tree::{BodyItem, Item, Package, Program};
+use crate::conflict::Conflict;
+use ada_tree::{BodyItem, Item, Package};
 use expr_rules::{Own, Wanted};
-use std::alloc::{AllocError, Global};
 use types::{Scope, Subtype, TypeForm};
 
 /// A type of the language (RM A.1, D.8).
@@ -172,7 +170,12 @@ fn operands_remark(left: Option<NamedType>, right: Option<NamedType>) -> Option<
     }
 }
 
-fn conflict_remark(scope: &Scope, package_: &Package, conflict: Option<Conflict>) -> Option<Remark>
+/// What is said of such types, by what is visible behind the package.
+pub(crate) fn conflict_remark(
+    scope: &Scope,
+    package_: &Package,
+    conflict: Option<Conflict>,
+) -> Option<Remark>
     ensures { result ≡ conflict_remark scope.now (package_tree package_.now) conflict }
 {
     match conflict {
@@ -186,32 +189,5 @@ fn conflict_remark(scope: &Scope, package_: &Package, conflict: Option<Conflict>
         ),
         Some(Conflict::NoVariable) => Some(Remark::NoVariable),
         None => None,
-    }
-}
-
-#[tactic(auto, using(crate::proofs::Noted::found_first))]
-fn package_remark(
-    alloc: Global,
-    package_: &Package,
-    place: u32,
-) -> Result<Option<Remark>, AllocError>
-    ensures { IfOk result (λ r. r ≡ package_remark (package_tree package_.now) place) }
-{
-    let mut search = Search::new(place);
-    let scope = package_mismatches(alloc, package_, &mut search)?;
-    Ok(conflict_remark(&scope, package_, search.found))
-}
-
-/// What is said of the first types at this place of the program that don't match: the place of a fault 12. None where both types aren't known, or none are
-/// expected: of a name that has no type, of the values of an if expression, in aspects.
-///
-/// # Errors
-/// Where memory was refused.
-pub fn remark_at(alloc: Global, program: &Program, place: u32) -> Result<Option<Remark>, AllocError>
-    ensures { IfOk result (λ r. r ≡ remark_at (program_tree program.now) place) }
-{
-    match &program.package_ {
-        Some(package_) => package_remark(alloc, package_, place),
-        None => Ok(None),
     }
 }

@@ -5,3 +5,6 @@ pub mod Recognition
 pub mod Closings
 pub mod Strays
 pub mod Likeness
+pub mod Misuse
+pub mod Doubts
+pub mod Misspelled

@@ -4,10 +4,12 @@ use Rattle.lexer.specs.declared.delimiter.Delimiter.TheVariants as delimiters
 use Rattle.lexer.specs.declared.token.Token.{Token}
 use Rattle.lexer.specs.declared.token.TokenKind.{TokenKind}
 use Rattle.lexer.specs.declared.token.TokenKind.TheVariants as kinds
+use Rattle.lexer.specs.declared.word.Word.{Word}
 use Rattle.lexer.specs.declared.word.Word.TheVariants as words
+use Rattle.lexer.specs.Words.{spelling}
 use Rattle.remedies.specs.declared.likeness.Like.{Like}
 use Rattle.remedies.specs.declared.likeness.Like.TheVariants as likes
-use Rattle.remedies.specs.declared.likeness.TheConstants.{LEAST_LETTERS, PREDEFINED}
+use Rattle.remedies.specs.declared.likeness.TheConstants.{LEAST_LETTERS, PREDEFINED, WORDS_LIKE_NAMES}
 use Rattle.remedies.specs.declared.name.Name.{Name}
 use Rattle.remedies.specs.Names.{name_text}
 use Rattle.remedies.specs.Recognition.{count_before, kind_at}
@@ -80,13 +82,22 @@ abbrev pub first_predefined : List Name → List ℕ → Option Name
 first_predefined [] name = None
 first_predefined (n ∷ names) name = if is_like name (name_text n) then Some n else first_predefined names name
 
-abbrev pub near_predefined : Option Name → Option Like
-near_predefined (Some n) = Some (likes.Predefined n)
-near_predefined None = None
+-- the first of these reserved words that is like it
+abbrev pub first_reserved : List Word → List ℕ → Option Word
+first_reserved [] name = None
+first_reserved (w ∷ words) name = if is_like name (spelling w) then Some w else first_reserved words name
+
+abbrev pub near_reserved : Option Word → Option Like
+near_reserved (Some w) = Some (likes.Reserved w)
+near_reserved None = None
+
+abbrev pub near_predefined : List ℕ → Option Name → Option Like
+near_predefined name (Some n) = Some (likes.Predefined n)
+near_predefined name None = near_reserved (first_reserved WORDS_LIKE_NAMES name)
 
 abbrev pub near_declared : List ℕ → Option ℕ → Option Like
 near_declared name (Some n) = Some (likes.Declared n)
-near_declared name None = near_predefined (first_predefined PREDEFINED name)
+near_declared name None = near_predefined name (first_predefined PREDEFINED name)
 
 -- names of few letters are like too many others
 abbrev pub like_near : List ℕ → List Token → Option Like

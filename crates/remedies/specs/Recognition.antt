@@ -28,6 +28,7 @@ is_part parts.Nothing None = true
 is_part parts.Identifier (Some (kinds.Identifier name)) = true
 is_part (parts.Named n) (Some (kinds.Identifier name)) = bytes_eq name (name_text n)
 is_part parts.Number (Some (kinds.Number value)) = true
+is_part parts.Label (Some (kinds.Label text)) = true
 is_part (parts.Mark d) (Some (kinds.Delimiter e)) = sameb delimiter_type.the_type e d
 is_part (parts.Reserved w) (Some (kinds.Word v)) = sameb word_type.the_type v w
 is_part p k = false

@@ -3,7 +3,7 @@ ghost use Rattle.std.specs.Prelude.{◌≡◌};
 ghost use Rattle.remedies.specs.Remedies.{text_of};
 
 /// What stands at the place of a fault: what Ada has and this language doesn't, or a first mistake.
-#[derive(Clone, Copy, Debug, PartialEq, Eq)]
+#[derive(Clone, Copy)]
 pub enum Construct {
     /// An enumeration type (RM 3.5.1).
     Enumeration,
@@ -179,12 +179,8 @@ pub enum Construct {
     Seconds,
     /// A conversion to or from Duration, or a constant of Time_Span (RM D.8).
     DurationConversion,
-    /// Arithmetic of time spans (RM D.8).
-    TimeSpanArithmetic,
     /// A first value that is reckoned from Clock.
     FirstValueFromClock,
-    /// A number behind delay until.
-    NumberForTime,
     /// A relative delay (RM 9.6).
     RelativeDelay,
     /// The operator not in front of a relation (RM 4.5).
@@ -237,6 +233,56 @@ pub enum Construct {
     RaiseMessage,
     /// A declaration that begins with the type, as in C.
     TypeFirst,
+    /// A range with `to` between its bounds (RM 3.5).
+    RangeByWord,
+    /// A constant whose declaration begins with the word `constant` (RM 3.3.1).
+    ConstantFirst,
+    /// A semicolon after another one.
+    SecondSemicolon,
+    /// A word for a call before the name of what is called (RM 6.4).
+    CallWord,
+    /// A subtype without the name of its type (RM 3.2.2).
+    SubtypeOfNothing,
+    /// An equals sign behind the name of a type (RM 3.2.1).
+    EqualsForIs,
+    /// A use clause in a package (RM 8.4).
+    ClauseInPackage,
+    /// A semicolon before `is` (RM 6.3).
+    SemicolonBeforeIs,
+    /// A procedure that begins as in another language.
+    ProcedureWord,
+    /// A function without the type of its result (RM 6.1).
+    FunctionResult,
+    /// Statements in the declaration of a task (RM 9.1).
+    TaskStatements,
+    /// A body in the specification of a package (RM 7.1).
+    BodyInSpecification,
+    /// An operand with a sign behind an operator (RM 4.4).
+    SignedOperand,
+    /// A block for exceptions as in another language (RM 11.2).
+    HandledBlock,
+    /// An exception that is made where it is raised (RM 11.3).
+    RaiseNew,
+    /// A label where an expression is wanted (RM 4.4).
+    LabelAsValue,
+    /// The words of an end in one (RM 5.3, 5.4, 5.5).
+    EndInOneWord,
+    /// A case with `of` (RM 5.4).
+    CaseOf,
+    /// A loop that ends with a condition (RM 5.7).
+    UntilLoop,
+    /// A comma between declarations (RM 3.1).
+    CommaForSemicolon,
+    /// A procedure where a value is wanted (RM 6.4).
+    ProcedureValue,
+    /// A type where a value is wanted (RM 4.4).
+    TypeValue,
+    /// A task where a value or a call is wanted (RM 9.1).
+    TaskValue,
+    /// The name of the package as a prefix (RM 4.1.3).
+    PackagePrefix,
+    /// A protected object where a value or a call is wanted (RM 9.4).
+    ProtectedValue,
 }
 
 impl Construct {
@@ -332,9 +378,7 @@ impl Construct {
             Construct::OtherUnit => OTHER_UNIT,
             Construct::Seconds => SECONDS,
             Construct::DurationConversion => DURATION_CONVERSION,
-            Construct::TimeSpanArithmetic => TIME_SPAN_ARITHMETIC,
             Construct::FirstValueFromClock => FIRST_VALUE_FROM_CLOCK,
-            Construct::NumberForTime => NUMBER_FOR_TIME,
             Construct::RelativeDelay => RELATIVE_DELAY,
             Construct::NotOfRelation => NOT_OF_RELATION,
             Construct::OtherType => OTHER_TYPE,
@@ -361,6 +405,31 @@ impl Construct {
             Construct::InOutWords => IN_OUT_WORDS,
             Construct::RaiseMessage => RAISE_MESSAGE,
             Construct::TypeFirst => TYPE_FIRST,
+            Construct::RangeByWord => RANGE_BY_WORD,
+            Construct::ConstantFirst => CONSTANT_FIRST,
+            Construct::SecondSemicolon => SECOND_SEMICOLON,
+            Construct::CallWord => CALL_WORD,
+            Construct::SubtypeOfNothing => SUBTYPE_OF_NOTHING,
+            Construct::EqualsForIs => EQUALS_FOR_IS,
+            Construct::ClauseInPackage => CLAUSE_IN_PACKAGE,
+            Construct::SemicolonBeforeIs => SEMICOLON_BEFORE_IS,
+            Construct::ProcedureWord => PROCEDURE_WORD,
+            Construct::FunctionResult => FUNCTION_RESULT,
+            Construct::TaskStatements => TASK_STATEMENTS,
+            Construct::BodyInSpecification => BODY_IN_SPECIFICATION,
+            Construct::SignedOperand => SIGNED_OPERAND,
+            Construct::HandledBlock => HANDLED_BLOCK,
+            Construct::RaiseNew => RAISE_NEW,
+            Construct::LabelAsValue => LABEL_AS_VALUE,
+            Construct::EndInOneWord => END_IN_ONE_WORD,
+            Construct::CaseOf => CASE_OF,
+            Construct::UntilLoop => UNTIL_LOOP,
+            Construct::CommaForSemicolon => COMMA_FOR_SEMICOLON,
+            Construct::ProcedureValue => PROCEDURE_VALUE,
+            Construct::TypeValue => TYPE_VALUE,
+            Construct::TaskValue => TASK_VALUE,
+            Construct::PackagePrefix => PACKAGE_PREFIX,
+            Construct::ProtectedValue => PROTECTED_VALUE,
         }
     }
 }
@@ -664,16 +733,9 @@ const DURATION_CONVERSION: &str = "\
 A time span has no other form: keep an Integer of milliseconds beside it, `Period : constant \
 Integer := 10;`, and write `Milliseconds (Period)`.";
 
-const TIME_SPAN_ARITHMETIC: &str = "\
-Time spans are not added, compared or divided: reckon with Integers, `Milliseconds (2 * \
-Period)`, and add one to a Time.";
-
 const FIRST_VALUE_FROM_CLOCK: &str = "\
 The first value is `Clock` alone: write `Next : Time := Clock;`, and `Next := Next + \
 Milliseconds (10);` as the first statement.";
-
-const NUMBER_FOR_TIME: &str = "\
-A Time is wanted: write `delay until Clock + Milliseconds (10);`.";
 
 const RELATIVE_DELAY: &str = "\
 A task waits by `delay until`: write `delay until Clock + Milliseconds (500);`.";
@@ -760,3 +822,82 @@ to be written.";
 
 const TYPE_FIRST: &str = "\
 The name comes first: write `Count : Integer := 3;`.";
+
+const RANGE_BY_WORD: &str = "\
+Two dots stand between the bounds of a range: write `for I in 1 .. 3 loop`.";
+
+const CONSTANT_FIRST: &str = "\
+The name comes first: write `Size : constant Integer := 4;`.";
+
+const SECOND_SEMICOLON: &str = "\
+One `;` ends a statement or a declaration: leave the second one out.";
+
+const CALL_WORD: &str = "\
+A call begins with the name of what is called: write `Run;`.";
+
+const SUBTYPE_OF_NOTHING: &str = "\
+A subtype names its type: write `subtype Digit is Integer range 0 .. 9;`.";
+
+const EQUALS_FOR_IS: &str = "\
+`is` follows the name: write `type Digit is range 0 .. 9;`.";
+
+const CLAUSE_IN_PACKAGE: &str = "\
+Clauses stand in front of the package: write `with Ada.Real_Time; use Ada.Real_Time;` there.";
+
+const SEMICOLON_BEFORE_IS: &str = "\
+The `;` ends the declaration: leave it out before `is`.";
+
+const PROCEDURE_WORD: &str = "\
+Write `procedure Run is begin .. end Run;`, and with parameters `procedure Run (N : Integer) \
+is`.";
+
+const FUNCTION_RESULT: &str = "\
+A function has a result: write `function Twice (N : Integer) return Integer is`.";
+
+const TASK_STATEMENTS: &str = "\
+What a task does stands in its body: write `task Pump;`, and `task body Pump is begin .. end \
+Pump;` in the package body.";
+
+const BODY_IN_SPECIFICATION: &str = "\
+Bodies stand in the package body: write `procedure Run;` here.";
+
+const SIGNED_OPERAND: &str = "\
+An operand with a sign stands in parentheses: write `2 * (-1)`.";
+
+const HANDLED_BLOCK: &str = "\
+Exceptions are handled at the end of a block or a body: write `begin .. exception when Bad => .. \
+end;`.";
+
+const RAISE_NEW: &str = "\
+An exception is declared, `Bad : exception;`, and raised by its name: write `raise Bad;`.";
+
+const LABEL_AS_VALUE: &str = "\
+There are no strings: a label stands in `Put (\"level\", Level);` alone.";
+
+const END_IN_ONE_WORD: &str = "\
+The words of an end stand apart: write `end if;`, `end case;` or `end loop;`.";
+
+const CASE_OF: &str = "\
+`is` follows the expression: write `case N is when 1 => .. when others => .. end case;`.";
+
+const UNTIL_LOOP: &str = "\
+A loop is left by `exit`: write `exit when N = 3;` as its last statement, and `end loop;`.";
+
+const COMMA_FOR_SEMICOLON: &str = "\
+Each declaration ends with `;`: write `A : Integer; B : Integer;`.";
+
+const PROCEDURE_VALUE: &str = "\
+A procedure has no value: give it an `out` parameter and call it, `Measure (N);`, or write a \
+function.";
+
+const TYPE_VALUE: &str = "\
+A type is no value: write an object or a number, or convert one, `Count (N)`.";
+
+const TASK_VALUE: &str = "\
+A task has no value and is not called: it runs from the start of the program on.";
+
+const PACKAGE_PREFIX: &str = "\
+In the package its names have no prefix: write `Run;`.";
+
+const PROTECTED_VALUE: &str = "\
+A protected object is used by its operations: write `Store.Take (N);`.";

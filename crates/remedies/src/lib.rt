@@ -3,20 +3,26 @@
 
 mod closing;
 mod construct;
+mod doubt;
 mod likeness;
+mod misuse;
 mod name;
 mod opening;
 mod openings;
 mod recognition;
 mod row;
 mod rows;
+mod spelling;
 mod stray;
 
 pub use closing::{closing_of, part_of};
 pub use construct::Construct;
-pub use likeness::{Like, first_same, like_at, name_of};
+pub use doubt::{Doubt, doubtful_from};
+pub use likeness::{Like, first_same, is_like, like_at, name_of};
+pub use misuse::misused_at;
 pub use name::{Name, name_text};
 pub use opening::{Opened, Opening};
 pub use recognition::{construct_at, count_before, unclosed_at};
 pub use row::kind_at;
+pub use spelling::{of_label, of_number};
 pub use stray::of_byte;

@@ -1,6 +1,6 @@
 //! What is declared with a name like one that isn't visible.
 ghost use Rattle.std.specs.Prelude.{◌≡◌, ◌≤◌, ◌-◌, length, option_map};
-ghost use Rattle.remedies.specs.Likeness.{are_exchanged, declares_near, first_predefined, first_where, introduces, introduces_same, is_changed, is_colon, is_like, is_near, is_same, kind_before, like_at, like_later, like_near, name_of, near_declared};
+ghost use Rattle.remedies.specs.Likeness.{are_exchanged, declares_near, first_predefined, first_reserved, first_where, introduces, introduces_same, is_changed, is_colon, is_like, is_near, is_same, kind_before, like_at, like_later, like_near, name_of, near_declared, near_predefined, near_reserved};
 
 use crate::name::{Name, name_text};
 use crate::recognition::count_before;
@@ -16,6 +16,8 @@ pub enum Like {
     Declared(usize),
     /// The language declares such a name.
     Predefined(Name),
+    /// It is a reserved word.
+    Reserved(Word),
 }
 
 /// Names of fewer letters are like too many others.
@@ -38,6 +40,16 @@ pub const PREDEFINED: [Name; 15] = [
     Name::Read,
     Name::ConstraintError,
     Name::ProgramError,
+];
+
+/// The reserved words for which a misspelled one is a name: those that begin or are a statement, and others and exception.
+pub const WORDS_LIKE_NAMES: [Word; 6] = [
+    Word::Null,
+    Word::Return,
+    Word::Exit,
+    Word::Raise,
+    Word::Others,
+    Word::Exception,
 ];
 
 // Whether the first two letters are exchanged, and nothing else.
@@ -68,8 +80,8 @@ fn is_changed(name: &[u8], other: &[u8]) -> bool
     }
 }
 
-// Whether one name is the other one with one change.
-fn is_like(name: &[u8], other: &[u8]) -> bool
+/// Whether one name is the other one with a letter more, less or other, or with two exchanged.
+pub fn is_like(name: &[u8], other: &[u8]) -> bool
     ensures { result ≡ is_like name.now other.now }
 {
     let mut same = 0;
@@ -114,8 +126,8 @@ fn is_colon(kind: Option<&TokenKind>) -> bool
     matches!(kind, Some(TokenKind::Delimiter(Delimiter::Colon)))
 }
 
-// The kind of the token before the one with so many before it.
-fn kind_before(number: usize, tokens: &[Token]) -> Option<&TokenKind>
+/// The kind of the token before the one with so many before it.
+pub(crate) fn kind_before(number: usize, tokens: &[Token]) -> Option<&TokenKind>
     ensures { option_map (λ k. k.now) result ≡ kind_before number tokens.now }
 {
     if number == 0 {
@@ -200,12 +212,42 @@ fn first_predefined(names: &[Name], name: &[u8]) -> Option<Name>
     None
 }
 
+// The first of these reserved words that is like it.
+fn first_reserved(words: &[Word], name: &[u8]) -> Option<Word>
+    ensures { result ≡ first_reserved words.now name.now }
+{
+    for word in words {
+        if is_like(name, word.spelling()) {
+            return Some(*word);
+        }
+    }
+    None
+}
+
+fn near_reserved(word: Option<Word>) -> Option<Like>
+    ensures { result ≡ near_reserved word }
+{
+    match word {
+        Some(word) => Some(Like::Reserved(word)),
+        None => None,
+    }
+}
+
+fn near_predefined(name: &[u8], known: Option<Name>) -> Option<Like>
+    ensures { result ≡ near_predefined name.now known }
+{
+    match known {
+        Some(known) => Some(Like::Predefined(known)),
+        None => near_reserved(first_reserved(&WORDS_LIKE_NAMES, name)),
+    }
+}
+
 fn near_declared(name: &[u8], declared: Option<usize>) -> Option<Like>
     ensures { result ≡ near_declared name.now declared }
 {
     match declared {
         Some(number) => Some(Like::Declared(number)),
-        None => Some(Like::Predefined(first_predefined(&PREDEFINED, name)?)),
+        None => near_predefined(name, first_predefined(&PREDEFINED, name)),
     }
 }
 
@@ -229,7 +271,8 @@ fn like_later(name: &[u8], tokens: &[Token], later: Option<usize>) -> Option<Lik
 }
 
 /// What is declared with a name like the one at this place of a text with these tokens: the same name, which a word introduces after the place; else the first
-/// one with a letter more, less or other, or two exchanged, of the text or of the language; None where there is no name at the place, or none like it.
+/// one with a letter more, less or other, or two exchanged, of the text or of the language, or such a reserved word; None where there is no name at the place,
+/// or none like it.
 pub fn like_at(place: u32, tokens: &[Token]) -> Option<Like>
     ensures { result ≡ like_at place tokens.now }
 {

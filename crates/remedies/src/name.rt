@@ -123,6 +123,36 @@ pub enum Name {
     Elif,
     /// `Inout`
     Inout,
+    /// `To`
+    To,
+    /// `Const`
+    Const,
+    /// `Call`
+    Call,
+    /// `Void`
+    Void,
+    /// `Def`
+    Def,
+    /// `Func`
+    Func,
+    /// `Sub`
+    Sub,
+    /// `Try`
+    Try,
+    /// `Print`
+    Print,
+    /// `Printf`
+    Printf,
+    /// `Int`
+    Int,
+    /// `Bool`
+    Bool,
+    /// `Endif`
+    EndIf,
+    /// `Endloop`
+    EndLoop,
+    /// `Endcase`
+    EndCase,
 }
 
 /// The letters of the name, in upper case.
@@ -189,5 +219,20 @@ pub fn name_text(name: Name) -> &'static [u8]
         Name::Elseif => b"ELSEIF",
         Name::Elif => b"ELIF",
         Name::Inout => b"INOUT",
+        Name::To => b"TO",
+        Name::Const => b"CONST",
+        Name::Call => b"CALL",
+        Name::Void => b"VOID",
+        Name::Def => b"DEF",
+        Name::Func => b"FUNC",
+        Name::Sub => b"SUB",
+        Name::Try => b"TRY",
+        Name::Print => b"PRINT",
+        Name::Printf => b"PRINTF",
+        Name::Int => b"INT",
+        Name::Bool => b"BOOL",
+        Name::EndIf => b"ENDIF",
+        Name::EndLoop => b"ENDLOOP",
+        Name::EndCase => b"ENDCASE",
     }
 }

@@ -20,6 +20,8 @@ pub enum Part {
     Named(Name),
     /// A number.
     Number,
+    /// A label.
+    Label,
     /// This delimiter.
     Mark(Delimiter),
     /// This reserved word.
@@ -68,6 +70,7 @@ fn is_part(part: Part, kind: Option<&TokenKind>) -> bool
             text.as_bytes() == name_text(name)
         }
         (Part::Number, Some(TokenKind::Number(_))) => true,
+        (Part::Label, Some(TokenKind::Label(_))) => true,
         (Part::Mark(delimiter), Some(TokenKind::Delimiter(found))) => *found == delimiter,
         (Part::Reserved(word), Some(TokenKind::Word(found))) => *found == word,
         _ => false,

@@ -1,0 +1,4 @@
+pub mod First
+pub mod Mending
+pub mod Misspellings
+pub mod MissingTokens
