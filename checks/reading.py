@@ -3,9 +3,10 @@
 
     reading.py PROGRAM SCRATCH
 
-A file that has no end is refused within seconds by what its first bytes break. The longest schedule is accepted, and one byte more isn't; the longest line of a set of
-schedules breaks no rule but the last one, 86, where the search ends before its slot, and with one byte more it breaks the first. The source `-` of `simulate`, `check` and `search` is standard input, and each says of it what it says of the file, under the name `-`; for
-`go` it is the file of this name, and so is `./-` for all.
+A file that has no end is refused within seconds by what its first bytes break. The longest schedule is accepted, and one byte more isn't. The longest line of a set
+of schedules breaks no rule but the last one, 86, where the search ends before its slot, and with one byte more it breaks the first. An image with more bytes after
+it than any image has is refused at the first of them. The source `-` of `simulate`, `check` and `search` is standard input, and each says of it what it says of the
+file, under the name `-`; for `go` it is the file of this name, and so is `./-` for all.
 """
 import os
 import subprocess
@@ -19,6 +20,7 @@ LINE = b"9223372036854775807 8 -9223372036854775808\n"
 LINES = 4_096
 ALTERNATIVES = 4_096
 LIMIT = 65_536
+IMAGE = 1_000_000
 
 
 def longest_line():
@@ -64,6 +66,8 @@ class Checks:
             if left[2] != 2 or not left[1].startswith(b"/dev/zero:1:1: error: "):
                 self.wrong.append(f"{command} /dev/zero: {left}")
         self.expect(["go", "main.adb", "/dev/zero", "1"], (b"", b"schedule fault 50 at line 1\n", 7))
+        for words in (["list", "/dev/zero"], ["run", "/dev/zero", "empty", "1"]):
+            self.expect(words, (b"", b"image fault 40 at byte 0\n", 6))
 
     def longest_files(self):
         self.write("longest", LINE * LINES)
@@ -88,6 +92,15 @@ class Checks:
         for name in ("over.adb", "long.adb"):
             self.expect(["go", name, "empty", "100"], (b"", f"fault 1 at 3:{LIMIT + 1 - len(SOURCE)}\n".encode(), 2))
         self.expect(["go", "label.adb", "empty", "100"], (b"", f"fault 5 at 1:{place + 1}\n".encode(), 2))
+
+    def longer_images(self):
+        self.expect(["compile", "main.adb", "main.img"], (b"", b"", 0))
+        with open(os.path.join(self.folder, "main.img"), "rb") as file:
+            image = file.read()
+        self.write("longer.img", image + b"\0" * IMAGE)
+        self.expect(["run", "main.img", "empty", "100"], ENDED)
+        for words in (["list", "longer.img"], ["run", "longer.img", "empty", "100"]):
+            self.expect(words, (b"", f"image fault 42 at byte {len(image)}\n".encode(), 6))
 
     def standard_input(self):
         for words in (["simulate"], ["check"]):
@@ -114,6 +127,7 @@ def main():
     checks.files_without_end()
     checks.longest_files()
     checks.longer_sources()
+    checks.longer_images()
     checks.standard_input()
     for told in checks.wrong:
         print(f"reading: {told}", file=sys.stderr)

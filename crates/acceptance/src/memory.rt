@@ -23,10 +23,6 @@ impl<'a> FileStore for Files<'a> {
 
     ghost standard_input = { λ _. None };
 
-    fn read_whole(&self, alloc: Global, name: &str) -> Result<Vec<u8>, ReadError> {
-        self.read(alloc, name, usize::MAX)
-    }
-
     fn read(&self, alloc: Global, name: &str, most: usize) -> Result<Vec<u8>, ReadError> {
         for (known, content) in self.entries {
             if *known == name {

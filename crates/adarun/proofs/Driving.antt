@@ -1,5 +1,5 @@
 -- What the work over files leaves.
-use Rattle.std.proofs.Common.{◌≡◌, ◌<◌, ℕ, arith, List, Option, Bool, true, false, cond, inr, refl, sym, ap, subst, Ok, Err}
+use Rattle.std.proofs.Common.{◌≡◌, ◌<◌, ℕ, arith, List, length, Option, Bool, true, false, cond, inr, refl, sym, ap, subst, Ok, Err}
 use Rattle.std.specs.Prelude.{◌⊎◌, nat_eq}
 use denote.Enum.Declared.{tag_of}
 use Rattle.ada_link.specs.stmt_code.specs.declared.tables.PlaceRow.{PlaceRow}
@@ -9,7 +9,10 @@ use Rattle.image.specs.Sections.{Sections}
 use Rattle.lexer.specs.declared.fault.Fault.{Fault}
 use Rattle.machine.specs.declared.reports.Outcome.{Outcome}
 use Rattle.machine.specs.declared.reports.Outcome.TheVariants as outcomes
-use Rattle.file_limits.specs.declared.TheConstants.{SCHEDULE_BYTES, SOURCE_BYTES}
+use Rattle.file_limits.specs.declared.TheConstants.{IMAGE_BYTES, SCHEDULE_BYTES, SOURCE_BYTES}
+use Rattle.clock.specs.Schedules.{RefusesSchedule}
+use Rattle.image_format.specs.Bytes.{bytes_of}
+use Rattle.image_loading.specs.Loaded.{IsLoaded}
 use Rattle.clock.specs.declared.schedule.ScheduleFault.{ScheduleFault}
 use Rattle.command_line.specs.Words.{AnswersWords, Command, Nothing, command_of}
 use Rattle.command_line.specs.declared.Request.{Request}
@@ -18,7 +21,7 @@ use Rattle.command_line.specs.declared.WordsError.TheVariants.{Usage}
 use Rattle.adarun.specs.Accepted.{RefusesText}
 use Rattle.adarun.specs.Headline.{Runs}
 use Rattle.adarun.specs.Stopping.{RefusesRunning}
-use Rattle.adarun.specs.Driving.{HasRun, HasRunImage, HasTraced, KeepsSink, LeavesGo, LeavesRun, LeavesTrace, status_of, text_of}
+use Rattle.adarun.specs.Driving.{HasLoaded, HasRun, HasRunImage, HasTraced, KeepsSink, LeavesGo, LeavesRun, LeavesTrace, status_of, text_of}
 use Rattle.adarun.specs.Origins.{origin_in}
 use Rattle.adarun.specs.Reading.{Contents, IsBeginningRead}
 use Rattle.adarun.specs.declared.going.GoFault.{GoFault}
@@ -28,7 +31,7 @@ use Rattle.adarun.specs.declared.program.Status.{Status}
 use Rattle.adarun.specs.declared.program.TraceForm.{TraceForm}
 use Rattle.adarun.specs.declared.program.Status.TheVariants as statuses
 use Rattle.adarun.specs.declared.program.Status.TheVariants.{Failed, SourceRefused, ScheduleRefused, NoMemory}
-use Rattle.adarun.proofs.Reading.{begun, schedule_whole, source_whole}
+use Rattle.adarun.proofs.Reading.{begun, image_whole, schedule_whole, source_whole}
 use Rattle.adarun.proofs.Running.{meant}
 
 module _ (contents : Contents) (source : List ℕ) (known : Option (List ℕ)) (limit : ℕ) (old new : Option (List ℕ)) where
@@ -110,6 +113,34 @@ module _ (contents : Contents) (name schedule : List ℕ) (limit : ℕ) (old new
   pub image_run_leaves : (status : Status) (outcome : Outcome) → status ≡ status_of outcome → HasRunImage contents name schedule limit (status_of outcome) old new
       → LeavesRun contents name schedule limit status old new
   image_run_leaves status outcome e h = subst (λ s. LeavesRun contents name schedule limit s old new) (sym e) (has_run_image outcome h)
+
+  unscheduled_image : (b : Bool) (fault : ScheduleFault) (image : Sections) (given input : List ℕ)
+      → nat_eq fault.number MEMORY_REFUSED ≡ b → HasLoaded contents name image → IsBeginningRead (contents schedule) SCHEDULE_BYTES given → input ≡ given → RefusesSchedule input fault → new ≡ old
+      → LeavesRun contents name schedule limit (cond b NoMemory ScheduleRefused) old new
+  unscheduled_image true fault image given input e loaded read same refused unwritten = unwritten
+  unscheduled_image false fault image given input e loaded read same refused unwritten = record {
+    image = image;
+    loaded = loaded;
+    input = input;
+    read = begun (contents schedule) given input same SCHEDULE_BYTES read;
+    fault = fault;
+    refused = refused;
+    not_memory = λ h. let is = ap (λ n. nat_eq n MEMORY_REFUSED) h in absurd cc;
+    unwritten = unwritten;
+  }
+
+  pub image_schedule_leaves : (status : Status) (fault : ScheduleFault) (image : Sections) (given input : List ℕ)
+      → status ≡ cond (nat_eq fault.number MEMORY_REFUSED) NoMemory ScheduleRefused → HasLoaded contents name image → IsBeginningRead (contents schedule) SCHEDULE_BYTES given → input ≡ given
+      → RefusesSchedule input fault → new ≡ old → LeavesRun contents name schedule limit status old new
+  image_schedule_leaves status fault image given input e loaded read same refused unwritten =
+      subst (λ s. LeavesRun contents name schedule limit s old new) (sym e)
+      (unscheduled_image (nat_eq fault.number MEMORY_REFUSED) fault image given input refl loaded read same refused unwritten)
+
+-- what was loaded of a beginning of a file is the image of the file
+pub image_loaded : (contents : Contents) (name : List ℕ) (image : Sections) (text lent : List ℕ) → lent ≡ text → IsBeginningRead (contents name) IMAGE_BYTES text → bytes_of image ≡ lent
+    → length (bytes_of image) < IMAGE_BYTES → IsLoaded lent image → HasLoaded contents name image
+image_loaded contents name image text lent same read is short loaded =
+    record { bytes = lent; read = image_whole (contents name) text lent same image read is short; loaded = loaded }
 
 -- the status of a sink's failure
 pub failed_keeps : (status : Status) (Same : Type 0) (before after : ℕ) → status ≡ Failed → before < after → KeepsSink status Same before after

@@ -9,7 +9,9 @@ use Rattle.clock.specs.Schedules.{IsScheduleText}
 use Rattle.file_limits.proofs.Choices.{choices_end}
 use Rattle.file_limits.proofs.Schedules.{schedules_end}
 use Rattle.file_limits.proofs.Sources.{sources_end}
-use Rattle.file_limits.specs.declared.TheConstants.{CHOICES_BYTES, SCHEDULE_BYTES, SOURCE_BYTES}
+use Rattle.file_limits.specs.declared.TheConstants.{CHOICES_BYTES, IMAGE_BYTES, SCHEDULE_BYTES, SOURCE_BYTES}
+use Rattle.image.specs.Sections.{Sections}
+use Rattle.image_format.specs.Bytes.{bytes_of}
 use Rattle.ada_link.specs.ada_tree.specs.ProgramTree.{ProgramTree}
 use Rattle.ada_link.specs.expr_rules.specs.Faults.{Faults}
 use Rattle.adarun.specs.Accepted.{IsTreeOf}
@@ -40,3 +42,6 @@ module _ (content : Option (List ℕ)) (text lent : List ℕ) (same : lent ≡ t
 
   pub choices_whole : (until : ℤ) (slots : List Slot) → IsBeginningRead content CHOICES_BYTES text → IsChoicesText until lent slots → IsContentRead content lent
   choices_whole until slots read is = whole content CHOICES_BYTES lent (begun CHOICES_BYTES read) (choices_end until lent slots is)
+
+  pub image_whole : (i : Sections) → IsBeginningRead content IMAGE_BYTES text → bytes_of i ≡ lent → length (bytes_of i) < IMAGE_BYTES → IsContentRead content lent
+  image_whole i read is short = whole content IMAGE_BYTES lent (begun IMAGE_BYTES read) (subst (λ bytes. length bytes < IMAGE_BYTES) is short)

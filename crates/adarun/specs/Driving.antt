@@ -8,7 +8,7 @@ use Rattle.choices.specs.declared.faults.ChoicesFault.{ChoicesFault}
 use Rattle.clock.specs.Schedules as schedules
 use Rattle.clock.specs.declared.schedule.ScheduleFault.{ScheduleFault}
 use Rattle.explanations.specs.Explained.{explanation_of}
-use Rattle.file_limits.specs.declared.TheConstants.{CHOICES_BYTES, SCHEDULE_BYTES, SOURCE_BYTES}
+use Rattle.file_limits.specs.declared.TheConstants.{CHOICES_BYTES, IMAGE_BYTES, SCHEDULE_BYTES, SOURCE_BYTES}
 use Rattle.ada_link.specs.package_code.specs.Places.{PlacesTell}
 use Rattle.ada_link.specs.stmt_code.specs.declared.tables.PlaceRow.{PlaceRow}
 use Rattle.hints.specs.Explained.{IsExplained}
@@ -186,10 +186,10 @@ pub record HasLoaded (contents : Contents) (name : List ℕ) (i : Sections) : Ty
   pub read : IsContentRead (contents name) bytes
   pub loaded : IsLoaded bytes i
 
--- the file was read, and its bytes break a rule
+-- The file was read, and its bytes break a rule. Of a file that is longer than any image the rule is one that its first bytes break.
 pub record HasRefusedImage (contents : Contents) (name : List ℕ) (old new : Option (List ℕ)) : Type 0 where
   pub bytes : List ℕ
-  pub read : IsContentRead (contents name) bytes
+  pub read : IsBeginningRead (contents name) IMAGE_BYTES bytes
   pub fault : refused.ImageFault
   pub refused : image_fault bytes ≡ Some fault
   pub unwritten : new ≡ old

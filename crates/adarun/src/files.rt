@@ -31,24 +31,17 @@ pub trait FileStore {
 
     ghost standard_input: { Self → Option (List ℕ) };
 
-    /// The content of the file of this name.
-    ///
-    /// # Errors
-    /// Memory where memory was refused, and Unreadable for any other cause.
-    fn read_whole(&self, alloc: Global, name: &str) -> Result<Vec<u8>, ReadError>
-        ensures { IfOk result (λ bytes. IsContentRead (contents self.now name.now) bytes.items) };
-
     /// The first bytes of the file of this name, `most` of them at most: its content, where that is no longer.
     ///
     /// # Errors
-    /// Those of `read_whole`.
+    /// Memory where memory was refused, and Unreadable for any other cause.
     fn read(&self, alloc: Global, name: &str, most: usize) -> Result<Vec<u8>, ReadError>
         ensures { IfOk result (λ bytes. IsBeginningRead (contents self.now name.now) most bytes.items) };
 
     /// The first bytes of standard input, `most` of them at most.
     ///
     /// # Errors
-    /// Those of `read_whole`.
+    /// Memory where memory was refused, and Unreadable for any other cause.
     fn read_input(&self, alloc: Global, most: usize) -> Result<Vec<u8>, ReadError>
         ensures { IfOk result (λ bytes. IsBeginningRead (standard_input self.now) most bytes.items) };
 

@@ -24,7 +24,7 @@ use base::faults::MEMORY_REFUSED;
 use clock::{Schedule, ScheduleFault};
 use command_line::{Request, WordsError, request_of};
 use explanations::explanation;
-use file_limits::{SCHEDULE_BYTES, SOURCE_BYTES};
+use file_limits::{IMAGE_BYTES, SCHEDULE_BYTES, SOURCE_BYTES, image_ends};
 use hints::explained;
 use image::ImageFault;
 use image_format::{encode, list};
@@ -223,7 +223,7 @@ fn drive_list<F: FileStore, O: Sink, E: Sink>(
     ensures leaves { LeavesList (F.contents files.now) name.now result (O.bytes out.old) (O.bytes out.new) }
     ensures sink { KeepsSink result (out.new ≡ out.old) (O.failures out.old) (O.failures out.new) }
 {
-    let bytes = match files.read_whole(alloc, name) {
+    let bytes = match files.read(alloc, name, IMAGE_BYTES) {
         Ok(bytes) => bytes,
         Err(error) => return unread(err, error, name),
     };
@@ -231,6 +231,7 @@ fn drive_list<F: FileStore, O: Sink, E: Sink>(
         Ok(image) => image,
         Err(fault) => return refuse_image(err, &fault),
     };
+    image_ends(&image);
     let text = match list(alloc, &image) {
         Ok(text) => text,
         Err(_) => return no_memory(err),
@@ -254,7 +255,7 @@ fn drive_run<F: FileStore, O: Sink, E: Sink, L: Ledger>(
     ensures leaves { LeavesRun (F.contents files.now) name.now schedule.now limit result (O.bytes out.old) (O.bytes out.new) }
     ensures sink { KeepsSink result (out.new ≡ out.old) (O.failures out.old) (O.failures out.new) }
 {
-    let bytes = match files.read_whole(alloc, name) {
+    let bytes = match files.read(alloc, name, IMAGE_BYTES) {
         Ok(bytes) => bytes,
         Err(error) => return unread(err, error, name),
     };
@@ -266,6 +267,7 @@ fn drive_run<F: FileStore, O: Sink, E: Sink, L: Ledger>(
         Ok(image) => image,
         Err(fault) => return refuse_image(err, &fault),
     };
+    image_ends(&image);
     let schedule = match Schedule::read(alloc, &lines) {
         Ok(schedule) => schedule,
         Err(fault) => return refuse_schedule(err, &fault),

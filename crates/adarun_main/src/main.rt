@@ -32,13 +32,6 @@ impl<'a> FileStore for Files<'a> {
 
     ghost standard_input = { λ _. None };
 
-    fn read_whole(&self, _alloc: Global, name: &str) -> Result<Vec<u8>, ReadError> {
-        match self.system.read_whole(name) {
-            Ok(bytes) => Ok(bytes),
-            Err(error) => Err(read_error(error)),
-        }
-    }
-
     fn read(&self, _alloc: Global, name: &str, most: usize) -> Result<Vec<u8>, ReadError> {
         match self.system.read(name, most) {
             Ok(bytes) => Ok(bytes),

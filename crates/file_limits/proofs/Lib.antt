@@ -1,4 +1,5 @@
 pub mod Choices
+pub mod Images
 pub mod Numbers
 pub mod Schedules
 pub mod Sources

@@ -1,4 +1,4 @@
--- The lengths of what is taken: source texts, schedules and sets of schedules.
+-- The lengths of what is accepted: source texts, schedules and sets of schedules.
 use Rattle.std.specs.Prelude.{ℕ, ◌<◌, ℤ, List, length}
 use Rattle.base.specs.declared.schedule.ScheduleLine.{ScheduleLine}
 use Rattle.choices.specs.Sets.{IsChoicesText}

@@ -60,14 +60,6 @@ pub fn first_bytes<R: Read + Drop>(
     }
 }
 
-/// The bytes of the file of this name.
-pub fn content(rt: &HostRuntime, name: &str) -> Result<Vec<u8>, FileError> {
-    match fs::read(rt, name) {
-        Ok(bytes) => Ok(bytes),
-        Err(error) => Err(told(&error)),
-    }
-}
-
 /// The first bytes of the file of this name, `most` of them at most.
 pub fn file_bytes(rt: &HostRuntime, name: &str, most: u64) -> Result<Vec<u8>, FileError> {
     match File::open(rt, name) {

@@ -4,7 +4,7 @@
 mod calls;
 mod replacing;
 
-use crate::calls::{Identity, content, file_bytes, first_bytes, identified};
+use crate::calls::{Identity, file_bytes, first_bytes, identified};
 use crate::replacing::replace;
 use std::cell::Cell;
 
@@ -33,19 +33,10 @@ impl<'a> SystemFiles<'a> {
         }
     }
 
-    /// The content of the file of this name.
-    ///
-    /// # Errors
-    /// Memory where memory was refused, and Other for any other cause.
-    pub fn read_whole(&self, name: &str) -> Result<Vec<u8>, FileError> {
-        self.last_read.set(identified(self.rt, name));
-        content(self.rt, name)
-    }
-
     /// The first bytes of the file of this name, `most` of them at most: its content, where that is no longer.
     ///
     /// # Errors
-    /// Those of `read_whole`.
+    /// Memory where memory was refused, and Other for any other cause.
     pub fn read(&self, name: &str, most: usize) -> Result<Vec<u8>, FileError> {
         self.last_read.set(identified(self.rt, name));
         file_bytes(self.rt, name, most as u64)
