@@ -20,7 +20,6 @@ from rows import row_of
 NOBODY = 65_534
 OLD = b"what was there"
 CANNOT_WRITE = (b"", b"cannot write\n", 1)
-NO_MEMORY = (b"", b"no memory\n", 8)
 ROOM = 64 << 20
 PLACES = (".", "folder", "open")
 MOST = 1_000
@@ -131,14 +130,14 @@ def try_unreadable(folder):
 
 
 def try_endless(folder):
-    """An image without end takes all memory that there is, which is reported; nothing is written. Of a source or a schedule so much is read as decides."""
+    """Of an image, a source and a schedule without end so much is read as decides, in little memory: each is refused by its first bytes, and nothing is written."""
 
     def confine():
         resource.setrlimit(resource.RLIMIT_AS, (ROOM, ROOM))
 
     folder.write("kept.img", OLD)
     for words in (["list", "/dev/zero"], ["run", "/dev/zero", "main.adb", "9"]):
-        folder.call("an image without end", words, NO_MEMORY, {"kept.img": OLD}, preexec_fn=confine)
+        folder.call("an image without end", words, (b"", b"image fault 40 at byte 0\n", 6), {"kept.img": OLD}, preexec_fn=confine)
     refused = (b"", b"fault 2 at 1:1\n", 2)
     for words in (["compile", "/dev/zero", "kept.img"], ["go", "/dev/zero", "main.adb", "9"]):
         folder.call("a source without end", words, refused, {"kept.img": OLD}, preexec_fn=confine)
