@@ -32,10 +32,12 @@ def libraries():
 
 def below(crate, used):
     """The crates of the repository below a crate."""
-    found = []
-    for name in used[crate]:
-        if name in used:
-            found += [it for it in [*below(name, used), name] if it not in found]
+    found, left = [], list(used[crate])
+    while left:
+        name = left.pop(0)
+        if name in used and name not in found:
+            found.append(name)
+            left += used[name]
     return found
 
 

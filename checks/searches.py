@@ -43,6 +43,33 @@ SMALL = {
     "sum": ("", 'procedure Run is X : Integer := Read (1); Y : Integer := Read (2); begin Put ("sum", X + Y); if X + Y = 7 then Put ("seven", X); end if; end Run;'),
     "index": ("type Row is array (1 .. 3) of Integer; R : Row;", 'procedure Run is begin R (Read (1)) := 1; Put ("in", R (2)); end Run;'),
 }
+# A program that never ends, and a set of which no computer could run each schedule: each world is met again and again.
+CYCLE = """pragma Profile (Ravenscar);
+with Ada.Real_Time; use Ada.Real_Time;
+with Control_IO; use Control_IO;
+package App is
+   Level : Integer := 0;
+   task Watch;
+end App;
+package body App is
+   task body Watch is
+      Next : Time := Clock;
+   begin
+      loop
+         Level := Read (1);
+         if Level > 80 then
+            Put ("alarm", Level);
+         end if;
+         Next := Next + Milliseconds (10);
+         delay until Next;
+      end loop;
+   end Watch;
+end App;
+with App;
+procedure Main is begin null; end Main;
+"""
+CYCLE_SETS = [("0..380000/10000 1 20|50\n", 385_000, [], 0, f"none of {2**39} schedules\n"),
+    ("0..380000/10000 1 20|50\n390000 1 20|90\n", 395_000, ["line", "alarm"], LINE_FOUND, "found: 390000 WATCH alarm 90\n")]
 FRAME = """pragma Profile (Ravenscar);
 with Control_IO; use Control_IO;
 package App is
@@ -246,10 +273,19 @@ def main():
                 failures.append(f"{text!r}: {status} {told}, and not {known}")
         elif status != TOO_LONG or not out.endswith("found: more than 10 steps at 0\n") or told:
             failures.append(f"{text!r}: {status} {out} {told}, though it is a set")
+    sources["cycle"] = os.path.join(scratch, "cycle.adb")
+    with open(sources["cycle"], "w", encoding="ascii") as out:
+        out.write(CYCLE)
+    for text, until, wanted, status, last in CYCLE_SETS:
+        with open(file, "w", encoding="ascii") as out:
+            out.write(text)
+        got = call(program, "search", sources["cycle"], file, str(until), str(ENOUGH), *wanted)
+        if got[0] != status or not got[1].endswith(last) or got[2]:
+            failures.append(f"the cycle under {text!r}: {got}, and not {status} {last!r}")
     for failure in failures[:20]:
         print(f"searches: {failure}", file=sys.stderr)
     kinds = ", ".join(f"{answers[status]} with status {status}" for status in sorted(answers))
-    print(f"searches: {len(cases)} sets ({kinds}), {refused} of {len(FAULTY)} texts refused: {len(failures)} failures")
+    print(f"searches: {len(cases)} sets and {len(CYCLE_SETS)} large ones ({kinds}), {refused} of {len(FAULTY)} texts refused: {len(failures)} failures")
     return 1 if failures else 0
 
 

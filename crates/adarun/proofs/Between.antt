@@ -7,10 +7,10 @@ use Rattle.kernel.specs.State.{Kernel, Line, Outcome}
 use Rattle.kernel.specs.Worlds.{Behaviour, Local, Tasks, World, among, run}
 use Rattle.kernel.specs.Laws.{LinesGrow}
 use Rattle.kernel.specs.RunLaws.{run_lines, run_over, run_plus, unseen_run}
-use Rattle.ada_link.specs.meaning.specs.Following.{Goes, Paced, Paces, Rests}
-use Rattle.ada_link.specs.meaning.specs.Lifting.{taken_unseen}
-use Rattle.ada_link.specs.meaning.specs.Meeting.{Begun, Busy, Counted, Idle}
-use Rattle.searching.proofs.Onward.{IsAhead, le_both, run_onward}
+use Rattle.compiler.specs.meaning.specs.Following.{Goes, Paced, Paces, Rests}
+use Rattle.compiler.specs.meaning.specs.Lifting.{taken_unseen}
+use Rattle.compiler.specs.meaning.specs.Meeting.{Begun, Busy, Counted, Idle}
+use Rattle.likeness.proofs.Onward.{IsAhead, le_both, run_onward}
 
 -- what a kernel shows: the lines, the time and the outcome are those of another one
 pub record ShowsAs (a b : Kernel) : Type 0 where

@@ -17,7 +17,7 @@ use Rattle.image.specs.declared.subprograms.Kind.TheVariants.{EntryBody, Plain, 
 use Rattle.image.specs.declared.subprograms.Subprogram.{Subprogram}
 use Rattle.image_laws.specs.Laws.{CodeLeadsOn}
 use Rattle.image_laws.specs.Shape.{AreBelow, IsSound, IsWaiting, callee}
-use Rattle.ada_link.specs.meaning.specs.SameMeaning.{frames_of}
+use Rattle.compiler.specs.meaning.specs.SameMeaning.{frames_of}
 
 -- ---- kinds
 

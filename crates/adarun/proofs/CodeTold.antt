@@ -6,10 +6,10 @@ use Rattle.lexer.specs.Spelling.{IsBroken, IsRefusedForMemory, Spells}
 use Rattle.lexer.specs.declared.fault.Fault.{Fault}
 use Rattle.lexer.specs.declared.token.Token.{Token}
 use Rattle.parser.specs.Parsing.{Derives, IsRefusal}
-use Rattle.ada_link.specs.ada_tree.specs.declared.program.Program.{Program}
-use Rattle.ada_link.specs.ada_tree.specs.ProgramTree.{program_tree}
-use Rattle.ada_link.specs.expr_rules.specs.Faults.{IsLeast}
-use Rattle.checking.specs.ProgramRules.{IsLegal, RefusesProgram, program_faults}
+use Rattle.compiler.specs.ada_tree.specs.declared.program.Program.{Program}
+use Rattle.compiler.specs.ada_tree.specs.ProgramTree.{program_tree}
+use Rattle.compiler.specs.expr_rules.specs.Faults.{IsLeast}
+use Rattle.legality.specs.ProgramRules.{IsLegal, RefusesProgram, program_faults}
 use Rattle.ravenscar.specs.ProgramRules.{IsRestricted, RefusesUnrestricted, restriction_faults}
 use Rattle.hints.specs.Told.{HasNone, IsUnspelled}
 use Rattle.adarun.specs.CodeTold.{IsUnaccepted, TellsCode, TellsStopOrNone}

@@ -11,17 +11,17 @@ use Rattle.lexer.specs.declared.token.Token.{Token}
 use Rattle.parser.specs.Parsing.{Derives, IsFaulty, IsRefusal}
 use Rattle.image.specs.Sections.{Sections}
 use Rattle.image.specs.Rules.{IsWellFormed}
-use Rattle.ada_link.specs.ada_tree.specs.declared.program.Program.{Program}
-use Rattle.ada_link.specs.ada_tree.specs.Parsed.{IsParsed}
-use Rattle.ada_link.specs.ada_tree.specs.ProgramTree.{ProgramTree, program_tree}
-use Rattle.ada_link.specs.expr_rules.specs.Faults.{Faults, IsLeast}
-use Rattle.checking.specs.ProgramRules.{IsLegal, RefusesProgram, program_faults}
+use Rattle.compiler.specs.ada_tree.specs.declared.program.Program.{Program}
+use Rattle.compiler.specs.ada_tree.specs.Parsed.{IsParsed}
+use Rattle.compiler.specs.ada_tree.specs.ProgramTree.{ProgramTree, program_tree}
+use Rattle.compiler.specs.expr_rules.specs.Faults.{Faults, IsLeast}
+use Rattle.legality.specs.ProgramRules.{IsLegal, RefusesProgram, program_faults}
 use Rattle.ravenscar.specs.ProgramRules.{IsRestricted, RefusesUnrestricted, restriction_faults}
 use Rattle.fault_numbers.specs.Numbers.{AreNumberedWithin, GrammarNumbers, IsNumbered, IsRestrictionNumbered, LegalityNumbers, RestrictionNumbers, SpellingNumbers}
-use Rattle.ada_link.specs.meaning.specs.SameMeaning.{KeepsCount, SameMeaning}
-use Rattle.ada_link.specs.package_code.specs.Places.{PlacesTell}
-use Rattle.ada_link.specs.expr_code.specs.Coming.{most_steps}
-use Rattle.ada_link.specs.Compiled.{IsBounded, KeepsTokenCounts}
+use Rattle.compiler.specs.meaning.specs.SameMeaning.{KeepsCount, SameMeaning}
+use Rattle.compiler.specs.package_code.specs.Places.{PlacesTell}
+use Rattle.compiler.specs.expr_code.specs.Coming.{most_steps}
+use Rattle.compiler.specs.Compiled.{IsBounded, KeepsTokenCounts}
 use Rattle.source_laws.specs.Limits.{SmallIsUnlimited}
 use Rattle.adarun.specs.Naming.{CompilesNamed, objects_of}
 use Rattle.adarun.specs.declared.compilation.Named.{Named}

@@ -6,7 +6,7 @@ use Rattle.kernel.specs.State.{Kernel}
 use Rattle.kernel.specs.Calm.{IsRunner}
 use Rattle.kernel.specs.Counting.{Alone, Calls, Done, Own, Spends, next_kernel, next_solo}
 use Rattle.kernel.specs.Worlds.{Behaviour, Solo}
-use Rattle.ada_link.specs.meaning.specs.Meeting.{Last, Over, OwnStep, Takes, Within, spent, taken}
+use Rattle.compiler.specs.meaning.specs.Meeting.{Last, Over, OwnStep, Takes, Within, spent, taken}
 use Rattle.adarun.specs.Progress.{nested_steps}
 
 -- one step of a frame, with what is called by it and what comes then, where so much is left for each step

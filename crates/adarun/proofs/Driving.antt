@@ -2,7 +2,7 @@
 use Rattle.std.proofs.Common.{◌≡◌, ◌<◌, ℕ, arith, List, length, Option, Bool, true, false, cond, inr, refl, sym, ap, subst, Ok, Err}
 use Rattle.std.specs.Prelude.{◌⊎◌, nat_eq}
 use denote.Enum.Declared.{tag_of}
-use Rattle.ada_link.specs.stmt_code.specs.declared.tables.PlaceRow.{PlaceRow}
+use Rattle.compiler.specs.stmt_code.specs.declared.tables.PlaceRow.{PlaceRow}
 use Rattle.base.specs.declared.faults.TheConstants.{MEMORY_REFUSED}
 use Rattle.base.specs.declared.schedule.ScheduleLine.{ScheduleLine}
 use Rattle.image.specs.Sections.{Sections}

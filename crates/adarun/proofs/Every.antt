@@ -11,9 +11,9 @@ use Rattle.lexer.specs.Spelling.{Spells}
 use Rattle.lexer.specs.declared.fault.Fault.{Fault}
 use Rattle.lexer.specs.declared.token.Token.{Token}
 use Rattle.parser.specs.Parsing.{IsFaulty, IsRefusal}
-use Rattle.ada_link.specs.ada_tree.specs.ProgramTree.{ProgramTree}
-use Rattle.ada_link.specs.expr_rules.specs.Faults.{Faults}
-use Rattle.checking.specs.ProgramRules.{IsLegal, program_faults}
+use Rattle.compiler.specs.ada_tree.specs.ProgramTree.{ProgramTree}
+use Rattle.compiler.specs.expr_rules.specs.Faults.{Faults}
+use Rattle.legality.specs.ProgramRules.{IsLegal, program_faults}
 use Rattle.ravenscar.specs.BrokenRules.{ListsBrokenRules}
 use Rattle.ravenscar.specs.ProgramRules.{IsRestricted, restriction_faults}
 use Rattle.adarun.specs.Accepted.{HasNoTree, IsAccepted, RefusesAccepted}

@@ -8,6 +8,7 @@ mod Named
 mod Reported
 mod Running
 mod Searching
+mod FirstFound
 mod Driving
 mod SearchCommand
 mod Refuted

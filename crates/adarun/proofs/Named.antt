@@ -3,12 +3,12 @@ use Rattle.std.proofs.Common.{◌≡◌, ◌<◌, ◌+◌, ℕ, List, [], ◌∷
 use Rattle.std.specs.Prelude.{IfOk, IfErr, OnOk}
 use Rattle.image.specs.Sections.{Sections}
 use Rattle.lexer.specs.declared.fault.Fault.{Fault}
-use Rattle.ada_link.specs.ada_tree.specs.ProgramTree.{ItemTree, OfType, OfObject, OfException, OfSubprogram, OfTask, OfProtected, body_item_tree, item_tree}
-use Rattle.ada_link.specs.ada_tree.specs.declared.declaration.Item.{Item}
-use Rattle.ada_link.specs.ada_tree.specs.declared.program.BodyItem.{BodyItem}
-use Rattle.ada_link.specs.meaning.specs.Programs.{items_among}
-use Rattle.ada_link.specs.package_code.proofs.Declared.{among_both}
-use Rattle.ada_link.specs.part_code.proofs.Lists.{mapped_next}
+use Rattle.compiler.specs.ada_tree.specs.ProgramTree.{ItemTree, OfType, OfObject, OfException, OfSubprogram, OfTask, OfProtected, body_item_tree, item_tree}
+use Rattle.compiler.specs.ada_tree.specs.declared.declaration.Item.{Item}
+use Rattle.compiler.specs.ada_tree.specs.declared.program.BodyItem.{BodyItem}
+use Rattle.compiler.specs.meaning.specs.Programs.{items_among}
+use Rattle.compiler.specs.package_code.proofs.Declared.{among_both}
+use Rattle.compiler.specs.part_code.proofs.Lists.{mapped_next}
 use Rattle.adarun.specs.Naming.{declared_objects, entry_among, imaged}
 use Rattle.adarun.specs.declared.compilation.Named.{Named}
 use Rattle.adarun.specs.declared.naming.ObjectNames.{ObjectNames}

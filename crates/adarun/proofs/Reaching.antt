@@ -20,14 +20,14 @@ use Rattle.image.specs.Steps.{behaviour}
 use Rattle.image_laws.specs.Laws.{CodeLeadsOn}
 use Rattle.image_laws.specs.Shape.{IsSound, MayRun, is_own}
 use Rattle.image_laws.specs.Whole.{IsWhole, RunnerSound, StartsWhole, StepsWhole, UnseenWhole}
-use Rattle.ada_link.specs.ada_tree.specs.ProgramTree.{ProgramTree}
-use Rattle.ada_link.specs.expr_code.specs.Coming.{most_steps, size_of}
-use Rattle.ada_link.specs.meaning.specs.Following.{Goes, Paced, Paces, Rests}
-use Rattle.ada_link.specs.meaning.specs.Meeting.{Begun, Busy, Counted, Idle, Takes, taken}
-use Rattle.ada_link.specs.meaning.specs.SameMeaning.{frames_of}
-use Rattle.ada_link.specs.package_code.specs.Bodies.{Coded, bodies_of, or_zero}
-use Rattle.ada_link.specs.package_code.specs.Counts.{bound_of}
-use Rattle.ada_link.specs.Compiled.{IsBounded}
+use Rattle.compiler.specs.ada_tree.specs.ProgramTree.{ProgramTree}
+use Rattle.compiler.specs.expr_code.specs.Coming.{most_steps, size_of}
+use Rattle.compiler.specs.meaning.specs.Following.{Goes, Paced, Paces, Rests}
+use Rattle.compiler.specs.meaning.specs.Meeting.{Begun, Busy, Counted, Idle, Takes, taken}
+use Rattle.compiler.specs.meaning.specs.SameMeaning.{frames_of}
+use Rattle.compiler.specs.package_code.specs.Bodies.{Coded, bodies_of, or_zero}
+use Rattle.compiler.specs.package_code.specs.Counts.{bound_of}
+use Rattle.compiler.specs.Compiled.{IsBounded}
 use Rattle.adarun.specs.Progress.{body_bounds, callable_bounds, enough_steps, nested_steps, own_steps}
 use Rattle.adarun.proofs.Between.{IsReached, grows}
 use Rattle.adarun.proofs.Calling.{IsCallable, few_frames, runs_callable, uncalled}

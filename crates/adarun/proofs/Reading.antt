@@ -12,8 +12,8 @@ use Rattle.file_limits.proofs.Sources.{sources_end}
 use Rattle.file_limits.specs.declared.TheConstants.{CHOICES_BYTES, IMAGE_BYTES, SCHEDULE_BYTES, SOURCE_BYTES}
 use Rattle.image.specs.Sections.{Sections}
 use Rattle.image_format.specs.Bytes.{bytes_of}
-use Rattle.ada_link.specs.ada_tree.specs.ProgramTree.{ProgramTree}
-use Rattle.ada_link.specs.expr_rules.specs.Faults.{Faults}
+use Rattle.compiler.specs.ada_tree.specs.ProgramTree.{ProgramTree}
+use Rattle.compiler.specs.expr_rules.specs.Faults.{Faults}
 use Rattle.adarun.specs.Accepted.{IsTreeOf}
 use Rattle.adarun.specs.Reading.{IsBeginningRead, IsContentRead}
 use Rattle.adarun.specs.TextFaults.{AreTextFaults}

@@ -5,14 +5,14 @@ use Rattle.std.proofs.lemmas.Bool.{cases_lt}
 use Rattle.kernel.specs.RunLaws.{run_over, run_plus}
 use Rattle.kernel.specs.State.{Ended}
 use Rattle.kernel.specs.Worlds.{Local, Tasks, among, run}
-use Rattle.ada_link.specs.ada_tree.specs.ProgramTree.{ProgramTree}
-use Rattle.ada_link.specs.meaning.specs.NullExample.{null_program}
-use Rattle.ada_link.specs.meaning.specs.Source.{partition_of, source, source_behaviour, source_start}
-use Rattle.ada_link.specs.meaning.specs.Works.{Store, TaskWork}
+use Rattle.compiler.specs.ada_tree.specs.ProgramTree.{ProgramTree}
+use Rattle.compiler.specs.meaning.specs.NullExample.{null_program}
+use Rattle.compiler.specs.meaning.specs.Source.{partition_of, source, source_behaviour, source_start}
+use Rattle.compiler.specs.meaning.specs.Works.{Store, TaskWork}
 use Rattle.machine.specs.declared.reports.Outcome.TheVariants.{StepLimit}
 use Rattle.adarun.specs.Headline.{WritesItsMeaning, WritesSource}
 use Rattle.adarun.specs.Progress.{enough_steps}
-use Rattle.searching.proofs.Onward.{IsAhead, begins_ahead, le_both, run_onward}
+use Rattle.likeness.proofs.Onward.{IsAhead, begins_ahead, le_both, run_onward}
 
 -- `procedure M is begin null; end M;`
 abbrev small : ProgramTree

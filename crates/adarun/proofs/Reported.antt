@@ -1,7 +1,7 @@
 -- What is said in words of a source that is refused.
 use Rattle.std.proofs.Common.{◌≡◌, ◌+◌, ◌<◌, ◌++◌, ◌∙◌, ℕ, List, [], ap, drop, get_or, length, subst, sym, take}
 use Rattle.std.proofs.lemmas.List.{take_more}
-use Rattle.ada_link.specs.expr_rules.specs.Faults.{Faults}
+use Rattle.compiler.specs.expr_rules.specs.Faults.{Faults}
 use Rattle.lexer.specs.declared.fault.Fault.{Fault}
 use Rattle.source_report.specs.Reports.{source_report}
 use Rattle.adarun.specs.Reporting.{AddsOne, AddsRefusal, AddsRefusals}

@@ -15,21 +15,21 @@ use Rattle.image.specs.Steps.{behaviour}
 use Rattle.image.specs.Texts.{names_of}
 use Rattle.image.specs.Code.{code, code_text, partition_of, start}
 use Rattle.image_laws.specs.Laws.{OutcomeStays}
-use Rattle.ada_link.specs.ada_tree.specs.ProgramTree.{ProgramTree}
-use Rattle.ada_link.specs.expr_code.specs.Coming.{most_steps}
-use Rattle.ada_link.specs.meaning.specs.Following.{Paced}
-use Rattle.ada_link.specs.meaning.specs.Meeting.{Counted}
-use Rattle.ada_link.specs.meaning.specs.Same.{Ends}
-use Rattle.ada_link.specs.meaning.specs.SameMeaning.{KeepsCount, SameMeaning, frames_of}
-use Rattle.ada_link.specs.meaning.specs.Source.{source, source_behaviour, source_names, source_start, source_text}
-use Rattle.ada_link.specs.meaning.specs.Works.{Store, TaskWork}
-use Rattle.ada_link.specs.Compiled.{IsBounded}
+use Rattle.compiler.specs.ada_tree.specs.ProgramTree.{ProgramTree}
+use Rattle.compiler.specs.expr_code.specs.Coming.{most_steps}
+use Rattle.compiler.specs.meaning.specs.Following.{Paced}
+use Rattle.compiler.specs.meaning.specs.Meeting.{Counted}
+use Rattle.compiler.specs.meaning.specs.Same.{Ends}
+use Rattle.compiler.specs.meaning.specs.SameMeaning.{KeepsCount, SameMeaning, frames_of}
+use Rattle.compiler.specs.meaning.specs.Source.{source, source_behaviour, source_names, source_start, source_text}
+use Rattle.compiler.specs.meaning.specs.Works.{Store, TaskWork}
+use Rattle.compiler.specs.Compiled.{IsBounded}
 use Rattle.machine.specs.Stands.{EndsBy}
 use Rattle.machine.specs.declared.reports.Outcome as machine
 use Rattle.adarun.specs.Accepted.{Compiles}
 use Rattle.adarun.specs.Headline.{ComesToTheSame, Runs, WritesItsMeaning, WritesSource}
 use Rattle.adarun.proofs.Between.{ShowsAs, reached, shown}
-use Rattle.searching.proofs.Onward.{IsAhead, begins_ahead}
+use Rattle.likeness.proofs.Onward.{IsAhead, begins_ahead}
 use Rattle.adarun.proofs.Reaching.{ImageLaws, source_far}
 
 module _ (p : ProgramTree) (i : Sections) (schedule : List ScheduleLine) (lawful : is_schedule schedule ≡ true) (means : SameMeaning p i) where

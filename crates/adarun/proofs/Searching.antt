@@ -16,11 +16,11 @@ use Rattle.image.specs.Texts.{names_of}
 use Rattle.kernel.specs.RunLaws.{run_plus}
 use Rattle.kernel.specs.State.{Kernel, Line, Outcome, Unhandled, WaitsForever}
 use Rattle.kernel.specs.Worlds.{among, run}
-use Rattle.ada_link.specs.ada_tree.specs.ProgramTree.{ProgramTree}
-use Rattle.ada_link.specs.expr_code.specs.Coming.{most_steps}
-use Rattle.ada_link.specs.meaning.specs.Same.{Covers, ShowSame}
-use Rattle.ada_link.specs.meaning.specs.SameMeaning.{KeepsCount, SameMeaning}
-use Rattle.ada_link.specs.meaning.specs.Source.{source, source_names}
+use Rattle.compiler.specs.ada_tree.specs.ProgramTree.{ProgramTree}
+use Rattle.compiler.specs.expr_code.specs.Coming.{most_steps}
+use Rattle.compiler.specs.meaning.specs.Same.{Covers, ShowSame}
+use Rattle.compiler.specs.meaning.specs.SameMeaning.{KeepsCount, SameMeaning}
+use Rattle.compiler.specs.meaning.specs.Source.{source, source_names}
 use Rattle.searching.specs.Reports.{found_text, report_text}
 use Rattle.searching.specs.Searches.{ComesTo, IsFollowedOn, NeverComes, Searches, kernels}
 use Rattle.searching.specs.Sights.{HasLine, IsWanted, ShowsSight, Sighting, Stopped, Waiting, Written, sight_of}
@@ -29,7 +29,7 @@ use Rattle.searching.specs.declared.sight.Finding.TheVariants as findings
 use Rattle.searching.specs.declared.sight.Wanted.{Wanted}
 use Rattle.searching.specs.declared.whole.Searched.{Searched}
 use Rattle.searching.specs.declared.whole.Searched.TheVariants as searched
-use Rattle.searching.proofs.Onward.{IsAhead, Onward, begins_ahead, run_onward}
+use Rattle.likeness.proofs.Onward.{IsAhead, Onward, begins_ahead, run_onward}
 use Rattle.adarun.specs.Accepted.{Compiles}
 use Rattle.adarun.specs.Searching.{IsFoundReport, IsReport, IsSearched, outcome_by, outcome_found, outcome_of, source_kernels}
 use Rattle.adarun.specs.declared.exploring.SearchOutcome.{SearchOutcome}
@@ -64,7 +64,7 @@ module _ (p : ProgramTree) (i : Sections) (means : SameMeaning p i) (counted : K
       let x = shows.forth c.steps in
       record { steps = x.0; shows = covered until sight (source_kernels p schedule c.steps) (kernels i schedule x.0) x.1 c.shows }
 
-  never_comes : (until : ℤ) (wanted : Wanted) → NeverComes until wanted (kernels i schedule) → NeverComes until wanted (source_kernels p schedule)
+  pub never_comes : (until : ℤ) (wanted : Wanted) → NeverComes until wanted (kernels i schedule) → NeverComes until wanted (source_kernels p schedule)
   never_comes until wanted never = λ sight wants c. never sight wants (comes_forth until sight c)
 
   onward : (m n : ℕ) → m ≤ n → int_le (kernels i schedule m).now (kernels i schedule n).now ≡ true
@@ -91,10 +91,10 @@ module _ (p : ProgramTree) (i : Sections) (means : SameMeaning p i) (counted : K
       let x = shows.back m in
       record { steps = x.0; over = inr (o, (x.1.ends o is).outcome_is) }
 
-  followed_on : (until : ℤ) → IsFollowedOn until (kernels i schedule) → IsFollowedOn until (source_kernels p schedule)
+  pub followed_on : (until : ℤ) → IsFollowedOn until (kernels i schedule) → IsFollowedOn until (source_kernels p schedule)
   followed_on until f = ⊎_elim (λ later. passes until f.steps later) (λ over. ends until f.steps over.0 over.1) f.over
 
-lawful_in : (slots : List Slot) (schedule : List ScheduleLine) → are_slots slots ≡ true → IsInSet slots schedule → is_schedule schedule ≡ true
+pub lawful_in : (slots : List Slot) (schedule : List ScheduleLine) → are_slots slots ≡ true → IsInSet slots schedule → is_schedule schedule ≡ true
 lawful_in slots schedule are set = subst (λ s. is_schedule s ≡ true) (sym set.2) (schedule_of_choice slots set.0 are set.1)
 
 outcome_same : (i : Sections) (finding : Finding) → outcome_found finding ≡ outcome_of (sight_of i finding)

@@ -9,13 +9,13 @@ use Rattle.parser.specs.Parsing.{Derives, IsFaulty}
 use Rattle.image.specs.Sections.{Sections}
 use Rattle.image.specs.Rules.{IsWellFormed}
 use Rattle.image.specs.declared.building.Image.{Image}
-use Rattle.ada_link.specs.ada_tree.specs.ProgramTree.{ProgramTree}
-use Rattle.ada_link.specs.expr_rules.specs.Faults.{IsLeast}
-use Rattle.checking.specs.ProgramRules.{IsLegal, program_faults}
+use Rattle.compiler.specs.ada_tree.specs.ProgramTree.{ProgramTree}
+use Rattle.compiler.specs.expr_rules.specs.Faults.{IsLeast}
+use Rattle.legality.specs.ProgramRules.{IsLegal, program_faults}
 use Rattle.ravenscar.specs.ProgramRules.{IsRestricted, restriction_faults}
-use Rattle.ada_link.specs.meaning.specs.SameMeaning.{KeepsCount, SameMeaning}
-use Rattle.ada_link.specs.expr_code.specs.Coming.{most_steps}
-use Rattle.ada_link.specs.Compiled.{IsBounded, IsWithinTokens}
+use Rattle.compiler.specs.meaning.specs.SameMeaning.{KeepsCount, SameMeaning}
+use Rattle.compiler.specs.expr_code.specs.Coming.{most_steps}
+use Rattle.compiler.specs.Compiled.{IsBounded, IsWithinTokens}
 use Rattle.source_laws.specs.Limits.{MayPassLimits}
 use Rattle.source_laws.specs.Small.{IsSmall}
 

@@ -3,13 +3,13 @@ use Rattle.std.specs.Prelude.{◌≡◌, ◌≢◌, ◌⊎◌, ◌++◌, ℕ, Li
 use Rattle.base.specs.declared.faults.TheConstants.{LIMIT_PASSED}
 use Rattle.lexer.specs.declared.fault.Fault.{Fault}
 use Rattle.lexer.specs.declared.token.Token.{Token}
-use Rattle.ada_link.specs.ada_tree.specs.ProgramTree.{ProgramTree}
-use Rattle.ada_link.specs.expr_rules.specs.Faults.{IsLeast}
-use Rattle.checking.specs.ProgramRules.{program_faults}
+use Rattle.compiler.specs.ada_tree.specs.ProgramTree.{ProgramTree}
+use Rattle.compiler.specs.expr_rules.specs.Faults.{IsLeast}
+use Rattle.legality.specs.ProgramRules.{program_faults}
 use Rattle.ravenscar.specs.ProgramRules.{restriction_faults}
-use Rattle.ada_link.specs.package_code.specs.declared.stopping.Stop.{Stop}
-use Rattle.ada_link.specs.package_code.specs.declared.stopping.Stop.TheVariants as stop
-use Rattle.ada_link.specs.Stopped.{IsFirstStop, MakesAll}
+use Rattle.compiler.specs.package_code.specs.declared.stopping.Stop.{Stop}
+use Rattle.compiler.specs.package_code.specs.declared.stopping.Stop.TheVariants as stop
+use Rattle.compiler.specs.Stopped.{IsFirstStop, MakesAll}
 use Rattle.hints.specs.Stopped.{frame_line, instructions_line, rows_line}
 use Rattle.hints.specs.Told.{HasNone, IsUnspelled}
 use Rattle.adarun.specs.Accepted.{IsAccepted, IsTreeOf}

@@ -9,8 +9,8 @@ use Rattle.clock.specs.Schedules as schedules
 use Rattle.clock.specs.declared.schedule.ScheduleFault.{ScheduleFault}
 use Rattle.explanations.specs.Explained.{explanation_of}
 use Rattle.file_limits.specs.declared.TheConstants.{CHOICES_BYTES, IMAGE_BYTES, SCHEDULE_BYTES, SOURCE_BYTES}
-use Rattle.ada_link.specs.package_code.specs.Places.{PlacesTell}
-use Rattle.ada_link.specs.stmt_code.specs.declared.tables.PlaceRow.{PlaceRow}
+use Rattle.compiler.specs.package_code.specs.Places.{PlacesTell}
+use Rattle.compiler.specs.stmt_code.specs.declared.tables.PlaceRow.{PlaceRow}
 use Rattle.hints.specs.Explained.{IsExplained}
 use Rattle.lexer.specs.declared.fault.Fault.{Fault}
 use Rattle.manual.specs.declared.TheConstants.{MANUAL, VERSION}
@@ -42,7 +42,7 @@ use Rattle.adarun.specs.Searching.{BeginsReport, WritesReport}
 use Rattle.adarun.specs.Stopping.{HasImage}
 use Rattle.adarun.specs.TextFaults.{AreTextFaults}
 use Rattle.adarun.specs.Reporting.{IsFaultReport}
-use Rattle.ada_link.specs.expr_rules.specs.Faults.{Faults}
+use Rattle.compiler.specs.expr_rules.specs.Faults.{Faults}
 use Rattle.adarun.specs.declared.exploring.SearchOutcome.{SearchOutcome}
 use Rattle.adarun.specs.declared.exploring.SearchOutcome.TheVariants as searches
 use Rattle.adarun.specs.declared.files.ReadError.{ReadError}

@@ -7,15 +7,15 @@ use Rattle.image_laws.specs.kernel.specs.State.{Outcome}
 use Rattle.image.specs.Sections.{Sections}
 use Rattle.image.specs.Rules.{IsWellFormed}
 use Rattle.image.specs.Code.{code, code_text}
-use Rattle.ada_link.specs.ada_tree.specs.ProgramTree.{ProgramTree}
-use Rattle.ada_link.specs.meaning.specs.SameMeaning.{KeepsCount, SameMeaning}
-use Rattle.ada_link.specs.meaning.specs.Source.{source, source_text}
+use Rattle.compiler.specs.ada_tree.specs.ProgramTree.{ProgramTree}
+use Rattle.compiler.specs.meaning.specs.SameMeaning.{KeepsCount, SameMeaning}
+use Rattle.compiler.specs.meaning.specs.Source.{source, source_text}
 use Rattle.machine.specs.Outcomes.{ending_of, time_of}
 use Rattle.machine.specs.Stands.{EndsBy}
 use Rattle.machine.specs.Written.{AppendsBeginning}
 use Rattle.machine.specs.declared.reports.Outcome as machine
-use Rattle.ada_link.specs.expr_code.specs.Coming.{most_steps}
-use Rattle.ada_link.specs.Compiled.{IsBounded}
+use Rattle.compiler.specs.expr_code.specs.Coming.{most_steps}
+use Rattle.compiler.specs.Compiled.{IsBounded}
 use Rattle.adarun.specs.Accepted.{Compiles, IsAccepted}
 use Rattle.adarun.specs.Progress.{enough_steps}
 

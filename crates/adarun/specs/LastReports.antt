@@ -1,8 +1,8 @@
 -- What is said in words of the last world of a run: which tasks wait, and who was running.
 use Rattle.std.specs.Prelude.{◌≡◌, ◌≢◌, ◌<◌, ◌≤◌, ℕ, List, [], ◌∷◌, ◌++◌, Option, Some, None, codes, slice_get}
 use Rattle.std.specs.Fmt.{signed_decimal}
-use Rattle.ada_link.specs.stmt_code.specs.Placing.{place_at}
-use Rattle.ada_link.specs.stmt_code.specs.declared.tables.PlaceRow.{PlaceRow}
+use Rattle.compiler.specs.stmt_code.specs.Placing.{place_at}
+use Rattle.compiler.specs.stmt_code.specs.declared.tables.PlaceRow.{PlaceRow}
 use Rattle.base.specs.declared.schedule.ScheduleLine.{ScheduleLine}
 use Rattle.clock.specs.Schedules.{IsScheduleText}
 use Rattle.endings.specs.LastSteps.{IsLastWorld}

@@ -10,6 +10,7 @@ pub mod CodeTold
 pub mod LastReports
 pub mod Reporting
 pub mod Searching
+pub mod FirstFound
 pub mod Reading
 pub mod Driving
 pub mod Explaining

@@ -3,11 +3,11 @@
 use Rattle.std.specs.Prelude.{◌≡◌, ℕ, List, [], ◌∷◌, map, Option, Some, None, Result, Ok, Err}
 use Rattle.image.specs.Sections.{Sections}
 use Rattle.lexer.specs.declared.fault.Fault.{Fault}
-use Rattle.ada_link.specs.ada_tree.specs.ProgramTree.{ItemTree, OfProtected, ProgramTree}
-use Rattle.ada_link.specs.ada_tree.specs.StatementTree.{OfEntry, OperationTree}
-use Rattle.ada_link.specs.meaning.specs.Programs.{package_items}
-use Rattle.ada_link.specs.package_code.specs.Places.{PlacesTell}
-use Rattle.ada_link.specs.stmt_code.specs.declared.tables.PlaceRow.{PlaceRow}
+use Rattle.compiler.specs.ada_tree.specs.ProgramTree.{ItemTree, OfProtected, ProgramTree}
+use Rattle.compiler.specs.ada_tree.specs.StatementTree.{OfEntry, OperationTree}
+use Rattle.compiler.specs.meaning.specs.Programs.{package_items}
+use Rattle.compiler.specs.package_code.specs.Places.{PlacesTell}
+use Rattle.compiler.specs.stmt_code.specs.declared.tables.PlaceRow.{PlaceRow}
 use Rattle.adarun.specs.Accepted.{Compiles}
 use Rattle.adarun.specs.declared.compilation.Named.{Named}
 use Rattle.adarun.specs.declared.naming.ObjectNames.{ObjectNames}

@@ -1,7 +1,7 @@
 -- Where in a source the instructions of its image come from.
 use Rattle.std.specs.Prelude.{ℕ, List, Option, option_map, take}
-use Rattle.ada_link.specs.stmt_code.specs.Placing.{place_at}
-use Rattle.ada_link.specs.stmt_code.specs.declared.tables.PlaceRow.{PlaceRow}
+use Rattle.compiler.specs.stmt_code.specs.Placing.{place_at}
+use Rattle.compiler.specs.stmt_code.specs.declared.tables.PlaceRow.{PlaceRow}
 use Rattle.hints.specs.Places.{column_from, line_from}
 use Rattle.tracing.specs.declared.origin.Origin.{Origin}
 

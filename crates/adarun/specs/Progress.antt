@@ -2,10 +2,10 @@
 use Rattle.std.specs.Prelude.{ℕ, zero, suc, ◌*◌, max, List, [], ◌∷◌, ◌++◌, if◌then◌else◌}
 use Rattle.base.specs.declared.limits.TheConstants.{FRAMES}
 use Rattle.image.specs.Rules.{is_task_body}
-use Rattle.ada_link.specs.ada_tree.specs.ProgramTree.{ProgramTree}
-use Rattle.ada_link.specs.package_code.specs.Bodies.{Coded, bodies_of}
-use Rattle.ada_link.specs.package_code.specs.Counts.{bound_of, bounds_from}
-use Rattle.ada_link.specs.part_code.specs.Bounds.{main_bound}
+use Rattle.compiler.specs.ada_tree.specs.ProgramTree.{ProgramTree}
+use Rattle.compiler.specs.package_code.specs.Bodies.{Coded, bodies_of}
+use Rattle.compiler.specs.package_code.specs.Counts.{bound_of, bounds_from}
+use Rattle.compiler.specs.part_code.specs.Bounds.{main_bound}
 use Rattle.program_soundness.specs.Fronts.{declared_in}
 
 -- The most steps that a frame takes by itself for one step of the source, or for one call within it, where its subprogram is one of those that have so many

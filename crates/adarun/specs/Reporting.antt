@@ -1,7 +1,7 @@
 -- What is said in words of a source or a schedule that is refused, of every fault of a source, and of how a run came to its end.
 use Rattle.std.specs.Prelude.{◌≡◌, ℕ, List, [], ◌∷◌, ◌++◌, Option, Some, None, codes, decimal, drop, if◌then◌else◌, length, nat_eq}
-use Rattle.ada_link.specs.stmt_code.specs.Placing.{place_at}
-use Rattle.ada_link.specs.stmt_code.specs.declared.tables.PlaceRow.{PlaceRow}
+use Rattle.compiler.specs.stmt_code.specs.Placing.{place_at}
+use Rattle.compiler.specs.stmt_code.specs.declared.tables.PlaceRow.{PlaceRow}
 use Rattle.base.specs.declared.schedule.ScheduleLine.{ScheduleLine}
 use Rattle.clock.specs.Schedules.{IsScheduleText}
 use Rattle.clock.specs.declared.schedule.ScheduleFault.{ScheduleFault}
@@ -14,7 +14,7 @@ use Rattle.lexer.specs.declared.fault.Fault.{Fault}
 use Rattle.machine.specs.declared.reports.Outcome.{Outcome}
 use Rattle.machine.specs.declared.reports.Outcome.TheVariants as outcomes
 use Rattle.source_report.specs.Reports.{place_report, schedule_report, source_report}
-use Rattle.ada_link.specs.expr_rules.specs.Faults.{Faults}
+use Rattle.compiler.specs.expr_rules.specs.Faults.{Faults}
 use Rattle.adarun.specs.CodeTold.{IsCodeTold}
 use Rattle.adarun.specs.LastReports.{HasLimitReport, HasWaitReport}
 use Rattle.adarun.specs.Naming.{CompilesNamed}

@@ -1,9 +1,9 @@
 -- What the search of a source through the schedules of a set answers (docs/FORMATS.md, "Search"), in terms of the source's meaning.
 use Rattle.std.specs.Prelude.{◌≡◌, ℕ, ℤ, List, Option}
 use Rattle.std.specs.Io.KnownBytes.{Appends}
-use Rattle.ada_link.specs.ada_tree.specs.ProgramTree.{ProgramTree}
-use Rattle.ada_link.specs.meaning.specs.SameMeaning.{SameMeaning}
-use Rattle.ada_link.specs.meaning.specs.Source.{source, source_names}
+use Rattle.compiler.specs.ada_tree.specs.ProgramTree.{ProgramTree}
+use Rattle.compiler.specs.meaning.specs.SameMeaning.{SameMeaning}
+use Rattle.compiler.specs.meaning.specs.Source.{source, source_names}
 use Rattle.base.specs.declared.schedule.ScheduleLine.{ScheduleLine}
 use Rattle.choices.specs.Faults.{RefusesChoicesText}
 use Rattle.choices.specs.Sets.{IsChoicesText}

@@ -1,8 +1,8 @@
 -- Every fault of a text, as `check` reports them (docs/FORMATS.md, "Commands").
 use Rattle.std.specs.Prelude.{◌≡◌, ◌≢◌, ◌⊎◌, ℕ, List, [], ◌∷◌}
 use Rattle.lexer.specs.declared.fault.Fault.{Fault}
-use Rattle.ada_link.specs.ada_tree.specs.ProgramTree.{ProgramTree}
-use Rattle.ada_link.specs.expr_rules.specs.Faults.{Faults}
+use Rattle.compiler.specs.ada_tree.specs.ProgramTree.{ProgramTree}
+use Rattle.compiler.specs.expr_rules.specs.Faults.{Faults}
 use Rattle.ravenscar.specs.BrokenRules.{ListsBrokenRules}
 use Rattle.source_laws.specs.Limits.{MayPassLimits}
 use Rattle.adarun.specs.Accepted.{HasNoTree, IsAccepted, IsMisspelled, IsSmallText, IsTreeOf, too_large}

@@ -1,19 +1,19 @@
 //! What is told of a text whose code passes a limit of images.
 ghost use Rattle.std.specs.Prelude.{◌≡◌, ◌≢◌, ◌⊎◌, [], IfErr, IfOk};
 ghost use Rattle.base.specs.declared.faults.TheConstants.{MEMORY_REFUSED};
-ghost use Rattle.ada_link.specs.ada_tree.specs.Parsed.{IsParsed};
-ghost use Rattle.ada_link.specs.ada_tree.specs.ProgramTree.{program_tree};
-ghost use Rattle.ada_link.specs.expr_rules.specs.Faults.{IsLeast};
-ghost use Rattle.checking.specs.ProgramRules.{IsLegal, program_faults};
+ghost use Rattle.compiler.specs.ada_tree.specs.Parsed.{IsParsed};
+ghost use Rattle.compiler.specs.ada_tree.specs.ProgramTree.{program_tree};
+ghost use Rattle.compiler.specs.expr_rules.specs.Faults.{IsLeast};
+ghost use Rattle.legality.specs.ProgramRules.{IsLegal, program_faults};
 ghost use Rattle.lexer.specs.Fault.{memory_fault};
 ghost use Rattle.ravenscar.specs.ProgramRules.{IsRestricted, restriction_faults};
 ghost use Rattle.adarun.specs.CodeTold.{IsCodeTold, TellsCode, TellsStopOrNone, stop_line};
 
-use ada_link::{Stop, first_stop};
 use ada_tree::{Parsed, Program};
 use base::faults::{LIMIT_PASSED, MEMORY_REFUSED};
-use checking::check;
+use compiler::{Stop, first_stop};
 use hints::{frame_line, instructions_line, rows_line};
+use legality::check;
 use lexer::{Fault, Token, tokens};
 use parser::parse;
 use ravenscar::{Accepted, restrict};

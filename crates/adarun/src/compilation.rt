@@ -1,23 +1,23 @@
 //! From a source text to an image.
 ghost use Rattle.std.specs.Prelude.{◌≡◌, IfErr, IfOk};
-ghost use Rattle.ada_link.specs.Compiled.{IsBounded, KeepsTokenCounts};
-ghost use Rattle.ada_link.specs.ada_tree.specs.ProgramTree.{ProgramTree, program_tree};
-ghost use Rattle.ada_link.specs.expr_code.specs.Coming.{most_steps};
-ghost use Rattle.ada_link.specs.meaning.specs.SameMeaning.{KeepsCount, SameMeaning};
-ghost use Rattle.ada_link.specs.package_code.specs.Places.{PlacesTell};
+ghost use Rattle.compiler.specs.Compiled.{IsBounded, KeepsTokenCounts};
+ghost use Rattle.compiler.specs.ada_tree.specs.ProgramTree.{ProgramTree, program_tree};
+ghost use Rattle.compiler.specs.expr_code.specs.Coming.{most_steps};
+ghost use Rattle.compiler.specs.meaning.specs.SameMeaning.{KeepsCount, SameMeaning};
+ghost use Rattle.compiler.specs.package_code.specs.Places.{PlacesTell};
 ghost use Rattle.adarun.specs.Accepted.{Compiles, IsAccepted, CompilesAccepted, IsJudged, IsTextFault, IsTreeOf, RefusesText, RefusesTree};
 ghost use Rattle.adarun.specs.Naming.{CompilesNamed, imaged, objects_of};
-ghost use Rattle.checking.specs.ProgramRules.{IsLegal};
+ghost use Rattle.legality.specs.ProgramRules.{IsLegal};
 ghost use Rattle.image.specs.Rules.{IsWellFormed};
 ghost use Rattle.ravenscar.specs.ProgramRules.{IsRestricted};
 
 use crate::naming::{ObjectNames, objects_of};
-use ada_link::{Compiled, Places, Refusal, compile_tree};
 use ada_tree::Parsed;
 use base::faults::LIMIT_PASSED;
-use checking::check;
+use compiler::{Compiled, Places, Refusal, compile_tree};
 use fault_numbers::{grammar_numbers, legality_numbers, restriction_numbers, spelling_numbers};
 use image::Image;
+use legality::check;
 use lexer::{Fault, tokens};
 use parser::parse;
 use ravenscar::{Accepted, restrict};

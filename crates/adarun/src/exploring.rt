@@ -1,10 +1,11 @@
 //! Searching the schedules of a set for one under which a source stops, waits forever or writes a line.
 ghost use Rattle.std.specs.Prelude.{◌≡◌, ◌<◌, Err, IfErr, IfOk, OnOk};
 ghost use Rattle.std.specs.Io.KnownBytes.{Appends};
-ghost use Rattle.ada_link.specs.ada_tree.specs.ProgramTree.{ProgramTree};
+ghost use Rattle.compiler.specs.ada_tree.specs.ProgramTree.{ProgramTree};
 ghost use Rattle.machine.specs.Written.{AppendsBeginning};
 ghost use Rattle.searching.specs.Reports.{report_text};
 ghost use Rattle.adarun.specs.Accepted.{IsAccepted, RefusesAccepted};
+ghost use Rattle.adarun.specs.FirstFound.{WritesFirst};
 ghost use Rattle.adarun.specs.Searching.{BeginsReport, RefusesSearching, WritesReport};
 ghost use Rattle.adarun.specs.Searching as searches;
 
@@ -106,6 +107,8 @@ pub fn search<S: Sink, L: Ledger>(
 ) -> Result<SearchOutcome, SearchFault>
     // What is found the source comes to under the schedule that is written; where there is nothing it comes to it under none of the set.
     ensures answers { IfOk result (λ outcome. WritesReport source.now choices.now until limit wanted.entry outcome (S.bytes sink.old) (S.bytes sink.new)) }
+    // What is found is found under the first of its schedules, in the order of the alternatives.
+    ensures first { IfOk result (λ outcome. WritesFirst source.now choices.now until limit wanted.entry outcome (S.bytes sink.old) (S.bytes sink.new)) }
     ensures kept { OnOk result (S.failures sink.new ≡ S.failures sink.old) }
     // A refusal is that of the call it comes from, where the calls before it gave their answers.
     ensures refused { IfErr result (RefusesSearching source.now choices.now until) }

@@ -1,6 +1,6 @@
 //! Compiling and running in one call.
 ghost use Rattle.std.specs.Prelude.{◌≡◌, ◌<◌, ◌≤◌, ◌+◌, Err, IfErr, IfOk, OnOk};
-ghost use Rattle.ada_link.specs.ada_tree.specs.ProgramTree.{ProgramTree};
+ghost use Rattle.compiler.specs.ada_tree.specs.ProgramTree.{ProgramTree};
 ghost use Rattle.adarun.specs.Accepted.{IsAccepted, RefusesAccepted};
 ghost use Rattle.adarun.specs.Headline.{Runs, WritesBeginning, WritesItsMeaning};
 ghost use Rattle.adarun.specs.Stopping.{RefusesRunning};

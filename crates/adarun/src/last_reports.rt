@@ -1,7 +1,7 @@
 //! What is said in words of the last world of a run: which tasks wait, and who was running.
 ghost use Rattle.std.specs.Prelude.{◌≡◌, ◌≢◌, ◌<◌, ◌≤◌, ◌++◌, Some, IfOk, OnOk, option_map, slice_get};
 ghost use Rattle.adarun.specs.LastReports.{HasLimitReport, HasWaitReport, queue_words, report_at, running_report, running_words, still_words, waiting_report, waiting_words};
-ghost use Rattle.ada_link.specs.stmt_code.specs.Placing.{place_at};
+ghost use Rattle.compiler.specs.stmt_code.specs.Placing.{place_at};
 ghost use Rattle.endings.specs.LastSteps.{IsLastWorld};
 
 use crate::compilation::Named;

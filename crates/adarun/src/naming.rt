@@ -1,8 +1,8 @@
 //! The names of the protected objects of a program, and of their entries.
 ghost use Rattle.std.specs.Prelude.{◌≡◌, ◌∷◌, ◌++◌, [], Some, IfOk, OnOk, map};
-ghost use Rattle.ada_link.specs.ada_tree.specs.ProgramTree.{body_item_tree, item_tree, package_tree, program_tree};
-ghost use Rattle.ada_link.specs.ada_tree.specs.StatementTree.{operation_tree};
-ghost use Rattle.ada_link.specs.meaning.specs.Programs.{items_among, package_items};
+ghost use Rattle.compiler.specs.ada_tree.specs.ProgramTree.{body_item_tree, item_tree, package_tree, program_tree};
+ghost use Rattle.compiler.specs.ada_tree.specs.StatementTree.{operation_tree};
+ghost use Rattle.compiler.specs.meaning.specs.Programs.{items_among, package_items};
 ghost use Rattle.adarun.specs.Naming.{declared_objects, entry_among, objects_of};
 ghost use Rattle.adarun.specs.Naming as naming;
 

@@ -2,7 +2,7 @@
 ghost use Rattle.std.specs.Prelude.{◌≡◌};
 ghost use Rattle.adarun.specs.Origins.{origin_in, position_in};
 
-use ada_link::Places;
+use compiler::Places;
 use hints::{column_behind, line_behind};
 use tracing::{Origin, Origins};
 

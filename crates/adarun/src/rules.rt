@@ -1,7 +1,7 @@
 //! Every fault of a source text (docs/FORMATS.md, "Commands").
 ghost use Rattle.std.specs.Prelude.{◌≡◌, ◌≢◌, ◌∷◌, [], IfErr, IfOk};
 ghost use Rattle.base.specs.declared.faults.TheConstants.{MEMORY_REFUSED};
-ghost use Rattle.ada_link.specs.ada_tree.specs.ProgramTree.{ProgramTree};
+ghost use Rattle.compiler.specs.ada_tree.specs.ProgramTree.{ProgramTree};
 ghost use Rattle.adarun.specs.Accepted.{IsTreeOf};
 ghost use Rattle.adarun.specs.TextFaults.{AreFaultsOfTree, AreTextFaults};
 

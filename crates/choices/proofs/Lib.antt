@@ -1,6 +1,7 @@
 pub mod Order
 pub mod Lawful
-mod Moving
+pub mod Raising
+pub mod Moving
 mod Taking
 mod Parts
 mod Values

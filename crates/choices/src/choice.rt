@@ -1,9 +1,9 @@
 //! One choice among the alternatives of all slots, and the next one.
-ghost use Rattle.std.specs.Prelude.{◌≡◌, ◌<◌, ◌≤◌, None, Some, IfOk, length, IsTrue, if◌then◌else◌};
+ghost use Rattle.std.specs.Prelude.{◌≡◌, ◌<◌, ◌≤◌, None, Some, IfOk, drop, length, IsTrue, take, true, if◌then◌else◌};
 ghost use Rattle.base.specs.Schedule.{is_schedule};
-ghost use Rattle.choices.specs.Places.{AreWithin, firsts, next, taken};
+ghost use Rattle.choices.specs.Places.{AreWithin, IsBefore, firsts, next, taken};
 ghost use Rattle.choices.specs.Slots.{are_each_slots, are_slots, lines_of};
-ghost use Rattle.choices.specs.Stepping.{MovesOn};
+ghost use Rattle.choices.specs.Stepping.{IsEarlierInFront, IsFurther, MovesOn};
 
 use crate::set::Choices;
 use crate::slot::Slot;
@@ -53,6 +53,55 @@ impl Choice {
         advance_places(choices.slots(), &mut self.places)
     }
 
+    /// Becomes the last choice of the set with the same alternatives of the first `front` slots.
+    pub fn go_to_last(&mut self, choices: &Choices, front: usize)
+        requires { AreWithin choices.now self.old }
+        ensures { IsFurther choices.now front self.old self.new }
+    {
+        raise_places(choices.slots(), front, &mut self.places);
+    }
+
+    /// A copy of the choice.
+    ///
+    /// # Errors
+    /// Where memory was refused.
+    pub fn copy(&self) -> Result<Choice, AllocError>
+        ensures { IfOk result (λ choice. choice ≡ self.now) }
+    {
+        Ok(Choice {
+            places: self.places.clone()?,
+        })
+    }
+
+    /// Whether it is a choice of this set: an alternative of each of its slots.
+    pub fn is_of(&self, choices: &Choices) -> bool
+        ensures { result ≡ true → AreWithin choices.now self.now }
+    {
+        are_within(choices.slots(), &self.places)
+    }
+
+    /// Whether another choice is later than this one by the first `front` slots alone, and has the same alternatives of the others.
+    pub fn is_earlier_in_front(&self, later: &Choice, front: usize) -> bool
+        ensures { result ≡ true → IsEarlierInFront front self.now later.now }
+    {
+        if !are_alike_after(&self.places, &later.places, front) {
+            return false;
+        }
+        is_before_within(&self.places, &later.places, front)
+    }
+
+    /// Whether it takes the first alternative of each slot after the first `front` ones, so that no earlier choice has the same alternatives of those.
+    pub fn is_first_after(&self, front: usize) -> bool {
+        let mut at = front;
+        while at < self.places.len() {
+            if self.places[at] != 0 {
+                return false;
+            }
+            at += 1;
+        }
+        true
+    }
+
     /// The schedule of the choice.
     ///
     /// # Errors
@@ -80,6 +129,74 @@ impl Choice {
         }
         Ok(Schedule::of_lines(lines))
     }
+}
+
+// Sets each place after the first `front` ones to that of the last alternative.
+fn raise_places(slots: &[Slot], front: usize, places: &mut [usize])
+    requires within { AreWithin slots.now places.old }
+    requires lawful { IsTrue (are_slots slots.now) }
+    ensures { IsFurther slots.now front places.old places.new }
+{
+    let mut at = front;
+    while at < slots.len() {
+        let slot = &slots[at];
+        places[at] = slot.alternatives.len() - 1;
+        at += 1;
+    }
+}
+
+// Whether each place is one of the alternatives of its slot.
+fn are_within(slots: &[Slot], places: &[usize]) -> bool
+    ensures { result ≡ true → AreWithin slots.now places.now }
+{
+    if slots.len() != places.len() {
+        return false;
+    }
+    let mut at = slots.len();
+    while 0 < at {
+        at -= 1;
+        let slot = &slots[at];
+        if slot.alternatives.len() <= places[at] {
+            return false;
+        }
+    }
+    true
+}
+
+// Whether the places after the first `front` ones are the same.
+fn are_alike_after(places: &[usize], others: &[usize], front: usize) -> bool
+    ensures { result ≡ true → (drop front places.now ≡ drop front others.now) × (front ≤ length places.now) × (front ≤ length others.now) }
+{
+    if places.len() < front {
+        return false;
+    }
+    if others.len() < front {
+        return false;
+    }
+    places[front..] == others[front..]
+}
+
+// Whether the first `front` places come before others in the order of alternatives.
+fn is_before_within(places: &[usize], others: &[usize], front: usize) -> bool
+    ensures { result ≡ true → IsBefore (take front places.now) (take front others.now) }
+{
+    if places.len() < front {
+        return false;
+    }
+    if others.len() < front {
+        return false;
+    }
+    let mut at = 0;
+    while at < front {
+        if places[at] < others[at] {
+            return true;
+        }
+        if others[at] < places[at] {
+            return false;
+        }
+        at += 1;
+    }
+    false
 }
 
 // From the last slot back: the first that has a further alternative takes it, and those after it take their first.

@@ -1,4 +1,6 @@
 //! Slots of time with alternatives.
+ghost use Rattle.std.specs.Prelude.{◌≡◌};
+
 use std::marker::Model;
 
 /// The most alternatives of a slot.
@@ -7,7 +9,7 @@ pub const ALTERNATIVES: usize = 4_096;
 /// A time at which a channel may change, and what there is to choose from. Contracts see a record of the same fields (specs/Slots).
 #[derive(Drop)]
 pub struct Slot {
-    /// In microseconds since the start.
+    /// Its time, in microseconds since the start.
     pub(crate) time: i64,
     /// From 1 to 8.
     pub(crate) channel: u8,
@@ -21,4 +23,13 @@ impl Model for Slot {
     ghost Value = { Row };
 
     ghost view = { λ s. record { time = s.time; channel = s.channel; alternatives = s.alternatives.items } };
+}
+
+impl Slot {
+    /// Its time, in microseconds since the start.
+    pub fn time(&self) -> i64
+        ensures { result ≡ self.now.time }
+    {
+        self.time
+    }
 }

@@ -38,6 +38,10 @@ pub trait Delays {
     fn wake_time(&self, task: u8) -> Option<i64>
         ensures { result ≡ wake_of task (sleepers self.now) };
 
+    /// The sleepers, in the order in which they began to wait.
+    fn in_order(&self) -> ArrayVec<Sleeper, TASKS>
+        ensures { result.items ≡ sleepers self.now };
+
     /// Takes out the tasks that wait for `now` or an earlier time, in the order in which they began to wait.
     fn expire(&mut self, now: i64) -> ArrayVec<u8, TASKS>
         ensures tasks { result.items ≡ due now (sleepers self.old) }

@@ -1,11 +1,11 @@
 //! Sleeping tasks in a heap.
-ghost use Rattle.std.specs.Prelude.{◌≡◌, ◌<◌, ◌≤◌, ◌-◌, ◌^◌, [], filter, length, not};
+ghost use Rattle.std.specs.Prelude.{◌≡◌, ◌<◌, ◌≤◌, ◌-◌, ◌^◌, [], filter, length, map, not};
 ghost use Rattle.clock.specs.Numbering.{added, free_number};
 ghost use Rattle.clock.specs.Sleepers.{due, waiting};
-ghost use Rattle.clock.specs.Heaps.{AreDistinct, AreNumbered, IsWithin, TakesAllDue, are_many_due, by_number, earlier, entry_of, is_due_entry, sleepers_of};
+ghost use Rattle.clock.specs.Heaps.{AreDistinct, AreNumbered, IsWithin, TakesAllDue, are_many_due, by_number, earlier, entry_of, is_due_entry, sleeper_of, sleepers_of};
 ghost use Rattle.base.specs.declared.limits.TheConstants.{TASKS};
 
-use crate::delays::Delays;
+use crate::delays::{Delays, Sleeper};
 use crate::heap::{Entry, Heap};
 use arrayvec::ArrayVec;
 use base::limits::TASKS;
@@ -61,6 +61,12 @@ impl Delays for HeapDelays {
         Some(entry.wake)
     }
 
+    fn in_order(&self) -> ArrayVec<Sleeper, TASKS> {
+        let mut entries = copied(self.heap.entries());
+        sort(entries.as_mut_slice());
+        sleepers(entries.as_slice())
+    }
+
     fn expire(&mut self, now: i64) -> ArrayVec<u8, TASKS>
         ensures tasks { result.items ≡ due now self.old.sleepers }
         ensures left { self.new ≡ record self.old { sleepers = waiting now self.old.sleepers } }
@@ -90,6 +96,33 @@ impl HeapDelays {
     {
         self.next_number
     }
+}
+
+// A copy of entries.
+fn copied(entries: &[Entry]) -> ArrayVec<Entry, TASKS>
+    requires { length entries.now ≤ TASKS }
+    ensures { result.items ≡ entries.now }
+{
+    let mut list = ArrayVec::new();
+    for entry in entries {
+        list.push(*entry);
+    }
+    list
+}
+
+// The sleepers of entries.
+fn sleepers(entries: &[Entry]) -> ArrayVec<Sleeper, TASKS>
+    requires { length entries.now ≤ TASKS }
+    ensures { result.items ≡ map sleeper_of entries.now }
+{
+    let mut list = ArrayVec::new();
+    for entry in entries {
+        list.push(Sleeper {
+            task: entry.task,
+            wake: entry.wake,
+        });
+    }
+    list
 }
 
 // The entry of a task that was added before its others, if it has one.

@@ -57,6 +57,14 @@ impl Delays for ListDelays {
         None
     }
 
+    fn in_order(&self) -> ArrayVec<Sleeper, TASKS> {
+        let mut sleepers = ArrayVec::new();
+        for sleeper in self.sleepers.as_slice() {
+            sleepers.push(*sleeper);
+        }
+        sleepers
+    }
+
     fn expire(&mut self, now: i64) -> ArrayVec<u8, TASKS> {
         let mut due = ArrayVec::new();
         let mut waiting = ArrayVec::new();

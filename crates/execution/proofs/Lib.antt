@@ -1,6 +1,7 @@
 mod Advancing
 mod Ahead
-mod Apart
+mod Alike
+pub mod Apart
 mod Begun
 mod Ending
 mod Entries

@@ -1,12 +1,12 @@
 //! Runs of images, up to what their steps tell.
-ghost use Rattle.std.specs.Prelude.{◌≡◌, ◌⊎◌, ◌<◌, ◌≤◌, ◌+◌, ◌-◌, [], IfOk, IfSome, List, None, Some};
+ghost use Rattle.std.specs.Prelude.{◌≡◌, ◌⊎◌, ◌<◌, ◌≤◌, ◌+◌, ◌-◌, [], IfOk, IfSome, List, None, Some, true, ℕ};
 ghost use Rattle.image.specs.Code.{start};
 ghost use Rattle.image_laws.specs.Whole.{IsWhole};
 ghost use Rattle.kernel.specs.Calm.{IsRunner};
 ghost use Rattle.kernel.specs.State.{Line as KernelLine, Outcome as KernelOutcome};
 ghost use Rattle.tasking.specs.Held.{kernel_of};
 ghost use Rattle.execution.specs.Ahead.{next_address, next_raising};
-ghost use Rattle.execution.specs.Held.{Leads, lines_of, world_of, world_with};
+ghost use Rattle.execution.specs.Held.{Leads, lines_of, tasks_of, world_of, world_with};
 
 use crate::line::Line;
 use crate::state::State;
@@ -157,6 +157,19 @@ impl<'a, R: Ready, D: Delays> Execution<'a, R, D> {
     {
         let task = self.runner()?;
         Some(self.state.address(task))
+    }
+
+    /// Whether another run of the image has the same frames, of its tasks and of the handler that runs. `false` doesn't say that they differ.
+    pub fn has_frames_of(&self, other: &Execution<'a, R, D>) -> bool
+        requires { self.now.image ≡ other.now.image }
+        ensures { result ≡ true → (t : ℕ) → tasks_of self.now t ≡ tasks_of other.now t }
+    {
+        self.state.has_frames_of(&other.state)
+    }
+
+    /// A digest of the frames of the tasks, with the given first number: where two digests with the same one differ, so do the frames.
+    pub fn digest(&self, first: u64) -> u64 {
+        self.state.digest(first)
     }
 
     /// The image that runs.

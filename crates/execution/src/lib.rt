@@ -1,6 +1,7 @@
 //! Runs of images: the tasks' frames, the words that they share and the kernel, step by step as code's world goes on.
 #![tactic(auto)]
 
+mod comparing;
 mod execution_of;
 mod line;
 mod parameters;

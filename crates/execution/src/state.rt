@@ -1,5 +1,5 @@
 //! What a run holds.
-ghost use Rattle.std.specs.Prelude.{◌≡◌, ◌+◌, ◌-◌, ◌<◌, ◌≤◌, IfOk, None, Some, ℕ, List, get_or, length, map, not, slice_set};
+ghost use Rattle.std.specs.Prelude.{◌≡◌, ◌+◌, ◌-◌, ◌<◌, ◌≤◌, IfOk, None, Some, ℕ, List, get_or, length, map, not, slice_set, take, true};
 ghost use Rattle.base.specs.declared.limits.TheConstants.{CHANNELS, OBJECTS, TASKS};
 ghost use Rattle.image.specs.Code.{initial_state, partition_of as image_partition, start};
 ghost use Rattle.image.specs.Rules.{IsWellFormed};
@@ -21,6 +21,7 @@ ghost use Rattle.image.specs.Sections.{object_of};
 ghost use Rattle.image.specs.Starting.{handler_state, role_within};
 ghost use Rattle.processor.specs.Layout.{role_of};
 
+use crate::comparing::are_alike;
 use crate::parameters::Parameters;
 use clock::{Delays, Schedule};
 use dispatch::Ready;
@@ -186,6 +187,38 @@ impl<'a, R: Ready, D: Delays> State<'a, R, D> {
             state,
             &self.memory,
         )
+    }
+
+    /// Whether another run of the image has the same frames, of its tasks and of the handler that runs. `false` doesn't say that they differ.
+    pub(crate) fn has_frames_of(&self, other: &State<'a, R, D>) -> bool
+        requires { self.now.image ≡ other.now.image }
+        ensures { result ≡ true → (t : ℕ) → tasks_of self.now t ≡ tasks_of other.now t }
+    {
+        if self.tasking.handler() != other.tasking.handler() {
+            return false;
+        }
+        if self.tasking.handler().is_some() {
+            return are_alike(&self.tasks, &other.tasks);
+        }
+        self.has_tasks_of(other)
+    }
+
+    // Whether the frames of the tasks are the same.
+    fn has_tasks_of(&self, other: &State<'a, R, D>) -> bool
+        ensures { result ≡ true → take (length self.now.image.tasks) self.now.tasks ≡ take (length other.now.image.tasks) other.now.tasks }
+    {
+        let count = self.tasks.len() - 1;
+        let others = other.tasks.len() - 1;
+        are_alike(&self.tasks[..count], &other.tasks[..others])
+    }
+
+    /// A digest of the frames of the tasks, with the given first number.
+    pub(crate) fn digest(&self, first: u64) -> u64 {
+        let mut digest = first;
+        for task in &self.tasks[..self.tasks.len() - 1] {
+            digest = task.digest(digest);
+        }
+        digest
     }
 
     /// The address of the running frame's instruction, of the task that runs.

@@ -20,7 +20,7 @@ use Rattle.meaning.specs.types.specs.Places.{Object, Function, Place, Meaning, I
 use Rattle.meaning.specs.expr_rules.specs.declared.own.Own.TheVariants.{Typed}
 use Rattle.meaning.specs.expr_rules.specs.Typing.{is_integers}
 use Rattle.meaning.specs.expr_rules.proofs.TypedLaw.{as_number, integral_numeric}
-use Rattle.meaning.specs.declaring.specs.Laws.{StandsFirst}
+use Rattle.meaning.specs.declaration_rules.specs.Laws.{StandsFirst}
 use Rattle.expr_soundness.specs.SoundScopes.{IsKnown, IsSoundObject, SoundScope}
 use Rattle.expr_soundness.specs.Agreeing.{Agrees, Means, MeansFunction, MeansNumber, MeansObject, MeansOne}
 use Rattle.expr_soundness.specs.Laws.{AgreementIsKept, HasComponent, Replaces}

@@ -20,7 +20,7 @@ use Rattle.meaning.specs.expr_rules.specs.Typing.{is_integers, is_times, own_of}
 use Rattle.meaning.specs.expr_rules.specs.ExpressionRules.{faults_in, faults_of}
 use Rattle.meaning.specs.expr_rules.specs.Laws.{IsTyped, suits}
 use Rattle.meaning.specs.type_rules.specs.SubtypeNames.{subtype_of}
-use Rattle.meaning.specs.declaring.specs.Laws.{StandsFirst}
+use Rattle.meaning.specs.declaration_rules.specs.Laws.{StandsFirst}
 use Rattle.meaning.specs.Works.{turn_subtype}
 use Rattle.expr_soundness.specs.SoundScopes.{IsKnown, IsSoundEntity, IsSoundObject, SoundScope}
 use Rattle.expr_soundness.specs.Agreeing.{Agrees}

@@ -2,7 +2,7 @@ pub use Rattle.meaning.specs.types.specs.Evaluating
 pub use Rattle.meaning.specs.expr_rules.specs.ExpressionRules
 pub use Rattle.meaning.specs.ada_tree as ada_tree
 pub use Rattle.meaning.specs.base as base
-pub use Rattle.meaning.specs.declaring as declaring
+pub use Rattle.meaning.specs.declaration_rules as declaration_rules
 pub use Rattle.meaning.specs.expr_rules as expr_rules
 pub use Rattle.meaning.specs.handlers as handlers
 pub use Rattle.meaning.specs.kernel as kernel

@@ -9,17 +9,17 @@ use Rattle.ada_tree.specs.ProgramTree.{BodyItemTree, OfItem, SubprogramBody, Tas
 use Rattle.types.specs.declared.entity.RecordComponent.{RecordComponent}
 use Rattle.types.specs.Entities.{Entity, Entry}
 use Rattle.types.specs.Scopes.{Scope, number_of}
-use Rattle.declaring.specs.BodyNames.{components_scope, formals_scope, object_body_scope}
-use Rattle.declaring.specs.LocalRules.{locals_scope}
+use Rattle.declaration_rules.specs.BodyNames.{components_scope, formals_scope, object_body_scope}
+use Rattle.declaration_rules.specs.LocalRules.{locals_scope}
 use Rattle.type_rules.specs.ProfileRules.{subprogram_scope}
 use Rattle.type_rules.specs.SubtypeNames.{named_entity}
 use Rattle.stmt_rules.specs.declared.around.BodyKind.{BodyKind}
 use Rattle.stmt_rules.specs.declared.around.BodyKind.TheVariants as kind
 use Rattle.stmt_rules.specs.StatementRules.{in_body}
-use Rattle.legality.specs.BodyRules.{body_faults, body_name_faults, body_name_number, body_name_rule, function_body_faults, head_faults, is_subprogram, kind_of, own_name_faults, subprogram_body_faults, task_body_faults, task_rule}
-use Rattle.legality.specs.ProtectedBodyRules.{components_at, entry_body_faults, entry_rule, known_body_faults, object_items_faults, object_rule, operation_sees, outer_name_rule, outer_names_faults, protected_body_faults, protected_item_faults, protected_item_scope, protected_items_faults}
-use Rattle.declaring.specs.PackageNames.{body_item_scope}
-use Rattle.legality.specs.PackageBodyRules.{body_item_faults, body_items_faults}
+use Rattle.unit_rules.specs.BodyRules.{body_faults, body_name_faults, body_name_number, body_name_rule, function_body_faults, head_faults, is_subprogram, kind_of, own_name_faults, subprogram_body_faults, task_body_faults, task_rule}
+use Rattle.unit_rules.specs.ProtectedBodyRules.{components_at, entry_body_faults, entry_rule, known_body_faults, object_items_faults, object_rule, operation_sees, outer_name_rule, outer_names_faults, protected_body_faults, protected_item_faults, protected_item_scope, protected_items_faults}
+use Rattle.declaration_rules.specs.PackageNames.{body_item_scope}
+use Rattle.unit_rules.specs.PackageBodyRules.{body_item_faults, body_items_faults}
 use Rattle.fault_numbers.proofs.Ranges.{Legality, ◌⊕◌, asked, is_between, none}
 use Rattle.fault_numbers.proofs.Declarations.{of_end_name, of_fixed_locals, of_formals, of_item, of_locals, of_new_name, of_profile}
 use Rattle.fault_numbers.proofs.Statements.{of_condition, of_sequence}

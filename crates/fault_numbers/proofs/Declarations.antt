@@ -21,14 +21,14 @@ use Rattle.expr_rules.specs.declared.own.Wanted.TheVariants as wanted
 use Rattle.expr_rules.specs.Faults.{rule}
 use Rattle.expr_rules.specs.Typing.{own_of}
 use Rattle.expr_rules.specs.ExpressionRules.{faults_of}
-use Rattle.declaring.specs.BodyNames.{last_rule, loop_faults, loop_type}
-use Rattle.declaring.specs.ItemRules.{item_faults, item_scope, items_faults}
-use Rattle.declaring.specs.LocalRules.{fixed_local_faults, fixed_locals_faults, local_faults, local_scope, locals_faults}
+use Rattle.declaration_rules.specs.BodyNames.{last_rule, loop_faults, loop_type}
+use Rattle.declaration_rules.specs.ItemRules.{item_faults, item_scope, items_faults}
+use Rattle.declaration_rules.specs.LocalRules.{fixed_local_faults, fixed_locals_faults, local_faults, local_scope, locals_faults}
 use Rattle.type_rules.specs.ObjectRules.{called_faults, fixed_faults, fixed_object_faults, is_clock, local_object_faults, span_call, span_faults, span_rule, span_value}
 use Rattle.type_rules.specs.ProfileRules.{formal_faults, formals_faults, function_faults, profile_faults, result_faults, subprogram_faults}
-use Rattle.declaring.specs.ProtectedRules.{operation_faults, operation_name, operation_profile_faults, operations_faults, part_faults, parts_faults, protected_faults}
+use Rattle.declaration_rules.specs.ProtectedRules.{operation_faults, operation_name, operation_profile_faults, operations_faults, part_faults, parts_faults, protected_faults}
 use Rattle.type_rules.specs.SubtypeNames.{declared_twice, end_rule, if_integer, named_entity, subtype_faults, subtype_of, subtype_rule, wanted_by}
-use Rattle.declaring.specs.TaskRules.{aspect_faults, aspect_wanted, is_attachment, is_priority, operation_aspect_faults, task_end_faults, task_faults}
+use Rattle.declaration_rules.specs.TaskRules.{aspect_faults, aspect_wanted, is_attachment, is_priority, operation_aspect_faults, task_end_faults, task_faults}
 use Rattle.type_rules.specs.TypeRules.{array_faults, component_faults, components_faults, definition_faults, index_faults, index_place, narrowed_faults, null_rule, range_faults, static_whole, subtype_range_faults, type_faults}
 use Rattle.fault_numbers.proofs.Ranges.{Legality, ◌⊕◌, asked, none}
 use Rattle.fault_numbers.proofs.Expressions.{of_expression, of_form, of_mismatch, of_static, of_static_value, unless_broken}

@@ -12,11 +12,11 @@ use Rattle.ada_tree.specs.ProgramTree.{BodyItemTree, OfItem, SubprogramBody, Tas
 use Rattle.ada_tree.specs.ProgramTree.{OfSubprogram as OfDeclared}
 use Rattle.types.specs.Entities.{LibraryUnit}
 use Rattle.types.specs.Scopes.{Scope, is_visible, with_name}
-use Rattle.legality.specs.MainRules.{called_rule, declared_meaning, has_no_formals, item_meaning, item_name, main_call_faults, main_faults, main_name_faults, main_scope, main_statement_faults, main_statements_faults, meaning_of, no_package_rule, package_call_faults}
-use Rattle.matching.specs.MatchingRules.{all_missing_faults, body_rule, item_matching, items_matching, matching_faults, missing_faults, missing_operation_rule, missing_operations_faults, operation_bodies_faults, operation_body_rule, operation_name, same_name}
-use Rattle.declaring.specs.PackageNames.{inside_scope, is_control_io, is_real_time, specified_scope, units_scope}
-use Rattle.legality.specs.PackageRules.{behind_faults, bodiless_rule, package_faults, specification_faults}
-use Rattle.legality.specs.UnitRules.{again_rule, clause_faults, clauses_behind}
+use Rattle.unit_rules.specs.MainRules.{called_rule, declared_meaning, has_no_formals, item_meaning, item_name, main_call_faults, main_faults, main_name_faults, main_scope, main_statement_faults, main_statements_faults, meaning_of, no_package_rule, package_call_faults}
+use Rattle.conformance.specs.MatchingRules.{all_missing_faults, body_rule, item_matching, items_matching, matching_faults, missing_faults, missing_operation_rule, missing_operations_faults, operation_bodies_faults, operation_body_rule, operation_name, same_name}
+use Rattle.declaration_rules.specs.PackageNames.{inside_scope, is_control_io, is_real_time, specified_scope, units_scope}
+use Rattle.unit_rules.specs.PackageRules.{behind_faults, bodiless_rule, package_faults, specification_faults}
+use Rattle.unit_rules.specs.UnitRules.{again_rule, clause_faults, clauses_behind}
 use Rattle.fault_numbers.proofs.Ranges.{Legality, ◌⊕◌, asked, none}
 use Rattle.fault_numbers.proofs.Declarations.{of_aspect, of_end_name, of_items, of_new_name}
 use Rattle.fault_numbers.proofs.Bodies.{of_body_items}

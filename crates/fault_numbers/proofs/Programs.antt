@@ -5,9 +5,9 @@ use Rattle.ada_tree.specs.declared.expression.Identifier.{Identifier}
 use Rattle.ada_tree.specs.StatementTree.{ProtectedTree}
 use Rattle.ada_tree.specs.ProgramTree.{BodyItemTree, OfItem, SubprogramBody, ItemTree, OfProtected, PackageTree}
 use Rattle.types.specs.Scopes.{Scope, standard}
-use Rattle.legality.specs.MainRules.{item_name}
-use Rattle.checking.specs.LikeNames.{behind_item_faults, behind_specified_faults, between_faults, body_like_faults, is_its_body, item_like_faults, like_name_faults, like_rule, specification_like_faults, specified_faults}
-use Rattle.checking.specs.ProgramRules.{package_part_faults}
+use Rattle.unit_rules.specs.MainRules.{item_name}
+use Rattle.legality.specs.LikeNames.{behind_item_faults, behind_specified_faults, between_faults, body_like_faults, is_its_body, item_like_faults, like_name_faults, like_rule, specification_like_faults, specified_faults}
+use Rattle.legality.specs.ProgramRules.{package_part_faults}
 use Rattle.fault_numbers.specs.Numbers.{LegalityNumbers}
 use Rattle.fault_numbers.proofs.Ranges.{Legality, ◌⊕◌, asked, none}
 use Rattle.fault_numbers.proofs.Packages.{of_main, of_package}

@@ -9,12 +9,12 @@ use Rattle.ada_tree.specs.ProgramTree.{BodyItemTree, OfItem, SubprogramBody, Tas
 use Rattle.types.specs.declared.entity.RecordComponent.{RecordComponent}
 use Rattle.types.specs.Scopes.{Scope, standard}
 use Rattle.types.specs.Statics.{start_of}
-use Rattle.declaring.specs.ItemRules.{item_scope}
-use Rattle.legality.specs.MainRules.{main_scope}
-use Rattle.declaring.specs.PackageNames.{body_item_scope, inside_scope, specified_scope}
+use Rattle.declaration_rules.specs.ItemRules.{item_scope}
+use Rattle.unit_rules.specs.MainRules.{main_scope}
+use Rattle.declaration_rules.specs.PackageNames.{body_item_scope, inside_scope, specified_scope}
 use Rattle.body_restrictions.specs.BodyRules.{alternatives_faults, barrier_rule, body_faults, elsifs_faults, handlers_faults, local_faults, locals_faults, operation_faults, operations_faults, simple_faults, stmt_faults, stmts_faults}
 use Rattle.ravenscar.specs.PragmaRules.{first_difference, pragma_faults, pragma_rule, start_behind}
-use Rattle.declaring.specs.TaskRules.{is_attachment}
+use Rattle.declaration_rules.specs.TaskRules.{is_attachment}
 use Rattle.ravenscar.specs.HandlerRules.{attachment_faults, ceiling_faults, none_taken, operation_aspect_faults, operations_aspects_faults, taken_behind}
 use Rattle.ravenscar.specs.ProgramRules.{body_item_faults, body_items_faults, components_named, item_faults, items_faults, package_faults, package_part_faults, taken_by_body_item, taken_by_item, taken_by_items}
 use Rattle.ravenscar.specs.TaskingRules.{aspect_faults, definition_faults, entries_faults, protected_faults, task_entries_faults, task_faults}

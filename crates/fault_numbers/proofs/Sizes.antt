@@ -7,7 +7,7 @@ use Rattle.base.specs.declared.limits.TheConstants.{FRAME_WORDS, WORDS}
 use Rattle.ada_tree.specs.declared.declaration.Formal.{Formal}
 use Rattle.ada_tree.specs.ProgramTree.{BodyItemTree, OfItem, SubprogramBody, TaskBody, ProtectedBody, BodyTree, PackageTree, ProgramTree, ProtectedItemTree, OperationBody, EntryBody}
 use Rattle.types.specs.Scopes.{Scope, standard}
-use Rattle.declaring.specs.PackageNames.{body_item_scope, specified_scope}
+use Rattle.declaration_rules.specs.PackageNames.{body_item_scope, specified_scope}
 use Rattle.size_rules.specs.Limits.{Things, limit_passed, object_rule, room_behind, words_faults}
 use Rattle.size_rules.specs.BodySizes.{body_faults, body_things}
 use Rattle.size_rules.specs.PackageSizes.{body_item_faults, body_items_faults, operation_faults, operations_faults, package_things}

@@ -16,7 +16,7 @@ use Rattle.expr_rules.specs.declared.own.Own.TheVariants.{Unknown}
 use Rattle.expr_rules.specs.declared.own.Wanted.{Wanted}
 use Rattle.expr_rules.specs.declared.own.Wanted.TheVariants.{Anything, OfType}
 use Rattle.expr_rules.specs.Typing.{boolean_wanted, is_time, own_of}
-use Rattle.declaring.specs.LocalRules.{locals_scope}
+use Rattle.declaration_rules.specs.LocalRules.{locals_scope}
 use Rattle.type_rules.specs.SubtypeNames.{named_entity}
 use Rattle.stmt_rules.specs.declared.around.Around.{Around}
 use Rattle.stmt_rules.specs.SimpleRules.{assigned_wanted, assignment_faults, condition_faults, delay_until_faults, exit_rule, optional_condition_faults, raise_faults, raised_rule, result_wanted, return_faults, simple_faults, time_rule, time_wanted}

@@ -8,7 +8,7 @@ use Rattle.lexer.specs.declared.token.Token.{Token}
 use Rattle.parser.specs.Parsing.{IsFaulty}
 use Rattle.ada_tree.specs.ProgramTree.{ProgramTree}
 use Rattle.expr_rules.specs.Faults.{Faults}
-use Rattle.checking.specs.ProgramRules.{program_faults}
+use Rattle.legality.specs.ProgramRules.{program_faults}
 use Rattle.ravenscar.specs.ProgramRules.{restriction_faults}
 
 -- the fault's number is one of those from the first to the last

@@ -1,7 +1,10 @@
-mod MainExamples
-mod Walks
-mod Objects
-mod PackageBodyExamples
-mod Meanings
-mod Parts
-mod Sample
+mod LayoutExamples
+mod LikeNameExamples
+mod ProgramExamples
+mod Turns
+pub mod Made
+mod Numbers
+mod Placing
+mod Room
+mod OneWalk
+pub mod SameFaults

@@ -1,8 +1,8 @@
-pub use Rattle.stmt_rules.specs.StatementRules
-pub use Rattle.matching.specs.MatchingRules
-pub mod BodyRules
-pub mod ProtectedBodyRules
-pub mod PackageBodyRules
-pub mod UnitRules
-pub mod MainRules
-pub mod PackageRules
+pub use Rattle.expr_rules.specs.Faults
+pub use Rattle.types.specs.Layouts
+pub mod LikeNames
+pub mod OpenParts
+pub mod ProgramLayouts
+pub mod ProgramRules
+pub mod FoundFaults
+pub mod Placing

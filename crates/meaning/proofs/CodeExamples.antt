@@ -16,7 +16,7 @@ use Rattle.image.specs.declared.instruction.Operation.{Operation}
 use Rattle.image.specs.declared.instruction.Operation.TheVariants as op
 use Rattle.image.specs.declared.subprograms.Kind.TheVariants.{Plain, TaskBody}
 use Rattle.base.specs.Names.{predefined}
-use Rattle.declaring.specs.TaskRules.{default_priority}
+use Rattle.declaration_rules.specs.TaskRules.{default_priority}
 use Rattle.meaning.specs.Source.{source, source_text}
 use Rattle.meaning.specs.SameMeaning.{SameMeaning}
 use Rattle.meaning.specs.NullExample.{return_image}

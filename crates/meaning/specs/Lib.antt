@@ -1,6 +1,6 @@
 pub use Rattle.ada_tree as ada_tree
 pub use Rattle.base as base
-pub use Rattle.declaring as declaring
+pub use Rattle.declaration_rules as declaration_rules
 pub use Rattle.expr_rules as expr_rules
 pub use Rattle.handlers as handlers
 pub use Rattle.kernel as kernel

@@ -8,7 +8,7 @@ use Rattle.ada_tree.specs.declared.program.MainStatement.{MainStatement}
 use Rattle.ada_tree.specs.declared.program.MainStatement.TheVariants as main
 use Rattle.ada_tree.specs.ProgramTree.{ProgramTree}
 use Rattle.base.specs.Names.{predefined}
-use Rattle.declaring.specs.TaskRules.{default_priority}
+use Rattle.declaration_rules.specs.TaskRules.{default_priority}
 use Rattle.meaning.specs.SameMeaning.{SameMeaning}
 
 abbrev pub nulls : ℕ → List MainStatement

@@ -23,11 +23,11 @@ use Rattle.types.specs.Places.{Object, Function, ceiling_of}
 use Rattle.types.specs.Places as places
 use Rattle.types.specs.Statics.{static_place}
 use Rattle.types.specs.Evaluating.{val}
-use Rattle.declaring.specs.ProtectedRules.{protected_count}
+use Rattle.declaration_rules.specs.ProtectedRules.{protected_count}
 use Rattle.type_rules.specs.SubtypeNames.{named_entity, subtype_of}
-use Rattle.declaring.specs.TaskRules.{default_priority, is_attachment, priority_of}
-use Rattle.declaring.specs.HandlerChannels.{attached_channel}
-use Rattle.declaring.specs.PackageNames.{program_scope}
+use Rattle.declaration_rules.specs.TaskRules.{default_priority, is_attachment, priority_of}
+use Rattle.declaration_rules.specs.HandlerChannels.{attached_channel}
+use Rattle.declaration_rules.specs.PackageNames.{program_scope}
 
 -- a formal parameter (RM 6.1)
 pub record Parameter : Type 0 where

@@ -17,18 +17,18 @@ use Rattle.expr_rules.specs.Typing.{boolean_wanted}
 use Rattle.type_rules.specs.ProfileRules.{subprogram_scope}
 use Rattle.type_rules.specs.SubtypeNames.{if_integer, subtype_of}
 use Rattle.type_rules.specs.TypeRules.{definition_faults, index_faults, narrowed_faults, range_faults}
-use Rattle.declaring.specs.BodyNames.{components_scope, formals_scope, object_body_scope}
-use Rattle.declaring.specs.ItemRules.{item_faults, item_scope, items_faults}
-use Rattle.declaring.specs.LocalRules.{locals_scope}
-use Rattle.declaring.specs.PackageNames.{body_item_scope, inside_scope, package_scope, specified_scope}
-use Rattle.declaring.specs.ProtectedRules.{parts_faults}
+use Rattle.declaration_rules.specs.BodyNames.{components_scope, formals_scope, object_body_scope}
+use Rattle.declaration_rules.specs.ItemRules.{item_faults, item_scope, items_faults}
+use Rattle.declaration_rules.specs.LocalRules.{locals_scope}
+use Rattle.declaration_rules.specs.PackageNames.{body_item_scope, inside_scope, package_scope, specified_scope}
+use Rattle.declaration_rules.specs.ProtectedRules.{parts_faults}
 use Rattle.stmt_rules.specs.declared.around.BodyKind.{BodyKind}
 use Rattle.stmt_rules.specs.declared.around.BodyKind.TheVariants as kind
 use Rattle.stmt_rules.specs.StatementRules.{in_body}
-use Rattle.legality.specs.BodyRules.{body_faults, kind_of, subprogram_body_faults, task_body_faults}
-use Rattle.legality.specs.PackageBodyRules.{body_item_faults, body_items_faults}
-use Rattle.legality.specs.PackageRules.{package_faults}
-use Rattle.legality.specs.ProtectedBodyRules.{components_at, entry_body_faults, known_body_faults, object_items_faults, operation_sees, protected_item_faults, protected_item_scope, protected_items_faults}
+use Rattle.unit_rules.specs.BodyRules.{body_faults, kind_of, subprogram_body_faults, task_body_faults}
+use Rattle.unit_rules.specs.PackageBodyRules.{body_item_faults, body_items_faults}
+use Rattle.unit_rules.specs.PackageRules.{package_faults}
+use Rattle.unit_rules.specs.ProtectedBodyRules.{components_at, entry_body_faults, known_body_faults, object_items_faults, operation_sees, protected_item_faults, protected_item_scope, protected_items_faults}
 use Rattle.mismatches.specs.declared.conflict.Conflict.{Conflict}
 use Rattle.mismatches.specs.declared.conflict.Mismatch.{Mismatch}
 use Rattle.mismatches.specs.declared.remark.Remark.{Remark}

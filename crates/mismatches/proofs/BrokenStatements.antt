@@ -18,8 +18,8 @@ use Rattle.expr_rules.specs.NameRules.{mismatch}
 use Rattle.expr_rules.specs.Typing.{boolean_wanted, is_integers, own_of}
 use Rattle.type_rules.specs.ObjectRules.{called_faults, fixed_faults, fixed_object_faults, is_clock, local_object_faults, span_call}
 use Rattle.type_rules.specs.SubtypeNames.{subtype_of, wanted_by}
-use Rattle.declaring.specs.BodyNames.{bounds_type, if_integers, last_rule}
-use Rattle.declaring.specs.LocalRules.{fixed_local_faults, fixed_locals_faults, local_faults, local_scope, locals_faults, locals_scope}
+use Rattle.declaration_rules.specs.BodyNames.{bounds_type, if_integers, last_rule}
+use Rattle.declaration_rules.specs.LocalRules.{fixed_local_faults, fixed_locals_faults, local_faults, local_scope, locals_faults, locals_scope}
 use Rattle.stmt_rules.specs.declared.around.Around.{Around}
 use Rattle.stmt_rules.specs.CaseRules.{choice_value, choices_faults, choices_wanted, chosen_by, chosen_with, values_faults}
 use Rattle.stmt_rules.specs.SimpleRules.{assigned_wanted, optional_condition_faults, result_wanted, return_faults, simple_faults, time_wanted}

@@ -5,7 +5,7 @@ use Rattle.ada_tree.specs.StatementTree.{DeclarationTree, StmtTree, StmtTrees, E
 use Rattle.types.specs.Scopes.{Scope}
 use Rattle.expr_rules.specs.declared.own.Wanted.{Wanted}
 use Rattle.expr_rules.specs.Typing.{own_of}
-use Rattle.declaring.specs.LocalRules.{locals_scope}
+use Rattle.declaration_rules.specs.LocalRules.{locals_scope}
 use Rattle.stmt_rules.specs.declared.around.BodyKind.{BodyKind}
 use Rattle.stmt_rules.specs.CaseRules.{choices_wanted}
 use Rattle.mismatches.specs.Conflicts.{Mismatches, Search, noted}

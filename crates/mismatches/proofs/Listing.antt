@@ -3,7 +3,7 @@ use Rattle.std.proofs.Common.{◌≡◌, ◌∙◌, ℕ, Bool, true, false, List
 use Rattle.std.specs.Prelude.{if◌then◌else◌, nat_eq}
 use Rattle.ada_tree.specs.ProgramTree.{PackageTree}
 use Rattle.types.specs.Scopes.{Scope, standard}
-use Rattle.declaring.specs.PackageNames.{package_scope}
+use Rattle.declaration_rules.specs.PackageNames.{package_scope}
 use Rattle.mismatches.specs.declared.conflict.Mismatch.{Mismatch}
 use Rattle.mismatches.specs.declared.listed.PlacedRemark.{PlacedRemark}
 use Rattle.mismatches.specs.BodyMismatches.{package_mismatches}

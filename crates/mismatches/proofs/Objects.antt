@@ -5,9 +5,9 @@ use Rattle.ada_tree.specs.ProgramTree.{OfSubprogram, ProtectedItemTree, Operatio
 use Rattle.types.specs.Entities.{Entity, Operation}
 use Rattle.types.specs.Scopes.{Scope, changed_at, offering, operations_or, protected_at, with_operations}
 use Rattle.type_rules.specs.ProfileRules.{subprogram_scope}
-use Rattle.declaring.specs.BodyNames.{formals_scope, object_body_scope}
-use Rattle.declaring.specs.Laws.{NamesAreAdded, ObjectBodiesEnd, StandsFirst}
-use Rattle.legality.specs.ProtectedBodyRules.{protected_item_scope, protected_items_scope}
+use Rattle.declaration_rules.specs.BodyNames.{formals_scope, object_body_scope}
+use Rattle.declaration_rules.specs.Laws.{NamesAreAdded, ObjectBodiesEnd, StandsFirst}
+use Rattle.unit_rules.specs.ProtectedBodyRules.{protected_item_scope, protected_items_scope}
 
 changed_length : (s : Scope) (n : ℕ) (change : Entity → Entity) → length (changed_at s n change) ≡ length s
 changed_length [] n change = refl

@@ -12,14 +12,14 @@ use Rattle.expr_rules.specs.declared.own.Wanted.{Wanted}
 use Rattle.expr_rules.specs.declared.own.Wanted.TheVariants.{AnyInteger, OfType}
 use Rattle.type_rules.specs.ProfileRules.{subprogram_scope}
 use Rattle.type_rules.specs.SubtypeNames.{if_integer, subtype_of, wanted_by}
-use Rattle.declaring.specs.BodyNames.{components_scope, formals_scope, object_body_scope}
-use Rattle.declaring.specs.ItemRules.{item_scope}
-use Rattle.declaring.specs.LocalRules.{locals_scope}
-use Rattle.declaring.specs.PackageNames.{body_item_scope, inside_scope, specified_scope}
+use Rattle.declaration_rules.specs.BodyNames.{components_scope, formals_scope, object_body_scope}
+use Rattle.declaration_rules.specs.ItemRules.{item_scope}
+use Rattle.declaration_rules.specs.LocalRules.{locals_scope}
+use Rattle.declaration_rules.specs.PackageNames.{body_item_scope, inside_scope, specified_scope}
 use Rattle.stmt_rules.specs.declared.around.BodyKind.{BodyKind}
 use Rattle.stmt_rules.specs.declared.around.BodyKind.TheVariants as kind
-use Rattle.legality.specs.BodyRules.{kind_of}
-use Rattle.legality.specs.ProtectedBodyRules.{components_at, operation_sees, protected_item_scope}
+use Rattle.unit_rules.specs.BodyRules.{kind_of}
+use Rattle.unit_rules.specs.ProtectedBodyRules.{components_at, operation_sees, protected_item_scope}
 use Rattle.mismatches.specs.Conflicts.{Mismatches}
 use Rattle.mismatches.specs.ExpressionMismatches.{condition_mismatches, mismatches_of}
 use Rattle.mismatches.specs.StatementMismatches.{handlers_mismatches, initial_mismatches, locals_mismatches, object_mismatches, stmts_mismatches}

@@ -9,7 +9,7 @@ use Rattle.types.specs.Scopes.{Scope, standard}
 use Rattle.expr_rules.specs.declared.own.Wanted.{Wanted}
 use Rattle.expr_rules.specs.ExpressionRules.{faults_of}
 use Rattle.expr_rules.specs.Faults.{Faults}
-use Rattle.legality.specs.PackageRules.{package_faults}
+use Rattle.unit_rules.specs.PackageRules.{package_faults}
 use Rattle.mismatches.specs.declared.conflict.Mismatch.{Mismatch}
 use Rattle.mismatches.specs.declared.remark.Remark.{Remark}
 use Rattle.mismatches.specs.Conflicts.{Mismatches}

@@ -1,4 +1,4 @@
-pub use Rattle.legality.specs.PackageRules
+pub use Rattle.unit_rules.specs.PackageRules
 pub mod Conflicts
 pub mod ExpressionMismatches
 pub mod Operating

@@ -8,7 +8,7 @@ use Rattle.expr_rules.specs.declared.own.Own.{Own}
 use Rattle.expr_rules.specs.declared.own.Own.TheVariants.{Typed, Universal, Unknown}
 use Rattle.expr_rules.specs.declared.own.Wanted.{Wanted}
 use Rattle.expr_rules.specs.declared.own.Wanted.TheVariants.{Anything, AnyInteger, OfType}
-use Rattle.declaring.specs.PackageNames.{package_scope}
+use Rattle.declaration_rules.specs.PackageNames.{package_scope}
 use Rattle.mismatches.specs.declared.conflict.Conflict.{Conflict}
 use Rattle.mismatches.specs.declared.conflict.Conflict.TheVariants.{NoVariable, Operands, Unexpected}
 use Rattle.mismatches.specs.declared.remark.NamedType.{NamedType}

@@ -9,7 +9,7 @@ use Rattle.expr_rules.specs.declared.own.Wanted.{Wanted}
 use Rattle.expr_rules.specs.declared.own.Wanted.TheVariants.{AnyInteger, OfType}
 use Rattle.expr_rules.specs.Typing.{is_integers, own_of}
 use Rattle.type_rules.specs.SubtypeNames.{subtype_of, wanted_by}
-use Rattle.declaring.specs.LocalRules.{local_scope, locals_scope}
+use Rattle.declaration_rules.specs.LocalRules.{local_scope, locals_scope}
 use Rattle.stmt_rules.specs.declared.around.BodyKind.{BodyKind}
 use Rattle.stmt_rules.specs.CaseRules.{choices_wanted}
 use Rattle.stmt_rules.specs.SimpleRules.{assigned_wanted, result_wanted, time_wanted}

@@ -2,7 +2,7 @@
 ghost use Rattle.std.specs.Prelude.{◌≡◌, OnOk};
 ghost use Rattle.ada_tree.specs.ProgramTree.{body_tree};
 ghost use Rattle.ada_tree.specs.StatementTree.{subprogram_tree};
-ghost use Rattle.legality.specs.BodyRules.{kind_of, type_number};
+ghost use Rattle.unit_rules.specs.BodyRules.{kind_of, type_number};
 ghost use Rattle.mismatches.specs.Conflicts.{noted};
 ghost use Rattle.mismatches.specs.BodyMismatches.{body_mismatches, subprogram_mismatches};
 
@@ -10,8 +10,8 @@ use crate::conflict::{Search, noted_by_parts};
 use crate::locals::locals_mismatches;
 use crate::statements::sequence_mismatches;
 use ada_tree::{Body, Identifier, Subprogram};
-use declaring::declare_formals;
-use declaring::laws::names_are_added;
+use declaration_rules::declare_formals;
+use declaration_rules::laws::names_are_added;
 use std::alloc::{AllocError, Global};
 use stmt_rules::BodyKind;
 use type_rules::{declare_subprogram, subtype_of};

@@ -2,7 +2,7 @@
 ghost use Rattle.std.specs.Prelude.{◌≡◌, IfOk};
 ghost use Rattle.ada_tree.specs.ProgramTree.{package_tree, program_tree};
 ghost use Rattle.types.specs.Scopes.{standard};
-ghost use Rattle.declaring.specs.PackageNames.{package_scope};
+ghost use Rattle.declaration_rules.specs.PackageNames.{package_scope};
 ghost use Rattle.mismatches.specs.BodyMismatches.{package_mismatches};
 ghost use Rattle.mismatches.specs.Listed.{AreRemarksIn, AreRemarksOf, listed_remarks, remark_in};
 

@@ -2,14 +2,14 @@
 ghost use Rattle.std.specs.Prelude.{◌≡◌, OnOk, map};
 ghost use Rattle.ada_tree.specs.ExpressionTree.{expr_tree};
 ghost use Rattle.ada_tree.specs.StatementTree.{declaration_tree, object_tree, optional_tree};
-ghost use Rattle.declaring.specs.LocalRules.{local_scope, locals_scope};
+ghost use Rattle.declaration_rules.specs.LocalRules.{local_scope, locals_scope};
 ghost use Rattle.mismatches.specs.Conflicts.{noted};
 ghost use Rattle.mismatches.specs.StatementMismatches.{initial_mismatches, local_mismatches, locals_mismatches, object_mismatches};
 
 use crate::conflict::{Search, noted_by_parts};
 use crate::expressions::mismatches_of;
 use ada_tree::{Declaration, Expr, ObjectDeclaration};
-use declaring::{declare_protected, declare_task};
+use declaration_rules::{declare_protected, declare_task};
 use expr_rules::Wanted;
 use std::alloc::{AllocError, Global};
 use type_rules::{declare_local_object, subtype_of, wanted_by};

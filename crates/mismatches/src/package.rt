@@ -3,8 +3,8 @@ ghost use Rattle.std.specs.Prelude.{◌≡◌, IfOk, OnOk, map};
 ghost use Rattle.ada_tree.specs.StatementTree.{protected_component_tree};
 ghost use Rattle.ada_tree.specs.ProgramTree.{body_item_tree, item_tree, package_tree};
 ghost use Rattle.types.specs.Scopes.{standard};
-ghost use Rattle.declaring.specs.ItemRules.{item_scope, items_scope};
-ghost use Rattle.declaring.specs.PackageNames.{body_item_scope, body_items_scope, package_scope};
+ghost use Rattle.declaration_rules.specs.ItemRules.{item_scope, items_scope};
+ghost use Rattle.declaration_rules.specs.PackageNames.{body_item_scope, body_items_scope, package_scope};
 ghost use Rattle.mismatches.specs.Conflicts.{noted};
 ghost use Rattle.mismatches.specs.BodyMismatches.{body_item_mismatches, body_items_mismatches, component_mismatches, components_mismatches, item_mismatches, items_mismatches, package_mismatches};
 
@@ -14,12 +14,12 @@ use crate::definitions::definition_mismatches;
 use crate::locals::{initial_mismatches, object_mismatches};
 use crate::protected::object_body_mismatches;
 use ada_tree::{BodyItem, Item, Package, ProtectedComponent};
-use declaring::declare_item;
-use legality::{inside_scope, see_body_item};
+use declaration_rules::declare_item;
 use std::alloc::{AllocError, Global};
 use stmt_rules::BodyKind;
 use type_rules::{subtype_of, wanted_by};
 use types::Scope;
+use unit_rules::{inside_scope, see_body_item};
 
 fn component_mismatches(scope: &Scope, component: &ProtectedComponent, search: &mut Search)
     ensures { search.new ≡ noted search.old (component_mismatches scope.now (protected_component_tree component.now)) }

@@ -3,8 +3,8 @@ ghost use Rattle.std.specs.Prelude.{◌≡◌, false, IfOk, OnOk, is_some, map, 
 ghost use Rattle.ada_tree.specs.ExpressionTree.{expr_tree};
 ghost use Rattle.ada_tree.specs.StatementTree.{entry_tree, subprogram_tree};
 ghost use Rattle.ada_tree.specs.ProgramTree.{body_tree, protected_item_tree};
-ghost use Rattle.declaring.specs.BodyNames.{components_scope, formals_scope, object_body_scope};
-ghost use Rattle.legality.specs.ProtectedBodyRules.{components_at, operation_sees, protected_item_scope, protected_items_scope};
+ghost use Rattle.declaration_rules.specs.BodyNames.{components_scope, formals_scope, object_body_scope};
+ghost use Rattle.unit_rules.specs.ProtectedBodyRules.{components_at, operation_sees, protected_item_scope, protected_items_scope};
 ghost use Rattle.mismatches.specs.Conflicts.{noted};
 ghost use Rattle.mismatches.specs.BodyMismatches.{entry_mismatches, known_mismatches, object_body_mismatches, operation_mismatches, operations_mismatches, subprogram_mismatches};
 
@@ -12,8 +12,8 @@ use crate::bodies::{body_mismatches, subprogram_mismatches};
 use crate::conflict::{Search, noted_by_parts};
 use crate::simple::condition_mismatches;
 use ada_tree::{Body, EntryDeclaration, Expr, ProtectedBodyItem, Subprogram};
-use declaring::laws::{names_are_added, object_bodies_end};
-use declaring::{declare_components, declare_formals, enter_object, leave_object};
+use declaration_rules::laws::{names_are_added, object_bodies_end};
+use declaration_rules::{declare_components, declare_formals, enter_object, leave_object};
 use std::alloc::{AllocError, Global};
 use stmt_rules::BodyKind;
 use type_rules::declare_subprogram;

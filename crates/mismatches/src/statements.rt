@@ -13,8 +13,8 @@ use crate::simple::{
 };
 use ada_tree::laws::statements_by_parts;
 use ada_tree::{Alternative, ElsifPart, Handler, Iteration, Stmt};
-use declaring::declare_loop_parameter;
-use declaring::laws::names_are_added;
+use declaration_rules::declare_loop_parameter;
+use declaration_rules::laws::names_are_added;
 use expr_rules::{Wanted, own_of};
 use std::alloc::{AllocError, Global};
 use stmt_rules::BodyKind;

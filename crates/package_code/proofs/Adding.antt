@@ -14,14 +14,14 @@ use Rattle.expr_soundness.specs.expr_rules.specs.ExpressionRules.{faults_of}
 use Rattle.expr_soundness.specs.expr_rules.proofs.TypedLaw.{back_empty, front_empty, judged, unbroken}
 use Rattle.type_rules.specs.ProfileRules.{formals_faults, profile_faults, result_faults}
 use Rattle.type_rules.specs.SubtypeNames.{end_rule, subtype_of}
-use Rattle.declaring.specs.BodyNames.{formals_scope}
-use Rattle.declaring.specs.LocalRules.{fixed_locals_faults, locals_faults, locals_scope}
+use Rattle.declaration_rules.specs.BodyNames.{formals_scope}
+use Rattle.declaration_rules.specs.LocalRules.{fixed_locals_faults, locals_faults, locals_scope}
 use Rattle.program_soundness.specs.stmt_rules.specs.declared.around.Around.{Around}
 use Rattle.program_soundness.specs.stmt_rules.specs.declared.around.BodyKind.TheVariants as kind
 use Rattle.program_soundness.specs.stmt_rules.specs.SimpleRules.{result_wanted}
 use Rattle.program_soundness.specs.stmt_rules.specs.StatementRules.{handlers_faults, in_body, sequence_faults, stmts_faults}
-use Rattle.legality.specs.BodyRules.{body_faults, function_body_faults, has_no_declarations, head_faults, is_function_body, kind_of, task_body_faults, task_rule, type_number}
-use Rattle.program_soundness.specs.checking.specs.ProgramRules.{IsLegal}
+use Rattle.unit_rules.specs.BodyRules.{body_faults, function_body_faults, has_no_declarations, head_faults, is_function_body, kind_of, task_body_faults, task_rule, type_number}
+use Rattle.program_soundness.specs.legality.specs.ProgramRules.{IsLegal}
 use Rattle.ravenscar.specs.ProgramRules.{IsRestricted}
 use Rattle.expr_soundness.specs.meaning.specs.Programs.{Parameter, Program, parameter, program_of, returned, subtype_named}
 use Rattle.expr_soundness.specs.Laws.{ScopesAreSound}

@@ -7,8 +7,8 @@ use Rattle.ada_tree.specs.ProgramTree.{BodyItemTree, BodyTree, ItemTree, OfItem,
 use Rattle.types.specs.Layouts.{total}
 use Rattle.types.specs.Scopes.{Scope, number_of}
 use Rattle.type_rules.specs.ProfileRules.{subprogram_scope}
-use Rattle.declaring.specs.ItemRules.{item_scope}
-use Rattle.legality.specs.MainRules.{item_name}
+use Rattle.declaration_rules.specs.ItemRules.{item_scope}
+use Rattle.unit_rules.specs.MainRules.{item_name}
 use Rattle.expr_soundness.specs.meaning.specs.Programs.{program_of}
 use Rattle.program_soundness.specs.Fronts.{declared_in, front, start_in}
 use Rattle.program_soundness.proofs.Listing.{same_some}

@@ -5,7 +5,7 @@ use Rattle.ada_tree.specs.declared.expression.Identifier.{Identifier}
 use Rattle.ada_tree.specs.ProgramTree.{BodyItemTree, EntryBody, OperationBody, ProgramTree, ProtectedBody, ProtectedItemTree}
 use Rattle.types.specs.Entities.{Entry, Profile, Protected, ProtectedObject, Subprogram}
 use Rattle.types.specs.Scopes.{Scope}
-use Rattle.program_soundness.specs.checking.specs.ProgramRules.{IsLegal}
+use Rattle.program_soundness.specs.legality.specs.ProgramRules.{IsLegal}
 use Rattle.ravenscar.specs.ProgramRules.{IsRestricted}
 use Rattle.expr_soundness.specs.meaning.specs.Calls.{procedure_among}
 use Rattle.expr_soundness.specs.meaning.specs.Programs.{Procedure, Program, program_of}

@@ -40,12 +40,12 @@ use Rattle.expr_soundness.proofs.Parts.{shape_by_form}
 use Rattle.type_rules.specs.ObjectRules.{object_entity}
 use Rattle.type_rules.specs.SubtypeNames.{end_rule, subtype_of}
 use Rattle.type_rules.specs.ProfileRules.{formals_faults}
-use Rattle.declaring.specs.BodyNames.{components_scope, formal_role, formal_scope, formals_scope}
+use Rattle.declaration_rules.specs.BodyNames.{components_scope, formal_role, formal_scope, formals_scope}
 use Rattle.program_soundness.specs.stmt_rules.specs.declared.around.BodyKind.TheVariants as kinds
 use Rattle.program_soundness.specs.stmt_rules.specs.SimpleRules.{condition_faults}
-use Rattle.legality.specs.BodyRules.{body_faults}
-use Rattle.legality.specs.ProtectedBodyRules.{entry_rule}
-use Rattle.program_soundness.specs.checking.specs.ProgramRules.{IsLegal}
+use Rattle.unit_rules.specs.BodyRules.{body_faults}
+use Rattle.unit_rules.specs.ProtectedBodyRules.{entry_rule}
+use Rattle.program_soundness.specs.legality.specs.ProgramRules.{IsLegal}
 use Rattle.ravenscar.specs.ProgramRules.{IsRestricted}
 use Rattle.expr_soundness.specs.meaning.specs.Calls.{barrier_of, barrier_place, holds_at, is_open, is_true}
 use Rattle.expr_soundness.specs.meaning.specs.Programs.{Procedure, Program, program_of}

@@ -12,7 +12,7 @@ use Rattle.types.specs.Scopes.{Scope, form_of, is_visible, with_name}
 use Rattle.types.specs.Shapes.{has_shape, shape_of, words}
 use Rattle.types.specs.Places.{is_among}
 use Rattle.types.specs.Values.{Value}
-use Rattle.declaring.specs.BodyNames.{formal_role}
+use Rattle.declaration_rules.specs.BodyNames.{formal_role}
 use Rattle.expr_soundness.specs.Laws.{AgreementIsKept, ScopesAreSound}
 use Rattle.expr_soundness.specs.SoundScopes.{IsKnown, SoundScope}
 use Rattle.expr_soundness.specs.meaning.specs.Calls.{is_out}

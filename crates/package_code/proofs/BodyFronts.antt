@@ -16,10 +16,10 @@ use Rattle.types.specs.Statics.{static_place}
 use Rattle.types.specs.Values.{Value}
 use Rattle.expr_soundness.specs.expr_rules.proofs.TypedLaw.{back_empty, front_empty, unbroken}
 use Rattle.type_rules.specs.SubtypeNames.{end_rule, named_entity, subtype_faults, subtype_of, is_composite, is_composite_form}
-use Rattle.declaring.specs.BodyNames.{formals_scope}
+use Rattle.declaration_rules.specs.BodyNames.{formals_scope}
 use Rattle.type_rules.specs.ProfileRules.{formal_and, formal_faults, formal_parameters, formals_faults, function_faults, has_wrong_formal, profile_faults, result_faults, subprogram_scope, is_wrong_formal, is_in}
-use Rattle.legality.specs.BodyRules.{head_faults, subprogram_body_faults}
-use Rattle.program_soundness.specs.checking.specs.ProgramRules.{IsLegal}
+use Rattle.unit_rules.specs.BodyRules.{head_faults, subprogram_body_faults}
+use Rattle.program_soundness.specs.legality.specs.ProgramRules.{IsLegal}
 use Rattle.ravenscar.specs.ProgramRules.{IsRestricted}
 use Rattle.expr_soundness.specs.Agreeing.{Agrees}
 use Rattle.expr_soundness.specs.Laws.{ScopesAreSound}

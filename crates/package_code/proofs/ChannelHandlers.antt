@@ -11,8 +11,8 @@ use Rattle.image.specs.declared.attachments.Attachment.{Attachment}
 use Rattle.types.specs.Places.{or_else}
 use Rattle.types.specs.Scopes.{Scope, integer_type}
 use Rattle.types.specs.Values.{Array, Number, Record, Truth, Value}
-use Rattle.declaring.specs.HandlerChannels.{attached_channel, channel_of}
-use Rattle.declaring.specs.TaskRules.{is_attachment}
+use Rattle.declaration_rules.specs.HandlerChannels.{attached_channel, channel_of}
+use Rattle.declaration_rules.specs.TaskRules.{is_attachment}
 use Rattle.expr_soundness.specs.expr_rules.specs.StaticRules.{static_scalar}
 use Rattle.expr_soundness.specs.expr_rules.specs.declared.own.Wanted.TheVariants as wanted
 use Rattle.expr_soundness.specs.meaning.specs.Programs.{Attached, attached_by, attached_operation, attached_operations, handler_at, handlers_among, items_among, object_numbered, package_items, program_of}

@@ -7,8 +7,8 @@ use Rattle.ada_tree.specs.StatementTree.{SubprogramTree}
 use Rattle.ada_tree.specs.ProgramTree.{BodyItemTree, BodyTree, EntryBody, OfItem, OperationBody, ProgramTree, ProtectedBody, ProtectedItemTree, SubprogramBody, TaskBody}
 use Rattle.types.specs.declared.entity.RecordComponent.{RecordComponent}
 use Rattle.types.specs.Scopes.{Scope, number_of}
-use Rattle.declaring.specs.BodyNames.{object_body_scope}
-use Rattle.legality.specs.ProtectedBodyRules.{components_at, protected_item_scope}
+use Rattle.declaration_rules.specs.BodyNames.{object_body_scope}
+use Rattle.unit_rules.specs.ProtectedBodyRules.{components_at, protected_item_scope}
 use Rattle.expr_soundness.specs.meaning.specs.Programs.{program_of}
 use Rattle.program_soundness.proofs.Listing.{front_at, same_some}
 use Rattle.program_soundness.specs.Fronts.{declared_in, front}

@@ -16,7 +16,7 @@ use Rattle.types.specs.Evaluating.{Calls, passed, value_with}
 use Rattle.types.specs.Places.{Function, Place}
 use Rattle.types.specs.Shapes.{value_words}
 use Rattle.types.specs.Values.{Value}
-use Rattle.program_soundness.specs.checking.specs.ProgramRules.{IsLegal}
+use Rattle.program_soundness.specs.legality.specs.ProgramRules.{IsLegal}
 use Rattle.ravenscar.specs.ProgramRules.{IsRestricted}
 use Rattle.expr_soundness.specs.meaning.specs.Calls.{results}
 use Rattle.expr_soundness.specs.meaning.specs.Programs.{Parameter, Procedure, Program, parameter, program_of}

@@ -14,7 +14,7 @@ use Rattle.image.specs.Operations as code
 use Rattle.image.specs.Steps as steps
 use Rattle.types.specs.Evaluating.{entered}
 use Rattle.types.specs.Places.{Function, Place, function_of, is_of}
-use Rattle.program_soundness.specs.checking.specs.ProgramRules.{IsLegal}
+use Rattle.program_soundness.specs.legality.specs.ProgramRules.{IsLegal}
 use Rattle.ravenscar.specs.ProgramRules.{IsRestricted}
 use Rattle.expr_soundness.specs.Laws.{AgreementIsKept}
 use Rattle.expr_soundness.specs.meaning.specs.Calls.{is_open, procedure_among}
@@ -284,14 +284,14 @@ module _ (laws : LawsOfNames) (t : ProgramTree) (legal : IsLegal t) (restricted 
           found_entry program.scope (bodies_among program.scope all) o q (ap (λ l. entry_of l o) (sym (w.procedures ∙ procedures_are program.scope all)) ∙ found) in
           record { number = r.number; row = r.row; code = procedure_coded q x.unit_ x.has x.none x.is r.number r.numbered }
 
-      pub ada_linkd : QuietStays → ViewsOn → ViewsBack → i.exceptions ≡ program.exceptions
+      pub program_is_coded : QuietStays → ViewsOn → ViewsBack → i.exceptions ≡ program.exceptions
           → ((o : ℕ) (q : Procedure) → entry_of program.procedures o ≡ Some q → IsInRow o q)
           → ((m : Store) (words : Words) (o : ℕ) → IsSoundStore program m → StoreLies program.scope m → StandsFor program g m words → is_open program m o ≡ steps.is_open i words o)
           → ((note : Note) (l : Kernel) (u : ℕ) (a : Attached) → is_task (program_partition program) u ≡ false
           → handler_at (u - length program.tasks) program.handlers ≡ Some a
           → CodeStands i program g numbers note l u (initial_work program u) (initial_state i u))
           → HasCode i program g numbers
-      ada_linkd quiet views back exceptions rows barriers restarts = record {
+      program_is_coded quiet views back exceptions rows barriers restarts = record {
         exceptions = exceptions;
         predefined = four_first (exceptions_among (package_items t.package_));
         functions = functions_answer quiet views back i (library_of g) functions_coded

@@ -13,8 +13,8 @@ use Rattle.types.specs.Layouts.{words_of}
 use Rattle.types.specs.Places.{Object, Place, is_among}
 use Rattle.types.specs.Scopes.{Scope, form_at}
 use Rattle.types.specs.Shapes.{initial, shape_of, value_words}
-use Rattle.declaring.specs.BodyNames.{formal_role}
-use Rattle.program_soundness.specs.checking.specs.ProgramRules.{IsLegal}
+use Rattle.declaration_rules.specs.BodyNames.{formal_role}
+use Rattle.program_soundness.specs.legality.specs.ProgramRules.{IsLegal}
 use Rattle.ravenscar.specs.ProgramRules.{IsRestricted}
 use Rattle.expr_soundness.specs.Agreeing.{Agrees}
 use Rattle.expr_soundness.specs.Laws.{AgreementIsKept}

@@ -16,7 +16,7 @@ use Rattle.types.specs.Laws.{InitialValuesHaveShape}
 use Rattle.types.specs.Places.{Function, Place}
 use Rattle.types.specs.Shapes.{shape_of, value_words}
 use Rattle.types.specs.Values.{Value}
-use Rattle.program_soundness.specs.checking.specs.ProgramRules.{IsLegal}
+use Rattle.program_soundness.specs.legality.specs.ProgramRules.{IsLegal}
 use Rattle.ravenscar.specs.ProgramRules.{IsRestricted}
 use Rattle.expr_soundness.specs.Agreeing.{Agrees}
 use Rattle.expr_soundness.specs.meaning.specs.Programs.{Program, parameter, program_of, subtype_named}

@@ -19,7 +19,7 @@ use Rattle.type_rules.specs.SubtypeNames.{subtype_of}
 use Rattle.expr_soundness.proofs.Positions.{same_some}
 use Rattle.expr_soundness.specs.Laws.{AgreementIsKept}
 use Rattle.expr_soundness.specs.SoundScopes.{IsKnown}
-use Rattle.declaring.specs.BodyNames.{formal_role}
+use Rattle.declaration_rules.specs.BodyNames.{formal_role}
 use Rattle.expr_soundness.specs.meaning.specs.Calls.{is_in, is_out, results}
 use Rattle.expr_soundness.specs.meaning.specs.Programs.{Parameter, Program, parameter, subtype_named}
 use Rattle.program_soundness.proofs.Formals.{AreNew}

@@ -12,7 +12,7 @@ use Rattle.types.specs.Places.{Place, is_among}
 use Rattle.types.specs.Scopes.{Scope}
 use Rattle.types.specs.Statics.{static_place}
 use Rattle.expr_soundness.specs.Agreeing.{Agrees}
-use Rattle.program_soundness.specs.checking.specs.ProgramRules.{IsLegal}
+use Rattle.program_soundness.specs.legality.specs.ProgramRules.{IsLegal}
 use Rattle.ravenscar.specs.ProgramRules.{IsRestricted}
 use Rattle.expr_soundness.specs.meaning.specs.Programs.{OfBody, Procedure, Program, program_of}
 use Rattle.expr_soundness.specs.meaning.specs.Source.{duty_items}

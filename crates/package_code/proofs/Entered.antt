@@ -22,7 +22,7 @@ use Rattle.types.specs.Scopes.{Scope}
 use Rattle.types.specs.Shapes.{has_shape, shape_of, value_words}
 use Rattle.types.specs.Values.{Value}
 use Rattle.expr_soundness.specs.expr_rules.specs.Laws.{type_shape}
-use Rattle.program_soundness.specs.checking.specs.ProgramRules.{IsLegal}
+use Rattle.program_soundness.specs.legality.specs.ProgramRules.{IsLegal}
 use Rattle.ravenscar.specs.ProgramRules.{IsRestricted}
 use Rattle.expr_soundness.specs.SoundScopes.{IsKnown}
 use Rattle.expr_soundness.proofs.Parts.{subtype_values}

@@ -9,7 +9,7 @@ use Rattle.ada_tree.specs.ProgramTree.{BodyTree, EntryBody, ProgramTree, Protect
 use Rattle.image.specs.ObjectTable.{ObjectRow}
 use Rattle.types.specs.Entities.{ProtectedObject}
 use Rattle.types.specs.Places.{is_of}
-use Rattle.program_soundness.specs.checking.specs.ProgramRules.{IsLegal}
+use Rattle.program_soundness.specs.legality.specs.ProgramRules.{IsLegal}
 use Rattle.ravenscar.specs.ProgramRules.{IsRestricted}
 use Rattle.expr_soundness.specs.meaning.specs.Programs.{Procedure, Program, package_items, program_of}
 use Rattle.program_soundness.specs.Fronts.{declared_in, start_in}

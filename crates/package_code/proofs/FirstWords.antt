@@ -15,7 +15,7 @@ use Rattle.types.specs.Entities as entity
 use Rattle.types.specs.Places.{Function, IsObject, Meaning, Object, Place, function_meaning, function_of, meaning_in_scope, meaning_of, meaning_or, object_meaning, object_of, or_else}
 use Rattle.types.specs.Scopes.{number_of}
 use Rattle.types.specs.Values.{Value}
-use Rattle.program_soundness.specs.checking.specs.ProgramRules.{IsLegal}
+use Rattle.program_soundness.specs.legality.specs.ProgramRules.{IsLegal}
 use Rattle.ravenscar.specs.ProgramRules.{IsRestricted}
 use Rattle.expr_soundness.specs.Agreeing.{Agrees}
 use Rattle.expr_soundness.specs.Answers.{FunctionsAreSound}

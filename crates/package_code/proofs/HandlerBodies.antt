@@ -7,7 +7,7 @@ use Rattle.ada_tree.specs.StatementTree.{SubprogramTree}
 use Rattle.ada_tree.specs.ProgramTree.{BodyTree, OperationBody, ProgramTree, ProtectedBody, ProtectedItemTree}
 use Rattle.types.specs.Places.{is_of}
 use Rattle.types.specs.Scopes.{Scope}
-use Rattle.program_soundness.specs.checking.specs.ProgramRules.{IsLegal}
+use Rattle.program_soundness.specs.legality.specs.ProgramRules.{IsLegal}
 use Rattle.ravenscar.specs.ProgramRules.{IsRestricted}
 use Rattle.expr_soundness.specs.meaning.specs.Programs.{Attached, Parameter, Procedure, Program, parameter, program_of}
 use Rattle.expr_soundness.specs.meaning.specs.Calls.{procedure_among}

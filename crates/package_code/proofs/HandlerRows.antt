@@ -6,7 +6,7 @@ use Rattle.image.specs.Sections.{Sections}
 use Rattle.image.specs.declared.subprograms.Kind.TheVariants as kinds
 use Rattle.image.specs.declared.subprograms.Subprogram.{Subprogram}
 use Rattle.type_rules.specs.ProfileRules.{formal_parameters}
-use Rattle.program_soundness.specs.checking.specs.ProgramRules.{IsLegal}
+use Rattle.program_soundness.specs.legality.specs.ProgramRules.{IsLegal}
 use Rattle.ravenscar.specs.ProgramRules.{IsRestricted}
 use Rattle.expr_soundness.specs.meaning.specs.Programs.{Attached, program_of, subtype_named}
 use Rattle.program_soundness.specs.step_soundness.specs.Starting.{IsSoundHandler}

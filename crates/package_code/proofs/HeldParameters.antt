@@ -13,7 +13,7 @@ use Rattle.types.specs.Places.{is_among}
 use Rattle.types.specs.Scopes.{Scope, with_name}
 use Rattle.types.specs.Shapes.{has_shape, shape_of, value_words}
 use Rattle.types.specs.Values.{Value}
-use Rattle.declaring.specs.BodyNames.{formal_role}
+use Rattle.declaration_rules.specs.BodyNames.{formal_role}
 use Rattle.expr_soundness.specs.Laws.{ScopesAreSound}
 use Rattle.expr_soundness.specs.SoundScopes.{IsKnown, SoundScope}
 use Rattle.expr_soundness.specs.meaning.specs.Calls.{is_in, is_out, results}

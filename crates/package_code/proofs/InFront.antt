@@ -27,9 +27,9 @@ use Rattle.types.specs.Shapes.{has_shape, shape_of, words}
 use Rattle.types.specs.Statics.{static_place}
 use Rattle.types.specs.Values.{Value}
 use Rattle.expr_soundness.specs.expr_rules.specs.Laws.{type_shape}
-use Rattle.declaring.specs.Laws.{StandsFirst}
-use Rattle.declaring.specs.PackageNames.{body_items_scope}
-use Rattle.program_soundness.specs.checking.specs.ProgramRules.{IsLegal}
+use Rattle.declaration_rules.specs.Laws.{StandsFirst}
+use Rattle.declaration_rules.specs.PackageNames.{body_items_scope}
+use Rattle.program_soundness.specs.legality.specs.ProgramRules.{IsLegal}
 use Rattle.ravenscar.specs.ProgramRules.{IsRestricted}
 use Rattle.expr_soundness.specs.Laws.{ScopesAreSound}
 use Rattle.expr_soundness.specs.SoundScopes.{IsKnown, SoundScope}

@@ -15,7 +15,7 @@ use Rattle.types.specs.Entities as entity
 use Rattle.types.specs.Layouts.{words_of}
 use Rattle.types.specs.Places.{Object, object_of}
 use Rattle.types.specs.Shapes.{shape_of, value_words}
-use Rattle.program_soundness.specs.checking.specs.ProgramRules.{IsLegal}
+use Rattle.program_soundness.specs.legality.specs.ProgramRules.{IsLegal}
 use Rattle.ravenscar.specs.ProgramRules.{IsRestricted}
 use Rattle.expr_soundness.proofs.Parts.{subtype_values}
 use Rattle.expr_soundness.proofs.Positions.{same_some}

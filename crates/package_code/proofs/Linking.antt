@@ -23,7 +23,7 @@ use Rattle.image.specs.declared.tasks.Task as rows
 use Rattle.image_laws.specs.Laws.{ImagesHaveSize}
 use Rattle.types.specs.Laws.{InitialValuesHaveShape}
 use Rattle.types.specs.Scopes.{Scope}
-use Rattle.program_soundness.specs.checking.specs.ProgramRules.{IsLegal}
+use Rattle.program_soundness.specs.legality.specs.ProgramRules.{IsLegal}
 use Rattle.ravenscar.specs.ProgramRules.{IsRestricted}
 use Rattle.expr_soundness.specs.meaning.specs.Calls.{procedure_among, procedure_here, body_items, results}
 use Rattle.expr_soundness.specs.meaning.specs.Programs.{OfBody, OfMain, Procedure, Program, Task, items_among, main_task, package_bodies, package_items, program_of, returned, tasks_among, Attached, handler_at, object_attached, program_partition}
@@ -60,7 +60,7 @@ use Rattle.package_code.specs.Objects.{bare_objects, object_rows, service_of}
 use Rattle.package_code.specs.Package.{IsInFront, IsInOrder, IsPackageOf, first_objects}
 use Rattle.package_code.proofs.BodyFronts.{IsEntrance}
 use Rattle.package_code.proofs.NamedExceptions.{exceptions_are_named}
-use Rattle.package_code.proofs.CodedPackage.{HasBodies, IsInRow, IsOperation, StandsAt, ada_linkd, procedures_coded}
+use Rattle.package_code.proofs.CodedPackage.{HasBodies, IsInRow, IsOperation, StandsAt, program_is_coded, procedures_coded}
 use Rattle.package_code.proofs.EntryRows.{element, entry_body, entry_number, row_is}
 use Rattle.package_code.proofs.Barred.{barriers_agree}
 use Rattle.package_code.proofs.EmittedBodies.{procedure_emitted}
@@ -646,7 +646,7 @@ module _ (t : ProgramTree) (i : Sections) (h : HasProgram t i) where
         by_handler (Some a) e = (a, e)
 
     code : HasCode i program g numbers
-    code = ada_linkd laws t legal restricted i g of_program numbers bodies quiet views back (h.exceptions ∙ h.are.exceptions) rows_there
+    code = program_is_coded laws t legal restricted i g of_program numbers bodies quiet views back (h.exceptions ∙ h.are.exceptions) rows_there
         (λ m words o store lying stands. barriers_agree laws t legal restricted i h.objects many_objects g ordered of_program m words store lying stands o)
         restarts
 

@@ -14,7 +14,7 @@ use Rattle.types.specs.Layouts.{words_of}
 use Rattle.types.specs.Scopes.{Scope}
 use Rattle.types.specs.Shapes.{has_shape, shape_of}
 use Rattle.types.specs.Values.{Value}
-use Rattle.program_soundness.specs.checking.specs.ProgramRules.{IsLegal}
+use Rattle.program_soundness.specs.legality.specs.ProgramRules.{IsLegal}
 use Rattle.ravenscar.specs.ProgramRules.{IsRestricted}
 use Rattle.expr_soundness.specs.SoundScopes.{IsKnown, SoundScope}
 use Rattle.expr_soundness.proofs.Goods.{object_known}
@@ -28,7 +28,7 @@ use Rattle.program_soundness.proofs.Same.{SameTypes, known_same, types_turned, t
 use Rattle.expr_code.specs.Seeing.{Package, slot_of}
 use Rattle.expr_code.specs.declared.visible.Slot.{Slot}
 use Rattle.step_simulation.specs.part_code.specs.Copying.{left_out}
-use Rattle.declaring.specs.BodyNames.{formals_scope}
+use Rattle.declaration_rules.specs.BodyNames.{formals_scope}
 use Rattle.step_simulation.specs.part_code.specs.Layout.{AreApart, AreFree, EndsBelow, IsFree, IsLaidOut, NamesObject}
 use Rattle.step_simulation.specs.part_code.specs.Resting.{Framed, NarrowsFrame}
 use Rattle.step_simulation.specs.part_code.specs.Formals.{AddsEach, AreInTurn, Placed, addresses_from, outs_end, parameter_at, passed_end}

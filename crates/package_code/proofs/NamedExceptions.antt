@@ -11,9 +11,9 @@ use Rattle.image.specs.Texts.{text_at}
 use Rattle.types.specs.Entities.{Exception, LibraryUnit}
 use Rattle.types.specs.Places.{or_else}
 use Rattle.types.specs.Scopes.{Scope, is_visible, standard}
-use Rattle.declaring.specs.PackageNames.{body_item_scope, body_items_scope, clauses_scope}
-use Rattle.program_soundness.specs.checking.specs.ProgramRules.{IsLegal}
-use Rattle.program_soundness.specs.checking.proofs.Made.{NoUnits, Times, Io, TimesIo, IoTimes, Units, clauses_seen, seen}
+use Rattle.declaration_rules.specs.PackageNames.{body_item_scope, body_items_scope, clauses_scope}
+use Rattle.program_soundness.specs.legality.specs.ProgramRules.{IsLegal}
+use Rattle.program_soundness.specs.legality.proofs.Made.{NoUnits, Times, Io, TimesIo, IoTimes, Units, clauses_seen, seen}
 use Rattle.ravenscar.specs.ProgramRules.{IsRestricted}
 use Rattle.expr_soundness.specs.meaning.specs.Programs.{exception_name, exception_number, exceptions_among, items_among, program_of}
 use Rattle.program_soundness.specs.step_soundness.specs.Objects.{IsException}

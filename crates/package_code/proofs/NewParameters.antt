@@ -14,9 +14,9 @@ use Rattle.types.specs.Scopes.{Scope, with_name}
 use Rattle.expr_soundness.specs.expr_rules.proofs.TypedLaw.{back_empty, front_empty, unbroken}
 use Rattle.type_rules.specs.ObjectRules.{object_entity}
 use Rattle.type_rules.specs.SubtypeNames.{end_rule, named_entity, subtype_faults, subtype_of}
-use Rattle.declaring.specs.BodyNames.{formal_role, formal_scope, formals_scope}
+use Rattle.declaration_rules.specs.BodyNames.{formal_role, formal_scope, formals_scope}
 use Rattle.type_rules.specs.ProfileRules.{formal_and, formal_faults, formal_parameters, formals_faults, function_faults, has_wrong_formal, is_in, is_wrong_formal, profile_faults, result_faults, subprogram_scope}
-use Rattle.legality.specs.BodyRules.{body_faults, head_faults, kind_of, own_name_faults}
+use Rattle.unit_rules.specs.BodyRules.{body_faults, head_faults, kind_of, own_name_faults}
 use Rattle.expr_soundness.specs.Laws.{ScopesAreSound}
 use Rattle.expr_soundness.specs.SoundScopes.{SoundScope}
 use Rattle.expr_soundness.specs.meaning.specs.Programs.{Parameter, Program, parameter, subtype_named}

@@ -15,14 +15,14 @@ use Rattle.types.specs.Entities as entity
 use Rattle.types.specs.Layouts.{words_of}
 use Rattle.types.specs.Places.{Function, Object, Place, function_of, object_of, or_else}
 use Rattle.types.specs.Scopes.{Scope, offering}
-use Rattle.declaring.specs.BodyNames.{component_role, components_scope, formals_scope}
+use Rattle.declaration_rules.specs.BodyNames.{component_role, components_scope, formals_scope}
 use Rattle.program_soundness.specs.stmt_rules.specs.declared.around.BodyKind.TheVariants as kinds
 use Rattle.program_soundness.specs.stmt_rules.specs.SimpleRules.{condition_faults}
-use Rattle.legality.specs.BodyRules.{body_faults}
-use Rattle.legality.specs.ProtectedBodyRules.{entry_rule, protected_item_faults}
+use Rattle.unit_rules.specs.BodyRules.{body_faults}
+use Rattle.unit_rules.specs.ProtectedBodyRules.{entry_rule, protected_item_faults}
 use Rattle.type_rules.specs.ProfileRules.{formals_faults}
 use Rattle.type_rules.specs.SubtypeNames.{end_rule, subtype_of}
-use Rattle.program_soundness.specs.checking.specs.ProgramRules.{IsLegal}
+use Rattle.program_soundness.specs.legality.specs.ProgramRules.{IsLegal}
 use Rattle.ravenscar.specs.ProgramRules.{IsRestricted}
 use Rattle.expr_soundness.specs.Agreeing.{Agrees}
 use Rattle.expr_soundness.specs.Answers.{FunctionsAreSound}

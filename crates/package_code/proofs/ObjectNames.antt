@@ -10,9 +10,9 @@ use Rattle.types.specs.Places as places
 use Rattle.types.specs.Places.{object_of}
 use Rattle.types.specs.Scopes.{Scope, number_of}
 use Rattle.types.specs.Shapes.{value_words}
-use Rattle.declaring.specs.ProtectedRules.{object_components, protected_entity}
-use Rattle.legality.specs.PackageBodyRules.{body_item_faults}
-use Rattle.program_soundness.specs.checking.specs.ProgramRules.{IsLegal}
+use Rattle.declaration_rules.specs.ProtectedRules.{object_components, protected_entity}
+use Rattle.unit_rules.specs.PackageBodyRules.{body_item_faults}
+use Rattle.program_soundness.specs.legality.specs.ProgramRules.{IsLegal}
 use Rattle.ravenscar.specs.ProgramRules.{IsRestricted}
 use Rattle.expr_soundness.specs.Laws.{ScopesAreSound}
 use Rattle.expr_soundness.specs.meaning.specs.Programs.{Program, component, objects_or_none, program_of}

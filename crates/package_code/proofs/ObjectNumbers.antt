@@ -15,9 +15,9 @@ use Rattle.types.specs.Entities.{Doubtful, Entity, Operation, Protected, Protect
 use Rattle.types.specs.Places.{Object, ceiling_of, ceiling_or, object_of}
 use Rattle.types.specs.Shapes.{value_words}
 use Rattle.types.specs.Scopes.{Named, Scope, entity_at, is_visible, one_if_protected, protected_count, protected_of, with_name}
-use Rattle.declaring.specs.PackageNames.{body_item_scope, body_items_scope}
-use Rattle.declaring.specs.ProtectedRules.{default_ceiling, object_components, object_operations, object_with, protected_entity}
-use Rattle.declaring.specs.TaskRules.{priority_of}
+use Rattle.declaration_rules.specs.PackageNames.{body_item_scope, body_items_scope}
+use Rattle.declaration_rules.specs.ProtectedRules.{default_ceiling, object_components, object_operations, object_with, protected_entity}
+use Rattle.declaration_rules.specs.TaskRules.{priority_of}
 use Rattle.expr_soundness.specs.meaning.specs.Programs.{Program, component, components_among, items_among, objects_or_none}
 use Rattle.program_soundness.specs.Fronts.{scope_at}
 use Rattle.program_soundness.proofs.Listing.{same_some}

@@ -7,9 +7,9 @@ use Rattle.ada_tree.specs.ProgramTree.{BodyItemTree, ProgramTree, ProtectedBody,
 use Rattle.types.specs.declared.entity.RecordComponent.{RecordComponent}
 use Rattle.types.specs.Entities.{ProtectedObject}
 use Rattle.types.specs.Scopes.{Scope, protected_count, protected_of}
-use Rattle.declaring.specs.PackageNames.{body_items_scope}
-use Rattle.legality.specs.ProtectedBodyRules.{protected_item_scope, protected_items_scope}
-use Rattle.program_soundness.specs.checking.specs.ProgramRules.{IsLegal}
+use Rattle.declaration_rules.specs.PackageNames.{body_items_scope}
+use Rattle.unit_rules.specs.ProtectedBodyRules.{protected_item_scope, protected_items_scope}
+use Rattle.program_soundness.specs.legality.specs.ProgramRules.{IsLegal}
 use Rattle.ravenscar.specs.ProgramRules.{IsRestricted}
 use Rattle.expr_soundness.specs.Laws.{ScopesAreSound}
 use Rattle.expr_soundness.specs.meaning.specs.Programs.{program_of}

@@ -14,14 +14,14 @@ use Rattle.types.specs.Scopes.{Scope, entity_at, number_of, protected_of}
 use Rattle.expr_soundness.specs.expr_rules.proofs.TypedLaw.{back_empty, front_empty}
 use Rattle.type_rules.specs.ProfileRules.{formals_faults, profile_faults, result_faults, subprogram_scope}
 use Rattle.type_rules.specs.SubtypeNames.{end_rule, named_entity, subtype_faults, subtype_of}
-use Rattle.declaring.specs.BodyNames.{components_scope, formals_scope}
-use Rattle.declaring.specs.PackageNames.{body_items_scope}
-use Rattle.legality.specs.BodyRules.{body_faults, head_faults, kind_of, own_name_faults}
-use Rattle.legality.specs.ProtectedBodyRules.{components_at, entry_rule, operation_sees, protected_item_scope, protected_items_scope}
-use Rattle.program_soundness.specs.legality.specs.MatchingRules as matching
+use Rattle.declaration_rules.specs.BodyNames.{components_scope, formals_scope}
+use Rattle.declaration_rules.specs.PackageNames.{body_items_scope}
+use Rattle.unit_rules.specs.BodyRules.{body_faults, head_faults, kind_of, own_name_faults}
+use Rattle.unit_rules.specs.ProtectedBodyRules.{components_at, entry_rule, operation_sees, protected_item_scope, protected_items_scope}
+use Rattle.program_soundness.specs.unit_rules.specs.MatchingRules as matching
 use Rattle.program_soundness.specs.stmt_rules.specs.declared.around.BodyKind.TheVariants as kinds
 use Rattle.program_soundness.specs.stmt_rules.specs.SimpleRules.{condition_faults}
-use Rattle.program_soundness.specs.checking.specs.ProgramRules.{IsLegal}
+use Rattle.program_soundness.specs.legality.specs.ProgramRules.{IsLegal}
 use Rattle.ravenscar.specs.ProgramRules.{IsRestricted}
 use Rattle.expr_soundness.specs.meaning.specs.Programs.{Parameter, Program, parameter, program_of}
 use Rattle.expr_soundness.specs.Laws.{ScopesAreSound}

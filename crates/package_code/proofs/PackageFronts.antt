@@ -5,7 +5,7 @@ use Rattle.ada_tree.specs.StatementTree.{SubprogramTree}
 use Rattle.ada_tree.specs.ProgramTree.{BodyTree, ProgramTree, SubprogramBody}
 use Rattle.image.specs.Sections.{Sections}
 use Rattle.types.specs.Entities.{Protected, ProtectedObject}
-use Rattle.program_soundness.specs.checking.specs.ProgramRules.{IsLegal}
+use Rattle.program_soundness.specs.legality.specs.ProgramRules.{IsLegal}
 use Rattle.ravenscar.specs.ProgramRules.{IsRestricted}
 use Rattle.expr_soundness.specs.meaning.specs.Calls.{procedure_among, procedure_here}
 use Rattle.expr_soundness.specs.meaning.specs.Programs.{Procedure, Program, program_of}

@@ -9,8 +9,8 @@ use Rattle.image.specs.declared.instruction.Region.TheVariants as regions
 use Rattle.types.specs.Places.{or_else}
 use Rattle.types.specs.Scopes.{Scope, is_visible, number_of}
 use Rattle.types.specs.Shapes.{value_words}
-use Rattle.declaring.specs.PackageNames.{body_item_scope, body_items_scope}
-use Rattle.program_soundness.specs.checking.specs.ProgramRules.{IsLegal}
+use Rattle.declaration_rules.specs.PackageNames.{body_item_scope, body_items_scope}
+use Rattle.program_soundness.specs.legality.specs.ProgramRules.{IsLegal}
 use Rattle.ravenscar.specs.ProgramRules.{IsRestricted}
 use Rattle.expr_soundness.specs.meaning.specs.Programs.{items_among, object_named, package_items, program_of, variables_among}
 use Rattle.program_soundness.specs.Fronts.{declared_in, front, start_in}

@@ -10,7 +10,7 @@ use Rattle.types.specs.Scopes.{Named, Scope, is_visible, number_of, protected_at
 use Rattle.expr_soundness.specs.Laws.{ScopesAreSound}
 use Rattle.expr_soundness.specs.SoundScopes.{SoundScope}
 use Rattle.expr_soundness.proofs.Positions.{item_added, number_added, same_some}
-use Rattle.declaring.specs.BodyNames.{formal_role}
+use Rattle.declaration_rules.specs.BodyNames.{formal_role}
 use Rattle.expr_soundness.specs.meaning.specs.Programs.{Parameter, Program}
 use Rattle.program_soundness.proofs.WiderScopes.{bytes_same, none_unseen, number_stands, one_named, same_bytes, stands, stands_number, stands_with, with_all}
 use Rattle.program_soundness.proofs.Formals.{AreNew, all_named, all_types, named_formal, new_behind, sound_all}

@@ -5,8 +5,8 @@ use Rattle.ada_tree.specs.ProgramTree.{BodyItemTree, OfItem, PackageTree, Progra
 use Rattle.types.specs.Entities.{Entity, Operation, ProtectedObject}
 use Rattle.types.specs.Places.{or_else}
 use Rattle.types.specs.Scopes.{Named, Scope, number_of, standard}
-use Rattle.legality.specs.MainRules.{item_name}
-use Rattle.declaring.specs.PackageNames.{body_item_scope, body_items_scope, inside_scope, optional_scope}
+use Rattle.unit_rules.specs.MainRules.{item_name}
+use Rattle.declaration_rules.specs.PackageNames.{body_item_scope, body_items_scope, inside_scope, optional_scope}
 use Rattle.expr_soundness.specs.meaning.specs.Programs.{program_of}
 use Rattle.program_soundness.specs.Fronts.{declared_in, front, scope_at, start_in}
 use Rattle.program_soundness.proofs.OneList.{scope_joined}

@@ -10,10 +10,10 @@ use Rattle.types.specs.Entities.{Entity, Operation}
 use Rattle.types.specs.Places.{or_else}
 use Rattle.types.specs.Scopes.{Named, Scope, changed_at, number_of, offering, operations_or, protected_at, with_operations}
 use Rattle.type_rules.specs.ProfileRules.{profile_entity, subprogram_scope}
-use Rattle.declaring.specs.BodyNames.{components_scope, object_body_scope, operations_scope}
-use Rattle.declaring.specs.Laws.{ObjectBodiesEnd}
-use Rattle.legality.specs.ProtectedBodyRules.{protected_item_scope, protected_items_scope}
-use Rattle.program_soundness.specs.checking.specs.ProgramRules.{IsLegal}
+use Rattle.declaration_rules.specs.BodyNames.{components_scope, object_body_scope, operations_scope}
+use Rattle.declaration_rules.specs.Laws.{ObjectBodiesEnd}
+use Rattle.unit_rules.specs.ProtectedBodyRules.{protected_item_scope, protected_items_scope}
+use Rattle.program_soundness.specs.legality.specs.ProgramRules.{IsLegal}
 use Rattle.ravenscar.specs.ProgramRules.{IsRestricted}
 use Rattle.expr_soundness.specs.Laws.{ScopesAreSound}
 use Rattle.expr_soundness.specs.meaning.specs.Programs.{program_of}

@@ -8,12 +8,12 @@ use Rattle.ada_tree.specs.StatementTree.{SubprogramTree}
 use Rattle.ada_tree.specs.ProgramTree.{BodyItemTree, BodyTree, ProgramTree, SubprogramBody, TaskBody}
 use Rattle.types.specs.Entities.{Doubtful, Entity, Subprogram, Task}
 use Rattle.types.specs.Scopes.{Scope, number_of}
-use Rattle.declaring.specs.LocalRules.{fixed_locals_faults, locals_scope}
+use Rattle.declaration_rules.specs.LocalRules.{fixed_locals_faults, locals_scope}
 use Rattle.expr_soundness.specs.expr_rules.proofs.TypedLaw.{front_empty, unbroken}
 use Rattle.type_rules.specs.SubtypeNames.{end_rule}
 use Rattle.program_soundness.specs.stmt_rules.specs.declared.around.BodyKind.TheVariants as kind
 use Rattle.program_soundness.specs.stmt_rules.specs.StatementRules.{in_body, sequence_faults}
-use Rattle.legality.specs.BodyRules.{is_task, task_body_faults, task_rule}
+use Rattle.unit_rules.specs.BodyRules.{is_task, task_body_faults, task_rule}
 use Rattle.expr_soundness.specs.meaning.specs.Programs.{Program}
 use Rattle.program_soundness.specs.Fronts.{scope_at}
 use Rattle.program_soundness.proofs.Called.{body_entity}

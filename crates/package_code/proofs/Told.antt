@@ -7,8 +7,8 @@ use Rattle.ada_tree.specs.ProgramTree.{ItemTree, OfException, OfObject, OfProtec
 use Rattle.types.specs.Entities.{Entity}
 use Rattle.types.specs.Scopes.{Scope, is_visible, with_name}
 use Rattle.type_rules.specs.ProfileRules.{subprogram_scope}
-use Rattle.declaring.specs.ItemRules.{item_scope}
-use Rattle.legality.specs.MainRules.{item_name}
+use Rattle.declaration_rules.specs.ItemRules.{item_scope}
+use Rattle.unit_rules.specs.MainRules.{item_name}
 use Rattle.expr_code.specs.Seeing.{told_of}
 use Rattle.expr_code.specs.declared.visible.Visible.{Visible}
 use Rattle.step_simulation.specs.part_code.proofs.Names.{same_name, told_of_more}

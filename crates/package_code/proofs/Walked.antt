@@ -11,8 +11,8 @@ use Rattle.image.specs.Sections.{end_of}
 use Rattle.image.specs.declared.subprograms.Subprogram.{Subprogram}
 use Rattle.types.specs.Scopes.{Scope}
 use Rattle.type_rules.specs.ProfileRules.{subprogram_scope}
-use Rattle.declaring.specs.ItemRules.{item_scope}
-use Rattle.legality.specs.MainRules.{item_name}
+use Rattle.declaration_rules.specs.ItemRules.{item_scope}
+use Rattle.unit_rules.specs.MainRules.{item_name}
 use Rattle.expr_soundness.specs.meaning.specs.Programs.{program_of}
 use Rattle.program_soundness.proofs.Listing.{same_some}
 use Rattle.program_soundness.proofs.Walked.{scope_next}

@@ -11,10 +11,10 @@ use Rattle.types.specs.declared.entity.RecordComponent.{RecordComponent}
 use Rattle.types.specs.Entities.{Operation}
 use Rattle.types.specs.Layouts.{total}
 use Rattle.types.specs.Scopes.{Scope, number_of, operations_or, protected_at, with_operations}
-use Rattle.declaring.specs.BodyNames.{object_body_scope}
-use Rattle.declaring.specs.Laws.{ObjectBodiesEnd}
-use Rattle.legality.specs.ProtectedBodyRules.{components_at, protected_item_scope, protected_items_scope}
-use Rattle.program_soundness.specs.checking.specs.ProgramRules.{IsLegal}
+use Rattle.declaration_rules.specs.BodyNames.{object_body_scope}
+use Rattle.declaration_rules.specs.Laws.{ObjectBodiesEnd}
+use Rattle.unit_rules.specs.ProtectedBodyRules.{components_at, protected_item_scope, protected_items_scope}
+use Rattle.program_soundness.specs.legality.specs.ProgramRules.{IsLegal}
 use Rattle.ravenscar.specs.ProgramRules.{IsRestricted}
 use Rattle.expr_soundness.specs.Laws.{ScopesAreSound}
 use Rattle.expr_soundness.specs.meaning.specs.Programs.{program_of}

@@ -10,8 +10,8 @@ use Rattle.types.specs.declared.entity.RecordComponent.{RecordComponent}
 use Rattle.types.specs.Places.{is_of}
 use Rattle.types.specs.Scopes.{Scope, number_of}
 use Rattle.type_rules.specs.ProfileRules.{subprogram_scope}
-use Rattle.declaring.specs.BodyNames.{components_scope, object_body_scope}
-use Rattle.legality.specs.ProtectedBodyRules.{components_at, operation_sees, protected_item_scope}
+use Rattle.declaration_rules.specs.BodyNames.{components_scope, object_body_scope}
+use Rattle.unit_rules.specs.ProtectedBodyRules.{components_at, operation_sees, protected_item_scope}
 use Rattle.expr_soundness.specs.meaning.specs.Programs.{object_numbered, program_of}
 use Rattle.program_soundness.specs.Fronts.{declared_in, front}
 

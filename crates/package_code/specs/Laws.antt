@@ -5,7 +5,7 @@ use Rattle.ada_tree.specs.ProgramTree.{BodyItemTree, ProgramTree}
 use Rattle.types.specs.Scopes.{number_of}
 use Rattle.image.specs.Rules.{IsWellFormed}
 use Rattle.image.specs.Sections.{Sections}
-use Rattle.program_soundness.specs.checking.specs.ProgramRules.{IsLegal}
+use Rattle.program_soundness.specs.legality.specs.ProgramRules.{IsLegal}
 use Rattle.ravenscar.specs.ProgramRules.{IsRestricted}
 use Rattle.expr_soundness.specs.meaning.specs.Programs.{package_items, program_of}
 use Rattle.expr_soundness.specs.meaning.specs.SameMeaning.{KeepsCount, SameMeaning}

@@ -2,7 +2,7 @@
 use Rattle.ada_tree.specs.ProgramTree.{ProgramTree}
 use Rattle.image.specs.Rules.{IsWellFormed}
 use Rattle.image.specs.Sections.{Sections}
-use Rattle.program_soundness.specs.checking.specs.ProgramRules.{IsLegal}
+use Rattle.program_soundness.specs.legality.specs.ProgramRules.{IsLegal}
 use Rattle.ravenscar.specs.ProgramRules.{IsRestricted}
 use Rattle.expr_soundness.specs.meaning.specs.SameMeaning.{KeepsCount, SameMeaning}
 use Rattle.expr_code.specs.Coming.{most_steps}

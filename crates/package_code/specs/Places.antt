@@ -8,7 +8,7 @@ use Rattle.image.specs.Rules.{IsWellFormed}
 use Rattle.image.specs.Operations.{called}
 use Rattle.image.specs.Sections.{Sections, first_place}
 use Rattle.image.specs.declared.subprograms.Subprogram.{Subprogram}
-use Rattle.program_soundness.specs.checking.specs.ProgramRules.{IsLegal}
+use Rattle.program_soundness.specs.legality.specs.ProgramRules.{IsLegal}
 use Rattle.ravenscar.specs.ProgramRules.{IsRestricted}
 use Rattle.expr_soundness.specs.meaning.specs.Programs.{Program, program_of}
 use Rattle.expr_code.specs.Seeing.{Package}

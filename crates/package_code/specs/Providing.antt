@@ -10,7 +10,7 @@ use Rattle.types.specs.Scopes.{Scope, form_at}
 use Rattle.types.specs.Shapes.{value_words}
 use Rattle.type_rules.specs.ObjectRules.{fixed_scalar}
 use Rattle.type_rules.specs.SubtypeNames.{subtype_of}
-use Rattle.declaring.specs.BodyNames.{formals_scope}
+use Rattle.declaration_rules.specs.BodyNames.{formals_scope}
 use Rattle.expr_soundness.specs.meaning.specs.Programs.{initial_value, program_of, returned, subtype_named}
 use Rattle.expr_soundness.specs.SoundScopes.{SoundScope}
 use Rattle.expr_code.specs.Emitting.{IsFit}

@@ -14,8 +14,8 @@ use Rattle.types.specs.declared.entity.Subtype.{Subtype}
 use Rattle.types.specs.Layouts.{total}
 use Rattle.types.specs.Scopes.{Scope}
 use Rattle.type_rules.specs.ProfileRules.{subprogram_scope}
-use Rattle.declaring.specs.BodyNames.{components_scope}
-use Rattle.legality.specs.ProtectedBodyRules.{protected_items_scope}
+use Rattle.declaration_rules.specs.BodyNames.{components_scope}
+use Rattle.unit_rules.specs.ProtectedBodyRules.{protected_items_scope}
 use Rattle.expr_soundness.specs.meaning.specs.Programs.{program_of, returned, subtype_named}
 use Rattle.program_soundness.specs.Fronts.{declared_in, front, start_in}
 use Rattle.expr_code.specs.Code.{StandsFrom, here}

@@ -3,14 +3,14 @@ ghost use Rattle.std.specs.Prelude.{◌≡◌, map, IfErr, IfOk};
 ghost use Rattle.ada_tree.specs.StatementTree.{aspect_tree, operation_tree, optional_tree};
 ghost use Rattle.ada_tree.specs.ProgramTree.{body_item_tree, item_tree, package_tree, program_tree};
 ghost use Rattle.expr_soundness.specs.meaning.specs.Programs.{attached_by, attached_operation, handler_at, object_numbered, program_of};
-ghost use Rattle.declaring.specs.HandlerChannels.{attached_channel};
+ghost use Rattle.declaration_rules.specs.HandlerChannels.{attached_channel};
 ghost use Rattle.expr_code.specs.Refusing.{IsRefused};
 ghost use Rattle.package_code.specs.Handlers.{attachments_of, handler_among, handler_in, handler_in_body, handler_of_bodies, handler_of_items, handler_of_package, handler_told, number_or_none};
 
 use crate::directory::Directory;
 use ada_tree::{Aspect, BodyItem, Identifier, Item, Operation, Package, Subprogram};
 use base::limits::CHANNELS;
-use declaring::{attached_channel, is_attachment};
+use declaration_rules::{attached_channel, is_attachment};
 use expr_code::Refusal;
 use image::Attachment;
 use ravenscar::Accepted;

@@ -7,7 +7,7 @@ ghost use Rattle.package_code.specs.Walking.{behind_operation, first_visible, op
 
 use crate::directory::Directory;
 use ada_tree::{ProtectedBodyItem, Subprogram};
-use declaring::declare_components;
+use declaration_rules::declare_components;
 use expr_code::{Refusal, Visible};
 use std::alloc::Global;
 use type_rules::declare_subprogram;

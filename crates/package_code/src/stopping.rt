@@ -2,7 +2,7 @@
 ghost use Rattle.std.specs.Prelude.{◌≡◌, ◌-◌, ◌≤◌, ◌+◌, length, map, slice_get, None, Some, IfOk};
 ghost use Rattle.ada_tree.specs.ProgramTree.{body_item_tree, program_tree, protected_item_tree};
 ghost use Rattle.base.specs.declared.limits.TheConstants.{OBJECTS, ROWS};
-ghost use Rattle.program_soundness.specs.checking.specs.ProgramRules.{IsLegal};
+ghost use Rattle.program_soundness.specs.legality.specs.ProgramRules.{IsLegal};
 ghost use Rattle.ravenscar.specs.ProgramRules.{IsRestricted};
 ghost use Rattle.expr_soundness.specs.meaning.specs.Programs.{program_of};
 ghost use Rattle.program_soundness.specs.Fronts.{declared_in};
@@ -16,10 +16,10 @@ use crate::walk::{Walk, walk_nothing};
 use ada_tree::{BodyItem, Package, ProtectedBodyItem};
 use base::limits::ROWS;
 use expr_code::{ImageLimit, Refusal};
-use legality::inside_scope;
 use lexer::Text;
 use ravenscar::Accepted;
 use std::alloc::Global;
+use unit_rules::inside_scope;
 
 /// Where a limit of images is passed.
 #[derive(Clone, Copy, PartialEq, Eq, Debug)]

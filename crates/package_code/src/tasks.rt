@@ -3,7 +3,7 @@ ghost use Rattle.std.specs.Prelude.{◌≡◌, ◌∷◌, [], Some, false, is_so
 ghost use Rattle.ada_tree.specs.StatementTree.{aspect_tree, optional_tree, task_tree};
 ghost use Rattle.ada_tree.specs.ProgramTree.{OfTask, body_item_tree, item_tree, package_tree, program_tree};
 ghost use Rattle.expr_soundness.specs.meaning.specs.Programs.{base_priority, items_among, package_items, program_of};
-ghost use Rattle.program_soundness.specs.checking.specs.ProgramRules.{IsLegal};
+ghost use Rattle.program_soundness.specs.legality.specs.ProgramRules.{IsLegal};
 ghost use Rattle.ravenscar.specs.ProgramRules.{IsRestricted};
 ghost use Rattle.expr_code.specs.Refusing.{IsRefused};
 ghost use Rattle.expr_code.specs.Seeing.{told_of};
@@ -14,7 +14,7 @@ use crate::directory::Directory;
 use crate::laws::tasks_have_bodies;
 use ada_tree::{Aspect, BodyItem, Identifier, Item, Package, TaskDeclaration};
 use base::limits::TASK_PRIORITY;
-use declaring::{DEFAULT_PRIORITY, priority_of};
+use declaration_rules::{DEFAULT_PRIORITY, priority_of};
 use expr_code::Refusal;
 use image::Task;
 use ravenscar::Accepted;

@@ -5,9 +5,9 @@ ghost use Rattle.ada_tree.specs.StatementTree.{MoreStmts, NoStmts, stmt_tree, st
 ghost use Rattle.ada_tree.specs.ProgramTree.{OfItem, SubprogramBody, TaskBody, body_item_tree, body_tree, item_tree, program_tree, protected_item_tree};
 ghost use Rattle.base.specs.declared.limits.TheConstants.{OBJECTS};
 ghost use Rattle.types.specs.Scopes.{number_of};
-ghost use Rattle.declaring.specs.BodyNames.{object_body_scope};
-ghost use Rattle.legality.specs.ProtectedBodyRules.{components_at};
-ghost use Rattle.program_soundness.specs.checking.specs.ProgramRules.{IsLegal};
+ghost use Rattle.declaration_rules.specs.BodyNames.{object_body_scope};
+ghost use Rattle.unit_rules.specs.ProtectedBodyRules.{components_at};
+ghost use Rattle.program_soundness.specs.legality.specs.ProgramRules.{IsLegal};
 ghost use Rattle.ravenscar.specs.ProgramRules.{IsRestricted};
 ghost use Rattle.expr_soundness.specs.meaning.specs.Programs.{program_of, returned, subtype_named};
 ghost use Rattle.program_soundness.specs.Fronts.{declared_in, front};
@@ -31,12 +31,11 @@ use crate::operations::object_number;
 use ada_tree::{
     Body, BodyItem, Expr, Identifier, Item, Package, ProtectedBodyItem, Stmt, Subprogram,
 };
-use declaring::laws::object_bodies_end;
-use declaring::{declare_item, enter_object, leave_object};
+use declaration_rules::laws::object_bodies_end;
+use declaration_rules::{declare_item, enter_object, leave_object};
 use expr_code::{ImageLimit, OperationNumbers, Refusal, Visible};
 use expr_soundness::laws::scopes_are_sound;
 use image::Kind;
-use legality::{inside_scope, item_name};
 use lexer::Text;
 use program_soundness::body_laws::{names_are_known, premises_hold};
 use ravenscar::Accepted;
@@ -44,6 +43,7 @@ use std::alloc::Global;
 use stmt_code::{Draft, PlaceRow, SubprogramWords, stmt_place};
 use type_rules::{declare_subprogram, subtype_of};
 use types::{RecordComponent, Scope, Subtype};
+use unit_rules::{inside_scope, item_name};
 
 /// How far the walk is: so many declarations and bodies of the package are behind it.
 #[derive(Drop)]

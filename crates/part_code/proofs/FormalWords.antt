@@ -21,7 +21,7 @@ use Rattle.types.specs.Scopes.{Scope}
 use Rattle.types.specs.Laws.{InitialValuesHaveShape, ValuesHaveWords}
 use Rattle.types.specs.Shapes.{initial, shape_of, value_words}
 use Rattle.type_rules.specs.SubtypeNames.{subtype_of}
-use Rattle.expr_soundness.specs.declaring.specs.BodyNames.{formals_scope}
+use Rattle.expr_soundness.specs.declaration_rules.specs.BodyNames.{formals_scope}
 use Rattle.expr_soundness.proofs.Positions.{same_some}
 use Rattle.expr_soundness.specs.meaning.specs.Calls.{is_out}
 use Rattle.expr_code.specs.Code.{Adds, Extends, Holds, here}

@@ -13,8 +13,8 @@ use Rattle.types.specs.declared.entity.Subtype.{Subtype}
 use Rattle.types.specs.Layouts.{words_of}
 use Rattle.types.specs.Scopes.{Scope}
 use Rattle.type_rules.specs.SubtypeNames.{subtype_of}
-use Rattle.expr_soundness.specs.declaring.specs.BodyNames.{formals_scope}
-use Rattle.expr_soundness.specs.declaring.specs.LocalRules.{local_scope, locals_scope}
+use Rattle.expr_soundness.specs.declaration_rules.specs.BodyNames.{formals_scope}
+use Rattle.expr_soundness.specs.declaration_rules.specs.LocalRules.{local_scope, locals_scope}
 use Rattle.step_soundness.specs.stmt_rules.specs.StatementRules.{iteration_scope}
 
 -- ---- words

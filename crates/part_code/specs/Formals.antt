@@ -16,7 +16,7 @@ use Rattle.types.specs.Layouts.{words_of}
 use Rattle.types.specs.Scopes.{Scope, form_at, with_name}
 use Rattle.types.specs.Shapes.{initial, value_words}
 use Rattle.type_rules.specs.SubtypeNames.{subtype_of}
-use Rattle.expr_soundness.specs.declaring.specs.BodyNames.{formal_role, formals_scope}
+use Rattle.expr_soundness.specs.declaration_rules.specs.BodyNames.{formal_role, formals_scope}
 use Rattle.expr_soundness.specs.meaning.specs.Calls.{is_out}
 use Rattle.expr_soundness.specs.meaning.specs.Programs.{Parameter}
 use Rattle.expr_code.specs.Code.{Extends, Holds, here}

@@ -21,7 +21,7 @@ use Rattle.types.specs.Scopes as scopes
 use Rattle.types.specs.Shapes.{shape_of}
 use Rattle.types.specs.Standings.{standing_of}
 use Rattle.type_rules.specs.SubtypeNames.{subtype_of}
-use Rattle.expr_soundness.specs.declaring.specs.LocalRules.{local_scope}
+use Rattle.expr_soundness.specs.declaration_rules.specs.LocalRules.{local_scope}
 use Rattle.step_soundness.specs.Fitting.{entity_named}
 use Rattle.expr_code.specs.Branches.{Branch}
 use Rattle.expr_code.specs.Code.{here}

@@ -1,5 +1,5 @@
 //! What frames have beside their words.
-ghost use Rattle.std.specs.Prelude.{◌≡◌, ◌<◌, ◌≤◌, ◌+◌, ◌∷◌, [], IfOk, length};
+ghost use Rattle.std.specs.Prelude.{◌≡◌, ◌<◌, ◌≤◌, ◌+◌, ◌∷◌, [], IfOk, length, true};
 ghost use Rattle.base.specs.declared.limits.TheConstants.{FRAMES, INSTRUCTIONS};
 
 use crate::role::Role;
@@ -64,6 +64,13 @@ impl Headers {
         ensures few { length self.now.waiting ≤ FRAMES }
     {
         self.items.len() - 1
+    }
+
+    /// Whether other headers are the same. `false` doesn't say that they differ.
+    pub(crate) fn is_like(&self, other: &Headers) -> bool
+        ensures { result ≡ true → self.now ≡ other.now }
+    {
+        self.items == other.items
     }
 
     /// The running frame goes on at a place.

@@ -4,6 +4,7 @@
 mod counting;
 mod crossing;
 mod decoding;
+mod digest;
 mod header;
 mod joining;
 pub mod laws;
@@ -19,6 +20,7 @@ mod turning;
 
 pub use counting::Steps;
 pub use decoding::decode;
+pub use digest::digest_with;
 pub use operation::{Operation, Reckoning, Test};
 pub use program::Program;
 pub use role::Role;

@@ -11,11 +11,11 @@ use Rattle.types.specs.Entities.{LibraryUnit}
 use Rattle.expr_soundness.specs.expr_rules.proofs.TypedLaw.{back_empty, front_empty}
 use Rattle.expr_soundness.specs.type_rules.specs.ProfileRules.{subprogram_scope}
 use Rattle.expr_soundness.specs.type_rules.specs.SubtypeNames.{end_rule}
-use Rattle.declaring.specs.BodyNames.{components_scope}
-use Rattle.legality.specs.MainRules.{main_scope, main_statements_faults}
-use Rattle.declaring.specs.PackageNames.{body_items_scope}
-use Rattle.legality.specs.ProtectedBodyRules.{protected_items_scope}
-use Rattle.checking.specs.ProgramRules.{IsLegal}
+use Rattle.declaration_rules.specs.BodyNames.{components_scope}
+use Rattle.unit_rules.specs.MainRules.{main_scope, main_statements_faults}
+use Rattle.declaration_rules.specs.PackageNames.{body_items_scope}
+use Rattle.unit_rules.specs.ProtectedBodyRules.{protected_items_scope}
+use Rattle.legality.specs.ProgramRules.{IsLegal}
 use Rattle.ravenscar.specs.ProgramRules.{IsRestricted}
 use Rattle.expr_soundness.specs.SoundScopes.{SoundScope}
 use Rattle.expr_soundness.specs.Laws.{ScopesAreSound}

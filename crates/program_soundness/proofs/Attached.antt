@@ -20,9 +20,9 @@ use Rattle.expr_soundness.specs.expr_rules.specs.StaticRules.{static_scalar}
 use Rattle.expr_soundness.specs.expr_rules.specs.declared.own.Wanted.TheVariants as wanted
 use Rattle.expr_soundness.specs.base.specs.declared.faults.TheConstants.{WRONG_ASPECT}
 use Rattle.expr_soundness.specs.type_rules.specs.ProfileRules.{formal_parameters, profile_with}
-use Rattle.declaring.specs.HandlerChannels.{attached_channel}
-use Rattle.declaring.specs.ProtectedRules.{default_ceiling, has_handler, is_entry, is_handler, is_operation_in, is_operation_like, object_components, object_operations, object_with, operation_faults, operation_name, operation_profile, operation_profile_faults, operations_faults, protected_entity, protected_faults}
-use Rattle.declaring.specs.TaskRules.{is_attachment, is_priority, priority_of, priority_within}
+use Rattle.declaration_rules.specs.HandlerChannels.{attached_channel}
+use Rattle.declaration_rules.specs.ProtectedRules.{default_ceiling, has_handler, is_entry, is_handler, is_operation_in, is_operation_like, object_components, object_operations, object_with, operation_faults, operation_name, operation_profile, operation_profile_faults, operations_faults, protected_entity, protected_faults}
+use Rattle.declaration_rules.specs.TaskRules.{is_attachment, is_priority, priority_of, priority_within}
 use Rattle.ravenscar.specs.HandlerRules.{attachment_faults, ceiling_faults, has_formals, is_highest, is_lower, none_taken, operation_aspect_faults, operations_aspects_faults, taken_behind}
 use Rattle.ravenscar.specs.TaskingRules.{aspect_faults, entries_faults, gives_priority, is_priority_value}
 use Rattle.ravenscar.specs.TaskingRules as restricted

@@ -19,8 +19,8 @@ use Rattle.types.specs.Evaluating.{Calls, call, ended, fixed_value, val}
 use Rattle.types.specs.Places.{IsFunction, IsNothing, IsObject, IsPredefined, IsProtected, IsSubtype, IsValue, Meaning, Place, is_of, meaning_in_scope, meaning_of_entity, meaning_or, object_meaning, object_of, object_stands, or_else}
 use Rattle.types.specs.Places as places
 use Rattle.expr_soundness.specs.expr_rules.proofs.TypedLaw.{back_empty, front_empty, unbroken}
-use Rattle.declaring.specs.PackageNames.{body_item_scope, inside_scope, program_scope, specified_scope}
-use Rattle.legality.specs.MainRules.{main_scope}
+use Rattle.declaration_rules.specs.PackageNames.{body_item_scope, inside_scope, program_scope, specified_scope}
+use Rattle.unit_rules.specs.MainRules.{main_scope}
 use Rattle.step_soundness.specs.body_restrictions.specs.BodyRules.{barrier_rule, body_faults, is_simple_name, operation_faults, operations_faults}
 use Rattle.ravenscar.specs.PragmaRules.{pragma_faults}
 use Rattle.ravenscar.specs.HandlerRules.{none_taken}

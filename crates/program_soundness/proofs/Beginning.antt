@@ -11,7 +11,7 @@ use Rattle.expr_soundness.specs.expr_rules.specs.ExpressionRules.{faults_of}
 use Rattle.expr_soundness.specs.expr_rules.proofs.TypedLaw.{back_empty, front_empty}
 use Rattle.expr_soundness.specs.type_rules.specs.SubtypeNames.{declared_twice, subtype_faults, subtype_of, wanted_by}
 use Rattle.expr_soundness.specs.type_rules.specs.ObjectRules.{called_faults, fixed_faults, fixed_initial_faults, fixed_object_faults, is_clock, local_initial_faults, local_object_faults, span_call}
-use Rattle.declaring.specs.LocalRules.{fixed_local_faults, fixed_locals_faults, local_faults, local_scope, locals_faults, locals_scope}
+use Rattle.declaration_rules.specs.LocalRules.{fixed_local_faults, fixed_locals_faults, local_faults, local_scope, locals_faults, locals_scope}
 use Rattle.step_soundness.specs.stmt_rules.specs.declared.around.Around.{Around}
 use Rattle.step_soundness.specs.stmt_rules.specs.StatementRules.{handlers_faults, sequence_faults, stmts_faults}
 use Rattle.step_soundness.specs.body_restrictions.specs.BodyRules as profile

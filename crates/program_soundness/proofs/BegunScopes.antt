@@ -20,12 +20,12 @@ use Rattle.expr_soundness.specs.type_rules.specs.ObjectRules.{constant_entity, i
 use Rattle.expr_soundness.specs.type_rules.specs.ProfileRules.{profile_entity}
 use Rattle.expr_soundness.specs.type_rules.specs.SubtypeNames.{declared_twice, entity_at_or_none, if_integer, subtype_in, subtype_of}
 use Rattle.expr_soundness.specs.type_rules.specs.TypeRules.{array_entity, bounded, component_and, composite, definition_entity, definition_faults, index_subtype, integer_entity, narrowed, record_components, record_entity, short_length, static_whole, subtype_entity}
-use Rattle.declaring.specs.ItemRules.{item_faults, item_scope, items_faults, items_scope}
-use Rattle.declaring.specs.PackageNames.{body_item_scope, body_items_scope, inside_scope, optional_scope, program_scope, specified_scope, units_scope}
-use Rattle.declaring.specs.ProtectedRules.{object_with}
-use Rattle.legality.specs.PackageBodyRules.{body_item_faults, body_items_faults}
-use Rattle.checking.specs.ProgramRules.{IsLegal}
-use Rattle.checking.proofs.Made.{NoUnits, Times as SeesTimes, Io, TimesIo, IoTimes, Units, clauses_seen, seen}
+use Rattle.declaration_rules.specs.ItemRules.{item_faults, item_scope, items_faults, items_scope}
+use Rattle.declaration_rules.specs.PackageNames.{body_item_scope, body_items_scope, inside_scope, optional_scope, program_scope, specified_scope, units_scope}
+use Rattle.declaration_rules.specs.ProtectedRules.{object_with}
+use Rattle.unit_rules.specs.PackageBodyRules.{body_item_faults, body_items_faults}
+use Rattle.legality.specs.ProgramRules.{IsLegal}
+use Rattle.legality.proofs.Made.{NoUnits, Times as SeesTimes, Io, TimesIo, IoTimes, Units, clauses_seen, seen}
 use Rattle.expr_soundness.specs.InitialLaw.{AllBeginInside, InitialValuesLie, PartsBeginInside, begins_inside}
 use Rattle.expr_soundness.specs.SoundScopes.{AreEarlier, IsKnown, IsSoundEntity, SoundScope}
 use Rattle.expr_soundness.proofs.Elements.{both_left, both_right}

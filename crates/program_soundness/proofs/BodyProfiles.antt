@@ -11,7 +11,7 @@ use Rattle.types.specs.Scopes.{Scope}
 use Rattle.types.specs.Evaluating.{formal_subtype}
 use Rattle.expr_soundness.specs.type_rules.specs.SubtypeNames.{named_entity, subtype_in, subtype_of}
 use Rattle.expr_soundness.specs.type_rules.specs.ProfileRules.{formal_and, formal_parameters, given_profile, profile_with}
-use Rattle.matching.specs.MatchingRules.{same_formal, same_formals, same_mode, same_name, same_result}
+use Rattle.conformance.specs.MatchingRules.{same_formal, same_formals, same_mode, same_name, same_result}
 use Rattle.expr_soundness.specs.Agreeing.{parameter_subtype}
 use Rattle.expr_soundness.specs.meaning.specs.Programs.{formal, parameter, subtype_named, subtype_or_integer}
 use Rattle.step_soundness.specs.Fitting.{formal_of}

@@ -4,12 +4,12 @@ use Rattle.expr_soundness.specs.ada_tree.specs.ProgramTree.{BodyTree}
 use Rattle.types.specs.Scopes.{Scope}
 use Rattle.types.specs.Places.{Place}
 use Rattle.expr_soundness.specs.expr_rules.proofs.TypedLaw.{back_empty, front_empty}
-use Rattle.declaring.specs.BodyNames.{formals_scope}
-use Rattle.declaring.specs.LocalRules.{locals_faults}
+use Rattle.declaration_rules.specs.BodyNames.{formals_scope}
+use Rattle.declaration_rules.specs.LocalRules.{locals_faults}
 use Rattle.step_soundness.specs.stmt_rules.specs.declared.around.BodyKind.{BodyKind}
 use Rattle.step_soundness.specs.stmt_rules.specs.SimpleRules.{is_function}
 use Rattle.step_soundness.specs.stmt_rules.specs.StatementRules.{in_body}
-use Rattle.legality.specs.BodyRules.{body_faults}
+use Rattle.unit_rules.specs.BodyRules.{body_faults}
 use Rattle.step_soundness.specs.body_restrictions.specs.BodyRules as profile
 use Rattle.expr_soundness.specs.SoundScopes.{SoundScope}
 use Rattle.expr_soundness.specs.Laws.{ScopesAreSound}

@@ -14,10 +14,10 @@ use Rattle.types.specs.Places.{Function, function_of, is_of}
 use Rattle.expr_soundness.specs.expr_rules.proofs.TypedLaw.{back_empty, front_empty, judged, unbroken}
 use Rattle.expr_soundness.specs.type_rules.specs.SubtypeNames.{end_rule, named_entity}
 use Rattle.expr_soundness.specs.type_rules.specs.ProfileRules.{formal_parameters, profile_entity, profile_with}
-use Rattle.matching.specs.MatchingRules.{any_declared, conforms, is_unlike_subprogram, passes_declared, same_formals, same_name, same_result}
-use Rattle.legality.specs.BodyRules.{body_name_faults, body_name_rule, function_body_faults, head_faults, is_function_body, is_subprogram, subprogram_body_faults}
-use Rattle.declaring.specs.PackageNames.{body_items_scope}
-use Rattle.legality.specs.ProtectedBodyRules.{is_object, object_rule}
+use Rattle.conformance.specs.MatchingRules.{any_declared, conforms, is_unlike_subprogram, passes_declared, same_formals, same_name, same_result}
+use Rattle.unit_rules.specs.BodyRules.{body_name_faults, body_name_rule, function_body_faults, head_faults, is_function_body, is_subprogram, subprogram_body_faults}
+use Rattle.declaration_rules.specs.PackageNames.{body_items_scope}
+use Rattle.unit_rules.specs.ProtectedBodyRules.{is_object, object_rule}
 use Rattle.expr_soundness.specs.Agreeing.{HasProfile}
 use Rattle.expr_soundness.specs.meaning.specs.Programs.{Procedure, Program, formal, object_numbered, parameter}
 use Rattle.expr_soundness.specs.meaning.specs.Calls.{procedure_among}

@@ -28,12 +28,12 @@ use Rattle.expr_soundness.specs.type_rules.specs.SubtypeNames.{declared_twice, e
 use Rattle.expr_soundness.specs.type_rules.specs.TypeRules.{definition_entity, definition_faults}
 use Rattle.expr_soundness.specs.type_rules.specs.ProfileRules.{formal_and, formal_faults, formal_parameters, formals_faults, function_faults, given_profile, has_wrong_formal, is_formal_in, is_in, is_wrong_formal, profile_entity, profile_faults, profile_with, result_faults, subprogram_scope}
 use Rattle.expr_soundness.specs.type_rules.specs.ObjectRules.{constant_entity, fixed_faults, fixed_initial_faults, fixed_object_faults, initial_scalar, local_initial_faults, object_entity, package_object_entity, role_of}
-use Rattle.declaring.specs.BodyNames.{formal_role, formal_scope, formals_scope}
-use Rattle.declaring.specs.ItemRules.{item_faults, item_scope, items_faults, items_scope}
-use Rattle.declaring.specs.LocalRules.{fixed_local_faults, fixed_locals_faults, local_faults, local_scope, locals_faults, locals_scope}
-use Rattle.declaring.specs.ProtectedRules.{component_initial_faults, default_ceiling, is_component_like, is_operation_like, object_components, object_operations, object_with, operation_and, operation_faults, operation_name, operation_profile, operation_profile_faults, operations_faults, part_and, part_faults, parts_faults, protected_count, protected_entity, protected_faults}
-use Rattle.declaring.specs.ProtectedRules as objects
-use Rattle.declaring.specs.TaskRules.{aspect_faults, operation_aspect_faults, priority_of}
+use Rattle.declaration_rules.specs.BodyNames.{formal_role, formal_scope, formals_scope}
+use Rattle.declaration_rules.specs.ItemRules.{item_faults, item_scope, items_faults, items_scope}
+use Rattle.declaration_rules.specs.LocalRules.{fixed_local_faults, fixed_locals_faults, local_faults, local_scope, locals_faults, locals_scope}
+use Rattle.declaration_rules.specs.ProtectedRules.{component_initial_faults, default_ceiling, is_component_like, is_operation_like, object_components, object_operations, object_with, operation_and, operation_faults, operation_name, operation_profile, operation_profile_faults, operations_faults, part_and, part_faults, parts_faults, protected_count, protected_entity, protected_faults}
+use Rattle.declaration_rules.specs.ProtectedRules as objects
+use Rattle.declaration_rules.specs.TaskRules.{aspect_faults, operation_aspect_faults, priority_of}
 use Rattle.expr_soundness.specs.SoundScopes.{AreIn, AreKnown, AreKnownParts, AreSoundOperations, IsKnown, IsSoundObject, IsSoundOperation, IsSoundProfile, SoundScope}
 use Rattle.expr_soundness.proofs.Widening.{subtype_known}
 use Rattle.program_soundness.proofs.Extending.{Extends, SameSubtypes, extends_more, name_extends, subtype_stays}

@@ -15,11 +15,11 @@ use Rattle.expr_soundness.specs.type_rules.specs.ProfileRules.{profile_entity}
 use Rattle.expr_soundness.specs.type_rules.specs.SubtypeNames.{if_integer, subtype_of}
 use Rattle.expr_soundness.specs.type_rules.specs.TypeRules.{array_entity, composite, definition_entity, index_subtype, integer_entity, narrowed, range_subtype, record_components, record_entity, short_length, subtype_entity}
 use Rattle.expr_soundness.specs.expr_rules.specs.declared.own.Wanted.TheVariants as wanted
-use Rattle.declaring.specs.ProtectedRules.{default_ceiling, object_components, object_operations, object_with, protected_count, protected_entity}
-use Rattle.declaring.specs.TaskRules.{priority_of}
+use Rattle.declaration_rules.specs.ProtectedRules.{default_ceiling, object_components, object_operations, object_with, protected_count, protected_entity}
+use Rattle.declaration_rules.specs.TaskRules.{priority_of}
 use Rattle.expr_soundness.specs.base.specs.declared.limits.TheConstants.{CEILING, TASK_PRIORITY}
-use Rattle.declaring.specs.PackageNames.{units_scope}
-use Rattle.checking.proofs.Made.{NoUnits, Times, Io, TimesIo, IoTimes, Units, clauses_seen, seen}
+use Rattle.declaration_rules.specs.PackageNames.{units_scope}
+use Rattle.legality.proofs.Made.{NoUnits, Times, Io, TimesIo, IoTimes, Units, clauses_seen, seen}
 use Rattle.expr_soundness.proofs.Positions.{same_some}
 use Rattle.step_soundness.specs.Fitting.{entity_named}
 use Rattle.step_soundness.proofs.Lookups.{named_number}

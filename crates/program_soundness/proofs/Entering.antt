@@ -16,9 +16,9 @@ use Rattle.types.specs.Evaluating.{bound, entered}
 use Rattle.expr_soundness.specs.expr_rules.proofs.TypedLaw.{back_empty, front_empty}
 use Rattle.expr_soundness.specs.type_rules.specs.SubtypeNames.{end_rule, named_entity, subtype_of}
 use Rattle.expr_soundness.specs.type_rules.specs.ProfileRules.{formals_faults, profile_faults, result_faults, subprogram_scope}
-use Rattle.declaring.specs.BodyNames.{formal_role, formals_scope}
+use Rattle.declaration_rules.specs.BodyNames.{formal_role, formals_scope}
 use Rattle.step_soundness.specs.stmt_rules.specs.declared.around.BodyKind.TheVariants as kind
-use Rattle.legality.specs.BodyRules.{body_faults, function_body_faults, head_faults, kind_of, own_name_faults, subprogram_body_faults, type_number}
+use Rattle.unit_rules.specs.BodyRules.{body_faults, function_body_faults, head_faults, kind_of, own_name_faults, subprogram_body_faults, type_number}
 use Rattle.expr_soundness.specs.SoundScopes.{IsKnown}
 use Rattle.expr_soundness.specs.Agreeing.{Agrees}
 use Rattle.expr_soundness.specs.Answers.{ReturnsSoundly, are_actuals}

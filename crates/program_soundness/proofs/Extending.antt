@@ -11,11 +11,11 @@ use Rattle.types.specs.declared.entity.Subtype.{Subtype}
 use Rattle.types.specs.Entities.{Entity, Object, Operation}
 use Rattle.types.specs.Scopes.{Named, Scope, entity_at, entity_of, is_visible, number_of, with_name}
 use Rattle.expr_soundness.specs.type_rules.specs.SubtypeNames.{entity_at_or_none, named_entity, subtype_in, subtype_of}
-use Rattle.declaring.specs.BodyNames.{component_role, components_scope, formal_scope, formals_scope, operation_entity, operations_scope}
-use Rattle.declaring.specs.ItemRules.{item_scope, items_scope}
-use Rattle.declaring.specs.Laws.{StandsFirst}
-use Rattle.declaring.specs.PackageNames.{body_item_scope, body_items_scope}
-use Rattle.legality.specs.ProtectedBodyRules.{protected_item_scope, protected_items_scope}
+use Rattle.declaration_rules.specs.BodyNames.{component_role, components_scope, formal_scope, formals_scope, operation_entity, operations_scope}
+use Rattle.declaration_rules.specs.ItemRules.{item_scope, items_scope}
+use Rattle.declaration_rules.specs.Laws.{StandsFirst}
+use Rattle.declaration_rules.specs.PackageNames.{body_item_scope, body_items_scope}
+use Rattle.unit_rules.specs.ProtectedBodyRules.{protected_item_scope, protected_items_scope}
 use Rattle.expr_soundness.proofs.Growing.{HasTypes, grown}
 use Rattle.expr_soundness.proofs.Positions.{entity_kept, entity_number, item_added, number_added, number_kept}
 

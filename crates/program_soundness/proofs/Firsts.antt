@@ -39,9 +39,9 @@ use Rattle.expr_soundness.specs.expr_rules.proofs.TypeShapes.{is_number}
 use Rattle.expr_soundness.specs.expr_rules.proofs.TypedLaw.{back_empty, front_empty, span_numeric, suits_number, time_numeric}
 use Rattle.expr_soundness.specs.type_rules.specs.ObjectRules.{called_faults, computed_faults, fixed_faults, is_clock, span_call, span_faults}
 use Rattle.expr_soundness.specs.type_rules.specs.SubtypeNames.{subtype_faults, subtype_of, wanted_by}
-use Rattle.declaring.specs.ProtectedRules.{component_initial_faults, is_component_like, part_faults, parts_faults}
-use Rattle.declaring.specs.PackageNames.{program_scope}
-use Rattle.checking.specs.ProgramRules.{IsLegal}
+use Rattle.declaration_rules.specs.ProtectedRules.{component_initial_faults, is_component_like, part_faults, parts_faults}
+use Rattle.declaration_rules.specs.PackageNames.{program_scope}
+use Rattle.legality.specs.ProgramRules.{IsLegal}
 use Rattle.expr_soundness.specs.meaning.specs.Programs.{component, components_among, given_or, initial_value, items_among, object_named, objects_or_none, package_items, program_of, subtype_or_integer, variable, variables_among}
 use Rattle.expr_soundness.specs.SoundScopes.{IsKnown, SoundScope}
 use Rattle.expr_soundness.proofs.FixedNames.{all_valueless, is_valueless}

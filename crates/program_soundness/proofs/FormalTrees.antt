@@ -11,8 +11,8 @@ use Rattle.expr_soundness.specs.expr_rules.proofs.TypedLaw.{back_empty, front_em
 use Rattle.expr_soundness.specs.type_rules.specs.SubtypeNames.{named_entity, subtype_faults, subtype_of}
 use Rattle.expr_soundness.specs.type_rules.specs.ObjectRules.{object_entity}
 use Rattle.expr_soundness.specs.type_rules.specs.ProfileRules.{formal_faults, formals_faults, is_formal_in}
-use Rattle.declaring.specs.BodyNames.{formal_role, formal_scope, formals_scope}
-use Rattle.legality.specs.BodyRules.{own_name_faults}
+use Rattle.declaration_rules.specs.BodyNames.{formal_role, formal_scope, formals_scope}
+use Rattle.unit_rules.specs.BodyRules.{own_name_faults}
 use Rattle.expr_soundness.specs.SoundScopes.{IsKnown, SoundScope}
 use Rattle.expr_soundness.specs.Laws.{ScopesAreSound}
 use Rattle.expr_soundness.proofs.Positions.{item_added}

@@ -10,7 +10,7 @@ use Rattle.types.specs.Entities as entity
 use Rattle.types.specs.Scopes.{Named, Scope, with_name}
 use Rattle.types.specs.Values.{Value}
 use Rattle.types.specs.Places.{Object, Place, or_else}
-use Rattle.declaring.specs.BodyNames.{formal_role}
+use Rattle.declaration_rules.specs.BodyNames.{formal_role}
 use Rattle.step_soundness.specs.stmt_rules.specs.declared.around.Around.{Around}
 use Rattle.expr_soundness.specs.SoundScopes.{IsKnown, IsSoundObject, SoundScope}
 use Rattle.expr_soundness.specs.Laws.{ScopesAreSound}

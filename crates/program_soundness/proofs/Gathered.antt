@@ -10,7 +10,7 @@ use Rattle.types.specs.Places.{Function, Place, function_of}
 use Rattle.types.specs.Statics.{static_place}
 use Rattle.types.specs.Evaluating.{entered}
 use Rattle.expr_soundness.specs.type_rules.specs.ProfileRules.{subprogram_scope}
-use Rattle.checking.specs.ProgramRules.{IsLegal}
+use Rattle.legality.specs.ProgramRules.{IsLegal}
 use Rattle.ravenscar.specs.ProgramRules.{IsRestricted}
 use Rattle.expr_soundness.specs.Agreeing.{Agrees}
 use Rattle.expr_soundness.specs.Answers.{FunctionsAreSound, ReturnsSoundly, are_actuals}

@@ -18,13 +18,13 @@ use Rattle.types.specs.Places.{function_of as found}
 use Rattle.expr_soundness.specs.expr_rules.proofs.TypedLaw.{front_empty, unbroken}
 use Rattle.expr_soundness.specs.type_rules.specs.ProfileRules.{profile_entity}
 use Rattle.expr_soundness.specs.type_rules.specs.SubtypeNames.{end_rule, entity_at_or_none, named_entity}
-use Rattle.matching.specs.MatchingRules.{conforms, is_unlike_subprogram, passes_declared, same_name}
-use Rattle.legality.specs.BodyRules.{body_name_rule, function_body_faults, has_no_declarations, has_no_handlers, is_function_body, is_return_of_value, is_single_return, is_subprogram}
-use Rattle.legality.specs.MainRules.{item_name}
-use Rattle.legality.specs.PackageBodyRules.{body_item_faults}
-use Rattle.legality.specs.ProtectedBodyRules.{is_object as is_protected_name, known_body_faults, object_rule}
-use Rattle.declaring.specs.PackageNames.{program_scope}
-use Rattle.checking.specs.ProgramRules.{IsLegal}
+use Rattle.conformance.specs.MatchingRules.{conforms, is_unlike_subprogram, passes_declared, same_name}
+use Rattle.unit_rules.specs.BodyRules.{body_name_rule, function_body_faults, has_no_declarations, has_no_handlers, is_function_body, is_return_of_value, is_single_return, is_subprogram}
+use Rattle.unit_rules.specs.MainRules.{item_name}
+use Rattle.unit_rules.specs.PackageBodyRules.{body_item_faults}
+use Rattle.unit_rules.specs.ProtectedBodyRules.{is_object as is_protected_name, known_body_faults, object_rule}
+use Rattle.declaration_rules.specs.PackageNames.{program_scope}
+use Rattle.legality.specs.ProgramRules.{IsLegal}
 use Rattle.expr_soundness.specs.meaning.specs.Programs.{functions_among, items_among, object_numbered, returned, variables_among}
 use Rattle.expr_soundness.specs.SoundScopes.{SoundScope}
 use Rattle.expr_soundness.specs.Agreeing.{HasProfile}

@@ -9,16 +9,16 @@ use Rattle.types.specs.Scopes.{Scope, entity_at, number_of, standard}
 use Rattle.types.specs.Laws.{InitialValuesHaveShape}
 use Rattle.expr_soundness.specs.expr_rules.proofs.TypedLaw.{back_empty, front_empty}
 use Rattle.expr_soundness.specs.type_rules.specs.ProfileRules.{profile_faults, subprogram_scope}
-use Rattle.declaring.specs.BodyNames.{object_body_scope}
-use Rattle.declaring.specs.ItemRules.{item_faults}
-use Rattle.declaring.specs.Laws.{NamesAreAdded}
-use Rattle.legality.specs.BodyRules.{head_faults, subprogram_body_faults}
-use Rattle.legality.specs.MainRules.{main_faults}
-use Rattle.declaring.specs.PackageNames.{body_item_scope, optional_scope}
-use Rattle.legality.specs.PackageBodyRules.{body_item_faults, body_items_faults}
-use Rattle.legality.specs.ProtectedBodyRules.{operation_sees, protected_items_scope}
+use Rattle.declaration_rules.specs.BodyNames.{object_body_scope}
+use Rattle.declaration_rules.specs.ItemRules.{item_faults}
+use Rattle.declaration_rules.specs.Laws.{NamesAreAdded}
+use Rattle.unit_rules.specs.BodyRules.{head_faults, subprogram_body_faults}
+use Rattle.unit_rules.specs.MainRules.{main_faults}
+use Rattle.declaration_rules.specs.PackageNames.{body_item_scope, optional_scope}
+use Rattle.unit_rules.specs.PackageBodyRules.{body_item_faults, body_items_faults}
+use Rattle.unit_rules.specs.ProtectedBodyRules.{operation_sees, protected_items_scope}
 use Rattle.size_rules.specs.ProgramSizes.{size_faults}
-use Rattle.checking.specs.ProgramRules.{IsLegal, package_part_faults}
+use Rattle.legality.specs.ProgramRules.{IsLegal, package_part_faults}
 use Rattle.ravenscar.specs.ProgramRules.{IsRestricted}
 use Rattle.ravenscar.specs.ProgramRules as profile
 use Rattle.expr_soundness.specs.SoundScopes.{SoundScope}

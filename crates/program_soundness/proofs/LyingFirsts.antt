@@ -17,8 +17,8 @@ use Rattle.types.specs.Scopes.{Scope, form_at, greatest_number, integer, least_n
 use Rattle.types.specs.Shapes.{initial}
 use Rattle.types.specs.Statics.{StaticIsValue, start_of, static_form, static_place}
 use Rattle.types.specs.Values.{Value, Number, Truth, Array, Record, fits, is_within}
-use Rattle.declaring.specs.PackageNames.{program_scope}
-use Rattle.checking.specs.ProgramRules.{IsLegal}
+use Rattle.declaration_rules.specs.PackageNames.{program_scope}
+use Rattle.legality.specs.ProgramRules.{IsLegal}
 use Rattle.expr_soundness.specs.expr_rules.specs.declared.own.Wanted.TheVariants as wanted
 use Rattle.expr_soundness.specs.expr_rules.specs.ExpressionRules.{faults_of}
 use Rattle.expr_soundness.specs.expr_rules.specs.Faults.{Faults}

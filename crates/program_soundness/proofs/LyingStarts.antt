@@ -8,7 +8,7 @@ use Rattle.expr_soundness.specs.ada_tree.specs.ProgramTree.{BodyItemTree, BodyTr
 use Rattle.types.specs.Places.{is_of}
 use Rattle.types.specs.Scopes.{Scope}
 use Rattle.types.specs.Statics.{StaticIsValue}
-use Rattle.declaring.specs.PackageNames.{program_scope}
+use Rattle.declaration_rules.specs.PackageNames.{program_scope}
 use Rattle.expr_soundness.specs.InitialLaw.{InitialValuesLie}
 use Rattle.expr_soundness.specs.Laws.{ScopesAreSound}
 use Rattle.expr_soundness.specs.meaning.specs.Programs.{Procedure, object_numbered, operation_procedures, package_bodies, parameter, procedure_of, procedures_among, program_of, subtype_named}

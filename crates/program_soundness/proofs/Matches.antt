@@ -10,8 +10,8 @@ use Rattle.expr_soundness.specs.ada_tree.specs.StatementTree.{OfSubprogram as Of
 use Rattle.expr_soundness.specs.ada_tree.specs.ProgramTree.{BodyItemTree, BodyTree, OfItem, SubprogramBody, TaskBody, ProtectedBody, ItemTree, OfSubprogram, OfProtected, PackageTree, ProgramTree, ProtectedItemTree}
 use Rattle.expr_soundness.specs.expr_rules.specs.Faults.{rule}
 use Rattle.expr_soundness.specs.expr_rules.proofs.TypedLaw.{back_empty, front_empty, unbroken}
-use Rattle.matching.specs.MatchingRules.{all_missing_faults, any_declared, has_operation, has_unlike_operation, is_second_operation, is_unlike_subprogram, item_matching, items_matching, missing_faults, missing_operation_rule, missing_operations_faults, operation_bodies_faults, operation_body_rule, operation_name, passes_declared, same_name}
-use Rattle.checking.specs.ProgramRules.{IsLegal}
+use Rattle.conformance.specs.MatchingRules.{all_missing_faults, any_declared, has_operation, has_unlike_operation, is_second_operation, is_unlike_subprogram, item_matching, items_matching, missing_faults, missing_operation_rule, missing_operations_faults, operation_bodies_faults, operation_body_rule, operation_name, passes_declared, same_name}
+use Rattle.legality.specs.ProgramRules.{IsLegal}
 use Rattle.expr_soundness.proofs.Expressions.{not_false}
 use Rattle.program_soundness.proofs.Lists.{HasAt, any_found, any_of_more, none_here}
 use Rattle.program_soundness.proofs.Origins.{all_items}

@@ -12,10 +12,10 @@ use Rattle.types.specs.Scopes.{Named, Scope, changed_at, is_visible, offering, o
 use Rattle.types.specs.Places.{or_else}
 use Rattle.expr_soundness.specs.type_rules.specs.SubtypeNames.{subtype_in, subtype_of}
 use Rattle.expr_soundness.specs.type_rules.specs.ProfileRules.{formal_and, formal_parameters, given_profile, profile_with}
-use Rattle.declaring.specs.ProtectedRules.{object_with}
+use Rattle.declaration_rules.specs.ProtectedRules.{object_with}
 use Rattle.expr_soundness.specs.expr_rules.proofs.TypedLaw.{back_empty, front_empty}
-use Rattle.declaring.specs.PackageNames.{body_item_scope, body_items_scope}
-use Rattle.legality.specs.ProtectedBodyRules.{protected_item_faults, protected_item_scope, protected_items_faults, protected_items_scope}
+use Rattle.declaration_rules.specs.PackageNames.{body_item_scope, body_items_scope}
+use Rattle.unit_rules.specs.ProtectedBodyRules.{protected_item_faults, protected_item_scope, protected_items_faults, protected_items_scope}
 use Rattle.program_soundness.specs.Fronts.{scope_at}
 use Rattle.program_soundness.proofs.Listing.{same_some, taken_further}
 use Rattle.program_soundness.proofs.WiderScopes.{found_in, stands, stands_found}

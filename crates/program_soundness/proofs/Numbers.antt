@@ -8,11 +8,11 @@ use Rattle.types.specs.Entities.{Entity, LibraryUnit, Operation, Protected, Prot
 use Rattle.types.specs.Places.{ceiling_of, ceiling_or}
 use Rattle.types.specs.Scopes.{Named, Scope, entity_at, is_visible, one_if_protected, protected_count, standard, with_name}
 use Rattle.expr_soundness.specs.base.specs.declared.limits.TheConstants.{CEILING}
-use Rattle.declaring.specs.ProtectedRules.{default_ceiling, object_components, object_operations, object_with}
-use Rattle.declaring.specs.TaskRules.{priority_of}
-use Rattle.legality.specs.MainRules.{item_name}
-use Rattle.declaring.specs.PackageNames.{body_item_scope, body_items_scope, optional_scope, program_scope, units_scope}
-use Rattle.checking.proofs.Made.{NoUnits, clauses_seen, seen}
+use Rattle.declaration_rules.specs.ProtectedRules.{default_ceiling, object_components, object_operations, object_with}
+use Rattle.declaration_rules.specs.TaskRules.{priority_of}
+use Rattle.unit_rules.specs.MainRules.{item_name}
+use Rattle.declaration_rules.specs.PackageNames.{body_item_scope, body_items_scope, optional_scope, program_scope, units_scope}
+use Rattle.legality.proofs.Made.{NoUnits, clauses_seen, seen}
 use Rattle.expr_soundness.specs.type_rules.specs.ProfileRules.{profile_entity}
 use Rattle.program_soundness.proofs.Declaring.{all_simple, definition_plain, is_protected, is_simple, package_object_plain, profile_plain, seen_simple, simple_kinds}
 use Rattle.program_soundness.proofs.Listing.{same_some}

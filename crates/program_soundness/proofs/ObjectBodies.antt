@@ -19,17 +19,17 @@ use Rattle.expr_soundness.specs.expr_rules.specs.Faults.{Faults, rule}
 use Rattle.expr_soundness.specs.expr_rules.proofs.TypedLaw.{back_empty, front_empty, judged, unbroken}
 use Rattle.expr_soundness.specs.type_rules.specs.SubtypeNames.{end_rule, named_entity, subtype_in, subtype_of}
 use Rattle.expr_soundness.specs.type_rules.specs.ProfileRules.{formal_parameters, profile_entity, profile_with, subprogram_scope}
-use Rattle.declaring.specs.BodyNames.{components_scope, object_body_scope, component_role, operation_entity, operations_scope}
-use Rattle.declaring.specs.ProtectedRules.{is_operation_in, object_components, object_operations, operation_name, operation_profile, protected_entity, protected_faults}
-use Rattle.declaring.specs.ProtectedRules as declared
-use Rattle.matching.specs.MatchingRules.{any_declared, has_unlike_operation, is_second_operation, is_unlike_operation, operation_bodies_faults, operation_body_rule, passes_declared, same_formals, same_name, same_result, conforms}
-use Rattle.matching.specs.MatchingRules as matching
+use Rattle.declaration_rules.specs.BodyNames.{components_scope, object_body_scope, component_role, operation_entity, operations_scope}
+use Rattle.declaration_rules.specs.ProtectedRules.{is_operation_in, object_components, object_operations, operation_name, operation_profile, protected_entity, protected_faults}
+use Rattle.declaration_rules.specs.ProtectedRules as declared
+use Rattle.conformance.specs.MatchingRules.{any_declared, has_unlike_operation, is_second_operation, is_unlike_operation, operation_bodies_faults, operation_body_rule, passes_declared, same_formals, same_name, same_result, conforms}
+use Rattle.conformance.specs.MatchingRules as matching
 use Rattle.expr_soundness.specs.base.specs.declared.faults.TheConstants.{UNMATCHED_BODY}
-use Rattle.legality.specs.MainRules.{item_name}
-use Rattle.declaring.specs.PackageNames.{body_items_scope}
-use Rattle.legality.specs.BodyRules.{body_name_faults, body_name_rule, function_body_faults, head_faults, is_subprogram, subprogram_body_faults}
-use Rattle.legality.specs.ProtectedBodyRules.{components_at, entry_rule, is_entry, known_body_faults, object_items_faults, object_rule, outer_names_faults, protected_item_faults, protected_items_faults}
-use Rattle.checking.specs.LikeNames.{is_its_body, item_like_faults}
+use Rattle.unit_rules.specs.MainRules.{item_name}
+use Rattle.declaration_rules.specs.PackageNames.{body_items_scope}
+use Rattle.unit_rules.specs.BodyRules.{body_name_faults, body_name_rule, function_body_faults, head_faults, is_subprogram, subprogram_body_faults}
+use Rattle.unit_rules.specs.ProtectedBodyRules.{components_at, entry_rule, is_entry, known_body_faults, object_items_faults, object_rule, outer_names_faults, protected_item_faults, protected_items_faults}
+use Rattle.legality.specs.LikeNames.{is_its_body, item_like_faults}
 use Rattle.expr_soundness.specs.SoundScopes.{SoundScope}
 use Rattle.expr_soundness.specs.meaning.specs.Programs.{Program}
 use Rattle.program_soundness.specs.Fronts.{scope_at}

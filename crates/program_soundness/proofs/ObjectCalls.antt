@@ -14,10 +14,10 @@ use Rattle.types.specs.Evaluating.{formal_subtype}
 use Rattle.types.specs.Places.{Function, function_of, is_of}
 use Rattle.expr_soundness.specs.expr_rules.proofs.TypedLaw.{back_empty, front_empty, judged, same_number, unbroken}
 use Rattle.expr_soundness.specs.type_rules.specs.ProfileRules.{formal_parameters, profile_with}
-use Rattle.declaring.specs.ProtectedRules as declared
-use Rattle.matching.specs.MatchingRules.{is_second_operation, same_name}
-use Rattle.matching.specs.MatchingRules as matching
-use Rattle.legality.specs.BodyRules.{function_body_faults, head_faults, is_function_body}
+use Rattle.declaration_rules.specs.ProtectedRules as declared
+use Rattle.conformance.specs.MatchingRules.{is_second_operation, same_name}
+use Rattle.conformance.specs.MatchingRules as matching
+use Rattle.unit_rules.specs.BodyRules.{function_body_faults, head_faults, is_function_body}
 use Rattle.ravenscar.specs.TaskingRules as profile
 use Rattle.expr_soundness.specs.Agreeing.{HasProfile}
 use Rattle.expr_soundness.specs.meaning.specs.Programs.{Procedure, Program, formal, object_numbered, parameter, returned}

@@ -15,10 +15,10 @@ use Rattle.types.specs.Standings.{stands_first}
 use Rattle.types.specs.Shapes.{has_shape, shape_of}
 use Rattle.types.specs.Places.{Function, Meaning, Object, Place, function_meaning, function_of, function_stands, meaning_in_scope, meaning_of, meaning_or, object_meaning, object_of, object_stands, or_else, stands_here}
 use Rattle.expr_soundness.specs.type_rules.specs.ProfileRules.{profile_entity}
-use Rattle.declaring.specs.BodyNames.{component_role, components_scope, operation_entity}
-use Rattle.declaring.specs.ProtectedRules.{object_components, protected_entity}
-use Rattle.declaring.specs.PackageNames.{body_item_scope}
-use Rattle.legality.specs.PackageBodyRules.{body_item_faults}
+use Rattle.declaration_rules.specs.BodyNames.{component_role, components_scope, operation_entity}
+use Rattle.declaration_rules.specs.ProtectedRules.{object_components, protected_entity}
+use Rattle.declaration_rules.specs.PackageNames.{body_item_scope}
+use Rattle.unit_rules.specs.PackageBodyRules.{body_item_faults}
 use Rattle.expr_soundness.specs.SoundScopes.{IsKnown, IsSoundObject, SoundScope}
 use Rattle.expr_soundness.specs.Laws.{ScopesAreSound}
 use Rattle.expr_soundness.specs.Agreeing.{Agrees, Means, MeansFunction, MeansObject, MeansOne}

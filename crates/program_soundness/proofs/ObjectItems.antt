@@ -5,7 +5,7 @@ use Rattle.expr_soundness.specs.ada_tree.specs.StatementTree.{ProtectedTree, Sub
 use Rattle.expr_soundness.specs.ada_tree.specs.ProgramTree.{BodyTree, BodyItemTree, OfItem, SubprogramBody, TaskBody, ProtectedBody, OfType, OfObject, OfException, OfSubprogram, OfTask, OfProtected, ProtectedItemTree, OperationBody}
 use Rattle.types.specs.Scopes.{Scope}
 use Rattle.expr_soundness.specs.expr_rules.proofs.TypedLaw.{back_empty, front_empty, unbroken}
-use Rattle.legality.specs.ProtectedBodyRules.{outer_name_rule, outer_names_faults}
+use Rattle.unit_rules.specs.ProtectedBodyRules.{outer_name_rule, outer_names_faults}
 use Rattle.program_soundness.proofs.Listing.{same_some}
 use Rattle.program_soundness.proofs.WiderScopes.{stands, unseen_none}
 use Rattle.program_soundness.proofs.Walked.{Constants, ProtectedOnes, Variables, body_item_kind}

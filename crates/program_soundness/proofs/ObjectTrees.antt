@@ -13,9 +13,9 @@ use Rattle.types.proofs.Seeing.{either_way}
 use Rattle.expr_soundness.specs.expr_rules.specs.Faults.{Faults}
 use Rattle.expr_soundness.specs.expr_rules.proofs.TypedLaw.{back_empty, front_empty, unbroken}
 use Rattle.expr_soundness.specs.type_rules.specs.SubtypeNames.{subtype_of}
-use Rattle.declaring.specs.BodyNames.{component_role, components_scope, operation_entity, operations_scope}
-use Rattle.declaring.specs.ProtectedRules.{is_component_in, is_component_like, is_entry, is_operation_in, is_operation_like, object_components, object_operations, operation_and, operation_faults, operation_name, operation_profile, operation_profile_faults, operations_faults, part_and, part_faults, parts_faults, protected_faults}
-use Rattle.checking.specs.LikeNames.{between_faults, is_its_body, item_like_faults}
+use Rattle.declaration_rules.specs.BodyNames.{component_role, components_scope, operation_entity, operations_scope}
+use Rattle.declaration_rules.specs.ProtectedRules.{is_component_in, is_component_like, is_entry, is_operation_in, is_operation_like, object_components, object_operations, operation_and, operation_faults, operation_name, operation_profile, operation_profile_faults, operations_faults, part_and, part_faults, parts_faults, protected_faults}
+use Rattle.legality.specs.LikeNames.{between_faults, is_its_body, item_like_faults}
 use Rattle.program_soundness.proofs.Listing.{same_some}
 use Rattle.program_soundness.proofs.WiderScopes.{found_in, same_bytes, stands, unseen_none, with_all}
 

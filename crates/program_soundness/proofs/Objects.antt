@@ -12,12 +12,12 @@ use Rattle.types.specs.Places.{Function}
 use Rattle.types.specs.Places.{function_of as found}
 use Rattle.expr_soundness.specs.expr_rules.proofs.TypedLaw.{back_empty, front_empty, unbroken}
 use Rattle.expr_soundness.specs.type_rules.specs.SubtypeNames.{declared_twice, end_rule}
-use Rattle.declaring.specs.ProtectedRules.{default_ceiling, is_entry, object_components, object_operations, object_with, operation_and, operation_name, operation_profile, operations_faults, parts_faults, protected_entity, protected_faults}
-use Rattle.declaring.specs.TaskRules.{aspect_faults, priority_of}
+use Rattle.declaration_rules.specs.ProtectedRules.{default_ceiling, is_entry, object_components, object_operations, object_with, operation_and, operation_name, operation_profile, operations_faults, parts_faults, protected_entity, protected_faults}
+use Rattle.declaration_rules.specs.TaskRules.{aspect_faults, priority_of}
 use Rattle.expr_soundness.specs.base.specs.declared.limits.TheConstants.{CEILING, TASK_PRIORITY}
-use Rattle.legality.specs.MainRules.{item_name}
-use Rattle.declaring.specs.PackageNames.{body_item_scope}
-use Rattle.checking.specs.ProgramRules.{IsLegal}
+use Rattle.unit_rules.specs.MainRules.{item_name}
+use Rattle.declaration_rules.specs.PackageNames.{body_item_scope}
+use Rattle.legality.specs.ProgramRules.{IsLegal}
 use Rattle.expr_soundness.specs.meaning.specs.Programs.{object_numbered}
 use Rattle.expr_soundness.proofs.Positions.{same_some}
 use Rattle.step_soundness.specs.Fitting.{entity_named}

@@ -8,7 +8,7 @@ use Rattle.types.specs.Entities.{Entity, ProtectedObject, Protected, Subprogram,
 use Rattle.types.specs.Scopes.{Scope}
 use Rattle.types.specs.Places.{Place}
 use Rattle.expr_soundness.specs.type_rules.specs.ProfileRules.{profile_entity, subprogram_scope}
-use Rattle.declaring.specs.BodyNames.{components_scope}
+use Rattle.declaration_rules.specs.BodyNames.{components_scope}
 use Rattle.expr_soundness.specs.SoundScopes.{SoundScope}
 use Rattle.expr_soundness.specs.Agreeing.{Agrees}
 use Rattle.expr_soundness.specs.Laws.{ScopesAreSound}

@@ -14,10 +14,10 @@ use Rattle.types.specs.Places.{Place, function_of, or_else}
 use Rattle.types.proofs.Seeing.{either_way}
 use Rattle.expr_soundness.specs.expr_rules.proofs.TypedLaw.{back_empty, front_empty, unbroken}
 use Rattle.expr_soundness.specs.type_rules.specs.ProfileRules.{formal_parameters}
-use Rattle.declaring.specs.BodyNames.{operation_entity}
-use Rattle.declaring.specs.ProtectedRules as declared
-use Rattle.matching.specs.MatchingRules.{has_operation, missing_operation_rule, missing_operations_faults, same_name}
-use Rattle.matching.specs.MatchingRules as matching
+use Rattle.declaration_rules.specs.BodyNames.{operation_entity}
+use Rattle.declaration_rules.specs.ProtectedRules as declared
+use Rattle.conformance.specs.MatchingRules.{has_operation, missing_operation_rule, missing_operations_faults, same_name}
+use Rattle.conformance.specs.MatchingRules as matching
 use Rattle.expr_soundness.specs.Agreeing.{OffersFunction}
 use Rattle.expr_soundness.proofs.Positions.{first_place, found_at, place_is, suc_of}
 use Rattle.expr_soundness.specs.meaning.specs.Programs.{Program}

@@ -11,15 +11,15 @@ use Rattle.types.specs.Scopes.{Scope, standard}
 use Rattle.expr_soundness.specs.base.specs.declared.faults.TheConstants.{UNMATCHED_BODY}
 use Rattle.expr_soundness.specs.expr_rules.specs.Faults.{Faults, rule}
 use Rattle.expr_soundness.specs.expr_rules.proofs.TypedLaw.{back_empty, front_empty}
-use Rattle.declaring.specs.ItemRules.{item_faults, item_scope, items_faults, items_scope}
-use Rattle.matching.specs.MatchingRules.{all_missing_faults, any_declared, has_operation, has_unlike_operation, is_second_operation, is_unlike_subprogram, item_matching, items_matching, matching_faults, missing_faults, missing_operations_faults, operation_bodies_faults, operation_name, passes_declared, same_name}
-use Rattle.legality.specs.MainRules.{item_name}
-use Rattle.declaring.specs.PackageNames.{body_item_scope, body_items_scope, inside_scope, specified_scope}
-use Rattle.legality.specs.PackageBodyRules.{body_items_faults}
-use Rattle.legality.specs.PackageRules.{behind_faults, specification_faults}
-use Rattle.legality.specs.PackageRules as rules
-use Rattle.checking.specs.LikeNames.{behind_item_faults, between_faults, body_like_faults, like_rule, specification_like_faults, specified_faults, behind_specified_faults, like_name_faults}
-use Rattle.checking.specs.ProgramRules.{package_part_faults}
+use Rattle.declaration_rules.specs.ItemRules.{item_faults, item_scope, items_faults, items_scope}
+use Rattle.conformance.specs.MatchingRules.{all_missing_faults, any_declared, has_operation, has_unlike_operation, is_second_operation, is_unlike_subprogram, item_matching, items_matching, matching_faults, missing_faults, missing_operations_faults, operation_bodies_faults, operation_name, passes_declared, same_name}
+use Rattle.unit_rules.specs.MainRules.{item_name}
+use Rattle.declaration_rules.specs.PackageNames.{body_item_scope, body_items_scope, inside_scope, specified_scope}
+use Rattle.unit_rules.specs.PackageBodyRules.{body_items_faults}
+use Rattle.unit_rules.specs.PackageRules.{behind_faults, specification_faults}
+use Rattle.unit_rules.specs.PackageRules as rules
+use Rattle.legality.specs.LikeNames.{behind_item_faults, between_faults, body_like_faults, like_rule, specification_like_faults, specified_faults, behind_specified_faults, like_name_faults}
+use Rattle.legality.specs.ProgramRules.{package_part_faults}
 use Rattle.ravenscar.specs.HandlerRules.{none_taken}
 use Rattle.ravenscar.specs.ProgramRules as profile
 use Rattle.program_soundness.specs.Fronts.{declared_in, scope_at, start_in}

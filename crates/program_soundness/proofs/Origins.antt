@@ -10,13 +10,13 @@ use Rattle.expr_soundness.specs.expr_rules.proofs.TypedLaw.{back_empty, front_em
 use Rattle.expr_soundness.specs.type_rules.specs.ObjectRules.{package_object_entity}
 use Rattle.expr_soundness.specs.type_rules.specs.ProfileRules.{formal_parameters, profile_entity, profile_with}
 use Rattle.expr_soundness.specs.type_rules.specs.TypeRules.{definition_entity}
-use Rattle.declaring.specs.ItemRules.{item_faults, item_scope, items_faults, items_scope}
-use Rattle.declaring.specs.ProtectedRules.{protected_entity}
-use Rattle.declaring.specs.TaskRules.{default_priority, priority_of}
-use Rattle.legality.specs.MainRules.{item_name}
-use Rattle.declaring.specs.PackageNames.{body_item_scope, body_items_scope, inside_scope, optional_scope, program_scope, specified_scope}
-use Rattle.legality.specs.PackageBodyRules.{body_item_faults, body_items_faults}
-use Rattle.checking.specs.ProgramRules.{IsLegal}
+use Rattle.declaration_rules.specs.ItemRules.{item_faults, item_scope, items_faults, items_scope}
+use Rattle.declaration_rules.specs.ProtectedRules.{protected_entity}
+use Rattle.declaration_rules.specs.TaskRules.{default_priority, priority_of}
+use Rattle.unit_rules.specs.MainRules.{item_name}
+use Rattle.declaration_rules.specs.PackageNames.{body_item_scope, body_items_scope, inside_scope, optional_scope, program_scope, specified_scope}
+use Rattle.unit_rules.specs.PackageBodyRules.{body_item_faults, body_items_faults}
+use Rattle.legality.specs.ProgramRules.{IsLegal}
 use Rattle.expr_soundness.specs.SoundScopes.{SoundScope}
 use Rattle.step_soundness.specs.Fitting.{entity_named}
 use Rattle.step_soundness.proofs.Lookups.{named_added, named_behind, same_bytes}

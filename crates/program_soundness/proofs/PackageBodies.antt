@@ -14,17 +14,17 @@ use Rattle.expr_soundness.specs.expr_rules.specs.Faults.{Faults}
 use Rattle.expr_soundness.specs.expr_rules.proofs.TypedLaw.{back_empty, front_empty}
 use Rattle.expr_soundness.specs.type_rules.specs.SubtypeNames.{end_rule}
 use Rattle.expr_soundness.specs.type_rules.specs.ProfileRules.{formal_parameters, formals_faults, profile_entity, profile_faults, profile_with, subprogram_scope}
-use Rattle.declaring.specs.BodyNames.{formals_scope}
-use Rattle.declaring.specs.LocalRules.{fixed_locals_faults, locals_scope}
-use Rattle.declaring.specs.Laws.{NamesAreAdded, StandsFirst}
+use Rattle.declaration_rules.specs.BodyNames.{formals_scope}
+use Rattle.declaration_rules.specs.LocalRules.{fixed_locals_faults, locals_scope}
+use Rattle.declaration_rules.specs.Laws.{NamesAreAdded, StandsFirst}
 use Rattle.step_soundness.specs.stmt_rules.specs.declared.around.Around.{Around}
 use Rattle.step_soundness.specs.stmt_rules.specs.declared.around.BodyKind.TheVariants as kind
 use Rattle.step_soundness.specs.stmt_rules.specs.SimpleRules.{is_function}
 use Rattle.step_soundness.specs.stmt_rules.specs.StatementRules.{in_body, sequence_faults}
-use Rattle.matching.specs.MatchingRules.{same_name}
-use Rattle.legality.specs.BodyRules.{body_faults, head_faults, kind_of, own_name_faults, task_body_faults, task_rule}
-use Rattle.legality.specs.MainRules.{called_rule, declared_meaning, has_no_formals, item_meaning, item_name, main_statement_faults, main_statements_faults, meaning_of, no_package_rule}
-use Rattle.declaring.specs.PackageNames.{body_item_scope, body_items_scope}
+use Rattle.conformance.specs.MatchingRules.{same_name}
+use Rattle.unit_rules.specs.BodyRules.{body_faults, head_faults, kind_of, own_name_faults, task_body_faults, task_rule}
+use Rattle.unit_rules.specs.MainRules.{called_rule, declared_meaning, has_no_formals, item_meaning, item_name, main_statement_faults, main_statements_faults, meaning_of, no_package_rule}
+use Rattle.declaration_rules.specs.PackageNames.{body_item_scope, body_items_scope}
 use Rattle.step_soundness.specs.body_restrictions.specs.BodyRules as profile
 use Rattle.expr_soundness.specs.SoundScopes.{SoundScope}
 use Rattle.expr_soundness.specs.Laws.{ScopesAreSound}

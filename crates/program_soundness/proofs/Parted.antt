@@ -11,10 +11,10 @@ use Rattle.types.specs.Places.{object_of, or_else}
 use Rattle.types.specs.Places as places
 use Rattle.types.proofs.Seeing.{either_way}
 use Rattle.expr_soundness.specs.type_rules.specs.SubtypeNames.{subtype_of}
-use Rattle.declaring.specs.BodyNames.{component_role}
-use Rattle.declaring.specs.ProtectedRules.{is_component_in, object_components, protected_entity}
-use Rattle.declaring.specs.PackageNames.{body_item_scope}
-use Rattle.legality.specs.PackageBodyRules.{body_item_faults}
+use Rattle.declaration_rules.specs.BodyNames.{component_role}
+use Rattle.declaration_rules.specs.ProtectedRules.{is_component_in, object_components, protected_entity}
+use Rattle.declaration_rules.specs.PackageNames.{body_item_scope}
+use Rattle.unit_rules.specs.PackageBodyRules.{body_item_faults}
 use Rattle.expr_soundness.specs.meaning.specs.Programs.{component, components_among, items_among, subtype_named}
 use Rattle.program_soundness.specs.Fronts.{scope_at}
 use Rattle.program_soundness.proofs.Listing.{same_some}

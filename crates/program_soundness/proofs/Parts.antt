@@ -8,18 +8,18 @@ use Rattle.expr_soundness.specs.expr_rules.specs.Faults.{rule}
 use Rattle.expr_soundness.specs.expr_rules.proofs.TypedLaw.{back_empty, front_empty}
 use Rattle.expr_soundness.specs.type_rules.specs.ProfileRules.{profile_faults, subprogram_scope}
 use Rattle.expr_soundness.specs.type_rules.specs.SubtypeNames.{declared_twice, end_rule}
-use Rattle.declaring.specs.BodyNames.{formals_scope}
-use Rattle.declaring.specs.ItemRules.{items_faults}
-use Rattle.matching.specs.MatchingRules.{matching_faults, same_name}
-use Rattle.legality.specs.BodyRules.{body_faults, body_name_faults, function_body_faults, head_faults, kind_of, own_name_faults, subprogram_body_faults}
-use Rattle.legality.specs.MainRules.{main_faults}
-use Rattle.declaring.specs.PackageNames.{body_item_scope, body_items_scope, inside_scope, specified_scope, units_scope}
-use Rattle.legality.specs.PackageBodyRules.{body_item_faults, body_items_faults}
-use Rattle.legality.specs.PackageRules.{behind_faults, bodiless_rule, package_faults, specification_faults}
-use Rattle.legality.specs.UnitRules.{clauses_faults}
+use Rattle.declaration_rules.specs.BodyNames.{formals_scope}
+use Rattle.declaration_rules.specs.ItemRules.{items_faults}
+use Rattle.conformance.specs.MatchingRules.{matching_faults, same_name}
+use Rattle.unit_rules.specs.BodyRules.{body_faults, body_name_faults, function_body_faults, head_faults, kind_of, own_name_faults, subprogram_body_faults}
+use Rattle.unit_rules.specs.MainRules.{main_faults}
+use Rattle.declaration_rules.specs.PackageNames.{body_item_scope, body_items_scope, inside_scope, specified_scope, units_scope}
+use Rattle.unit_rules.specs.PackageBodyRules.{body_item_faults, body_items_faults}
+use Rattle.unit_rules.specs.PackageRules.{behind_faults, bodiless_rule, package_faults, specification_faults}
+use Rattle.unit_rules.specs.UnitRules.{clauses_faults}
 use Rattle.size_rules.specs.ProgramSizes.{size_faults}
-use Rattle.checking.specs.LikeNames.{like_name_faults}
-use Rattle.checking.specs.ProgramRules.{IsLegal, package_part_faults}
+use Rattle.legality.specs.LikeNames.{like_name_faults}
+use Rattle.legality.specs.ProgramRules.{IsLegal, package_part_faults}
 
 -- ---- the package
 

@@ -12,12 +12,12 @@ use Rattle.types.specs.Scopes.{Named, Scope, integer_type, is_visible, standard,
 use Rattle.types.specs.Values.{Value, Number, Truth, Array, Record}
 use Rattle.expr_soundness.specs.expr_rules.specs.StaticRules.{static_scalar}
 use Rattle.expr_soundness.specs.expr_rules.specs.declared.own.Wanted.TheVariants as wanted
-use Rattle.declaring.specs.ProtectedRules.{default_ceiling, has_handler, object_components, object_operations, object_with, protected_count}
-use Rattle.declaring.specs.TaskRules.{default_priority, priority_of, priority_within}
+use Rattle.declaration_rules.specs.ProtectedRules.{default_ceiling, has_handler, object_components, object_operations, object_with, protected_count}
+use Rattle.declaration_rules.specs.TaskRules.{default_priority, priority_of, priority_within}
 use Rattle.kernel.specs.Invariant.{Fits}
-use Rattle.legality.specs.MainRules.{item_name}
-use Rattle.declaring.specs.PackageNames.{body_item_scope, body_items_scope, optional_scope, program_scope, units_scope}
-use Rattle.checking.proofs.Made.{NoUnits, clauses_seen, seen}
+use Rattle.unit_rules.specs.MainRules.{item_name}
+use Rattle.declaration_rules.specs.PackageNames.{body_item_scope, body_items_scope, optional_scope, program_scope, units_scope}
+use Rattle.legality.proofs.Made.{NoUnits, clauses_seen, seen}
 use Rattle.expr_soundness.specs.meaning.specs.Programs.{Duty, Task, base_priority, body_among, main_task, package_bodies, package_items, priority_or_highest, program_of, program_partition, task_with, tasks_among}
 use Rattle.expr_soundness.specs.type_rules.specs.ProfileRules.{profile_entity}
 use Rattle.program_soundness.proofs.Declaring.{all_simple, definition_plain, is_protected, is_simple, package_object_plain, profile_plain, seen_simple, simple_kinds}

@@ -11,11 +11,11 @@ use Rattle.types.specs.Scopes.{Scope}
 use Rattle.expr_soundness.specs.expr_rules.proofs.TypedLaw.{back_empty, front_empty}
 use Rattle.expr_soundness.specs.type_rules.specs.SubtypeNames.{end_rule}
 use Rattle.expr_soundness.specs.type_rules.specs.ProfileRules.{formals_faults, profile_entity, profile_faults, subprogram_scope}
-use Rattle.declaring.specs.BodyNames.{components_scope, formals_scope}
+use Rattle.declaration_rules.specs.BodyNames.{components_scope, formals_scope}
 use Rattle.step_soundness.specs.stmt_rules.specs.declared.around.BodyKind.TheVariants as kinds
 use Rattle.step_soundness.specs.stmt_rules.specs.SimpleRules.{condition_faults, is_function}
-use Rattle.legality.specs.BodyRules.{body_faults, head_faults, kind_of, own_name_faults}
-use Rattle.legality.specs.ProtectedBodyRules.{entry_rule}
+use Rattle.unit_rules.specs.BodyRules.{body_faults, head_faults, kind_of, own_name_faults}
+use Rattle.unit_rules.specs.ProtectedBodyRules.{entry_rule}
 use Rattle.step_soundness.specs.body_restrictions.specs.BodyRules as profile
 use Rattle.ravenscar.specs.ProgramRules as restrictions
 use Rattle.expr_soundness.specs.SoundScopes.{SoundScope}

@@ -14,7 +14,7 @@ use Rattle.types.specs.Scopes.{Scope, number_of}
 use Rattle.types.specs.Evaluating.{formal_subtype}
 use Rattle.expr_soundness.specs.type_rules.specs.ProfileRules.{formal_and, formal_parameters, given_profile, profile_with}
 use Rattle.expr_soundness.specs.type_rules.specs.SubtypeNames.{entity_at_or_none, subtype_in, subtype_of}
-use Rattle.matching.specs.MatchingRules.{conforms, same_formal, same_formals, same_mode, same_name, same_result}
+use Rattle.conformance.specs.MatchingRules.{conforms, same_formal, same_formals, same_mode, same_name, same_result}
 use Rattle.expr_soundness.specs.meaning.specs.Programs.{formal, subtype_named, subtype_or_integer}
 use Rattle.expr_soundness.specs.Agreeing.{HasProfile, parameter_subtype}
 use Rattle.expr_soundness.proofs.Positions.{same_some}

@@ -8,11 +8,11 @@ use Rattle.types.specs.Scopes.{Scope}
 use Rattle.expr_soundness.specs.expr_rules.specs.declared.own.Wanted.TheVariants.{OfType}
 use Rattle.expr_soundness.specs.expr_rules.specs.ExpressionRules.{faults_of}
 use Rattle.expr_soundness.specs.expr_rules.proofs.TypedLaw.{back_empty, front_empty, judged, unbroken}
-use Rattle.declaring.specs.LocalRules.{locals_faults, locals_scope}
+use Rattle.declaration_rules.specs.LocalRules.{locals_faults, locals_scope}
 use Rattle.step_soundness.specs.stmt_rules.specs.declared.around.BodyKind.{BodyKind}
 use Rattle.step_soundness.specs.stmt_rules.specs.declared.around.BodyKind.TheVariants as kind
 use Rattle.step_soundness.specs.stmt_rules.specs.StatementRules.{handlers_faults, in_body, sequence_faults, stmts_faults}
-use Rattle.legality.specs.BodyRules.{body_faults, function_body_faults, has_no_declarations, has_no_handlers, is_function_body, is_single_return}
+use Rattle.unit_rules.specs.BodyRules.{body_faults, function_body_faults, has_no_declarations, has_no_handlers, is_function_body, is_single_return}
 use Rattle.expr_soundness.specs.meaning.specs.Programs.{returned}
 use Rattle.program_soundness.proofs.Listing.{same_some}
 

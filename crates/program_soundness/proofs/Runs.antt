@@ -12,7 +12,7 @@ use Rattle.kernel.proofs.Left.{done_partition, done_pending}
 use Rattle.kernel.specs.Worlds.{Tasks, among, run, solo_of, step, step_of}
 use Rattle.expr_soundness.specs.ada_tree.specs.declared.program.MainStatement.{MainStatement}
 use Rattle.types.specs.Laws.{InitialValuesHaveShape}
-use Rattle.declaring.specs.Laws.{NamesAreAdded}
+use Rattle.declaration_rules.specs.Laws.{NamesAreAdded}
 use Rattle.expr_soundness.specs.Laws.{AgreementIsKept, CallsAreTyped}
 use Rattle.expr_soundness.specs.Variables.{TargetsAreVariables}
 use Rattle.expr_soundness.specs.meaning.specs.Programs.{Attached, Duty, OfBody, OfMain, Program, Task, handler_at, object_attached, program_interrupts, program_partition}

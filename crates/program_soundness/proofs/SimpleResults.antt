@@ -13,7 +13,7 @@ use Rattle.types.specs.Places.{Place}
 use Rattle.expr_soundness.specs.expr_rules.proofs.TypedLaw.{back_empty, front_empty, unbroken}
 use Rattle.expr_soundness.specs.type_rules.specs.SubtypeNames.{end_rule, is_composite, is_composite_form, named_entity, subtype_of}
 use Rattle.expr_soundness.specs.type_rules.specs.ProfileRules.{formal_parameters, formals_faults, function_faults, has_wrong_formal, profile_entity, profile_faults, profile_with, result_faults, subprogram_scope}
-use Rattle.legality.specs.BodyRules.{head_faults, subprogram_body_faults}
+use Rattle.unit_rules.specs.BodyRules.{head_faults, subprogram_body_faults}
 use Rattle.expr_soundness.specs.Agreeing.{Agrees}
 use Rattle.expr_soundness.specs.CompositesLaw.{is_simple}
 use Rattle.expr_soundness.specs.Laws.{ScopesAreSound}

@@ -1,7 +1,7 @@
 -- The start of an accepted program is sound by the laws of its names, objects, priorities, barriers, functions, bodies and tasks.
 use Rattle.std.proofs.Common.{refl}
 use Rattle.expr_soundness.specs.ada_tree.specs.ProgramTree.{ProgramTree}
-use Rattle.checking.specs.ProgramRules.{IsLegal}
+use Rattle.legality.specs.ProgramRules.{IsLegal}
 use Rattle.ravenscar.specs.ProgramRules.{IsRestricted}
 use Rattle.expr_soundness.specs.meaning.specs.Programs.{Program, program_of}
 use Rattle.expr_soundness.specs.meaning.specs.Works.{Store}

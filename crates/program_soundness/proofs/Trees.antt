@@ -9,10 +9,10 @@ use Rattle.expr_soundness.specs.ada_tree.specs.ProgramTree.{BodyItemTree, OfItem
 use Rattle.types.specs.Entities.{Entity, LibraryUnit}
 use Rattle.types.specs.Scopes.{Named, Scope, is_visible, one_if_protected, protected_count, standard, with_control_io, with_name, with_real_time}
 use Rattle.expr_soundness.specs.expr_rules.proofs.TypedLaw.{back_empty, front_empty}
-use Rattle.legality.specs.MainRules.{main_faults}
-use Rattle.declaring.specs.PackageNames.{body_items_scope, clauses_scope, is_control_io, is_real_time, optional_scope, program_scope}
+use Rattle.unit_rules.specs.MainRules.{main_faults}
+use Rattle.declaration_rules.specs.PackageNames.{body_items_scope, clauses_scope, is_control_io, is_real_time, optional_scope, program_scope}
 use Rattle.size_rules.specs.ProgramSizes.{size_faults}
-use Rattle.checking.specs.ProgramRules.{package_part_faults, program_faults}
+use Rattle.legality.specs.ProgramRules.{package_part_faults, program_faults}
 use Rattle.ravenscar.specs.ProgramRules as profile
 use Rattle.expr_soundness.specs.SoundScopes.{SoundScope}
 use Rattle.expr_soundness.specs.meaning.specs.Programs.{body_among, components_among, exceptions_among, functions_among, items_among, main_task, objects_or_none, package_bodies, package_items, procedures_among, program_of, task_with, tasks_among, variables_among}

@@ -15,8 +15,8 @@ use Rattle.expr_soundness.specs.expr_rules.proofs.TypedLaw.{back_empty, front_em
 use Rattle.expr_soundness.specs.base.specs.declared.faults.TheConstants.{DECLARED_TWICE}
 use Rattle.expr_soundness.specs.type_rules.specs.ObjectRules.{constant_entity, fixed_initial_faults, initial_scalar, object_entity}
 use Rattle.expr_soundness.specs.type_rules.specs.SubtypeNames.{declared_twice, subtype_faults, subtype_of}
-use Rattle.legality.specs.MainRules.{item_name}
-use Rattle.checking.specs.ProgramRules.{IsLegal}
+use Rattle.unit_rules.specs.MainRules.{item_name}
+use Rattle.legality.specs.ProgramRules.{IsLegal}
 use Rattle.expr_soundness.specs.meaning.specs.Programs.{items_among, object_named, subtype_or_integer, variable, variables_among}
 use Rattle.expr_soundness.proofs.Positions.{same_some}
 use Rattle.step_soundness.specs.Fitting.{entity_named}

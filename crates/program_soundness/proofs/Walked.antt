@@ -18,12 +18,12 @@ use Rattle.expr_soundness.specs.type_rules.specs.SubtypeNames.{declared_twice, i
 use Rattle.expr_soundness.specs.type_rules.specs.ObjectRules.{constant_entity, initial_scalar, object_entity, package_object_entity}
 use Rattle.expr_soundness.specs.type_rules.specs.ProfileRules.{formal_parameters, profile_entity, profile_with}
 use Rattle.expr_soundness.specs.type_rules.specs.TypeRules.{array_entity, composite, definition_entity, index_subtype, integer_entity, narrowed, record_components, record_entity, short_length, subtype_entity}
-use Rattle.declaring.specs.ItemRules.{item_faults}
-use Rattle.declaring.specs.ProtectedRules.{object_components, object_operations, object_with, protected_entity}
-use Rattle.declaring.specs.TaskRules.{default_priority, priority_of}
-use Rattle.legality.specs.MainRules.{item_name}
-use Rattle.declaring.specs.PackageNames.{body_item_scope, body_items_scope}
-use Rattle.legality.specs.PackageBodyRules.{body_item_faults, body_items_faults}
+use Rattle.declaration_rules.specs.ItemRules.{item_faults}
+use Rattle.declaration_rules.specs.ProtectedRules.{object_components, object_operations, object_with, protected_entity}
+use Rattle.declaration_rules.specs.TaskRules.{default_priority, priority_of}
+use Rattle.unit_rules.specs.MainRules.{item_name}
+use Rattle.declaration_rules.specs.PackageNames.{body_item_scope, body_items_scope}
+use Rattle.unit_rules.specs.PackageBodyRules.{body_item_faults, body_items_faults}
 use Rattle.program_soundness.specs.Fronts.{scope_at}
 use Rattle.program_soundness.proofs.Listing.{first_some, or_else_none, or_else_some, same_some}
 use Rattle.program_soundness.proofs.WiderScopes.{one_named, same_bytes, stands, stands_with}

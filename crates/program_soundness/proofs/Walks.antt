@@ -10,13 +10,13 @@ use Rattle.types.specs.Entities.{Entity, Entry, LibraryUnit, Object, Operation, 
 use Rattle.types.specs.Scopes.{Scope, entity_at, number_of, operations_or, protected_at, protected_of, standard, with_control_io, with_name, with_operations, with_real_time}
 use Rattle.expr_soundness.specs.expr_rules.proofs.TypedLaw.{back_empty, front_empty, unbroken}
 use Rattle.expr_soundness.specs.type_rules.specs.SubtypeNames.{end_rule, entity_at_or_none, named_entity}
-use Rattle.declaring.specs.BodyNames.{component_role, components_scope, object_body_scope, operation_entity, operations_scope}
-use Rattle.declaring.specs.Laws.{StandsFirst}
-use Rattle.declaring.specs.PackageNames.{body_item_scope, body_items_scope, inside_scope, optional_scope, program_scope, specified_scope, units_scope}
-use Rattle.legality.specs.PackageBodyRules.{body_item_faults, body_items_faults}
-use Rattle.legality.specs.ProtectedBodyRules.{is_object, known_body_faults, object_items_faults, object_rule, operation_sees, outer_names_faults, protected_item_faults, protected_item_scope, protected_items_faults, protected_items_scope}
-use Rattle.checking.specs.ProgramRules.{IsLegal}
-use Rattle.checking.proofs.Made.{NoUnits, Times, Io, TimesIo, IoTimes, Units, clauses_seen, seen}
+use Rattle.declaration_rules.specs.BodyNames.{component_role, components_scope, object_body_scope, operation_entity, operations_scope}
+use Rattle.declaration_rules.specs.Laws.{StandsFirst}
+use Rattle.declaration_rules.specs.PackageNames.{body_item_scope, body_items_scope, inside_scope, optional_scope, program_scope, specified_scope, units_scope}
+use Rattle.unit_rules.specs.PackageBodyRules.{body_item_faults, body_items_faults}
+use Rattle.unit_rules.specs.ProtectedBodyRules.{is_object, known_body_faults, object_items_faults, object_rule, operation_sees, outer_names_faults, protected_item_faults, protected_item_scope, protected_items_faults, protected_items_scope}
+use Rattle.legality.specs.ProgramRules.{IsLegal}
+use Rattle.legality.proofs.Made.{NoUnits, Times, Io, TimesIo, IoTimes, Units, clauses_seen, seen}
 use Rattle.expr_soundness.specs.SoundScopes.{AreKnownParts, AreSoundOperations, IsKnown, IsSoundObject, IsSoundOperation, SoundScope}
 use Rattle.expr_soundness.proofs.Clauses as clauses
 use Rattle.expr_soundness.proofs.Expressions.{not_false}

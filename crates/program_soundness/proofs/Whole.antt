@@ -18,9 +18,9 @@ use Rattle.expr_soundness.specs.expr_rules.proofs.TypedLaw.{front_empty}
 use Rattle.expr_soundness.specs.type_rules.specs.SubtypeNames.{declared_twice, named_entity, subtype_faults, subtype_in, subtype_of, subtype_rule}
 use Rattle.expr_soundness.specs.type_rules.specs.ObjectRules.{constant_entity, initial_scalar, object_entity, package_object_entity}
 use Rattle.expr_soundness.specs.type_rules.specs.ProfileRules.{profile_entity}
-use Rattle.legality.specs.BodyRules.{has_no_declarations, has_no_handlers, is_function_body, is_single_return, is_subprogram}
-use Rattle.declaring.specs.PackageNames.{body_items_scope}
-use Rattle.legality.specs.ProtectedBodyRules.{is_object}
+use Rattle.unit_rules.specs.BodyRules.{has_no_declarations, has_no_handlers, is_function_body, is_single_return, is_subprogram}
+use Rattle.declaration_rules.specs.PackageNames.{body_items_scope}
+use Rattle.unit_rules.specs.ProtectedBodyRules.{is_object}
 use Rattle.expr_soundness.specs.SoundScopes.{SoundScope}
 use Rattle.expr_soundness.specs.meaning.specs.Programs.{Program, components_among, exceptions_among, functions_among, items_among, object_named, objects_or_none, procedures_among, returned, variable, variables_among}
 use Rattle.program_soundness.specs.Fronts.{scope_at}

@@ -7,9 +7,9 @@ use Rattle.types.specs.Entities.{Protected, ProtectedObject}
 use Rattle.types.specs.Scopes.{Scope, entity_at, number_of}
 use Rattle.types.specs.Places.{Place}
 use Rattle.expr_soundness.specs.type_rules.specs.ProfileRules.{subprogram_scope}
-use Rattle.declaring.specs.BodyNames.{components_scope, object_body_scope}
-use Rattle.legality.specs.ProtectedBodyRules.{operation_sees, protected_items_scope}
-use Rattle.checking.specs.ProgramRules.{IsLegal}
+use Rattle.declaration_rules.specs.BodyNames.{components_scope, object_body_scope}
+use Rattle.unit_rules.specs.ProtectedBodyRules.{operation_sees, protected_items_scope}
+use Rattle.legality.specs.ProgramRules.{IsLegal}
 use Rattle.ravenscar.specs.ProgramRules.{IsRestricted}
 use Rattle.expr_soundness.specs.SoundScopes.{SoundScope}
 use Rattle.expr_soundness.specs.meaning.specs.Programs.{Attached, Procedure, Program, handler_at, program_of}

@@ -2,7 +2,7 @@
 use Rattle.std.specs.Prelude.{ℕ, List, [], ◌++◌, map, take, Option, Some, None}
 use Rattle.expr_soundness.specs.ada_tree.specs.ProgramTree.{BodyItemTree, OfItem, PackageTree, ProgramTree}
 use Rattle.types.specs.Scopes.{Scope, standard}
-use Rattle.declaring.specs.PackageNames.{body_items_scope, inside_scope}
+use Rattle.declaration_rules.specs.PackageNames.{body_items_scope, inside_scope}
 
 abbrev pub declared_in : Option PackageTree → List BodyItemTree
 declared_in (Some p) = map OfItem p.declaration.items ++ p.body.items

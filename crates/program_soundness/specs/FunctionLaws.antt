@@ -1,7 +1,7 @@
 -- What legality says of the functions of an accepted program, as a statement; it is the contract of a public function.
 use Rattle.expr_soundness.specs.ada_tree.specs.ProgramTree.{ProgramTree}
 use Rattle.types.specs.Places.{Place}
-use Rattle.checking.specs.ProgramRules.{IsLegal}
+use Rattle.legality.specs.ProgramRules.{IsLegal}
 use Rattle.ravenscar.specs.ProgramRules.{IsRestricted}
 use Rattle.expr_soundness.specs.Answers.{FunctionsAreSound}
 use Rattle.expr_soundness.specs.meaning.specs.Programs.{program_of}

@@ -1,10 +1,10 @@
-pub use Rattle.checking.specs.ProgramRules
+pub use Rattle.legality.specs.ProgramRules
 pub use Rattle.expr_soundness.specs.SoundScopes
 pub use Rattle.step_soundness.specs.Starting
 pub use Rattle.expr_soundness.specs.Answers
-pub use Rattle.checking as checking
-pub use Rattle.declaring as declaring
 pub use Rattle.legality as legality
+pub use Rattle.declaration_rules as declaration_rules
+pub use Rattle.unit_rules as unit_rules
 pub use Rattle.ravenscar as ravenscar
 pub use Rattle.size_rules as size_rules
 pub use Rattle.step_soundness as step_soundness

@@ -2,7 +2,7 @@
 use Rattle.std.specs.Prelude.{ℕ, List}
 use Rattle.expr_soundness.specs.base.specs.declared.schedule.ScheduleLine.{ScheduleLine}
 use Rattle.expr_soundness.specs.ada_tree.specs.ProgramTree.{ProgramTree}
-use Rattle.checking.specs.ProgramRules.{IsLegal}
+use Rattle.legality.specs.ProgramRules.{IsLegal}
 use Rattle.ravenscar.specs.ProgramRules.{IsRestricted}
 use Rattle.expr_soundness.specs.meaning.specs.Programs.{Program, program_of}
 use Rattle.expr_soundness.specs.meaning.specs.Source.{SourceWorld, run_of, source}

@@ -5,11 +5,11 @@ use Rattle.expr_soundness.specs.ada_tree.specs.ProgramTree.{BodyItemTree, Packag
 use Rattle.types.specs.declared.entity.RecordComponent.{RecordComponent}
 use Rattle.types.specs.Entities.{Protected, ProtectedObject}
 use Rattle.types.specs.Scopes.{Scope, entity_at, number_of, standard}
-use Rattle.declaring.specs.BodyNames.{components_scope, object_body_scope}
-use Rattle.declaring.specs.Laws.{StandsFirst}
-use Rattle.declaring.specs.PackageNames.{body_items_scope, program_scope, specified_scope}
-use Rattle.legality.specs.PackageBodyRules.{body_item_faults}
-use Rattle.legality.specs.ProtectedBodyRules.{protected_item_faults, protected_items_scope}
+use Rattle.declaration_rules.specs.BodyNames.{components_scope, object_body_scope}
+use Rattle.declaration_rules.specs.Laws.{StandsFirst}
+use Rattle.declaration_rules.specs.PackageNames.{body_items_scope, program_scope, specified_scope}
+use Rattle.unit_rules.specs.PackageBodyRules.{body_item_faults}
+use Rattle.unit_rules.specs.ProtectedBodyRules.{protected_item_faults, protected_items_scope}
 use Rattle.expr_soundness.specs.SoundScopes.{AreKnownParts, SoundScope}
 
 -- ---- in the body of the package

@@ -6,13 +6,13 @@ use Rattle.expr_soundness.specs.ada_tree.specs.StatementTree.{DeclarationTree, S
 use Rattle.expr_soundness.specs.ada_tree.specs.ProgramTree.{BodyItemTree, ItemTree, PackageTree, ProgramTree, ProtectedBody, ProtectedItemTree}
 use Rattle.types.specs.Scopes.{Scope, standard}
 use Rattle.expr_soundness.specs.type_rules.specs.ProfileRules.{formals_faults, profile_faults, subprogram_scope}
-use Rattle.declaring.specs.BodyNames.{formals_scope}
-use Rattle.declaring.specs.ItemRules.{items_faults, items_scope}
-use Rattle.declaring.specs.Laws.{StandsFirst}
-use Rattle.declaring.specs.LocalRules.{fixed_locals_faults, locals_faults, locals_scope}
-use Rattle.legality.specs.PackageBodyRules.{body_item_faults}
-use Rattle.declaring.specs.PackageNames.{inside_scope, program_scope, specified_scope}
-use Rattle.checking.specs.ProgramRules.{IsLegal}
+use Rattle.declaration_rules.specs.BodyNames.{formals_scope}
+use Rattle.declaration_rules.specs.ItemRules.{items_faults, items_scope}
+use Rattle.declaration_rules.specs.Laws.{StandsFirst}
+use Rattle.declaration_rules.specs.LocalRules.{fixed_locals_faults, locals_faults, locals_scope}
+use Rattle.unit_rules.specs.PackageBodyRules.{body_item_faults}
+use Rattle.declaration_rules.specs.PackageNames.{inside_scope, program_scope, specified_scope}
+use Rattle.legality.specs.ProgramRules.{IsLegal}
 use Rattle.ravenscar.specs.ProgramRules.{IsRestricted}
 use Rattle.kernel.specs.Invariant.{Fits}
 use Rattle.expr_soundness.specs.meaning.specs.Programs.{program_of, program_partition}

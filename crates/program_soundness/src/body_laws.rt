@@ -2,7 +2,7 @@
 ghost use Rattle.program_soundness.specs.BodyLaws.{FrontsFit, HandlersAreSound, NamesAreKnown, PremisesHold, ProceduresAreSound, WorksAreSound};
 
 use crate::scope_laws::declarations_are_sound;
-use declaring::laws::names_are_added;
+use declaration_rules::laws::names_are_added;
 use expr_soundness::laws::{
     agreement_is_kept, calls_are_typed, scopes_are_sound, targets_are_variables,
 };

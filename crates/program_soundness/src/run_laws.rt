@@ -1,7 +1,7 @@
 //! The laws of the runs of an accepted program, each what a function without work ensures.
 ghost use Rattle.program_soundness.specs.RunLaws.{RunsAreSound, RunsHaveMeaning};
 
-use declaring::laws::names_are_added;
+use declaration_rules::laws::names_are_added;
 use expr_soundness::laws::{agreement_is_kept, calls_are_typed, targets_are_variables};
 use kernel::laws::{
     begins_kept, four_statements_hold, kept_by_every_effect, start_settles, steps_settle,

@@ -5,7 +5,7 @@ use crate::body_laws::{names_are_known, premises_hold};
 use crate::program_laws::starts_are_sound;
 use crate::run_laws::runs_are_sound;
 use crate::scope_laws::objects_are_sound;
-use declaring::laws::names_are_added;
+use declaration_rules::laws::names_are_added;
 use expr_soundness::laws::{
     agreement_is_kept, calls_are_typed, initial_values_lie, scopes_are_sound, targets_are_variables,
 };

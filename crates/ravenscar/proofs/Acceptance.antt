@@ -5,8 +5,8 @@ use Rattle.std.proofs.lemmas.List.Elements.{Contains-append_left, Contains-appen
 use Rattle.lexer.specs.declared.fault.Fault.{Fault}
 use Rattle.ada_tree.specs.ProgramTree.{ProgramTree}
 use Rattle.expr_rules.specs.Faults.{Faults}
-use Rattle.checking.specs.ProgramRules.{ComesFirst, IsLegal, program_faults}
-use Rattle.checking.proofs.SameFaults.{none_of, nowhere}
+use Rattle.legality.specs.ProgramRules.{ComesFirst, IsLegal, program_faults}
+use Rattle.legality.proofs.SameFaults.{none_of, nowhere}
 use Rattle.ravenscar.specs.BrokenRules.{AreInOrderOfPlaces, ListShowsAcceptance, ListsBrokenRules, broken_rules}
 use Rattle.ravenscar.specs.ProgramRules.{IsRestricted, restriction_faults}
 

@@ -5,8 +5,8 @@ use Rattle.std.proofs.lemmas.List.Elements.{Contains-append_cases, Contains-appe
 use Rattle.lexer.specs.declared.fault.Fault.{Fault}
 use Rattle.ada_tree.specs.ProgramTree.{ProgramTree}
 use Rattle.expr_rules.specs.Faults.{Faults}
-use Rattle.checking.specs.FoundFaults.{FindsWhatIsBroken, found_faults}
-use Rattle.checking.specs.ProgramRules.{program_faults}
+use Rattle.legality.specs.FoundFaults.{FindsWhatIsBroken, found_faults}
+use Rattle.legality.specs.ProgramRules.{program_faults}
 use Rattle.ravenscar.specs.BrokenRules.{AreInOrderOfPlaces, ListsBrokenRules}
 use Rattle.ravenscar.specs.ProgramRules.{restriction_faults}
 

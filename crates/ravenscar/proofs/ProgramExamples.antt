@@ -11,9 +11,9 @@ use Rattle.ada_tree.specs.ExpressionTree.{Conditional, NoElsifValues, Unary, Bin
 use Rattle.ada_tree.specs.StatementTree.{Delay, Null, NoHandlers, OfEntry, OfSubprogram, stmts_of}
 use Rattle.ada_tree.specs.ProgramTree.{BodyItemTree, BodyTree, EntryBody, ItemTree, OfItem, OfObject, OfProtected, OfTask, OperationBody, PackageTree, ProgramTree, ProtectedBody, SubprogramBody, TaskBody}
 use Rattle.types.specs.Scopes.{Scope, standard}
-use Rattle.declaring.specs.ItemRules.{item_scope}
+use Rattle.declaration_rules.specs.ItemRules.{item_scope}
 use Rattle.expr_rules.specs.Faults.{least}
-use Rattle.checking.specs.ProgramRules.{IsLegal}
+use Rattle.legality.specs.ProgramRules.{IsLegal}
 use Rattle.ravenscar.specs.PragmaRules.{pragma_faults}
 use Rattle.ravenscar.specs.TaskingRules.{aspect_faults, entries_faults, task_faults}
 use Rattle.ravenscar.specs.ProgramRules.{IsRestricted, restriction_faults}

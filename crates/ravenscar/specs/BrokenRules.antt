@@ -5,7 +5,7 @@ use Rattle.std.specs.List.{Contains}
 use Rattle.lexer.specs.declared.fault.Fault.{Fault}
 use Rattle.ada_tree.specs.ProgramTree.{ProgramTree}
 use Rattle.expr_rules.specs.Faults.{Faults}
-use Rattle.checking.specs.ProgramRules.{ComesFirst, IsLegal, program_faults}
+use Rattle.legality.specs.ProgramRules.{ComesFirst, IsLegal, program_faults}
 use Rattle.ravenscar.specs.ProgramRules.{IsRestricted, restriction_faults}
 
 -- each rule from 10 to 39 and from 70 to 73 that is broken, with its place

@@ -10,9 +10,9 @@ use Rattle.types.specs.Values.{Value, Number}
 use Rattle.expr_rules.specs.declared.own.Wanted.TheVariants as wanted
 use Rattle.expr_rules.specs.Faults.{Faults, rule}
 use Rattle.expr_rules.specs.StaticRules.{static_scalar}
-use Rattle.declaring.specs.HandlerChannels.{attached_channel}
-use Rattle.declaring.specs.ProtectedRules.{has_handler}
-use Rattle.declaring.specs.TaskRules.{is_attachment, is_priority}
+use Rattle.declaration_rules.specs.HandlerChannels.{attached_channel}
+use Rattle.declaration_rules.specs.ProtectedRules.{has_handler}
+use Rattle.declaration_rules.specs.TaskRules.{is_attachment, is_priority}
 
 -- ---- for each channel whether it has a handler
 

@@ -11,10 +11,10 @@ use Rattle.types.specs.declared.entity.RecordComponent.{RecordComponent}
 use Rattle.types.specs.Entities.{Entity, Protected}
 use Rattle.types.specs.Scopes.{Scope, standard}
 use Rattle.expr_rules.specs.Faults.{Faults, IsLeast}
-use Rattle.declaring.specs.ItemRules.{item_scope}
+use Rattle.declaration_rules.specs.ItemRules.{item_scope}
 use Rattle.type_rules.specs.SubtypeNames.{named_entity}
-use Rattle.legality.specs.MainRules.{main_scope}
-use Rattle.declaring.specs.PackageNames.{body_item_scope, inside_scope, specified_scope}
+use Rattle.unit_rules.specs.MainRules.{main_scope}
+use Rattle.declaration_rules.specs.PackageNames.{body_item_scope, inside_scope, specified_scope}
 use Rattle.ravenscar.specs.PragmaRules.{pragma_faults}
 use Rattle.ravenscar.specs.HandlerRules.{none_taken, taken_by_all}
 use Rattle.ravenscar.specs.TaskingRules.{aspect_faults, protected_faults, task_faults}

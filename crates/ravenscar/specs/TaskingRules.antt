@@ -9,7 +9,7 @@ use Rattle.types.specs.Values.{Value, Number}
 use Rattle.expr_rules.specs.declared.own.Wanted.TheVariants as wanted
 use Rattle.expr_rules.specs.Faults.{Faults, rule}
 use Rattle.expr_rules.specs.StaticRules.{static_scalar}
-use Rattle.declaring.specs.TaskRules.{is_priority}
+use Rattle.declaration_rules.specs.TaskRules.{is_priority}
 use Rattle.ravenscar.specs.HandlerRules.{ceiling_faults, operations_aspects_faults}
 
 -- ---- priorities and ceilings (RM D.1, D.3): a static Integer from 0 to the highest priority of a task, or to the highest ceiling

@@ -3,11 +3,11 @@ ghost use Rattle.std.specs.Prelude.{◌≡◌, IfErr, IfOk, OnOk, option_map, sl
 ghost use Rattle.ada_tree.specs.Parsed.{IsParsed};
 ghost use Rattle.ada_tree.specs.ProgramTree.{main_tree, package_tree, program_tree};
 ghost use Rattle.base.specs.declared.limits.TheConstants.{TASK_PRIORITY};
-ghost use Rattle.declaring.specs.PackageNames.{program_scope};
-ghost use Rattle.checking.specs.ProgramLayouts.{object_layouts, variables_layout};
-ghost use Rattle.checking.specs.ProgramRules.{IsLegal};
+ghost use Rattle.declaration_rules.specs.PackageNames.{program_scope};
+ghost use Rattle.legality.specs.ProgramLayouts.{object_layouts, variables_layout};
+ghost use Rattle.legality.specs.ProgramRules.{IsLegal};
 ghost use Rattle.expr_rules.specs.Findings.{noted};
-ghost use Rattle.legality.specs.MainRules.{main_scope};
+ghost use Rattle.unit_rules.specs.MainRules.{main_scope};
 ghost use Rattle.ravenscar.specs.TaskingRules.{aspect_faults};
 ghost use Rattle.ravenscar.specs.ProgramRules.{IsRestricted, RefusesUnrestricted, restriction_faults};
 
@@ -16,14 +16,14 @@ use crate::pragmas::pragma_faults;
 use crate::tasking::aspect_faults;
 use ada_tree::{Main, Package, Program};
 use base::limits::TASK_PRIORITY;
-use checking::Checked;
 use expr_rules::Findings;
 use expr_rules::laws::{found_is_all, least_is_least, noted_by_parts};
-use legality::main_scope;
+use legality::Checked;
 use lexer::Fault;
 use std::alloc::{AllocError, Global};
 use std::marker::Model;
 use types::{Layout, Scope};
+use unit_rules::main_scope;
 
 /// A legal program within the profile, the tree of a text. It lends what the checked program lends, and contracts see the program itself.
 #[derive(Drop)]
@@ -34,7 +34,7 @@ pub struct Accepted {
 impl Model for Accepted {
     ghost use Rattle.ada_tree.specs.declared.program.Program as declared;
     ghost use Rattle.ada_tree.specs.ProgramTree.{program_tree};
-    ghost use Rattle.checking.specs.ProgramRules.{IsLegal};
+    ghost use Rattle.legality.specs.ProgramRules.{IsLegal};
     ghost use Rattle.ravenscar.specs.ProgramRules.{IsRestricted};
     ghost use Rattle.ada_tree.specs.contracts.program.Program as contract;
     ghost use Rattle.std.specs.Coded.{codes};

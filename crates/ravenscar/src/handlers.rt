@@ -11,7 +11,7 @@ use base::faults::{
     HANDLER_CEILING, HANDLER_PROFILE, SECOND_HANDLER, WRONG_ASPECT, WRONG_INTERRUPT,
 };
 use base::limits::{CEILING, CHANNELS};
-use declaring::{attached_channel, has_handler, is_attachment, is_priority};
+use declaration_rules::{attached_channel, has_handler, is_attachment, is_priority};
 use expr_rules::laws::noted_by_parts;
 use expr_rules::{Findings, Wanted, static_scalar};
 use types::{Scope, Subtype, Value, start_of};

@@ -4,16 +4,16 @@ ghost use Rattle.std.specs.List.{Contains};
 ghost use Rattle.ada_tree.specs.ProgramTree.{program_tree};
 ghost use Rattle.lexer.specs.declared.fault.Fault.{Fault};
 ghost use Rattle.expr_rules.specs.Findings.{noted};
-ghost use Rattle.checking.specs.FoundFaults.{found_faults};
+ghost use Rattle.legality.specs.FoundFaults.{found_faults};
 ghost use Rattle.ravenscar.specs.BrokenRules.{AreInOrderOfPlaces, ListsBrokenRules};
 ghost use Rattle.ravenscar.specs.ProgramRules.{restriction_faults};
 
 use crate::accepted::restriction_faults;
 use ada_tree::Program;
-use checking::laws::check_finds_what_is_broken;
-use checking::program_faults;
 use expr_rules::Findings;
 use expr_rules::laws::{found_is_all, noted_by_parts};
+use legality::laws::check_finds_what_is_broken;
+use legality::program_faults;
 use lexer::Fault;
 use std::alloc::{AllocError, Global};
 
@@ -54,7 +54,7 @@ fn put_in_order(faults: &mut Vec<Fault>)
 }
 
 /// Every broken rule from 10 to 39 and from 70 to 73 of a program's tree, each once, in the order of places and, at one place, of numbers. The restrictions of
-/// the profile are asked of a program that isn't legal too, so that the list is empty just where `checking::check` and `restrict` accept the program.
+/// the profile are asked of a program that isn't legal too, so that the list is empty just where `legality::check` and `restrict` accept the program.
 ///
 /// # Errors
 /// Want of memory alone.

@@ -1,7 +1,7 @@
 //! The package: its declarations and bodies in order.
 ghost use Rattle.std.specs.Prelude.{◌≡◌, OnOk, map, option_map};
 ghost use Rattle.ada_tree.specs.ProgramTree.{body_item_tree, item_tree, package_tree, protected_item_tree};
-ghost use Rattle.declaring.specs.ItemRules.{items_scope};
+ghost use Rattle.declaration_rules.specs.ItemRules.{items_scope};
 ghost use Rattle.expr_rules.specs.Findings.{noted};
 ghost use Rattle.types.specs.Entities.{entity_value};
 ghost use Rattle.body_restrictions.specs.BodyRules.{operations_faults};
@@ -11,13 +11,13 @@ use crate::handlers::{CHANNEL_NUMBERS, none_taken};
 use crate::tasking::{protected_faults, task_faults};
 use ada_tree::{BodyItem, Identifier, Item, Package, ProtectedBodyItem};
 use body_restrictions::{body_faults, operations_faults};
-use declaring::declare_item;
+use declaration_rules::declare_item;
 use expr_rules::Findings;
 use expr_rules::laws::noted_by_parts;
-use legality::{inside_scope, see_body_item};
 use std::alloc::{AllocError, Global};
 use type_rules::named_entity;
 use types::{Entity, RecordComponent, Scope};
+use unit_rules::{inside_scope, see_body_item};
 
 fn item_faults(
     scope: &Scope,

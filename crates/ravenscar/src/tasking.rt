@@ -12,7 +12,7 @@ use ada_tree::{
 };
 use base::faults::{SECOND_ENTRY, TASK_ENTRY, WRONG_ASPECT};
 use base::limits::{CEILING, TASK_PRIORITY};
-use declaring::is_priority;
+use declaration_rules::is_priority;
 use expr_rules::laws::noted_by_parts;
 use expr_rules::{Findings, Wanted, static_scalar};
 use types::{Scope, Subtype, Value};

@@ -1,4 +1,7 @@
-pub mod Onward
-pub mod Late
+mod Alike
+mod Reaching
+mod Seeing
 mod Standing
+mod Quiet
+mod Merging
 mod Through

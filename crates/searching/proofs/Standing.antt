@@ -28,8 +28,8 @@ use Rattle.searching.specs.declared.one.Answer.{Answer}
 use Rattle.searching.specs.declared.one.Answer.TheVariants as answers
 use Rattle.searching.specs.declared.sight.Finding.TheVariants as findings
 use Rattle.searching.specs.declared.sight.Wanted.{Wanted}
-use Rattle.searching.proofs.Late.{AreFrom, Late, run_late}
-use Rattle.searching.proofs.Onward.{IsAhead, Onward, begins_ahead, le_both, run_onward}
+use Rattle.likeness.proofs.Late.{AreFrom, Late, run_late}
+use Rattle.likeness.proofs.Onward.{IsAhead, Onward, begins_ahead, le_both, run_onward}
 
 pub le_of : (a b : ℤ) → int_le a b ≡ true → a ≤ℤ b
 le_of a b h = grind (arith, ints)
@@ -59,7 +59,7 @@ has_nothing line ([], behind, e) = absurd cc
 has_nothing line (x ∷ before, behind, e) = absurd cc
 
 -- a line of two lists is one of the first, or one of the second
-parted : (xs ys : List Line) (line : Line) → HasLine (xs ++ ys) line → HasLine xs line ⊎ HasLine ys line
+pub parted : (xs ys : List Line) (line : Line) → HasLine (xs ++ ys) line → HasLine xs line ⊎ HasLine ys line
 parted [] ys line h = inr h
 parted (x ∷ xs) ys line ([], behind, e) =
     let same : x ≡ line = search (rules, e) in inl ([], xs, ap (λ l. l ∷ xs) same)
@@ -91,7 +91,7 @@ module _ (unmoved : LeftUnmoved) (stays : OutcomeStays) (i : Sections) (schedule
   ahead_at n =
       (run_onward (among (behaviour i schedule)) n (start i schedule) (begins_ahead (partition_of i) (handling_object i) schedule lawful)).ahead
 
-  onward : (n m : ℕ) → Onward (k n) (k (n + m))
+  pub onward : (n m : ℕ) → Onward (k n) (k (n + m))
   onward n m =
       let f = among (behaviour i schedule) in
       subst (λ w. Onward (k n) w.kernel) (sym (run_plus f n m (start i schedule))) (run_onward f m (code i schedule n) (ahead_at n))
@@ -101,11 +101,11 @@ module _ (unmoved : LeftUnmoved) (stays : OutcomeStays) (i : Sections) (schedule
       let f = among (behaviour i schedule) in
       subst (λ w. Late (k n) w.kernel) (sym (run_plus f n m (start i schedule))) (run_late unmoved f m (code i schedule n) (ahead_at n))
 
-  swap : (n m : ℕ) → code i schedule (n + m) ≡ code i schedule (m + n)
+  pub swap : (n m : ℕ) → code i schedule (n + m) ≡ code i schedule (m + n)
   swap n m = ap (code i schedule) (add_comm n m)
 
   -- a line of a world is one of each later world
-  has_later : (m n : ℕ) (line : Line) → HasLine (k m).lines line → HasLine (k (m + n)).lines line
+  pub has_later : (m n : ℕ) (line : Line) → HasLine (k m).lines line → HasLine (k (m + n)).lines line
   has_later m n line h =
       let l = late m n in
       (h.0, h.1 ++ l.more, l.grown ∙ (ap (λ x. x ++ l.more) h.2 ∙ append_assoc h.0 (line ∷ h.1) l.more))
@@ -202,7 +202,7 @@ activated_lines : (n : ℕ) (k : Kernel) → (activated n k).lines ≡ k.lines
 activated_lines zero k = refl
 activated_lines (suc n) k = activated_lines n k
 
-begins_without : LeftUnmoved → (i : Sections) (schedule : List ScheduleLine) → (start i schedule).kernel.lines ≡ []
+pub begins_without : LeftUnmoved → (i : Sections) (schedule : List ScheduleLine) → (start i schedule).kernel.lines ≡ []
 begins_without unmoved i schedule =
     let p = partition_of i in
     let begins = blank p (interrupts i schedule) in

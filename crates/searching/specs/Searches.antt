@@ -1,7 +1,8 @@
 -- What a search answers of the code of an image: of one schedule, and of all of a set.
 use Rattle.std.specs.Prelude.{◌≡◌, ◌⊎◌, ℕ, ◌+◌, ℤ, ◌<ℤ◌, ◌≤ℤ◌, List, Option, Some, None}
 use Rattle.base.specs.declared.schedule.ScheduleLine.{ScheduleLine}
-use Rattle.choices.specs.Slots.{IsInSet, Slot}
+use Rattle.choices.specs.Places.{AreWithin, IsBefore, taken}
+use Rattle.choices.specs.Slots.{IsInSet, Slot, lines_of}
 use Rattle.image.specs.Code.{code}
 use Rattle.image.specs.Sections.{Sections}
 use Rattle.kernel.specs.State.{Kernel, Outcome}
@@ -52,3 +53,17 @@ Searches i slots until limit wanted searched.Nothing =
     (schedule : List ScheduleLine) → IsInSet slots schedule → AnswersRun i schedule until limit wanted answers.Nothing
 Searches i slots until limit wanted (searched.TooLong schedule time) =
     IsInSet slots schedule × AnswersRun i schedule until limit wanted (answers.TooLong time)
+
+-- the schedule of a choice of the set, and under those of all choices before it, in the order of alternatives, nothing is found
+pub record IsFirstFound (i : Sections) (slots : List Slot) (until : ℤ) (limit : ℕ) (wanted : Wanted) (schedule : List ScheduleLine) : Type 0 where
+  pub places : List ℕ
+  pub within : AreWithin slots places
+  pub is : schedule ≡ lines_of slots (taken slots places)
+  pub before : (others : List ℕ) → AreWithin slots others → IsBefore others places
+      → AnswersRun i (lines_of slots (taken slots others)) until limit wanted answers.Nothing
+
+-- what is found is found under the first schedule of the set under which anything is
+abbrev pub FindsFirst : Sections → List Slot → (until : ℤ) → (limit : ℕ) → Wanted → Searched → Type 0
+FindsFirst i slots until limit wanted (searched.Found schedule finding) = IsFirstFound i slots until limit wanted schedule
+FindsFirst i slots until limit wanted searched.Nothing = Unit {0}
+FindsFirst i slots until limit wanted (searched.TooLong schedule time) = IsFirstFound i slots until limit wanted schedule

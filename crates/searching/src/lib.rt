@@ -1,9 +1,13 @@
 //! Searching the schedules of a set for one under which an image stops, waits forever or writes a line.
 #![tactic(auto)]
 
+mod comparing;
+mod finding;
+mod meeting;
 mod one;
 mod reporting;
 mod sight;
+mod table;
 mod whole;
 
 pub use one::{Answer, search_run};

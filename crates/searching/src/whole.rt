@@ -1,15 +1,20 @@
 //! The search through all schedules of a set.
 ghost use Rattle.std.specs.Prelude.{◌≡◌, IfOk};
-ghost use Rattle.searching.specs.Searches.{Searches};
+ghost use Rattle.searching.specs.Searches.{FindsFirst, Searches};
 
+use crate::finding::skip_met;
 use crate::one::{Answer, search_run};
 use crate::sight::{Finding, Wanted};
+use crate::table::Table;
 use choices::{Choice, Choices};
 use clock::Schedule;
 use image::Image;
+use image_laws::{lines_unread, outcome_stays};
+use kernel::laws::left_unmoved;
 use processor::Steps;
 use std::alloc::{AllocError, Global};
 use std::sync::ledger::Ledger;
+use tasking::laws::lines_apart;
 
 /// What a search has come to.
 #[derive(Drop)]
@@ -22,8 +27,9 @@ pub enum Searched {
     TooLong(Schedule, i64),
 }
 
-/// Runs an image on each schedule of a set, in the order of alternatives, where the first slot counts most, up to `until` (microseconds since the start) and
-/// with `limit` steps at one time at most, each of which is counted, until one comes to what is wanted.
+/// Runs an image on the schedules of a set, in the order of alternatives, where the first slot counts most, up to `until` (microseconds since the start) and
+/// with `limit` steps at one time at most, each of which is counted, until one reaches what is wanted. Where a run is, just before the time of some slot, in a
+/// world in which an earlier one was, schedules that differ from its own from that time on are passed over: the earlier one, continued so, has the same result.
 ///
 /// # Errors
 /// Where memory was refused.
@@ -36,9 +42,14 @@ pub fn search<L: Ledger>(
     wanted: Wanted<'_>,
     steps: &mut Steps<L>,
 ) -> Result<Searched, AllocError>
-    ensures { IfOk result (Searches image.now choices.now until limit wanted.entry) }
+    ensures answer { IfOk result (Searches image.now choices.now until limit wanted.entry) }
+    ensures first { IfOk result (FindsFirst image.now choices.now until limit wanted.entry) }
 {
-    let _slots = choices.slots();
+    left_unmoved();
+    outcome_stays();
+    lines_apart();
+    lines_unread();
+    let mut table = Table::new(alloc, choices.slots().len())?;
     let mut choice = Choice::first(alloc, choices)?;
     let mut is_more = true;
     while is_more {
@@ -48,6 +59,7 @@ pub fn search<L: Ledger>(
             Answer::TooLong(time) => return Ok(Searched::TooLong(schedule, time)),
             Answer::Nothing => {}
         }
+        skip_met(alloc, image, choices, &mut choice, until, &mut table, steps)?;
         is_more = choice.advance(choices);
     }
     Ok(Searched::Nothing)

@@ -1,5 +1,5 @@
-pub use Rattle.legality.specs.PackageRules
-pub use Rattle.legality.specs.PackageBodyRules
+pub use Rattle.unit_rules.specs.PackageRules
+pub use Rattle.unit_rules.specs.PackageBodyRules
 pub mod Limits
 pub mod BodySizes
 pub mod PackageSizes

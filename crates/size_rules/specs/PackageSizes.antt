@@ -8,9 +8,9 @@ use Rattle.ada_tree.specs.ProgramTree.{EntryBody, BodyItemTree, OfItem, Subprogr
 use Rattle.types.specs.Entities.{ProtectedObject}
 use Rattle.types.specs.Scopes.{Scope, is_visible, protected_of, standard}
 use Rattle.expr_rules.specs.Faults.{Faults}
-use Rattle.declaring.specs.ItemRules.{item_scope}
+use Rattle.declaration_rules.specs.ItemRules.{item_scope}
 use Rattle.type_rules.specs.SubtypeNames.{named_entity}
-use Rattle.declaring.specs.PackageNames.{body_item_scope, inside_scope, specified_scope}
+use Rattle.declaration_rules.specs.PackageNames.{body_item_scope, inside_scope, specified_scope}
 use Rattle.size_rules.specs.declared.thing.Kind.TheVariants as kind
 use Rattle.size_rules.specs.declared.thing.Thing.TheVariants.{Counted}
 use Rattle.size_rules.specs.Limits.{Things}

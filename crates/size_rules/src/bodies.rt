@@ -11,9 +11,9 @@ use crate::thing::Thing;
 use ada_tree::{BodyItem, ProtectedBodyItem};
 use expr_rules::Findings;
 use expr_rules::laws::noted_by_parts;
-use legality::see_body_item;
 use std::alloc::{AllocError, Global};
 use types::Scope;
+use unit_rules::see_body_item;
 
 fn operation_faults(
     scope: &Scope,

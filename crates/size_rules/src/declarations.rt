@@ -2,7 +2,7 @@
 ghost use Rattle.std.specs.Prelude.{◌≡◌, ◌++◌, ◌∷◌, [], OnOk, map};
 ghost use Rattle.ada_tree.specs.ProgramTree.{OfProtected, body_item_tree, item_tree, protected_item_tree};
 ghost use Rattle.ada_tree.specs.StatementTree.{object_tree, operation_tree, protected_component_tree, protected_tree, subprogram_tree};
-ghost use Rattle.declaring.specs.ItemRules.{items_scope};
+ghost use Rattle.declaration_rules.specs.ItemRules.{items_scope};
 ghost use Rattle.types.specs.Entities.{protected_value};
 ghost use Rattle.size_rules.specs.declared.thing.Thing.TheVariants.{Counted};
 ghost use Rattle.size_rules.specs.PackageSizes.{body_item_things, components_things, is_operation_of, item_things, items_things, named_body_things};
@@ -15,7 +15,7 @@ use ada_tree::{
     BodyItem, Identifier, Item, ObjectDeclaration, Operation, ProtectedBodyItem,
     ProtectedComponent, ProtectedDeclaration, Subprogram,
 };
-use declaring::declare_item;
+use declaration_rules::declare_item;
 use std::alloc::{AllocError, Global};
 use type_rules::named_entity;
 use types::{Entity, ProtectedObject, Scope};

@@ -12,8 +12,8 @@ use ada_tree::{Package, Program};
 use base::limits::{LABELS, OBJECTS, PROCEDURES, WORDS};
 use expr_rules::Findings;
 use expr_rules::laws::noted_by_parts;
-use legality::inside_scope;
 use std::alloc::{AllocError, Global};
+use unit_rules::inside_scope;
 
 fn declared_faults(alloc: Global, things: &[Thing], found: &mut Findings) -> Result<(), AllocError>
     ensures { OnOk result (found.new ≡ noted found.old (declared_faults things.now)) }

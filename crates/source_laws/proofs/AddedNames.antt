@@ -5,7 +5,7 @@ use Rattle.types.specs.Entities.{Entity, Profile, Subprogram}
 use Rattle.types.specs.Scopes.{Scope, entity_at, is_visible, number_of, with_name}
 use Rattle.expr_soundness.specs.type_rules.specs.ObjectRules.{object_entity}
 use Rattle.expr_soundness.specs.type_rules.specs.SubtypeNames.{subtype_of}
-use Rattle.program_soundness.specs.declaring.specs.BodyNames.{formal_role, formal_scope, formals_scope}
+use Rattle.program_soundness.specs.declaration_rules.specs.BodyNames.{formal_role, formal_scope, formals_scope}
 use Rattle.program_soundness.proofs.Listing.{same_some}
 use Rattle.program_soundness.proofs.WiderScopes.{stands}
 use Rattle.expr_code.specs.Seeing.{NamesProfile, profile_named, subprogram_profile}

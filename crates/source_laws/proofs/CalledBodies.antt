@@ -7,7 +7,7 @@ use Rattle.ada_tree.specs.ProgramTree.{BodyItemTree, OperationBody, ProgramTree,
 use Rattle.types.specs.Entities.{Profile, Protected, ProtectedObject, Subprogram}
 use Rattle.types.specs.Scopes.{Scope}
 use Rattle.expr_soundness.specs.type_rules.specs.ProfileRules.{formal_parameters}
-use Rattle.checking.specs.ProgramRules.{IsLegal}
+use Rattle.legality.specs.ProgramRules.{IsLegal}
 use Rattle.program_soundness.specs.ravenscar.specs.ProgramRules.{IsRestricted}
 use Rattle.expr_soundness.specs.Laws.{ScopesAreSound}
 use Rattle.expr_soundness.specs.meaning.specs.Programs.{program_of}

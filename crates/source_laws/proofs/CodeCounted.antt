@@ -8,8 +8,8 @@ use Rattle.ada_tree.specs.Size.{aspect_size, body_item_size, body_size, package_
 use Rattle.types.specs.Layouts as layouts
 use Rattle.types.specs.declared.entity.RecordComponent.{RecordComponent}
 use Rattle.types.specs.Scopes.{Scope, number_of}
-use Rattle.program_soundness.specs.declaring.specs.BodyNames.{formals_scope, object_body_scope}
-use Rattle.program_soundness.specs.legality.specs.ProtectedBodyRules.{components_at, protected_item_scope}
+use Rattle.program_soundness.specs.declaration_rules.specs.BodyNames.{formals_scope, object_body_scope}
+use Rattle.program_soundness.specs.unit_rules.specs.ProtectedBodyRules.{components_at, protected_item_scope}
 use Rattle.expr_soundness.specs.meaning.specs.Programs.{program_of}
 use Rattle.program_soundness.specs.Fronts.{declared_in, front}
 use Rattle.program_soundness.proofs.Listing.{same_some}

@@ -14,10 +14,10 @@ use Rattle.image.specs.RuleLaws.{slice_get_inside}
 use Rattle.types.specs.Entities.{Doubtful, Entity, Profile, Subprogram}
 use Rattle.types.specs.Scopes.{Scope, is_visible, standard}
 use Rattle.meaning.specs.expr_rules.proofs.TypedLaw.{back_empty, front_empty, unbroken}
-use Rattle.declaring.specs.ItemRules.{item_scope, items_scope}
+use Rattle.declaration_rules.specs.ItemRules.{item_scope, items_scope}
 use Rattle.meaning.specs.type_rules.specs.SubtypeNames.{named_entity}
-use Rattle.program_soundness.specs.legality.specs.BodyRules.{body_name_faults, body_name_rule, function_body_faults, is_subprogram}
-use Rattle.declaring.specs.PackageNames.{body_item_scope, inside_scope, specified_scope}
+use Rattle.program_soundness.specs.unit_rules.specs.BodyRules.{body_name_faults, body_name_rule, function_body_faults, is_subprogram}
+use Rattle.declaration_rules.specs.PackageNames.{body_item_scope, inside_scope, specified_scope}
 use Rattle.program_soundness.specs.size_rules.specs.declared.thing.Kind.TheVariants as kind
 use Rattle.program_soundness.specs.size_rules.specs.Limits.{Things, place_of_kind, places_of, words_faults}
 use Rattle.program_soundness.specs.size_rules.specs.PackageSizes.{body_item_things, body_items_things, frame_faults, item_things, items_things, package_inside, package_things}

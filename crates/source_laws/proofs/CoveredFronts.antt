@@ -23,8 +23,8 @@ use Rattle.expr_soundness.specs.meaning.specs.Programs.{Program, exceptions_amon
 use Rattle.expr_soundness.specs.Laws.{ScopesAreSound}
 use Rattle.expr_soundness.specs.SoundScopes.{IsKnown, IsSoundProfile, IsSoundResult, SoundScope}
 use Rattle.expr_soundness.proofs.Positions.{entity_number, first_place, number_place, place_is}
-use Rattle.checking.specs.ProgramRules.{IsLegal}
-use Rattle.program_soundness.specs.legality.specs.BodyRules.{body_name_faults, function_body_faults, own_name_faults}
+use Rattle.legality.specs.ProgramRules.{IsLegal}
+use Rattle.program_soundness.specs.unit_rules.specs.BodyRules.{body_name_faults, function_body_faults, own_name_faults}
 use Rattle.program_soundness.specs.ravenscar.specs.ProgramRules.{IsRestricted}
 use Rattle.program_soundness.specs.step_soundness.specs.Fitting.{entity_named}
 use Rattle.program_soundness.specs.BodyLaws.{NamesAreKnown, PremisesHold}

@@ -15,8 +15,8 @@ use Rattle.types.specs.Scopes.{Named, Scope, base_range_of, changed_at, form_at,
 use Rattle.types.specs.Standings.{stands_first}
 use Rattle.expr_soundness.specs.type_rules.specs.ProfileRules.{formal_parameters, profile_entity, profile_with}
 use Rattle.expr_soundness.specs.type_rules.specs.SubtypeNames.{entity_at_or_none}
-use Rattle.program_soundness.specs.declaring.specs.BodyNames.{components_scope}
-use Rattle.checking.specs.ProgramRules.{IsLegal}
+use Rattle.program_soundness.specs.declaration_rules.specs.BodyNames.{components_scope}
+use Rattle.legality.specs.ProgramRules.{IsLegal}
 use Rattle.program_soundness.specs.ravenscar.specs.ProgramRules.{IsRestricted}
 use Rattle.expr_soundness.specs.Laws.{ScopesAreSound}
 use Rattle.expr_soundness.specs.SoundScopes.{IsKnown}

@@ -14,15 +14,15 @@ use Rattle.types.specs.Shapes.{shape_of}
 use Rattle.expr_soundness.specs.type_rules.specs.SubtypeNames.{subtype_of}
 use Rattle.expr_soundness.specs.meaning.specs.Programs.{items_among, package_items, program_of}
 use Rattle.expr_soundness.specs.SoundScopes.{IsKnown}
-use Rattle.checking.specs.ProgramRules.{IsLegal}
+use Rattle.legality.specs.ProgramRules.{IsLegal}
 use Rattle.program_soundness.specs.ravenscar.specs.ProgramRules.{IsRestricted}
-use Rattle.program_soundness.specs.declaring.specs.PackageNames.{body_items_scope}
+use Rattle.program_soundness.specs.declaration_rules.specs.PackageNames.{body_items_scope}
 use Rattle.program_soundness.specs.ScopeLaws.{DeclarationsAreSound, ObjectsAreSound}
 use Rattle.program_soundness.specs.Fronts.{declared_in, front, start_in}
 use Rattle.program_soundness.proofs.Trees.{tree_package}
 use Rattle.program_soundness.proofs.Whole.{IsPackage}
-use Rattle.program_soundness.specs.declaring.specs.BodyNames.{formals_scope}
-use Rattle.program_soundness.specs.declaring.specs.LocalRules.{locals_faults, locals_scope}
+use Rattle.program_soundness.specs.declaration_rules.specs.BodyNames.{formals_scope}
+use Rattle.program_soundness.specs.declaration_rules.specs.LocalRules.{locals_faults, locals_scope}
 use Rattle.program_soundness.specs.stmt_rules.specs.StatementRules.{in_body, more_handlers_faults, stmts_faults}
 use Rattle.expr_soundness.specs.expr_rules.proofs.TypedLaw.{back_empty, front_empty}
 use Rattle.stmt_code.specs.Emitting.{IsAcceptedRun}

@@ -20,8 +20,8 @@ use Rattle.expr_soundness.specs.type_rules.specs.SubtypeNames.{declared_twice, s
 use Rattle.expr_soundness.specs.meaning.specs.Programs.{component, components_among, initial_value, items_among, object_named, objects_or_none, program_of, subtype_named, variable, variables_among}
 use Rattle.expr_soundness.specs.Laws.{ScopesAreSound}
 use Rattle.expr_soundness.specs.SoundScopes.{IsKnown}
-use Rattle.program_soundness.specs.declaring.specs.ProtectedRules.{component_initial_faults, is_component_in, is_component_like, is_operation_in, is_operation_like, part_faults, parts_faults}
-use Rattle.checking.specs.ProgramRules.{IsLegal}
+use Rattle.program_soundness.specs.declaration_rules.specs.ProtectedRules.{component_initial_faults, is_component_in, is_component_like, is_operation_in, is_operation_like, part_faults, parts_faults}
+use Rattle.legality.specs.ProgramRules.{IsLegal}
 use Rattle.program_soundness.specs.ravenscar.specs.ProgramRules.{IsRestricted}
 use Rattle.program_soundness.specs.step_soundness.specs.Objects.{AreSoundObjects, IsOf}
 use Rattle.program_soundness.specs.BodyLaws.{NamesAreKnown, PremisesHold}

@@ -25,11 +25,11 @@ use Rattle.expr_soundness.specs.type_rules.specs.ObjectRules.{package_object_ent
 use Rattle.expr_soundness.specs.type_rules.specs.ProfileRules.{formal_faults, formal_parameters, formals_faults, function_faults, has_wrong_formal, is_in, is_wrong_formal, profile_entity, profile_faults, profile_with, result_faults}
 use Rattle.expr_soundness.specs.type_rules.specs.SubtypeNames.{declared_twice, end_rule, is_composite, is_composite_form, subtype_faults, subtype_of}
 use Rattle.expr_soundness.specs.type_rules.specs.TypeRules.{definition_entity}
-use Rattle.program_soundness.specs.declaring.specs.ProtectedRules.{object_components, object_operations, object_with, operation_and, operation_faults, operation_profile, operation_profile_faults, operations_faults, parts_faults, protected_entity}
-use Rattle.program_soundness.specs.declaring.specs.TaskRules.{aspect_faults, default_priority, operation_aspect_faults, priority_of}
-use Rattle.program_soundness.specs.legality.specs.BodyRules.{body_name_faults, function_body_faults, head_faults, own_name_faults}
-use Rattle.program_soundness.specs.declaring.specs.PackageNames.{body_item_scope, clauses_scope}
-use Rattle.program_soundness.specs.legality.specs.PackageBodyRules.{body_item_faults, body_items_faults}
+use Rattle.program_soundness.specs.declaration_rules.specs.ProtectedRules.{object_components, object_operations, object_with, operation_and, operation_faults, operation_profile, operation_profile_faults, operations_faults, parts_faults, protected_entity}
+use Rattle.program_soundness.specs.declaration_rules.specs.TaskRules.{aspect_faults, default_priority, operation_aspect_faults, priority_of}
+use Rattle.program_soundness.specs.unit_rules.specs.BodyRules.{body_name_faults, function_body_faults, head_faults, own_name_faults}
+use Rattle.program_soundness.specs.declaration_rules.specs.PackageNames.{body_item_scope, clauses_scope}
+use Rattle.program_soundness.specs.unit_rules.specs.PackageBodyRules.{body_item_faults, body_items_faults}
 use Rattle.expr_soundness.specs.Laws.{ScopesAreSound}
 use Rattle.expr_soundness.specs.SoundScopes.{SoundScope}
 use Rattle.expr_soundness.proofs.Growing.{grown, test_kept}

@@ -16,13 +16,13 @@ use Rattle.types.specs.Laws.{ShapesStay}
 use Rattle.types.specs.Layouts.{words_of}
 use Rattle.types.specs.Scopes.{Scope}
 use Rattle.expr_soundness.specs.expr_rules.proofs.TypedLaw.{back_empty, front_empty}
-use Rattle.program_soundness.specs.declaring.specs.BodyNames.{formals_scope}
+use Rattle.program_soundness.specs.declaration_rules.specs.BodyNames.{formals_scope}
 use Rattle.program_soundness.specs.step_soundness.specs.body_restrictions.specs.BodyRules as restrictions
 use Rattle.size_rules.specs.BodySizes.{formals_things, handlers_things, locals_things, stmts_things}
 use Rattle.size_rules.specs.Laws.{WordsAddUp}
 use Rattle.size_rules.specs.Limits.{Things}
-use Rattle.checking.specs.ProgramLayouts.{WordsHaveRoom}
-use Rattle.checking.specs.ProgramRules.{IsLegal}
+use Rattle.legality.specs.ProgramLayouts.{WordsHaveRoom}
+use Rattle.legality.specs.ProgramRules.{IsLegal}
 use Rattle.program_soundness.specs.ravenscar.specs.ProgramRules.{IsRestricted}
 use Rattle.expr_soundness.specs.meaning.specs.Programs.{program_of, returned}
 use Rattle.expr_soundness.specs.SoundScopes.{AreKnown, IsKnown, IsSoundProfile, SoundScope}

@@ -11,16 +11,16 @@ use Rattle.types.specs.Scopes.{Scope, standard}
 use Rattle.expr_soundness.specs.expr_rules.proofs.TypedLaw.{back_empty, front_empty}
 use Rattle.expr_soundness.specs.type_rules.specs.ProfileRules.{formal_parameters}
 use Rattle.expr_soundness.specs.type_rules.specs.SubtypeNames.{subtype_of}
-use Rattle.program_soundness.specs.declaring.specs.ItemRules.{item_scope, items_scope}
-use Rattle.program_soundness.specs.declaring.specs.PackageNames.{body_item_scope, inside_scope}
+use Rattle.program_soundness.specs.declaration_rules.specs.ItemRules.{item_scope, items_scope}
+use Rattle.program_soundness.specs.declaration_rules.specs.PackageNames.{body_item_scope, inside_scope}
 use Rattle.size_rules.specs.BodySizes.{body_things, formals_things, handlers_things, locals_things, stmts_things}
 use Rattle.size_rules.specs.BodySizes as size
 use Rattle.size_rules.specs.Laws.{WordsAddUp, counted_words}
 use Rattle.size_rules.specs.PackageSizes as frames
 use Rattle.size_rules.specs.PackageSizes.{frame_faults, package_inside, package_things}
 use Rattle.size_rules.specs.ProgramSizes.{declared_faults, label_faults, optional_size_faults, size_faults}
-use Rattle.checking.specs.ProgramLayouts.{WordsHaveRoom}
-use Rattle.checking.specs.ProgramRules.{IsLegal}
+use Rattle.legality.specs.ProgramLayouts.{WordsHaveRoom}
+use Rattle.legality.specs.ProgramRules.{IsLegal}
 use Rattle.program_soundness.specs.ravenscar.specs.ProgramRules.{IsRestricted}
 use Rattle.expr_soundness.specs.meaning.specs.Programs.{program_of}
 use Rattle.expr_soundness.specs.SoundScopes.{SoundScope}

@@ -12,7 +12,7 @@ use Rattle.types.specs.Laws.{ShapesStay}
 use Rattle.types.specs.Scopes.{Scope}
 use Rattle.types.specs.Shapes.{shape_of}
 use Rattle.expr_soundness.specs.type_rules.specs.SubtypeNames.{subtype_of}
-use Rattle.program_soundness.specs.declaring.specs.LocalRules.{locals_scope}
+use Rattle.program_soundness.specs.declaration_rules.specs.LocalRules.{locals_scope}
 use Rattle.program_soundness.specs.step_soundness.specs.Fitting.{entity_named}
 use Rattle.program_soundness.specs.step_soundness.specs.body_restrictions.specs.BodyRules as restrictions
 use Rattle.expr_soundness.specs.expr_rules.proofs.TypedLaw.{back_empty, front_empty}

@@ -19,9 +19,9 @@ use Rattle.expr_soundness.specs.expr_rules.specs.Typing.{is_integers, own_of}
 use Rattle.expr_soundness.specs.expr_rules.proofs.TypedLaw.{back_empty, front_empty}
 use Rattle.expr_soundness.specs.type_rules.specs.ObjectRules.{object_entity, role_of}
 use Rattle.expr_soundness.specs.type_rules.specs.SubtypeNames.{subtype_in, subtype_of}
-use Rattle.program_soundness.specs.declaring.specs.BodyNames.{bounds_type, formal_role, formal_scope, formals_scope, if_integers, loop_scope, loop_subtype, parameter_entity, turns_subtype}
-use Rattle.program_soundness.specs.declaring.specs.LocalRules.{local_scope, locals_scope}
-use Rattle.program_soundness.specs.declaring.specs.TaskRules.{default_priority, priority_of}
+use Rattle.program_soundness.specs.declaration_rules.specs.BodyNames.{bounds_type, formal_role, formal_scope, formals_scope, if_integers, loop_scope, loop_subtype, parameter_entity, turns_subtype}
+use Rattle.program_soundness.specs.declaration_rules.specs.LocalRules.{local_scope, locals_scope}
+use Rattle.program_soundness.specs.declaration_rules.specs.TaskRules.{default_priority, priority_of}
 use Rattle.program_soundness.specs.step_soundness.specs.body_restrictions.specs.BodyRules as restrictions
 use Rattle.size_rules.specs.BodySizes as size
 use Rattle.size_rules.specs.BodySizes.{formals_things, local_things, locals_things}

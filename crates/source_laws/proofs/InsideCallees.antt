@@ -5,8 +5,8 @@ use Rattle.ada_tree.specs.StatementTree.{SubprogramTree}
 use Rattle.ada_tree.specs.ProgramTree.{BodyTree, OperationBody, ProgramTree}
 use Rattle.types.specs.Entities.{Entity, Entry, Operation, Profile, Protected, ProtectedObject, Subprogram}
 use Rattle.types.specs.Scopes.{Scope, offering}
-use Rattle.program_soundness.specs.declaring.specs.BodyNames.{operation_entity}
-use Rattle.checking.specs.ProgramRules.{IsLegal}
+use Rattle.program_soundness.specs.declaration_rules.specs.BodyNames.{operation_entity}
+use Rattle.legality.specs.ProgramRules.{IsLegal}
 use Rattle.program_soundness.specs.ravenscar.specs.ProgramRules.{IsRestricted}
 use Rattle.expr_soundness.specs.Laws.{ScopesAreSound}
 use Rattle.program_soundness.specs.BodyLaws.{NamesAreKnown, PremisesHold}

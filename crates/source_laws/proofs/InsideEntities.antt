@@ -13,11 +13,11 @@ use Rattle.types.specs.Scopes.{Named, Scope, base_range_of, entity_at, form_at, 
 use Rattle.types.specs.Shapes.{Ranged, Shape, narrowed, shape_of, shape_or_none, shapes, words}
 use Rattle.expr_soundness.specs.expr_rules.proofs.TypedLaw.{front_empty}
 use Rattle.expr_soundness.specs.type_rules.specs.ProfileRules.{profile_entity, profile_faults}
-use Rattle.program_soundness.specs.declaring.specs.BodyNames.{component_role, components_scope, operation_entity, operations_scope}
-use Rattle.program_soundness.specs.legality.specs.BodyRules.{body_name_faults, function_body_faults, head_faults, own_name_faults}
-use Rattle.program_soundness.specs.legality.specs.ProtectedBodyRules.{protected_item_scope, protected_items_scope}
+use Rattle.program_soundness.specs.declaration_rules.specs.BodyNames.{component_role, components_scope, operation_entity, operations_scope}
+use Rattle.program_soundness.specs.unit_rules.specs.BodyRules.{body_name_faults, function_body_faults, head_faults, own_name_faults}
+use Rattle.program_soundness.specs.unit_rules.specs.ProtectedBodyRules.{protected_item_scope, protected_items_scope}
 use Rattle.expr_soundness.specs.type_rules.specs.SubtypeNames.{end_rule}
-use Rattle.checking.specs.ProgramRules.{IsLegal}
+use Rattle.legality.specs.ProgramRules.{IsLegal}
 use Rattle.program_soundness.specs.ravenscar.specs.ProgramRules.{IsRestricted}
 use Rattle.expr_soundness.specs.Laws.{ScopesAreSound}
 use Rattle.expr_soundness.specs.SoundScopes.{IsKnown, SoundScope}

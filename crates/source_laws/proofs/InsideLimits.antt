@@ -11,9 +11,9 @@ use Rattle.types.specs.Laws.{ShapesStay}
 use Rattle.types.specs.Layouts.{total, words_of}
 use Rattle.types.specs.Scopes.{Scope, entity_at, offering}
 use Rattle.expr_soundness.specs.expr_rules.proofs.TypedLaw.{back_empty}
-use Rattle.program_soundness.specs.declaring.specs.BodyNames.{operation_entity}
-use Rattle.checking.specs.ProgramLayouts.{WordsHaveRoom, components_words, object_words, objects_words, total_of_all, variables_words}
-use Rattle.checking.specs.ProgramRules.{IsLegal}
+use Rattle.program_soundness.specs.declaration_rules.specs.BodyNames.{operation_entity}
+use Rattle.legality.specs.ProgramLayouts.{WordsHaveRoom, components_words, object_words, objects_words, total_of_all, variables_words}
+use Rattle.legality.specs.ProgramRules.{IsLegal}
 use Rattle.program_soundness.specs.ravenscar.specs.ProgramRules.{IsRestricted}
 use Rattle.size_rules.specs.ProgramSizes.{size_faults}
 use Rattle.expr_soundness.specs.Laws.{ScopesAreSound}

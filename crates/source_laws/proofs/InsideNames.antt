@@ -15,9 +15,9 @@ use Rattle.types.specs.Places.{object_of, or_else}
 use Rattle.types.specs.Scopes.{Named, Scope, form_of, offering, operations_or, protected_at, with_name, with_operations}
 use Rattle.expr_soundness.specs.type_rules.specs.ProfileRules.{profile_entity}
 use Rattle.expr_soundness.specs.type_rules.specs.SubtypeNames.{subtype_in, subtype_of}
-use Rattle.program_soundness.specs.declaring.specs.BodyNames.{component_role, components_scope, operation_entity, operations_scope}
-use Rattle.program_soundness.specs.legality.specs.ProtectedBodyRules.{protected_item_scope, protected_items_scope}
-use Rattle.checking.specs.ProgramRules.{IsLegal}
+use Rattle.program_soundness.specs.declaration_rules.specs.BodyNames.{component_role, components_scope, operation_entity, operations_scope}
+use Rattle.program_soundness.specs.unit_rules.specs.ProtectedBodyRules.{protected_item_scope, protected_items_scope}
+use Rattle.legality.specs.ProgramRules.{IsLegal}
 use Rattle.program_soundness.specs.ravenscar.specs.ProgramRules.{IsRestricted}
 use Rattle.expr_soundness.specs.Laws.{ScopesAreSound}
 use Rattle.expr_soundness.specs.meaning.specs.Programs.{Program, program_of}

@@ -9,7 +9,7 @@ use Rattle.ada_tree.specs.StatementTree.{AlternativeTrees, Block, Call, Case, De
 use Rattle.ada_tree.specs.ProgramTree.{BodyItemTree, BodyTree, EntryBody, ItemTree, OfItem, OperationBody, PackageTree, ProtectedBody, ProtectedItemTree, SubprogramBody, TaskBody}
 use Rattle.types.specs.Scopes.{Scope, standard}
 use Rattle.meaning.specs.expr_rules.proofs.TypedLaw.{back_empty, front_empty}
-use Rattle.declaring.specs.PackageNames.{body_item_scope, specified_scope}
+use Rattle.declaration_rules.specs.PackageNames.{body_item_scope, specified_scope}
 use Rattle.program_soundness.specs.size_rules.specs.BodySizes.{alternatives_things, body_things, call_things, elsifs_things, first_argument, formals_things, handlers_things, locals_things, sized_object, stmt_things, stmts_things}
 use Rattle.program_soundness.specs.size_rules.specs.Limits.{Things, first_use, first_uses, is_among, over, used_with}
 use Rattle.program_soundness.specs.size_rules.specs.PackageSizes.{body_item_inside, body_items_inside, frame_faults, operation_inside, operations_inside, package_inside, package_things}

@@ -37,7 +37,7 @@ use Rattle.expr_soundness.specs.type_rules.specs.ObjectRules.{called_faults, cal
 use Rattle.expr_soundness.specs.type_rules.specs.SubtypeNames.{declared_twice, entity_at_or_none, named_entity, subtype_faults, subtype_of}
 use Rattle.expr_soundness.specs.SoundScopes.{HasOperation, IsSoundEntity, SoundScope, integer_formal}
 use Rattle.expr_soundness.proofs.Positions.{IsNamed, item_added}
-use Rattle.program_soundness.specs.declaring.specs.ItemRules.{item_faults, items_faults, items_scope}
+use Rattle.program_soundness.specs.declaration_rules.specs.ItemRules.{item_faults, items_faults, items_scope}
 use Rattle.program_soundness.specs.ScopeLaws.{DeclarationsAreSound}
 use Rattle.program_soundness.proofs.Beginning.{fixed_legal}
 use Rattle.program_soundness.proofs.Extending.{Extends, entity_stays, number_stays}

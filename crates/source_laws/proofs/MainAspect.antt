@@ -26,8 +26,8 @@ use Rattle.expr_soundness.specs.expr_rules.specs.Typing.{own_of}
 use Rattle.expr_soundness.proofs.FixedNames.{is_valueless}
 use Rattle.expr_soundness.proofs.Positions.{item_added, number_added}
 use Rattle.expr_soundness.proofs.Standard.{standard_is_sound}
-use Rattle.program_soundness.specs.declaring.specs.PackageNames.{clauses_scope}
-use Rattle.program_soundness.specs.legality.specs.MainRules.{main_scope}
+use Rattle.program_soundness.specs.declaration_rules.specs.PackageNames.{clauses_scope}
+use Rattle.program_soundness.specs.unit_rules.specs.MainRules.{main_scope}
 use Rattle.program_soundness.specs.Fronts.{start_in}
 use Rattle.program_soundness.proofs.Extending.{Extends, extends_more, extends_self, name_extends}
 use Rattle.program_soundness.proofs.Listing.{same_some}

@@ -10,8 +10,8 @@ use Rattle.types.specs.Scopes.{Scope, with_name}
 use Rattle.meaning.specs.expr_rules.proofs.TypedLaw.{back_empty, front_empty}
 use Rattle.meaning.specs.type_rules.specs.ProfileRules.{formal_parameters, profile_with}
 use Rattle.meaning.specs.type_rules.specs.SubtypeNames.{end_rule}
-use Rattle.program_soundness.specs.legality.specs.MainRules.{main_scope, main_statements_faults}
-use Rattle.checking.specs.ProgramRules.{IsLegal}
+use Rattle.program_soundness.specs.unit_rules.specs.MainRules.{main_scope, main_statements_faults}
+use Rattle.legality.specs.ProgramRules.{IsLegal}
 use Rattle.ravenscar.specs.ProgramRules.{IsRestricted}
 use Rattle.meaning.specs.Calls.{procedure_among, procedure_here}
 use Rattle.meaning.specs.Programs.{Procedure, Program, program_of}

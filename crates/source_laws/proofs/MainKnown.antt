@@ -6,7 +6,7 @@ use Rattle.ada_tree.specs.declared.program.MainStatement.TheVariants as main
 use Rattle.ada_tree.specs.ProgramTree.{BodyItemTree, ProgramTree, SubprogramBody}
 use Rattle.types.specs.Entities.{Profile, Subprogram}
 use Rattle.types.specs.Scopes.{Named, Scope, number_of}
-use Rattle.checking.specs.ProgramRules.{IsLegal}
+use Rattle.legality.specs.ProgramRules.{IsLegal}
 use Rattle.ravenscar.specs.ProgramRules.{IsRestricted}
 use Rattle.meaning.specs.Calls.{procedure_among, procedure_here}
 use Rattle.meaning.specs.Programs.{Procedure, Program, program_of}

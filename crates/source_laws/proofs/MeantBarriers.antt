@@ -30,16 +30,16 @@ use Rattle.expr_soundness.proofs.Parts.{shape_by_form}
 use Rattle.expr_soundness.specs.type_rules.specs.ObjectRules.{object_entity}
 use Rattle.expr_soundness.specs.type_rules.specs.SubtypeNames.{end_rule, subtype_of}
 use Rattle.expr_soundness.specs.type_rules.specs.ProfileRules.{formals_faults}
-use Rattle.program_soundness.specs.declaring.specs.BodyNames.{components_scope, formal_role, formal_scope, formals_scope}
+use Rattle.program_soundness.specs.declaration_rules.specs.BodyNames.{components_scope, formal_role, formal_scope, formals_scope}
 use Rattle.program_soundness.specs.stmt_rules.specs.declared.around.BodyKind.TheVariants as kinds
 use Rattle.program_soundness.specs.stmt_rules.specs.SimpleRules.{condition_faults}
-use Rattle.program_soundness.specs.legality.specs.BodyRules.{body_faults}
-use Rattle.program_soundness.specs.legality.specs.ProtectedBodyRules.{entry_rule}
-use Rattle.checking.specs.ProgramRules.{IsLegal}
+use Rattle.program_soundness.specs.unit_rules.specs.BodyRules.{body_faults}
+use Rattle.program_soundness.specs.unit_rules.specs.ProtectedBodyRules.{entry_rule}
+use Rattle.legality.specs.ProgramRules.{IsLegal}
 use Rattle.program_soundness.specs.ravenscar.specs.ProgramRules.{IsRestricted}
 use Rattle.program_soundness.specs.ravenscar.specs.ProgramRules as restrictions
 use Rattle.program_soundness.specs.step_soundness.specs.body_restrictions.specs.BodyRules.{barrier_rule, is_component, is_simple_name, is_truth_value}
-use Rattle.program_soundness.specs.declaring.specs.PackageNames.{clauses_scope}
+use Rattle.program_soundness.specs.declaration_rules.specs.PackageNames.{clauses_scope}
 use Rattle.types.specs.declared.entity.RecordComponent.{RecordComponent}
 use Rattle.program_soundness.proofs.Beginning.{keeps_with}
 use Rattle.program_soundness.proofs.OneList.{restricted_at}

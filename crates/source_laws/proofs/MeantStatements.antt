@@ -33,8 +33,8 @@ use Rattle.expr_soundness.specs.expr_rules.specs.Typing.{is_booleans, is_integer
 use Rattle.expr_soundness.specs.expr_rules.proofs.TypedLaw.{as_truth, back_empty, front_empty, same_number, unbroken}
 use Rattle.expr_soundness.specs.type_rules.specs.ObjectRules.{local_initial_faults, object_entity, role_of}
 use Rattle.expr_soundness.specs.type_rules.specs.SubtypeNames.{declared_twice, named_entity, subtype_faults, subtype_in, subtype_of}
-use Rattle.program_soundness.specs.declaring.specs.BodyNames.{last_rule, loop_faults, loop_scope, loop_type, parameter_entity, turns_subtype}
-use Rattle.program_soundness.specs.declaring.specs.LocalRules.{local_faults, local_scope, locals_faults, locals_scope}
+use Rattle.program_soundness.specs.declaration_rules.specs.BodyNames.{last_rule, loop_faults, loop_scope, loop_type, parameter_entity, turns_subtype}
+use Rattle.program_soundness.specs.declaration_rules.specs.LocalRules.{local_faults, local_scope, locals_faults, locals_scope}
 use Rattle.program_soundness.specs.stmt_rules.specs.CaseRules.{choice_faults, choice_value, choices_faults, choices_wanted, chosen_by, chosen_with, discrete_rule, is_chosen, is_discrete, no_more, others_rule, selecting_faults, values_faults}
 use Rattle.program_soundness.specs.stmt_rules.specs.HandlerRules.{exception_choices_faults, is_single, named_after}
 use Rattle.program_soundness.specs.stmt_rules.specs.HandlerRules as handlers

@@ -28,14 +28,14 @@ use Rattle.expr_soundness.specs.expr_rules.specs.StaticRules.{static_faults, sta
 use Rattle.expr_soundness.specs.expr_rules.proofs.TypedLaw.{back_empty, front_empty, unbroken}
 use Rattle.expr_soundness.specs.type_rules.specs.ObjectRules.{fixed_faults, fixed_initial_faults, fixed_scalar, object_entity}
 use Rattle.expr_soundness.specs.type_rules.specs.SubtypeNames.{declared_twice, subtype_faults, subtype_in, subtype_of}
-use Rattle.program_soundness.specs.declaring.specs.BodyNames.{formal_role, formal_scope, formals_scope}
-use Rattle.program_soundness.specs.declaring.specs.LocalRules.{locals_faults, locals_scope}
-use Rattle.program_soundness.specs.declaring.specs.ProtectedRules.{component_initial_faults, default_ceiling, is_component_like, object_components, object_operations, object_with, part_faults, parts_faults, protected_entity}
-use Rattle.program_soundness.specs.declaring.specs.TaskRules.{default_priority, is_priority, priority_of, priority_within}
-use Rattle.program_soundness.specs.legality.specs.MainRules.{main_scope}
+use Rattle.program_soundness.specs.declaration_rules.specs.BodyNames.{formal_role, formal_scope, formals_scope}
+use Rattle.program_soundness.specs.declaration_rules.specs.LocalRules.{locals_faults, locals_scope}
+use Rattle.program_soundness.specs.declaration_rules.specs.ProtectedRules.{component_initial_faults, default_ceiling, is_component_like, object_components, object_operations, object_with, part_faults, parts_faults, protected_entity}
+use Rattle.program_soundness.specs.declaration_rules.specs.TaskRules.{default_priority, is_priority, priority_of, priority_within}
+use Rattle.program_soundness.specs.unit_rules.specs.MainRules.{main_scope}
 use Rattle.program_soundness.specs.stmt_rules.specs.StatementRules.{in_body, more_handlers_faults, stmts_faults}
 use Rattle.program_soundness.specs.step_soundness.specs.body_restrictions.specs.BodyRules as restrictions
-use Rattle.checking.specs.ProgramRules.{IsLegal}
+use Rattle.legality.specs.ProgramRules.{IsLegal}
 use Rattle.program_soundness.specs.ravenscar.specs.ProgramRules.{IsRestricted}
 use Rattle.program_soundness.specs.ravenscar.specs.HandlerRules.{none_taken}
 use Rattle.program_soundness.specs.ravenscar.specs.TaskingRules as profile

@@ -20,7 +20,7 @@ use Rattle.expr_soundness.specs.expr_rules.specs.ExpressionRules.{faults_of, tar
 use Rattle.expr_soundness.specs.expr_rules.proofs.TypedLaw.{front_empty, unbroken}
 use Rattle.program_soundness.specs.stmt_rules.specs.declared.around.Around.{Around}
 use Rattle.program_soundness.specs.stmt_rules.specs.SimpleRules.{assigned_wanted, exit_rule, optional_condition_faults}
-use Rattle.checking.specs.ProgramRules.{IsLegal}
+use Rattle.legality.specs.ProgramRules.{IsLegal}
 use Rattle.program_soundness.specs.ravenscar.specs.ProgramRules.{IsRestricted}
 use Rattle.expr_soundness.specs.Answers.{FunctionsAreSound}
 use Rattle.expr_soundness.specs.Variables.{NamesTarget, part_in, part_subtype}

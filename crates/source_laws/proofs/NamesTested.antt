@@ -16,9 +16,9 @@ use Rattle.types.specs.Scopes.{Named, Scope, base_range_of, entity_at, from_inte
 use Rattle.expr_soundness.specs.type_rules.specs.ObjectRules.{package_object_entity}
 use Rattle.expr_soundness.specs.type_rules.specs.ProfileRules.{profile_entity}
 use Rattle.expr_soundness.specs.type_rules.specs.TypeRules.{definition_entity}
-use Rattle.program_soundness.specs.declaring.specs.ProtectedRules.{object_components, object_operations, object_with, protected_entity}
-use Rattle.program_soundness.specs.declaring.specs.TaskRules.{default_priority, priority_of}
-use Rattle.program_soundness.specs.declaring.specs.PackageNames.{body_item_scope, clauses_scope}
+use Rattle.program_soundness.specs.declaration_rules.specs.ProtectedRules.{object_components, object_operations, object_with, protected_entity}
+use Rattle.program_soundness.specs.declaration_rules.specs.TaskRules.{default_priority, priority_of}
+use Rattle.program_soundness.specs.declaration_rules.specs.PackageNames.{body_item_scope, clauses_scope}
 use Rattle.program_soundness.specs.Fronts.{scope_at, start_in}
 use Rattle.program_soundness.proofs.Listing.{same_some}
 use Rattle.program_soundness.proofs.Walked.{own_profile}

@@ -10,7 +10,7 @@ use Rattle.types.specs.declared.entity.Subtype.{Subtype}
 use Rattle.types.specs.Layouts.{words_of}
 use Rattle.types.specs.Scopes.{Scope}
 use Rattle.expr_soundness.specs.type_rules.specs.SubtypeNames.{subtype_of}
-use Rattle.program_soundness.specs.declaring.specs.BodyNames.{formal_role, formal_scope, formals_scope}
+use Rattle.program_soundness.specs.declaration_rules.specs.BodyNames.{formal_role, formal_scope, formals_scope}
 use Rattle.expr_soundness.proofs.Widening.{subtype_known}
 use Rattle.expr_code.specs.declared.visible.Visible.{Visible}
 use Rattle.part_code.specs.Bounds.{formals_words, words_if_any, words_named}

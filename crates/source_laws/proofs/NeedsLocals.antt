@@ -19,7 +19,7 @@ use Rattle.expr_soundness.specs.expr_rules.specs.Faults.{Faults, rule}
 use Rattle.expr_soundness.specs.expr_rules.proofs.TypedLaw.{back_empty, front_empty}
 use Rattle.expr_soundness.specs.type_rules.specs.ObjectRules.{local_initial_faults, local_object_faults}
 use Rattle.expr_soundness.specs.type_rules.specs.SubtypeNames.{declared_twice, subtype_faults, subtype_of, wanted_by}
-use Rattle.program_soundness.specs.declaring.specs.LocalRules.{local_faults, local_scope, locals_faults}
+use Rattle.program_soundness.specs.declaration_rules.specs.LocalRules.{local_faults, local_scope, locals_faults}
 use Rattle.program_soundness.specs.step_soundness.specs.body_restrictions.specs.BodyRules as restrictions
 use Rattle.expr_soundness.proofs.Widening.{subtype_known}
 use Rattle.expr_code.specs.Refusing.{is_fit, peak}

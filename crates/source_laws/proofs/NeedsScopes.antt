@@ -22,7 +22,7 @@ use Rattle.expr_soundness.specs.expr_rules.specs.Typing.{is_integers, is_integra
 use Rattle.expr_soundness.specs.expr_rules.proofs.TypedLaw.{back_empty, front_empty}
 use Rattle.expr_soundness.specs.type_rules.specs.ObjectRules.{local_object_scope, object_entity, role_of}
 use Rattle.expr_soundness.specs.type_rules.specs.SubtypeNames.{declared_twice, subtype_of}
-use Rattle.program_soundness.specs.declaring.specs.BodyNames.{bounds_type, if_integers, last_rule, loop_faults, loop_scope, loop_type, parameter_entity, turns_subtype}
+use Rattle.program_soundness.specs.declaration_rules.specs.BodyNames.{bounds_type, if_integers, last_rule, loop_faults, loop_scope, loop_type, parameter_entity, turns_subtype}
 use Rattle.expr_soundness.specs.SoundScopes.{AreKnown, IsKnown, IsSoundEntity, IsSoundObject, IsSoundProfile, SoundScope}
 use Rattle.expr_soundness.proofs.Goods.{not_empty, object_known, sound_operation, sound_result}
 use Rattle.expr_soundness.proofs.Growing.{form_before, grown, object_named, sound_with_object}

@@ -16,8 +16,8 @@ use Rattle.types.specs.declared.entity.Value.{Value as Scalar}
 use Rattle.expr_soundness.specs.expr_rules.specs.declared.own.Wanted.{Wanted}
 use Rattle.expr_soundness.specs.expr_rules.specs.Typing.{own_of}
 use Rattle.expr_soundness.specs.expr_rules.proofs.TypedLaw.{back_empty, front_empty}
-use Rattle.program_soundness.specs.declaring.specs.BodyNames.{loop_faults, loop_scope}
-use Rattle.program_soundness.specs.declaring.specs.LocalRules.{locals_faults, locals_scope}
+use Rattle.program_soundness.specs.declaration_rules.specs.BodyNames.{loop_faults, loop_scope}
+use Rattle.program_soundness.specs.declaration_rules.specs.LocalRules.{locals_faults, locals_scope}
 use Rattle.program_soundness.specs.step_soundness.specs.body_restrictions.specs.BodyRules as restrictions
 use Rattle.program_soundness.specs.stmt_rules.specs.declared.around.Around as rules
 use Rattle.program_soundness.specs.stmt_rules.specs.CaseRules.{choices_faults, choices_wanted, chosen_by, others_rule, selecting_faults}

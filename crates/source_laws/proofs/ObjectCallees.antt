@@ -9,9 +9,9 @@ use Rattle.types.specs.Entities as entity
 use Rattle.types.specs.Scopes.{Scope}
 use Rattle.expr_soundness.specs.expr_rules.proofs.TypedLaw.{front_empty, unbroken}
 use Rattle.expr_soundness.specs.type_rules.specs.ProfileRules.{formal_parameters, profile_with}
-use Rattle.program_soundness.specs.declaring.specs.BodyNames.{operation_entity}
-use Rattle.program_soundness.specs.legality.specs.MatchingRules.{missing_operations_faults}
-use Rattle.checking.specs.ProgramRules.{IsLegal}
+use Rattle.program_soundness.specs.declaration_rules.specs.BodyNames.{operation_entity}
+use Rattle.program_soundness.specs.unit_rules.specs.MatchingRules.{missing_operations_faults}
+use Rattle.legality.specs.ProgramRules.{IsLegal}
 use Rattle.program_soundness.specs.ravenscar.specs.ProgramRules.{IsRestricted}
 use Rattle.expr_soundness.specs.Laws.{ScopesAreSound}
 use Rattle.expr_soundness.specs.meaning.specs.Programs.{Program, program_of}

@@ -14,9 +14,9 @@ use Rattle.types.specs.Scopes.{Scope, form_at, protected_at, protected_of}
 use Rattle.expr_soundness.specs.expr_rules.proofs.TypedLaw.{back_empty, front_empty, unbroken}
 use Rattle.expr_soundness.specs.type_rules.specs.ProfileRules.{formal_parameters, formals_faults, function_faults, has_wrong_formal, profile_faults, result_faults}
 use Rattle.expr_soundness.specs.type_rules.specs.SubtypeNames.{is_composite, named_entity, subtype_faults, subtype_of}
-use Rattle.program_soundness.specs.declaring.specs.ProtectedRules.{operation_faults, operation_profile, operation_profile_faults, operations_faults}
-use Rattle.program_soundness.specs.declaring.specs.ProtectedRules as declared
-use Rattle.checking.specs.ProgramRules.{IsLegal}
+use Rattle.program_soundness.specs.declaration_rules.specs.ProtectedRules.{operation_faults, operation_profile, operation_profile_faults, operations_faults}
+use Rattle.program_soundness.specs.declaration_rules.specs.ProtectedRules as declared
+use Rattle.legality.specs.ProgramRules.{IsLegal}
 use Rattle.program_soundness.specs.ravenscar.specs.ProgramRules.{IsRestricted}
 use Rattle.expr_soundness.specs.Laws.{ScopesAreSound}
 use Rattle.expr_soundness.specs.SoundScopes.{IsKnown, IsSoundEntity, IsSoundResult, SoundScope}
@@ -49,7 +49,7 @@ use Rattle.source_laws.proofs.FewCallees.{scalar_form}
 use Rattle.source_laws.proofs.LaterNames.{same_form}
 use Rattle.source_laws.proofs.ObjectCallees.{HasUnitBody, unit_behind}
 use Rattle.source_laws.proofs.VisibleWords.{behind_front}
-use Rattle.program_soundness.specs.declaring.specs.TaskRules.{operation_aspect_faults}
+use Rattle.program_soundness.specs.declaration_rules.specs.TaskRules.{operation_aspect_faults}
 
 -- ---- results of functions
 

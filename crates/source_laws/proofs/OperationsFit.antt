@@ -9,11 +9,11 @@ use Rattle.ada_tree.specs.ProgramTree.{BodyItemTree, BodyTree, EntryBody, OfItem
 use Rattle.image.specs.RuleLaws.{slice_get_inside}
 use Rattle.types.specs.Entities.{ProtectedObject}
 use Rattle.types.specs.Scopes.{Scope, is_visible, protected_count, protected_of}
-use Rattle.declaring.specs.ProtectedRules.{operation_name}
+use Rattle.declaration_rules.specs.ProtectedRules.{operation_name}
 use Rattle.meaning.specs.type_rules.specs.SubtypeNames.{named_entity}
-use Rattle.declaring.specs.PackageNames.{body_item_scope}
-use Rattle.program_soundness.specs.legality.specs.MatchingRules as matching
-use Rattle.checking.specs.ProgramRules.{IsLegal}
+use Rattle.declaration_rules.specs.PackageNames.{body_item_scope}
+use Rattle.program_soundness.specs.unit_rules.specs.MatchingRules as matching
+use Rattle.legality.specs.ProgramRules.{IsLegal}
 use Rattle.ravenscar.specs.ProgramRules.{IsRestricted}
 use Rattle.program_soundness.specs.size_rules.specs.declared.thing.Kind.{Kind}
 use Rattle.program_soundness.specs.size_rules.specs.declared.thing.Kind.TheVariants as kind

@@ -15,8 +15,8 @@ use Rattle.ada_tree.proofs.ProgramCounts.{body_counts, body_item_counts}
 use Rattle.ada_tree.proofs.StatementCounts.{entry_counts, stmt_counts, subprogram_counts}
 use Rattle.types.specs.declared.entity.RecordComponent.{RecordComponent}
 use Rattle.types.specs.Scopes.{Scope, number_of}
-use Rattle.program_soundness.specs.declaring.specs.BodyNames.{object_body_scope}
-use Rattle.program_soundness.specs.legality.specs.ProtectedBodyRules.{components_at, protected_items_scope}
+use Rattle.program_soundness.specs.declaration_rules.specs.BodyNames.{object_body_scope}
+use Rattle.program_soundness.specs.unit_rules.specs.ProtectedBodyRules.{components_at, protected_items_scope}
 use Rattle.expr_soundness.specs.meaning.specs.Programs.{program_of}
 use Rattle.program_soundness.specs.Fronts.{declared_in, front}
 use Rattle.program_soundness.proofs.Listing.{same_some}

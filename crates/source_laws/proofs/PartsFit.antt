@@ -12,13 +12,13 @@ use Rattle.types.specs.Laws.{ValuesHaveWords}
 use Rattle.types.specs.Layouts.{total, words_of}
 use Rattle.types.specs.Places.{Object}
 use Rattle.types.specs.Scopes.{Scope}
-use Rattle.declaring.specs.ProtectedRules.{object_components, object_with, protected_entity}
-use Rattle.declaring.specs.PackageNames.{body_item_scope}
+use Rattle.declaration_rules.specs.ProtectedRules.{object_components, object_with, protected_entity}
+use Rattle.declaration_rules.specs.PackageNames.{body_item_scope}
 use Rattle.meaning.specs.expr_rules.proofs.TypedLaw.{back_empty, front_empty}
 use Rattle.meaning.specs.type_rules.specs.SubtypeNames.{subtype_of}
 use Rattle.meaning.specs.Programs.{Program, component, components_among, items_among, objects_or_none, package_items, program_of}
-use Rattle.checking.specs.ProgramLayouts.{WordsHaveRoom, components_words, object_words, objects_words, total_of_all, variables_words}
-use Rattle.checking.specs.ProgramRules.{IsLegal}
+use Rattle.legality.specs.ProgramLayouts.{WordsHaveRoom, components_words, object_words, objects_words, total_of_all, variables_words}
+use Rattle.legality.specs.ProgramRules.{IsLegal}
 use Rattle.ravenscar.specs.ProgramRules.{IsRestricted}
 use Rattle.program_soundness.specs.size_rules.specs.declared.thing.Kind.TheVariants as kind
 use Rattle.program_soundness.specs.size_rules.specs.Limits.{places_of, words_faults}

@@ -14,9 +14,9 @@ use Rattle.ada_tree.specs.StatementGrammar.{stmts}
 use Rattle.ada_tree.specs.StatementTree.{MoreStmts, NoStmts, Return, StmtTrees}
 use Rattle.ada_tree.specs.ProgramTree.{BodyItemTree, BodyTree, EntryBody, ItemTree, OfItem, OperationBody, PackageTree, ProgramTree, ProtectedBody, ProtectedItemTree, SubprogramBody, TaskBody}
 use Rattle.types.specs.Scopes.{Scope}
-use Rattle.program_soundness.specs.declaring.specs.BodyNames.{formals_scope}
+use Rattle.program_soundness.specs.declaration_rules.specs.BodyNames.{formals_scope}
 use Rattle.program_soundness.specs.stmt_rules.specs.declared.around.BodyKind.TheVariants as kind
-use Rattle.checking.specs.ProgramRules.{IsLegal}
+use Rattle.legality.specs.ProgramRules.{IsLegal}
 use Rattle.program_soundness.specs.ravenscar.specs.ProgramRules.{IsRestricted}
 use Rattle.expr_soundness.specs.meaning.specs.Programs.{program_of, returned, subtype_named}
 use Rattle.program_soundness.specs.Fronts.{declared_in, front, start_in}

@@ -11,9 +11,9 @@ use Rattle.types.specs.Layouts.{words_of}
 use Rattle.types.specs.Scopes.{Scope, base_range_of}
 use Rattle.expr_soundness.specs.type_rules.specs.ProfileRules.{formal_parameters}
 use Rattle.expr_soundness.specs.type_rules.specs.SubtypeNames.{subtype_of}
-use Rattle.program_soundness.specs.declaring.specs.BodyNames.{formals_scope}
-use Rattle.checking.specs.ProgramLayouts.{WordsHaveRoom}
-use Rattle.checking.specs.ProgramRules.{IsLegal}
+use Rattle.program_soundness.specs.declaration_rules.specs.BodyNames.{formals_scope}
+use Rattle.legality.specs.ProgramLayouts.{WordsHaveRoom}
+use Rattle.legality.specs.ProgramRules.{IsLegal}
 use Rattle.program_soundness.specs.ravenscar.specs.ProgramRules.{IsRestricted}
 use Rattle.expr_soundness.specs.Laws.{ScopesAreSound}
 use Rattle.expr_soundness.specs.SoundScopes.{AreKnown, IsKnown, SoundScope}

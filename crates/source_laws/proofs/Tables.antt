@@ -2,8 +2,8 @@
 use Rattle.std.proofs.Common.{◌≡◌, []}
 use Rattle.meaning.specs.expr_rules.proofs.TypedLaw.{back_empty}
 use Rattle.ada_tree.specs.ProgramTree.{ProgramTree}
-use Rattle.checking.specs.ProgramLayouts.{WordsHaveRoom}
-use Rattle.checking.specs.ProgramRules.{IsLegal}
+use Rattle.legality.specs.ProgramLayouts.{WordsHaveRoom}
+use Rattle.legality.specs.ProgramRules.{IsLegal}
 use Rattle.program_soundness.specs.size_rules.specs.ProgramSizes.{size_faults}
 use Rattle.package_code.specs.Laws.{TablesAreSmall}
 use Rattle.source_laws.proofs.CountsFit.{exceptions_few}

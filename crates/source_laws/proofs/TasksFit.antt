@@ -11,8 +11,8 @@ use Rattle.image.specs.RuleLaws.{slice_get_inside}
 use Rattle.types.specs.Entities.{Task}
 use Rattle.types.specs.Scopes.{Scope}
 use Rattle.meaning.specs.expr_rules.proofs.TypedLaw.{back_empty, front_empty, unbroken}
-use Rattle.declaring.specs.PackageNames.{body_item_scope}
-use Rattle.checking.specs.ProgramRules.{IsLegal}
+use Rattle.declaration_rules.specs.PackageNames.{body_item_scope}
+use Rattle.legality.specs.ProgramRules.{IsLegal}
 use Rattle.ravenscar.specs.ProgramRules.{IsRestricted}
 use Rattle.program_soundness.specs.size_rules.specs.declared.thing.Kind.TheVariants as kind
 use Rattle.program_soundness.specs.size_rules.specs.Limits.{places_of, words_faults}

@@ -2,7 +2,7 @@
 use Rattle.std.proofs.Common.{Bool, true, false, List, [], ◌∷◌}
 use Rattle.ada_tree.specs.declared.program.UnitClause.{UnitClause}
 use Rattle.types.specs.Scopes.{Scope, with_control_io, with_real_time}
-use Rattle.program_soundness.specs.declaring.specs.PackageNames.{clause_scope, clauses_scope, is_control_io, is_real_time}
+use Rattle.program_soundness.specs.declaration_rules.specs.PackageNames.{clause_scope, clauses_scope, is_control_io, is_real_time}
 
 module _ (P : Scope → Type 0) (times : (s : Scope) → P s → P (with_real_time s)) (io : (s : Scope) → P s → P (with_control_io s)) where
   clause_keeps : (s : Scope) (c : UnitClause) → P s → P (clause_scope s c)

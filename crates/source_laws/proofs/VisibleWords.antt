@@ -12,9 +12,9 @@ use Rattle.types.specs.Layouts.{total, words_of}
 use Rattle.types.specs.Scopes.{Scope, entity_at}
 use Rattle.types.specs.Shapes.{shape_of, words}
 use Rattle.expr_soundness.specs.expr_rules.proofs.TypedLaw.{back_empty}
-use Rattle.program_soundness.specs.declaring.specs.PackageNames.{body_items_scope}
-use Rattle.checking.specs.ProgramLayouts.{WordsHaveRoom, objects_words, total_of_all, variable_words, variables_words}
-use Rattle.checking.specs.ProgramRules.{IsLegal}
+use Rattle.program_soundness.specs.declaration_rules.specs.PackageNames.{body_items_scope}
+use Rattle.legality.specs.ProgramLayouts.{WordsHaveRoom, objects_words, total_of_all, variable_words, variables_words}
+use Rattle.legality.specs.ProgramRules.{IsLegal}
 use Rattle.program_soundness.specs.ravenscar.specs.ProgramRules.{IsRestricted}
 use Rattle.size_rules.specs.ProgramSizes.{size_faults}
 use Rattle.expr_soundness.specs.SoundScopes.{IsKnown, SoundScope}

@@ -17,14 +17,14 @@ use Rattle.expr_soundness.specs.expr_rules.specs.ExpressionRules.{faults_of}
 use Rattle.expr_soundness.specs.expr_rules.proofs.TypedLaw.{back_empty, front_empty, judged, unbroken}
 use Rattle.expr_soundness.specs.type_rules.specs.ProfileRules.{formals_faults, function_faults, has_wrong_formal, profile_entity, profile_faults, profile_with, formal_parameters, result_faults}
 use Rattle.expr_soundness.specs.type_rules.specs.SubtypeNames.{end_rule, is_composite, named_entity, subtype_faults, subtype_of}
-use Rattle.program_soundness.specs.declaring.specs.BodyNames.{components_scope, formals_scope}
-use Rattle.program_soundness.specs.legality.specs.BodyRules.{body_faults, function_body_faults, head_faults, is_function_body, kind_of}
-use Rattle.program_soundness.specs.legality.specs.ProtectedBodyRules.{entry_rule, protected_item_faults, protected_items_scope}
+use Rattle.program_soundness.specs.declaration_rules.specs.BodyNames.{components_scope, formals_scope}
+use Rattle.program_soundness.specs.unit_rules.specs.BodyRules.{body_faults, function_body_faults, head_faults, is_function_body, kind_of}
+use Rattle.program_soundness.specs.unit_rules.specs.ProtectedBodyRules.{entry_rule, protected_item_faults, protected_items_scope}
 use Rattle.program_soundness.specs.stmt_rules.specs.SimpleRules.{condition_faults}
 use Rattle.program_soundness.specs.stmt_rules.specs.declared.around.BodyKind.{BodyKind}
 use Rattle.program_soundness.specs.stmt_rules.specs.declared.around.BodyKind.TheVariants as kinds
 use Rattle.program_soundness.specs.step_soundness.specs.body_restrictions.specs.BodyRules as restrictions
-use Rattle.checking.specs.ProgramRules.{IsLegal}
+use Rattle.legality.specs.ProgramRules.{IsLegal}
 use Rattle.program_soundness.specs.ravenscar.specs.ProgramRules.{IsRestricted, components_named}
 use Rattle.expr_soundness.specs.meaning.specs.Programs.{program_of, returned, subtype_named}
 use Rattle.expr_soundness.specs.SoundScopes.{SoundScope}

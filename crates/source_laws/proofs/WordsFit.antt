@@ -13,8 +13,8 @@ use Rattle.types.specs.Shapes.{shape_of, value_words}
 use Rattle.meaning.specs.expr_rules.proofs.TypedLaw.{front_empty}
 use Rattle.meaning.specs.type_rules.specs.ObjectRules.{constant_entity, initial_scalar, object_entity, package_object_entity}
 use Rattle.meaning.specs.type_rules.specs.SubtypeNames.{declared_twice, subtype_faults, subtype_of}
-use Rattle.checking.specs.ProgramLayouts.{variable_words, variables_words}
-use Rattle.checking.specs.ProgramRules.{IsLegal}
+use Rattle.legality.specs.ProgramLayouts.{variable_words, variables_words}
+use Rattle.legality.specs.ProgramRules.{IsLegal}
 use Rattle.ravenscar.specs.ProgramRules.{IsRestricted}
 use Rattle.meaning.specs.Programs.{Program, items_among, object_named, program_of, variables_among}
 use Rattle.expr_soundness.proofs.Parts.{subtype_values}

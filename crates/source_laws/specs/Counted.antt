@@ -10,7 +10,7 @@ use Rattle.ada_tree.specs.ProgramTree.{BodyItemTree, BodyTree, ProgramTree, Prot
 use Rattle.ada_tree.specs.Size.{body_item_size, body_size, expr_size, protected_item_size, stmt_size}
 use Rattle.ada_tree.specs.StatementGrammar.{stmt}
 use Rattle.ada_tree.specs.StatementTree.{StmtTree}
-use Rattle.program_soundness.specs.declaring.specs.BodyNames.{formals_scope}
+use Rattle.program_soundness.specs.declaration_rules.specs.BodyNames.{formals_scope}
 use Rattle.part_code.specs.Bounds.{body_words, formals_words}
 use Rattle.package_code.specs.Bodies.{Coded, IsBodyOf, bodies_before, bodies_of}
 use Rattle.package_code.specs.Counts.{bound_of, instructions_bound}

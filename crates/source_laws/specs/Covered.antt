@@ -4,7 +4,7 @@ use Rattle.lexer.specs.declared.token.Token.{Token}
 use Rattle.ada_tree.specs.Language.{Limit}
 use Rattle.ada_tree.specs.ProgramGrammar.{program}
 use Rattle.ada_tree.specs.ProgramTree.{ProgramTree}
-use Rattle.checking.specs.ProgramRules.{IsLegal}
+use Rattle.legality.specs.ProgramRules.{IsLegal}
 use Rattle.program_soundness.specs.ravenscar.specs.ProgramRules.{IsRestricted}
 use Rattle.meaning.specs.Programs.{package_items, program_of}
 use Rattle.package_code.specs.Providing.{BodiesAreCovered, items_tell}

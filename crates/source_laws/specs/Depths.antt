@@ -18,9 +18,9 @@ use Rattle.types.specs.Scopes.{Scope, entity_at, form_at}
 use Rattle.types.specs.Shapes.{words}
 use Rattle.expr_soundness.specs.expr_rules.specs.declared.own.Wanted.TheVariants.{OfType}
 use Rattle.expr_soundness.specs.expr_rules.specs.ExpressionRules.{faults_of}
-use Rattle.program_soundness.specs.declaring.specs.BodyNames.{formals_scope}
+use Rattle.program_soundness.specs.declaration_rules.specs.BodyNames.{formals_scope}
 use Rattle.program_soundness.specs.stmt_rules.specs.declared.around.BodyKind.{BodyKind}
-use Rattle.program_soundness.specs.legality.specs.BodyRules.{body_faults}
+use Rattle.program_soundness.specs.unit_rules.specs.BodyRules.{body_faults}
 use Rattle.program_soundness.specs.step_soundness.specs.body_restrictions.specs.BodyRules as restrictions
 use Rattle.expr_soundness.specs.SoundScopes.{SoundScope}
 use Rattle.expr_code.specs.Emitting.{IsLegalExpression}

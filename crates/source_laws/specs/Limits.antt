@@ -5,7 +5,7 @@ use Rattle.lexer.specs.declared.token.Token.{Token}
 use Rattle.ada_tree.specs.ProgramTree.{ProgramTree}
 use Rattle.ada_tree.specs.Language.{Limit}
 use Rattle.ada_tree.specs.ProgramGrammar.{program}
-use Rattle.checking.specs.ProgramRules.{IsLegal}
+use Rattle.legality.specs.ProgramRules.{IsLegal}
 use Rattle.program_soundness.specs.ravenscar.specs.ProgramRules.{IsRestricted}
 use Rattle.expr_code.specs.declared.refusal.ImageLimit.{ImageLimit}
 use Rattle.expr_code.specs.declared.refusal.Refusal.TheVariants as refusal

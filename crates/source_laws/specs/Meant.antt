@@ -17,12 +17,12 @@ use Rattle.types.specs.Scopes.{Scope}
 use Rattle.types.specs.Statics.{static_place}
 use Rattle.types.specs.Values.{Number, value_of}
 use Rattle.expr_soundness.specs.type_rules.specs.SubtypeNames.{named_entity, subtype_of}
-use Rattle.program_soundness.specs.declaring.specs.BodyNames.{formals_scope}
-use Rattle.program_soundness.specs.declaring.specs.LocalRules.{locals_scope}
-use Rattle.program_soundness.specs.declaring.specs.ProtectedRules.{default_ceiling}
-use Rattle.program_soundness.specs.declaring.specs.TaskRules.{default_priority}
+use Rattle.program_soundness.specs.declaration_rules.specs.BodyNames.{formals_scope}
+use Rattle.program_soundness.specs.declaration_rules.specs.LocalRules.{locals_scope}
+use Rattle.program_soundness.specs.declaration_rules.specs.ProtectedRules.{default_ceiling}
+use Rattle.program_soundness.specs.declaration_rules.specs.TaskRules.{default_priority}
 use Rattle.program_soundness.specs.stmt_rules.specs.StatementRules.{iteration_scope}
-use Rattle.checking.specs.ProgramRules.{IsLegal}
+use Rattle.legality.specs.ProgramRules.{IsLegal}
 use Rattle.program_soundness.specs.ravenscar.specs.ProgramRules.{IsRestricted}
 use Rattle.expr_soundness.specs.Agreeing.{Agrees}
 use Rattle.expr_soundness.specs.meaning.specs.Programs.{OfBody, base_priority, body_among, object_numbered, package_bodies, program_of, returned}

@@ -11,7 +11,7 @@ use Rattle.types.specs.Evaluating.{val}
 use Rattle.types.specs.Evaluations.{Gives}
 use Rattle.types.specs.Places.{Place}
 use Rattle.types.specs.Values.{Truth, Value}
-use Rattle.checking.specs.ProgramRules.{IsLegal}
+use Rattle.legality.specs.ProgramRules.{IsLegal}
 use Rattle.program_soundness.specs.ravenscar.specs.ProgramRules.{IsRestricted}
 use Rattle.expr_soundness.specs.meaning.specs.Calls.{Actuals, actuals, barrier_of, barrier_place, bound, results, results_in}
 use Rattle.expr_soundness.specs.meaning.specs.Programs.{Parameter, Procedure, Program, program_of}

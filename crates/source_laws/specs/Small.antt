@@ -8,8 +8,8 @@ use Rattle.ada_tree.specs.ProgramTree.{BodyTree, ProgramTree}
 use Rattle.ada_tree.specs.Depth.{depth}
 use Rattle.ada_tree.specs.Language.{Limit}
 use Rattle.ada_tree.specs.ProgramGrammar.{program}
-use Rattle.program_soundness.specs.declaring.specs.BodyNames.{formals_scope}
-use Rattle.checking.specs.ProgramRules.{IsLegal}
+use Rattle.program_soundness.specs.declaration_rules.specs.BodyNames.{formals_scope}
+use Rattle.legality.specs.ProgramRules.{IsLegal}
 use Rattle.program_soundness.specs.ravenscar.specs.ProgramRules.{IsRestricted}
 use Rattle.part_code.specs.Bounds.{body_words, formals_words}
 use Rattle.package_code.specs.Bodies.{Coded, bodies_of}

@@ -11,7 +11,7 @@ use Rattle.types.specs.Entities.{Object}
 use Rattle.types.specs.Layouts.{words_of}
 use Rattle.types.specs.Scopes.{Scope, entity_at}
 use Rattle.types.specs.Shapes.{shape_of}
-use Rattle.checking.specs.ProgramRules.{IsLegal}
+use Rattle.legality.specs.ProgramRules.{IsLegal}
 use Rattle.program_soundness.specs.ravenscar.specs.ProgramRules.{IsRestricted}
 use Rattle.expr_soundness.specs.SoundScopes.{IsKnown}
 use Rattle.program_soundness.specs.Fronts.{front}

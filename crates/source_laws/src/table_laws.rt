@@ -1,8 +1,8 @@
 //! What an accepted program has of all that an image has a limit for, and what its main calls.
 ghost use Rattle.package_code.specs.Laws.{MainIsKnown, MainMayBeAdded, TablesAreSmall};
 
-use checking::laws::words_have_room;
 use expr_soundness::laws::scopes_are_sound;
+use legality::laws::words_have_room;
 use program_soundness::body_laws::{fronts_fit, names_are_known, premises_hold};
 use program_soundness::program_laws::starts_are_sound;
 use types::laws::{shapes_stay, values_have_words};

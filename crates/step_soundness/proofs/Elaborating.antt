@@ -18,7 +18,7 @@ use Rattle.expr_soundness.specs.expr_rules.specs.ExpressionRules.{faults_of}
 use Rattle.expr_soundness.specs.expr_rules.proofs.TypedLaw.{back_empty, front_empty, unbroken}
 use Rattle.expr_soundness.specs.type_rules.specs.SubtypeNames.{declared_twice, entity_at_or_none, named_entity, subtype_faults, subtype_in as named_subtype, subtype_of, subtype_rule, wanted_by}
 use Rattle.expr_soundness.specs.type_rules.specs.ObjectRules.{local_initial_faults, local_object_faults, local_object_scope, object_entity, role_of}
-use Rattle.expr_soundness.specs.declaring.specs.LocalRules.{local_scope}
+use Rattle.expr_soundness.specs.declaration_rules.specs.LocalRules.{local_scope}
 use Rattle.stmt_rules.specs.declared.around.Around.{Around}
 use Rattle.expr_soundness.specs.SoundScopes.{IsKnown, IsSoundObject}
 use Rattle.expr_soundness.specs.Agreeing.{Agrees}

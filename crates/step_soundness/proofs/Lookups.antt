@@ -7,7 +7,7 @@ use Rattle.expr_soundness.specs.types.specs.Entities.{Entity}
 use Rattle.expr_soundness.specs.types.specs.Scopes.{Scope, Named, entity_at, is_visible, number_of, with_name}
 use Rattle.expr_soundness.specs.types.specs.Places.{Object, object_of}
 use Rattle.expr_soundness.specs.type_rules.specs.SubtypeNames.{entity_at_or_none}
-use Rattle.expr_soundness.specs.declaring.specs.Laws.{StandsFirst}
+use Rattle.expr_soundness.specs.declaration_rules.specs.Laws.{StandsFirst}
 use Rattle.step_soundness.specs.Fitting.{entity_named}
 
 pub same_some : {X : Type 0} (a b : X) → Some a ≡ Some b → a ≡ b

@@ -13,7 +13,7 @@ use Rattle.expr_soundness.specs.types.specs.Values.{Value, Number, Truth, Array,
 use Rattle.expr_soundness.specs.types.specs.Places.{Object, Place, object_of}
 use Rattle.expr_soundness.specs.expr_rules.specs.Laws.{type_shape}
 use Rattle.expr_soundness.specs.expr_rules.specs.Typing.{is_integers}
-use Rattle.expr_soundness.specs.declaring.specs.Laws.{StandsFirst}
+use Rattle.expr_soundness.specs.declaration_rules.specs.Laws.{StandsFirst}
 use Rattle.expr_soundness.specs.SoundScopes.{IsKnown, IsSoundObject, SoundScope}
 use Rattle.expr_soundness.specs.Agreeing.{Agrees}
 use Rattle.expr_soundness.specs.meaning.specs.Programs.{Program}

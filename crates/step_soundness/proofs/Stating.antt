@@ -33,8 +33,8 @@ use Rattle.expr_soundness.specs.expr_rules.specs.NameRules.{mismatch}
 use Rattle.expr_soundness.specs.expr_rules.specs.ExpressionRules.{faults_in, faults_of, target_faults}
 use Rattle.expr_soundness.specs.expr_rules.proofs.TypedLaw.{back_empty, front_empty, time_numeric, unbroken}
 use Rattle.expr_soundness.specs.type_rules.specs.SubtypeNames.{entity_at_or_none, named_entity}
-use Rattle.expr_soundness.specs.declaring.specs.Laws.{StandsFirst}
-use Rattle.expr_soundness.specs.declaring.specs.LocalRules.{local_faults, local_scope, locals_faults, locals_scope}
+use Rattle.expr_soundness.specs.declaration_rules.specs.Laws.{StandsFirst}
+use Rattle.expr_soundness.specs.declaration_rules.specs.LocalRules.{local_faults, local_scope, locals_faults, locals_scope}
 use Rattle.stmt_rules.specs.declared.around.Around.{Around}
 use Rattle.stmt_rules.specs.SimpleRules.{assigned_wanted, condition_faults, delay_until_faults, exit_rule, is_function, optional_condition_faults, raise_faults, raised_rule, result_wanted, time_rule, time_wanted}
 use Rattle.stmt_rules.specs.CaseRules.{choices_faults, choices_wanted, chosen_by, discrete_rule, has_others, others_rule, selecting_faults}

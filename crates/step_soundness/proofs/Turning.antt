@@ -19,8 +19,8 @@ use Rattle.expr_soundness.specs.expr_rules.specs.NameRules.{mismatch}
 use Rattle.expr_soundness.specs.expr_rules.specs.ExpressionRules.{faults_in, faults_of}
 use Rattle.expr_soundness.specs.expr_rules.proofs.TypedLaw.{back_empty, front_empty, integral_numeric, suits_number, unbroken}
 use Rattle.expr_soundness.specs.type_rules.specs.SubtypeNames.{declared_twice}
-use Rattle.expr_soundness.specs.declaring.specs.Laws.{StandsFirst}
-use Rattle.expr_soundness.specs.declaring.specs.BodyNames.{bounds_type, if_integers, last_rule, loop_faults, loop_scope, loop_type, parameter_entity, turns_subtype}
+use Rattle.expr_soundness.specs.declaration_rules.specs.Laws.{StandsFirst}
+use Rattle.expr_soundness.specs.declaration_rules.specs.BodyNames.{bounds_type, if_integers, last_rule, loop_faults, loop_scope, loop_type, parameter_entity, turns_subtype}
 use Rattle.stmt_rules.specs.declared.around.Around.{Around}
 use Rattle.stmt_rules.specs.SimpleRules.{condition_faults}
 use Rattle.stmt_rules.specs.StatementRules.{in_loop, iteration_faults, iteration_scope, stmts_faults}

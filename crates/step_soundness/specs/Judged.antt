@@ -10,7 +10,7 @@ use Rattle.expr_soundness.specs.types.specs.Entities as entity
 use Rattle.expr_soundness.specs.types.specs.Scopes.{Scope, form_at, is_visible, with_name}
 use Rattle.expr_soundness.specs.types.specs.Values.{Value}
 use Rattle.expr_soundness.specs.expr_rules.specs.Typing.{is_integers}
-use Rattle.expr_soundness.specs.declaring.specs.LocalRules.{local_faults, local_scope}
+use Rattle.expr_soundness.specs.declaration_rules.specs.LocalRules.{local_faults, local_scope}
 use Rattle.stmt_rules.specs.declared.around.Around.{Around}
 use Rattle.stmt_rules.specs.SimpleRules.{condition_faults, is_function}
 use Rattle.stmt_rules.specs.StatementRules.{handlers_faults, in_loop, stmt_faults, stmts_faults}

@@ -5,7 +5,7 @@ use Rattle.expr_soundness.specs.kernel.specs.State.{Action, Kernel, Serves, Writ
 use Rattle.expr_soundness.specs.kernel.specs.Invariant.{IsBarrierHeld, Passed}
 use Rattle.expr_soundness.specs.kernel.specs.Worlds.{Solo}
 use Rattle.expr_soundness.specs.types.specs.Laws.{InitialValuesHaveShape}
-use Rattle.expr_soundness.specs.declaring.specs.Laws.{NamesAreAdded}
+use Rattle.expr_soundness.specs.declaration_rules.specs.Laws.{NamesAreAdded}
 use Rattle.expr_soundness.specs.SoundScopes.{SoundScope}
 use Rattle.expr_soundness.specs.Laws.{AgreementIsKept, CallsAreTyped}
 use Rattle.expr_soundness.specs.Variables.{TargetsAreVariables}

@@ -9,7 +9,7 @@ use Rattle.ada_tree.specs.declared.statement.ExceptionChoice.TheVariants as choi
 use Rattle.ada_tree.specs.StatementTree.{DeclarationTree, HandlerTrees, Raise, StmtTrees}
 use Rattle.types.specs.Entities.{Doubtful, Entity, Exception}
 use Rattle.types.specs.Scopes.{Scope, number_of}
-use Rattle.declaring.specs.LocalRules.{locals_scope}
+use Rattle.declaration_rules.specs.LocalRules.{locals_scope}
 use Rattle.expr_soundness.specs.expr_rules.specs.Faults.{Faults}
 use Rattle.expr_soundness.specs.expr_rules.proofs.TypedLaw.{back_empty, front_empty, unbroken}
 use Rattle.expr_soundness.specs.SoundScopes.{SoundScope}

@@ -13,7 +13,7 @@ use Rattle.types.specs.Layouts.{words_of}
 use Rattle.types.specs.Scopes.{Scope}
 use Rattle.type_rules.specs.ProfileRules.{formal_and, formal_parameters}
 use Rattle.type_rules.specs.SubtypeNames.{subtype_of}
-use Rattle.declaring.specs.Laws.{NamesAreAdded}
+use Rattle.declaration_rules.specs.Laws.{NamesAreAdded}
 use Rattle.expr_soundness.specs.Agreeing.{parameter_subtype}
 use Rattle.expr_soundness.specs.SoundScopes.{AreIn, IsKnown, SoundScope}
 use Rattle.expr_soundness.proofs.Positions.{same_some}

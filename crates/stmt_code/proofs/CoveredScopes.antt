@@ -18,7 +18,7 @@ use Rattle.types.specs.Standings.{stands_first, stands_for}
 use Rattle.expr_soundness.specs.expr_rules.proofs.TypedLaw.{unbroken}
 use Rattle.type_rules.specs.ObjectRules.{object_entity, role_of}
 use Rattle.type_rules.specs.SubtypeNames.{declared_twice, entity_at_or_none, subtype_of}
-use Rattle.declaring.specs.BodyNames.{formal_role, formal_scope, formals_scope, loop_faults, loop_scope, parameter_entity, turns_subtype}
+use Rattle.declaration_rules.specs.BodyNames.{formal_role, formal_scope, formals_scope, loop_faults, loop_scope, parameter_entity, turns_subtype}
 use Rattle.part_code.specs.step_soundness.specs.Fitting.{entity_named}
 use Rattle.expr_soundness.specs.SoundScopes.{IsSoundObject, SoundScope}
 use Rattle.expr_soundness.proofs.Growing.{form_before, grown, object_named, sound_with_object, test_kept}

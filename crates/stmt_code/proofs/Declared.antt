@@ -27,7 +27,7 @@ use Rattle.expr_soundness.specs.expr_rules.specs.ExpressionRules.{faults_of}
 use Rattle.expr_soundness.specs.expr_rules.proofs.TypedLaw.{back_empty, front_empty, unbroken}
 use Rattle.type_rules.specs.ObjectRules.{local_initial_faults, local_object_faults, local_object_scope, object_entity, role_of}
 use Rattle.type_rules.specs.SubtypeNames.{declared_twice, entity_at_or_none, subtype_faults, subtype_in, subtype_of, subtype_rule, wanted_by}
-use Rattle.declaring.specs.LocalRules.{local_faults, local_scope, locals_faults, locals_scope}
+use Rattle.declaration_rules.specs.LocalRules.{local_faults, local_scope, locals_faults, locals_scope}
 use Rattle.expr_soundness.specs.Agreeing.{Agrees}
 use Rattle.expr_soundness.specs.Laws.{AgreementIsKept, CallsAreTyped, ScopesAreSound}
 use Rattle.expr_soundness.specs.SoundScopes.{IsKnown, IsSoundObject, SoundScope}

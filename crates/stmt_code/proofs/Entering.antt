@@ -14,7 +14,7 @@ use Rattle.types.specs.Places.{Function, IsFunction, IsObject, IsProtected, Mean
 use Rattle.types.specs.Scopes.{Scope, entity_at, number_of, protected_at, protected_of}
 use Rattle.types.specs.Shapes.{has_shape, shape_of}
 use Rattle.types.specs.Values.{Value}
-use Rattle.declaring.specs.Laws.{StandsFirst}
+use Rattle.declaration_rules.specs.Laws.{StandsFirst}
 use Rattle.expr_soundness.specs.Agreeing.{Agrees}
 use Rattle.expr_soundness.specs.Laws.{AgreementIsKept}
 use Rattle.expr_soundness.specs.SoundScopes.{SoundScope}

@@ -14,7 +14,7 @@ use Rattle.types.specs.Layouts.{words_of}
 use Rattle.types.specs.Scopes.{Named, Scope, form_at, is_visible, with_name}
 use Rattle.type_rules.specs.ObjectRules.{object_entity}
 use Rattle.type_rules.specs.SubtypeNames.{subtype_of}
-use Rattle.declaring.specs.BodyNames.{formal_role, formal_scope, formals_scope}
+use Rattle.declaration_rules.specs.BodyNames.{formal_role, formal_scope, formals_scope}
 use Rattle.expr_soundness.specs.SoundScopes.{IsKnown, IsSoundObject, SoundScope}
 use Rattle.expr_soundness.proofs.Growing.{grown, known_kept, object_named, test_kept}
 use Rattle.expr_soundness.proofs.Widening.{subtype_known}

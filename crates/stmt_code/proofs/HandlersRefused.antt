@@ -3,7 +3,7 @@ use Rattle.std.proofs.Common.{◌≡◌, ◌≤◌, ◌<◌, ◌+◌, ◌∷◌,
 use Rattle.std.specs.Prelude.{get_or}
 use Rattle.ada_tree.specs.declared.statement.Handler.{Handler}
 use Rattle.ada_tree.specs.StatementTree.{Block, DeclarationTree, HandlerTrees, StmtTree, StmtTrees, handler_tree, handler_trees, handlers_of}
-use Rattle.declaring.specs.LocalRules.{locals_scope}
+use Rattle.declaration_rules.specs.LocalRules.{locals_scope}
 use Rattle.expr_code.specs.Code.{here}
 use Rattle.expr_code.specs.declared.refusal.Refusal.{Refusal}
 use Rattle.expr_code.specs.declared.visible.Visible.{Visible}

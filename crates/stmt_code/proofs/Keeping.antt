@@ -25,8 +25,8 @@ use Rattle.types.specs.Entities.{Protected, ProtectedObject}
 use Rattle.types.specs.Scopes.{Scope, entity_at}
 use Rattle.type_rules.specs.ObjectRules.{object_entity}
 use Rattle.type_rules.specs.SubtypeNames.{subtype_of}
-use Rattle.declaring.specs.BodyNames.{formal_role, formal_scope, formals_scope}
-use Rattle.declaring.specs.Laws.{NamesAreAdded}
+use Rattle.declaration_rules.specs.BodyNames.{formal_role, formal_scope, formals_scope}
+use Rattle.declaration_rules.specs.Laws.{NamesAreAdded}
 use Rattle.expr_soundness.specs.SoundScopes.{IsKnown, SoundScope}
 use Rattle.expr_soundness.proofs.Positions.{same_some}
 use Rattle.expr_soundness.proofs.Widening.{subtype_known}

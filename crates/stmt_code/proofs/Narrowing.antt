@@ -7,7 +7,7 @@ use Rattle.types.specs.declared.entity.Role.TheVariants as role
 use Rattle.types.specs.declared.entity.Subtype.{Subtype}
 use Rattle.types.specs.Entities as entity
 use Rattle.types.specs.Scopes.{Named, entity_at, number_of}
-use Rattle.declaring.specs.Laws.{StandsFirst}
+use Rattle.declaration_rules.specs.Laws.{StandsFirst}
 use Rattle.expr_soundness.specs.Laws.{AgreementIsKept}
 use Rattle.expr_soundness.specs.SoundScopes.{SoundScope}
 use Rattle.expr_soundness.proofs.Positions.{entity_kept, number_kept}

@@ -11,8 +11,8 @@ use Rattle.ada_tree.specs.StatementTree.{AlternativeTrees, Block, Case, ChoicesT
 use Rattle.ada_tree.specs.Size.{choices_size, expr_size, selectors_size}
 use Rattle.image.specs.declared.instruction.Operation.TheVariants as op
 use Rattle.image.specs.declared.instruction.Region.TheVariants as regions
-use Rattle.declaring.specs.BodyNames.{loop_scope}
-use Rattle.declaring.specs.LocalRules.{locals_scope}
+use Rattle.declaration_rules.specs.BodyNames.{loop_scope}
+use Rattle.declaration_rules.specs.LocalRules.{locals_scope}
 use Rattle.expr_code.specs.Code.{here}
 use Rattle.expr_code.specs.Refusing.{IsRefused, RefusesExpression}
 use Rattle.expr_code.specs.declared.code.Code.{Code}

@@ -10,7 +10,7 @@ use Rattle.image.specs.Rules.{has_depth}
 use Rattle.image.specs.declared.instruction.Operation.TheVariants as op
 use Rattle.image.specs.declared.subprograms.Subprogram.{Subprogram}
 use Rattle.types.specs.Laws.{ShapesStay, ValuesHaveWords}
-use Rattle.declaring.specs.BodyNames.{loop_faults}
+use Rattle.declaration_rules.specs.BodyNames.{loop_faults}
 use Rattle.expr_soundness.specs.Laws.{AgreementIsKept}
 use Rattle.expr_soundness.specs.SoundScopes.{SoundScope}
 use Rattle.expr_soundness.specs.meaning.specs.Programs.{Program}

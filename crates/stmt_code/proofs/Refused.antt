@@ -6,7 +6,7 @@ use Rattle.ada_tree.specs.declared.statement.Alternative.{Alternative}
 use Rattle.ada_tree.specs.declared.statement.ElsifPart.{ElsifPart}
 use Rattle.ada_tree.specs.declared.statement.Stmt.{Stmt}
 use Rattle.ada_tree.specs.StatementTree.{DeclarationTree, alternative_tree, alternative_trees, alternatives_of, declaration_tree, elsif_tree, elsif_trees, elsifs_of, stmt_tree, stmt_trees}
-use Rattle.declaring.specs.LocalRules.{locals_scope}
+use Rattle.declaration_rules.specs.LocalRules.{locals_scope}
 use Rattle.expr_code.specs.Code.{here}
 use Rattle.expr_code.specs.declared.refusal.Refusal.{Refusal}
 use Rattle.expr_code.specs.declared.visible.Visible.{Visible}

@@ -8,7 +8,7 @@ use Rattle.ada_tree.specs.Size.{total}
 use Rattle.image.specs.declared.instruction.Operation.TheVariants as op
 use Rattle.types.specs.declared.entity.Subtype.{Subtype}
 use Rattle.types.specs.Scopes.{Scope}
-use Rattle.declaring.specs.LocalRules.{locals_scope}
+use Rattle.declaration_rules.specs.LocalRules.{locals_scope}
 use Rattle.expr_code.specs.Code.{Adds, here}
 use Rattle.expr_code.specs.Emitting.{EmitsChecked}
 use Rattle.expr_code.specs.declared.code.Code.{Code}

@@ -5,7 +5,7 @@ use Rattle.ada_tree.specs.declared.declaration.Formal.{Formal}
 use Rattle.ada_tree.specs.ExpressionTree.{ExprTree}
 use Rattle.ada_tree.specs.ProgramTree.{BodyTree}
 use Rattle.ada_tree.specs.Size.{expr_size, total}
-use Rattle.declaring.specs.LocalRules.{locals_scope}
+use Rattle.declaration_rules.specs.LocalRules.{locals_scope}
 use Rattle.expr_code.specs.Code.{IsShallow, here}
 use Rattle.expr_code.specs.Refusing.{HasUnfitObject, IsRefused, RefusesChecked, checked_peak, peak}
 use Rattle.expr_code.specs.declared.code.Code.{Code}

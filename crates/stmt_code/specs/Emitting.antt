@@ -13,7 +13,7 @@ use Rattle.image.specs.declared.subprograms.Subprogram.{Subprogram}
 use Rattle.types.specs.Entities.{Entity, Profile, ProtectedObject, Protected}
 use Rattle.types.specs.Places.{Place, is_among}
 use Rattle.types.specs.Scopes.{Scope}
-use Rattle.declaring.specs.LocalRules.{locals_faults, locals_scope}
+use Rattle.declaration_rules.specs.LocalRules.{locals_faults, locals_scope}
 use Rattle.part_code.specs.step_soundness.specs.body_restrictions.specs.BodyRules as restrictions
 use Rattle.part_code.specs.stmt_rules.specs.declared.around.Around.{Around}
 use Rattle.part_code.specs.stmt_rules.specs.declared.around.BodyKind.{BodyKind}

@@ -4,7 +4,7 @@ use Rattle.ada_tree.specs.declared.expression.Identifier.{Identifier}
 use Rattle.ada_tree.specs.ExpressionTree.{ExprTree, NameTree}
 use Rattle.ada_tree.specs.StatementTree.{AlternativeTrees, Assignment, Block, Call, Case, DeclarationTree, DelayUntil, ElsifTrees, Exit, For, Forever, HandlerTrees, If, IterationTree, Loop, MoreAlternatives, MoreElsifs, MoreHandlers, MoreStmts, NoAlternatives, NoElsifs, NoHandlers, NoStmts, Null, RangeTree, Raise, StmtTree, StmtTrees, While}
 use Rattle.ada_tree.specs.Size.{expr_size}
-use Rattle.declaring.specs.BodyNames.{loop_scope}
+use Rattle.declaration_rules.specs.BodyNames.{loop_scope}
 use Rattle.expr_code.specs.Code.{here}
 use Rattle.expr_code.specs.declared.refusal.Refusal.{Refusal}
 use Rattle.expr_code.specs.declared.visible.Visible.{Visible}

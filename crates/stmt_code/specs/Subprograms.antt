@@ -20,7 +20,7 @@ use Rattle.types.specs.Scopes.{Scope}
 use Rattle.type_rules.specs.ProfileRules.{formal_parameters}
 use Rattle.expr_soundness.specs.Agreeing.{parameter_subtype}
 use Rattle.type_rules.specs.SubtypeNames.{subtype_of}
-use Rattle.declaring.specs.BodyNames.{formals_scope}
+use Rattle.declaration_rules.specs.BodyNames.{formals_scope}
 use Rattle.expr_soundness.specs.SoundScopes.{AreIn, IsKnown, SoundScope}
 use Rattle.expr_code.specs.Code.{Adds, Extends, Holds, StandsFrom, here}
 use Rattle.expr_code.specs.Emitting.{EmitsChecked}

@@ -5,7 +5,7 @@ use Rattle.ada_tree.specs.StatementTree.{RangeTree}
 use Rattle.image.specs.declared.instruction.Region.TheVariants as regions
 use Rattle.types.specs.Bounds.{bounds_of}
 use Rattle.types.specs.Scopes.{Scope}
-use Rattle.declaring.specs.BodyNames.{loop_scope}
+use Rattle.declaration_rules.specs.BodyNames.{loop_scope}
 use Rattle.expr_code.specs.Emitting.{EmitsExpression}
 use Rattle.expr_code.specs.declared.code.Code.{Code}
 use Rattle.expr_code.specs.declared.visible.Visible.{Visible}

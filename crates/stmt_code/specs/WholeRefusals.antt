@@ -9,7 +9,7 @@ use Rattle.ada_tree.specs.Size.{total}
 use Rattle.types.specs.declared.entity.Subtype.{Subtype}
 use Rattle.types.specs.Scopes.{Scope}
 use Rattle.type_rules.specs.SubtypeNames.{subtype_of}
-use Rattle.declaring.specs.BodyNames.{formals_scope}
+use Rattle.declaration_rules.specs.BodyNames.{formals_scope}
 use Rattle.expr_code.specs.Code.{here}
 use Rattle.expr_code.specs.Refusing.{checked_peak, peak}
 use Rattle.expr_code.specs.declared.refusal.Refusal.{Refusal}

@@ -11,7 +11,7 @@ ghost use Rattle.expr_soundness.specs.SoundScopes.{SoundScope};
 use crate::draft::Draft;
 use crate::leaves::body_returns;
 use ada_tree::{Declaration, Handler, Stmt};
-use declaring::laws::names_are_added;
+use declaration_rules::laws::names_are_added;
 use expr_code::{Refusal, Visible};
 use image::Operation;
 use part_code::{Extent, Leaving, begin_way};

@@ -1,7 +1,7 @@
 //! The code of declarations of objects in bodies and blocks (RM 3.3.1).
 ghost use Rattle.std.specs.Prelude.{◌≡◌, ◌+◌, ◌∷◌, [], map, IfErr, OnOk};
 ghost use Rattle.ada_tree.specs.StatementTree.{declaration_tree, LocalObject, object_tree};
-ghost use Rattle.declaring.specs.LocalRules.{local_faults, locals_faults};
+ghost use Rattle.declaration_rules.specs.LocalRules.{local_faults, locals_faults};
 ghost use Rattle.type_rules.specs.ObjectRules.{local_object_faults};
 ghost use Rattle.part_code.specs.Providing.{HasWhatCodeNeeds};
 ghost use Rattle.part_code.specs.step_soundness.specs.body_restrictions.specs.BodyRules as restrictions;

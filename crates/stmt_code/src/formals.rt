@@ -9,7 +9,7 @@ ghost use Rattle.part_code.specs.Needs.{RefusesFormals};
 
 use crate::draft::Draft;
 use ada_tree::Formal;
-use declaring::declare_formals;
+use declaration_rules::declare_formals;
 use expr_code::{Refusal, Visible};
 use part_code::{FrameWords, PlacedFormals, place_all, show, take_passed};
 

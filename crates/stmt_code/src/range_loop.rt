@@ -1,7 +1,7 @@
 //! The code of loops over ranges (RM 5.5): the bounds are evaluated once, and each turn goes by two words of the frame.
 ghost use Rattle.std.specs.Prelude.{◌≡◌, ◌+◌, [], IfErr, IfOk, OnOk};
 ghost use Rattle.ada_tree.specs.StatementTree.{For, Loop, range_tree, stmt_trees};
-ghost use Rattle.declaring.specs.BodyNames.{loop_faults};
+ghost use Rattle.declaration_rules.specs.BodyNames.{loop_faults};
 ghost use Rattle.stmt_code.specs.Staying.{StaysRange, StaysStatement};
 ghost use Rattle.stmt_code.specs.Emitting.{EmitsStatement, IsAcceptedStatement};
 ghost use Rattle.part_code.specs.Providing.{HasWhatCodeNeeds};
@@ -13,8 +13,8 @@ ghost use Rattle.expr_soundness.specs.SoundScopes.{SoundScope};
 use crate::draft::Draft;
 use crate::leaves::any_exits;
 use ada_tree::{Identifier, Range, Stmt};
-use declaring::declare_loop_parameter;
-use declaring::laws::names_are_added;
+use declaration_rules::declare_loop_parameter;
+use declaration_rules::laws::names_are_added;
 use expr_code::{Refusal, Slot, Visible};
 use expr_soundness::laws::{
     agreement_is_kept, scopes_are_sound, values_are_bounded, visible_values_lie,

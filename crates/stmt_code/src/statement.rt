@@ -15,7 +15,7 @@ use crate::draft::Draft;
 use crate::leaves::any_exits;
 use ada_tree::laws::statements_by_parts;
 use ada_tree::{Declaration, ElsifPart, Expr, Iteration, Stmt};
-use declaring::laws::names_are_added;
+use declaration_rules::laws::names_are_added;
 use expr_code::{Refusal, Visible};
 use handlers::laws::{rows_around, rows_inside};
 use image::Operation;

@@ -3,7 +3,7 @@ ghost use Rattle.std.specs.Prelude.{◌≡◌, ◌≤◌, ◌+◌, false, length
 ghost use Rattle.base.specs.declared.limits.TheConstants.{FRAME_WORDS};
 ghost use Rattle.ada_tree.specs.ExpressionTree.{expr_tree};
 ghost use Rattle.ada_tree.specs.ProgramTree.{body_tree};
-ghost use Rattle.declaring.specs.BodyNames.{formals_scope};
+ghost use Rattle.declaration_rules.specs.BodyNames.{formals_scope};
 ghost use Rattle.expr_code.specs.Emitting.{IsFit};
 ghost use Rattle.expr_code.specs.Refusing.{IsRefused};
 ghost use Rattle.stmt_code.specs.WholeRefusals.{body_labels, RefusesFunction, RefusesProcedure};
@@ -20,7 +20,7 @@ ghost use Rattle.expr_soundness.specs.SoundScopes.{SoundScope};
 
 use crate::draft::Draft;
 use ada_tree::{Body, Expr, Formal, MainStatement};
-use declaring::laws::names_are_added;
+use declaration_rules::laws::names_are_added;
 use expr_code::{Refusal, Visible};
 use image::Operation;
 use part_code::{Extent, add_calls, behind, initialise_all, return_all};

@@ -8,7 +8,7 @@ use Rattle.expr_rules.specs.Faults.{Faults}
 use Rattle.expr_rules.specs.Findings.{Findings, noted}
 use Rattle.expr_rules.specs.Walks.{noted_append}
 use Rattle.expr_rules.specs.Typing.{own_of}
-use Rattle.declaring.specs.LocalRules.{locals_faults, locals_scope}
+use Rattle.declaration_rules.specs.LocalRules.{locals_faults, locals_scope}
 use Rattle.stmt_rules.specs.declared.around.Around.{Around}
 use Rattle.stmt_rules.specs.SimpleRules.{condition_faults}
 use Rattle.stmt_rules.specs.CaseRules.{choices_wanted, others_rule, selecting_faults}

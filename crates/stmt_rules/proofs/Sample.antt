@@ -8,7 +8,7 @@ use Rattle.ada_tree.specs.StatementTree.{ObjectTree, RangeTree, StmtTrees}
 use Rattle.ada_tree.specs.ProgramTree.{ItemTree, Integer, OfType as TypeItem, OfObject}
 use Rattle.types.specs.Scopes.{Scope, standard, with_real_time, with_control_io, integer_type}
 use Rattle.expr_rules.specs.Faults.{least}
-use Rattle.declaring.specs.ItemRules.{items_faults, items_scope}
+use Rattle.declaration_rules.specs.ItemRules.{items_faults, items_scope}
 use Rattle.stmt_rules.specs.declared.around.Around.{Around}
 use Rattle.stmt_rules.specs.declared.around.BodyKind.TheVariants as kind
 use Rattle.stmt_rules.specs.StatementRules.{in_body, stmts_faults}

@@ -1,5 +1,5 @@
-pub use Rattle.declaring.specs.LocalRules
-pub use Rattle.declaring.specs.BodyNames
+pub use Rattle.declaration_rules.specs.LocalRules
+pub use Rattle.declaration_rules.specs.BodyNames
 pub mod SimpleRules
 pub mod CaseRules
 pub mod HandlerRules

@@ -8,8 +8,8 @@ use Rattle.types.specs.Scopes.{Scope}
 use Rattle.expr_rules.specs.declared.own.Wanted.{Wanted}
 use Rattle.expr_rules.specs.Faults.{Faults}
 use Rattle.expr_rules.specs.Typing.{own_of}
-use Rattle.declaring.specs.BodyNames.{loop_faults, loop_scope}
-use Rattle.declaring.specs.LocalRules.{locals_faults, locals_scope}
+use Rattle.declaration_rules.specs.BodyNames.{loop_faults, loop_scope}
+use Rattle.declaration_rules.specs.LocalRules.{locals_faults, locals_scope}
 use Rattle.stmt_rules.specs.declared.around.Around.{Around}
 use Rattle.stmt_rules.specs.declared.around.BodyKind.{BodyKind}
 use Rattle.stmt_rules.specs.SimpleRules.{condition_faults, simple_faults}

@@ -9,7 +9,7 @@ ghost use Rattle.kernel.specs.Effects.{begin, blank, call_refusal, is_above_ceil
 ghost use Rattle.kernel.specs.Effects.{Delays as DelaysUntil, effect, ending_of, ends, goes_if, outer_of, queues, takes_over, with_actions};
 ghost use Rattle.kernel.specs.Invariant.{AreAttached, Fits};
 ghost use Rattle.protected.specs.Actions.{IsTaskOrHandler};
-ghost use Rattle.tasking.specs.Held.{action_of, ending_as, index_in, innermost, kernel_of, outcome_of, partition_of, pending_of, place_of, refused_as, some_action, some_outcome};
+ghost use Rattle.tasking.specs.Held.{action_of, ending_as, index_in, innermost, kernel_of, outcome_of, partition_of, pending_of, place_of, refused_as, sleepers_of, some_action, some_outcome};
 ghost use Rattle.tasking.specs.Waits.{wake_time};
 ghost use Rattle.tasking.specs.Orderly.{AreAwoken, BeginsAttached, IsNowhere, IsOfObject, IsOrderly, IsTask, StandsThere, MayEnd, due, inside_of, is_above, is_gone, least_of, time_ahead, waiting};
 
@@ -18,7 +18,7 @@ use crate::reports::{Ending, Kind, Outcome, Place};
 use arrayvec::ArrayVec;
 use base::ScheduleLine;
 use base::limits::{ACTOR, OBJECTS, TASKS};
-use clock::Delays;
+use clock::{Delays, Sleeper};
 use dispatch::Ready;
 use protected::{Objects, Refusal};
 use std::marker::Model;
@@ -266,6 +266,24 @@ impl<'a, R: Ready, D: Delays> Tasking<'a, R, D> {
         ensures { result ≡ wake_time task (kernel_of self.now).sleepers }
     {
         self.delays.wake_time(task)
+    }
+
+    /// The sleeping tasks with the times that they wait for, in the order in which they began to wait (RM 9.6).
+    pub fn sleepers(&self) -> ArrayVec<Sleeper, TASKS>
+        ensures { sleepers_of result.items ≡ (kernel_of self.now).sleepers }
+    {
+        self.delays.in_order()
+    }
+
+    /// The time of the next interrupt, if one is pending (RM C.3).
+    pub fn next_interrupt(&self) -> Option<i64>
+        ensures { result ≡ time_ahead (kernel_of self.now).pending }
+    {
+        let ahead = from_attached(&self.attached, self.ahead);
+        match ahead.first() {
+            None => None,
+            Some(line) => Some(line.time),
+        }
     }
 
     /// The active priority of a task: the greatest of its base priority and the ceilings of its open actions (RM D.3).

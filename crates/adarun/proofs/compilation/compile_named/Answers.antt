@@ -1,8 +1,8 @@
 use Rattle.std.proofs.Common.{◌≡◌, Err, ap, inl, rules, subst, sym, ◌∙◌}
 use Rattle.std.specs.Prelude.{IfErr}
-use Rattle.ada_link.specs.ada_tree.specs.ProgramTree.{program_tree}
-use Rattle.ada_link.specs.meaning.specs.SameMeaning.{SameMeaning}
-use Rattle.checking.specs.ProgramRules.{IsLegal}
+use Rattle.compiler.specs.ada_tree.specs.ProgramTree.{program_tree}
+use Rattle.compiler.specs.meaning.specs.SameMeaning.{SameMeaning}
+use Rattle.legality.specs.ProgramRules.{IsLegal}
 use Rattle.parser.specs.Parsing.{Derives}
 use Rattle.adarun.specs.Accepted.{CompilesAccepted, IsJudged, RefusesText, RefusesTree}
 use Rattle.adarun.specs.Naming.{imaged}

@@ -1,5 +1,5 @@
 use Rattle.std.proofs.Common.{◌≡◌, drop, map}
-use Rattle.ada_link.specs.ada_tree.specs.StatementTree.{operation_tree}
+use Rattle.compiler.specs.ada_tree.specs.StatementTree.{operation_tree}
 use Rattle.adarun.specs.Naming.{entry_among}
 use Rattle.adarun.proofs.naming.entry_name.Given as goal
 

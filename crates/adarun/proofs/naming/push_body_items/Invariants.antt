@@ -1,6 +1,6 @@
 use Rattle.std.proofs.Common.{map, take}
-use Rattle.ada_link.specs.ada_tree.specs.ProgramTree.{body_item_tree}
-use Rattle.ada_link.specs.meaning.specs.Programs.{items_among}
+use Rattle.compiler.specs.ada_tree.specs.ProgramTree.{body_item_tree}
+use Rattle.compiler.specs.meaning.specs.Programs.{items_among}
 use Rattle.adarun.proofs.Named.{Adds}
 use Rattle.adarun.proofs.naming.push_body_items.Given as goal
 

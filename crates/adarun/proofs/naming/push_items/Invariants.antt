@@ -1,5 +1,5 @@
 use Rattle.std.proofs.Common.{map, take}
-use Rattle.ada_link.specs.ada_tree.specs.ProgramTree.{item_tree}
+use Rattle.compiler.specs.ada_tree.specs.ProgramTree.{item_tree}
 use Rattle.adarun.proofs.Named.{Adds}
 use Rattle.adarun.proofs.naming.push_items.Given as goal
 

@@ -1,6 +1,6 @@
 use Rattle.std.proofs.Common.{map, subst}
-use Rattle.ada_link.specs.ada_tree.specs.ProgramTree.{body_item_tree, item_tree}
-use Rattle.ada_link.specs.meaning.specs.Programs.{items_among}
+use Rattle.compiler.specs.ada_tree.specs.ProgramTree.{body_item_tree, item_tree}
+use Rattle.compiler.specs.meaning.specs.Programs.{items_among}
 use Rattle.adarun.proofs.Named.{Adds, adds_both, on_ok}
 use Rattle.adarun.proofs.naming.push_package.Goals as goal
 

@@ -1,6 +1,6 @@
 use Rattle.std.proofs.Common.{◌≡◌, ◌∙◌, inl, inr, refl, subst, sym}
-use Rattle.ada_link.specs.ada_tree.specs.ProgramTree.{program_tree}
-use Rattle.checking.specs.ProgramRules.{IsLegal}
+use Rattle.compiler.specs.ada_tree.specs.ProgramTree.{program_tree}
+use Rattle.legality.specs.ProgramRules.{IsLegal}
 use Rattle.parser.specs.Parsing.{Derives}
 use Rattle.ravenscar.specs.BrokenRules.{ListsBrokenRules}
 use Rattle.ravenscar.specs.ProgramRules.{IsRestricted}

@@ -1,6 +1,6 @@
 use Rattle.std.proofs.Common.{ap, ◌∙◌}
 use Rattle.ada_tree.specs.StatementTree.{subprogram_tree}
-use Rattle.declaring.specs.BodyNames.{formals_scope}
+use Rattle.declaration_rules.specs.BodyNames.{formals_scope}
 use Rattle.mismatches.proofs.Objects.{subprogram_left}
 use Rattle.mismatches.proofs.bodies.subprogram_mismatches.Goals as goal
 

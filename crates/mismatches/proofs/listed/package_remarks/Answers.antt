@@ -2,7 +2,7 @@ use Rattle.std.proofs.Common.{◌∙◌, ap}
 use Rattle.std.proofs.lemmas.Result.{IfOk-weaker}
 use Rattle.ada_tree.specs.ProgramTree.{package_tree}
 use Rattle.types.specs.Scopes.{Scope, standard}
-use Rattle.declaring.specs.PackageNames.{package_scope}
+use Rattle.declaration_rules.specs.PackageNames.{package_scope}
 use Rattle.mismatches.specs.Listed.{listed_remarks}
 use Rattle.mismatches.proofs.Listing.{package_listed}
 use Rattle.mismatches.proofs.listed.package_remarks.Goals as goal

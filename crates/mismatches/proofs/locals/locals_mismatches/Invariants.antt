@@ -1,6 +1,6 @@
 use Rattle.std.proofs.Common.{◌≡◌, drop, map}
 use Rattle.ada_tree.specs.StatementTree.{declaration_tree}
-use Rattle.declaring.specs.LocalRules.{locals_scope}
+use Rattle.declaration_rules.specs.LocalRules.{locals_scope}
 use Rattle.mismatches.specs.Conflicts.{noted}
 use Rattle.mismatches.specs.StatementMismatches.{locals_mismatches}
 use Rattle.mismatches.proofs.locals.locals_mismatches.Given as goal

@@ -1,6 +1,6 @@
 use Rattle.std.proofs.Common.{◌≡◌, drop, map}
 use Rattle.ada_tree.specs.ProgramTree.{body_item_tree}
-use Rattle.declaring.specs.PackageNames.{body_items_scope}
+use Rattle.declaration_rules.specs.PackageNames.{body_items_scope}
 use Rattle.mismatches.specs.Conflicts.{noted}
 use Rattle.mismatches.specs.BodyMismatches.{body_items_mismatches}
 use Rattle.mismatches.proofs.package.body_items_mismatches.Given as goal

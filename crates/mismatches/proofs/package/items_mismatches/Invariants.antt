@@ -1,6 +1,6 @@
 use Rattle.std.proofs.Common.{◌≡◌, drop, map}
 use Rattle.ada_tree.specs.ProgramTree.{item_tree}
-use Rattle.declaring.specs.ItemRules.{items_scope}
+use Rattle.declaration_rules.specs.ItemRules.{items_scope}
 use Rattle.mismatches.specs.Conflicts.{noted}
 use Rattle.mismatches.specs.BodyMismatches.{items_mismatches}
 use Rattle.mismatches.proofs.package.items_mismatches.Given as goal

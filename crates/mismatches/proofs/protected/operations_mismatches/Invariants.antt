@@ -1,6 +1,6 @@
 use Rattle.std.proofs.Common.{◌≡◌, drop, map}
 use Rattle.ada_tree.specs.ProgramTree.{protected_item_tree}
-use Rattle.legality.specs.ProtectedBodyRules.{protected_items_scope}
+use Rattle.unit_rules.specs.ProtectedBodyRules.{protected_items_scope}
 use Rattle.mismatches.specs.Conflicts.{noted}
 use Rattle.mismatches.specs.BodyMismatches.{operations_mismatches}
 use Rattle.mismatches.proofs.protected.operations_mismatches.Given as goal

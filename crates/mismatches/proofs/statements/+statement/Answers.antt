@@ -2,7 +2,7 @@ use Rattle.std.proofs.Common.{◌∙◌, ap, map}
 use Rattle.std.proofs.lemmas.Result.{on_ok_weaker}
 use Rattle.ada_tree.specs.ExpressionTree.{expr_tree}
 use Rattle.ada_tree.specs.StatementTree.{alternative_trees, declaration_tree, elsif_trees, handler_trees, iteration_tree, stmt_tree, stmt_trees}
-use Rattle.declaring.specs.LocalRules.{locals_scope}
+use Rattle.declaration_rules.specs.LocalRules.{locals_scope}
 use Rattle.stmt_rules.specs.CaseRules.{choices_wanted}
 use Rattle.mismatches.specs.Conflicts.{noted}
 use Rattle.mismatches.specs.StatementMismatches.{alternatives_mismatches, elsifs_mismatches, handlers_mismatches, locals_mismatches, looped_mismatches, stmts_mismatches}

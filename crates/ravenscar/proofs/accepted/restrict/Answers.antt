@@ -1,7 +1,7 @@
 use Rattle.std.proofs.Common.{inr, sym, ap, ◌∙◌}
 use Rattle.ada_tree.specs.ProgramTree.{program_tree}
 use Rattle.expr_rules.specs.Faults.{least}
-use Rattle.checking.proofs.SameFaults.{least_noted}
+use Rattle.legality.proofs.SameFaults.{least_noted}
 use Rattle.ravenscar.specs.ProgramRules.{restriction_faults}
 use Rattle.ravenscar.proofs.accepted.restrict.Goals as goal
 

@@ -1,7 +1,7 @@
 use Rattle.std.proofs.Common.{◌++◌, ap, ◌∙◌}
 use Rattle.ada_tree.specs.ProgramTree.{program_tree}
 use Rattle.expr_rules.specs.Findings.{noted}
-use Rattle.checking.specs.FoundFaults.{found_faults}
+use Rattle.legality.specs.FoundFaults.{found_faults}
 use Rattle.ravenscar.specs.ProgramRules.{restriction_faults}
 use Rattle.ravenscar.proofs.Counting.{all_kept}
 use Rattle.ravenscar.proofs.listing.found_in.Goals as goal

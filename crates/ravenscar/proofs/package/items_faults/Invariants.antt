@@ -1,6 +1,6 @@
 use Rattle.std.proofs.Common.{◌≡◌, drop, map}
 use Rattle.ada_tree.specs.ProgramTree.{item_tree}
-use Rattle.declaring.specs.ItemRules.{items_scope}
+use Rattle.declaration_rules.specs.ItemRules.{items_scope}
 use Rattle.expr_rules.specs.Findings.{noted}
 use Rattle.ravenscar.specs.ProgramRules.{items_faults, taken_by_items}
 use Rattle.ravenscar.proofs.package.items_faults.Given as goal

@@ -1,6 +1,6 @@
 use Rattle.std.proofs.Common.{◌≡◌, ◌++◌, drop, map}
 use Rattle.ada_tree.specs.ProgramTree.{item_tree}
-use Rattle.declaring.specs.ItemRules.{items_scope}
+use Rattle.declaration_rules.specs.ItemRules.{items_scope}
 use Rattle.size_rules.specs.PackageSizes.{items_things}
 use Rattle.size_rules.proofs.declarations.push_items.Given as goal
 

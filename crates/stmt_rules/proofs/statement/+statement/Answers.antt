@@ -4,7 +4,7 @@ use Rattle.std.proofs.lemmas.Result.{on_ok_weaker}
 use Rattle.ada_tree.specs.ExpressionTree.{expr_tree}
 use Rattle.ada_tree.specs.StatementTree.{alternative_tree, alternative_trees, choices_tree, declaration_tree, elsif_trees, handler_tree, handler_trees, iteration_tree, stmt_tree, stmt_trees}
 use Rattle.expr_rules.specs.Findings.{noted}
-use Rattle.declaring.specs.LocalRules.{locals_faults, locals_scope}
+use Rattle.declaration_rules.specs.LocalRules.{locals_faults, locals_scope}
 use Rattle.stmt_rules.specs.CaseRules.{choices_wanted, others_rule}
 use Rattle.stmt_rules.specs.Choosing.{once_by}
 use Rattle.stmt_rules.specs.StatementRules.{alternative_faults, alternatives_faults, elsifs_faults, handler_faults, handlers_faults, looped_faults, more_handlers_faults, stmts_faults}

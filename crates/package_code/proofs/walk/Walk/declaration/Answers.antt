@@ -1,6 +1,6 @@
 use Rattle.std.proofs.Common.{refl, sym, subst}
 use Rattle.ada_tree.specs.ProgramTree.{item_tree, program_tree}
-use Rattle.legality.specs.MainRules.{item_name}
+use Rattle.unit_rules.specs.MainRules.{item_name}
 use Rattle.package_code.proofs.AsTold.{declared_told, entries_next}
 use Rattle.package_code.proofs.Told.{Grows, item_grows}
 use Rattle.package_code.proofs.Walked.{declared_goes}

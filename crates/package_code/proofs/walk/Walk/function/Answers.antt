@@ -3,7 +3,7 @@ use Rattle.std.specs.Prelude.{IfErr}
 use Rattle.ada_tree.specs.ExpressionTree.{expr_tree}
 use Rattle.ada_tree.specs.ProgramTree.{body_tree, program_tree}
 use Rattle.ada_tree.specs.StatementTree.{stmt_trees, subprogram_tree}
-use Rattle.declaring.specs.BodyNames.{formals_scope}
+use Rattle.declaration_rules.specs.BodyNames.{formals_scope}
 use Rattle.expr_soundness.specs.meaning.specs.Programs.{program_of, returned, subtype_named}
 use Rattle.expr_code.specs.Code.{here}
 use Rattle.expr_code.specs.Emitting.{IsFit}

@@ -2,7 +2,7 @@ use Rattle.std.proofs.Common.{◌≡◌, ◌≤◌, length, map, refl, arith, ru
 use Rattle.std.proofs.lemmas.List.{length-map}
 use Rattle.ada_tree.specs.ProgramTree.{program_tree, protected_item_tree}
 use Rattle.types.specs.Entities.{operation_value}
-use Rattle.declaring.specs.BodyNames.{object_body_scope}
+use Rattle.declaration_rules.specs.BodyNames.{object_body_scope}
 use Rattle.expr_soundness.specs.meaning.specs.Programs.{program_of}
 use Rattle.program_soundness.specs.Fronts.{front}
 use Rattle.package_code.specs.Bodies.{object_number}

@@ -1,6 +1,6 @@
 use Rattle.std.proofs.Common.{◌≡◌, map}
 use Rattle.ada_tree.specs.ProgramTree.{program_tree, protected_item_tree}
-use Rattle.declaring.specs.BodyNames.{object_body_scope}
+use Rattle.declaration_rules.specs.BodyNames.{object_body_scope}
 use Rattle.program_soundness.specs.Fronts.{front}
 use Rattle.package_code.specs.Walking.{IsInObjectBody}
 use Rattle.package_code.proofs.walk.Walk.operations.Given as goal

@@ -1,6 +1,6 @@
 use Rattle.std.proofs.Common.{◌+◌, ap, arith, map, refl, rules, sym, ◌∙◌}
 use Rattle.ada_tree.specs.StatementTree.{declaration_tree}
-use Rattle.declaring.specs.LocalRules.{local_faults}
+use Rattle.declaration_rules.specs.LocalRules.{local_faults}
 use Rattle.stmt_code.proofs.Declared.{all_declarations, declaration_allowed, declaration_legal, declarations_next, no_declarations}
 use Rattle.part_code.specs.Bounds.{local_words, locals_words}
 use Rattle.part_code.specs.Needs.{local_visible, locals_needs, locals_visible}

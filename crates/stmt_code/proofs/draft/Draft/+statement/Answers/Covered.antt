@@ -3,7 +3,7 @@ use Rattle.std.proofs.Common.{◌≡◌, ◌≤◌, ◌+◌, ◌∷◌, ◌++◌
 use Rattle.std.proofs.lemmas.Result.{on_ok_weaker}
 use Rattle.ada_tree.specs.declared.statement.Stmt as statements
 use Rattle.ada_tree.specs.StatementTree.{declaration_tree, handler_tree, handler_trees, handlers_of, stmt_tree, stmt_trees}
-use Rattle.declaring.specs.LocalRules.{locals_faults}
+use Rattle.declaration_rules.specs.LocalRules.{locals_faults}
 use Rattle.handlers.specs.declared.rows.Row.{Row}
 use Rattle.expr_soundness.specs.SoundScopes.{SoundScope}
 use Rattle.expr_code.specs.Branches.{Rejoins}

@@ -1,5 +1,0 @@
-use Rattle.package_code.proofs.Adding.{names_sound}
-use Rattle.ada_link.proofs.laws.names_are_sound.Goals as goal
-
-pub returns : goal.returns
-returns c = names_sound c.premises_hold.ensures

@@ -1,5 +1,0 @@
-use Rattle.checking.proofs.Numbers.{objects_stand}
-use Rattle.checking.proofs.laws.objects_stand_at_their_numbers.Goals as goal
-
-pub returns : goal.returns
-returns c = objects_stand

@@ -1,5 +1,0 @@
-use Rattle.checking.proofs.Turns.{order_is_by_place_and_number}
-use Rattle.checking.proofs.laws.order_is_by_place_and_number.Goals as goal
-
-pub returns : goal.returns
-returns c = order_is_by_place_and_number

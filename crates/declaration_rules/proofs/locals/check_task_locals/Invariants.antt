@@ -1,0 +1,10 @@
+use Rattle.std.proofs.Common.{◌≡◌, drop, map}
+use Rattle.ada_tree.specs.StatementTree.{declaration_tree}
+use Rattle.expr_rules.specs.Findings.{noted}
+use Rattle.declaration_rules.specs.LocalRules.{fixed_locals_faults, locals_scope}
+use Rattle.declaration_rules.proofs.locals.check_task_locals.Given as goal
+
+abbrev pub invariant-loop-declaration : goal.invariant-loop-declaration
+invariant-loop-declaration l =
+    (noted l.found (fixed_locals_faults l.scope (map declaration_tree (drop l.declaration-index l.declarations))) ≡ noted l.fn.found (fixed_locals_faults l.fn.scope (map declaration_tree l.declarations)))
+    × (locals_scope l.scope (map declaration_tree (drop l.declaration-index l.declarations)) ≡ locals_scope l.fn.scope (map declaration_tree l.declarations))

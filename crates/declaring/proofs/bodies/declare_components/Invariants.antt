@@ -1,6 +1,0 @@
-use Rattle.std.proofs.Common.{◌≡◌, drop}
-use Rattle.declaring.specs.BodyNames.{components_scope}
-use Rattle.declaring.proofs.bodies.declare_components.Given as goal
-
-abbrev pub invariant-loop-component : goal.invariant-loop-component
-invariant-loop-component l = components_scope l.scope l.is_function (drop l.component-index l.components) ≡ components_scope l.fn.scope l.is_function l.components

@@ -1,6 +1,0 @@
-use Rattle.std.proofs.Common.{◌≡◌, drop}
-use Rattle.declaring.specs.BodyNames.{formals_scope}
-use Rattle.declaring.proofs.bodies.declare_formals.Given as goal
-
-abbrev pub invariant-loop-formal : goal.invariant-loop-formal
-invariant-loop-formal l = formals_scope l.scope (drop l.formal-index l.formals) ≡ formals_scope l.fn.scope l.formals

@@ -1,5 +1,0 @@
-use Rattle.declaring.proofs.Growing.{names_are_added}
-use Rattle.declaring.proofs.laws.names_are_added.Goals as goal
-
-pub returns : goal.returns
-returns c = names_are_added

@@ -1,5 +1,0 @@
-use Rattle.declaring.proofs.Growing.{object_bodies_end}
-use Rattle.declaring.proofs.laws.object_bodies_end.Goals as goal
-
-pub returns : goal.returns
-returns c = object_bodies_end

@@ -1,5 +1,0 @@
-use Rattle.legality.proofs.Parts.{several_statements}
-use Rattle.legality.proofs.bodies.is_single_return.Goals as goal
-
-pub returns-in-len2-up : goal.returns-in-len2-up
-returns-in-len2-up c = several_statements c.args.statements.now c.in-len2-up.len_at_least

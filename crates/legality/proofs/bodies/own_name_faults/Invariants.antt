@@ -1,7 +1,0 @@
-use Rattle.std.proofs.Common.{◌≡◌, drop}
-use Rattle.expr_rules.specs.Findings.{noted}
-use Rattle.legality.specs.BodyRules.{own_name_faults}
-use Rattle.legality.proofs.bodies.own_name_faults.Given as goal
-
-abbrev pub invariant-loop-formal : goal.invariant-loop-formal
-invariant-loop-formal l = noted l.found (own_name_faults l.name (drop l.formal-index l.formals)) ≡ noted l.fn.found (own_name_faults l.name l.formals)

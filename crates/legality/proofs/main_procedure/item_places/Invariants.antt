@@ -1,7 +1,0 @@
-use Rattle.std.proofs.Common.{take}
-use Rattle.types.specs.Seen.{ArePlaces}
-use Rattle.legality.specs.MainRules.{item_bytes}
-use Rattle.legality.proofs.main_procedure.item_places.Given as goal
-
-abbrev pub invariant-loop-place : goal.invariant-loop-place
-invariant-loop-place l = ArePlaces item_bytes (take l.place l.items) l.places

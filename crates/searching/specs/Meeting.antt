@@ -1,0 +1,98 @@
+-- What the search compares of two runs that may have met; nobody has to believe this.
+use Rattle.std.specs.Prelude.{◌≡◌, ◌≢◌, ◌⊎◌, ℕ, ◌+◌, ℤ, ◌<ℤ◌, pos, List, [], ◌∷◌, Option, Some, None, drop, take, true, int_le, int_lt}
+use Rattle.base.specs.declared.schedule.ScheduleLine.{ScheduleLine}
+use Rattle.choices.specs.Places.{AreWithin, taken}
+use Rattle.choices.specs.Slots.{Slot, lines_of}
+use Rattle.choices.specs.Stepping.{IsEarlierInFront, IsFurther}
+use Rattle.image.specs.Code.{CodeWorld, code}
+use Rattle.image.specs.Sections.{Sections}
+use Rattle.kernel.specs.State.{IsReady, Kernel, Line, Outcome}
+use Rattle.tasking.specs.Held.{Held, kernel_of}
+use Rattle.execution.specs.Held.{HeldWorld, Leads, world_of, world_with}
+use Rattle.likeness.specs.Schedules.{AgreeAt}
+use Rattle.likeness.specs.Worlds.{IsEarly, IsLastBefore, IsSure, NoneSooner, ReadsNothing}
+
+abbrev pub AreEachBefore : (time : ℤ) → List Slot → Type 0
+AreEachBefore time [] = Unit {0}
+AreEachBefore time (s ∷ slots) = (int_lt s.time time ≡ true) × AreEachBefore time slots
+
+abbrev pub AreEachFrom : (time : ℤ) → List Slot → Type 0
+AreEachFrom time [] = Unit {0}
+AreEachFrom time (s ∷ slots) = (int_le time s.time ≡ true) × AreEachFrom time slots
+
+-- the schedule of a choice
+abbrev pub schedule_of : List Slot → List ℕ → List ScheduleLine
+schedule_of slots places = lines_of slots (taken slots places)
+
+-- so many slots at the front are before the time, and the others are not
+pub record ArePartedAt (time : ℤ) (front : ℕ) (slots : List Slot) : Type 0 where
+  pub before : AreEachBefore time (take front slots)
+  pub from : AreEachFrom time (drop front slots)
+
+-- the kernel and what tasks hold are the same but for the lines that were written
+pub record AreLike (v w : CodeWorld) : Type 0 where
+  pub kernel : v.kernel ≡ record w.kernel { pending = v.kernel.pending; lines = v.kernel.lines }
+  pub rest : v.rest ≡ w.rest
+
+-- each task stands in the same place, and nobody is ready
+abbrev pub StandAlike : Held → Held → Type 0
+StandAlike g h = (u : ℕ) → ((kernel_of g).place u ≡ (kernel_of h).place u) × ((kernel_of g).place u ≢ IsReady)
+
+-- what is held is the world of code after so many steps
+pub record StandsAfter (n : ℕ) (i : Sections) (schedule : List ScheduleLine) (h : HeldWorld) : Type 0 where
+  pub image : h.image ≡ i
+  pub schedule_is : h.schedule ≡ schedule
+  pub stands : code i schedule n ≡ world_with (code i schedule n).kernel.lines h
+
+-- before a time both hold the same world, and the step after which the one holds another one leads to the time, or to an outcome
+pub record MeetThere (time : ℤ) (one other after : HeldWorld) : Type 0 where
+  pub before : IsEarly time (world_of one).kernel
+  pub alike : AreLike (world_of one) (world_of other)
+  pub none : NoneSooner time (world_of one)
+  pub none_other : NoneSooner time (world_of other)
+  pub blind : ReadsNothing one.image (world_of one)
+  pub lines : List Line
+  pub leads : Leads 1 one after lines
+  pub crossed : IsEarly time (world_of after).kernel → ⊥
+
+-- where there is a time that parts the slots, there is a last one before it
+abbrev pub PartsAt : Option ℤ → ℕ → List Slot → Type 0
+PartsAt None front slots = Unit {0}
+PartsAt (Some time) front slots = ArePartedAt time front slots × (pos 0 <ℤ time)
+
+-- just before the time of the slots behind the front, the run on this choice stands in the same world as that on an earlier one, which differs in the front
+-- alone, and the channels have the same values
+pub record HaveMet (i : Sections) (slots : List Slot) (front : ℕ) (time last : ℤ) (earlier places : List ℕ) (m n : ℕ) : Type 0 where
+  pub parted : ArePartedAt time front slots
+  pub last_is : IsLastBefore last time
+  pub within : AreWithin slots earlier
+  pub order : IsEarlierInFront front earlier places
+  pub before : IsEarly time (code i (schedule_of slots places) n).kernel
+  pub alike : AreLike (code i (schedule_of slots places) n) (code i (schedule_of slots earlier) m)
+  pub none : NoneSooner time (code i (schedule_of slots places) n)
+  pub none_earlier : NoneSooner time (code i (schedule_of slots earlier) m)
+  pub blind : ReadsNothing i (code i (schedule_of slots places) n)
+  pub crossed : IsEarly time (code i (schedule_of slots places) (n + 1)).kernel → ⊥
+  pub agree : AgreeAt (schedule_of slots places) (schedule_of slots earlier) last
+
+-- that of some earlier choice, after some numbers of steps
+abbrev pub HasMet : Sections → List Slot → (places : List ℕ) → (front : ℕ) → Type 0
+HasMet i slots places front = (earlier : List ℕ) × (time last : ℤ) × (m n : ℕ) × HaveMet i slots front time last earlier places m n
+
+-- before the time of the slots behind the front, the run on this choice has come to its end, which no later interrupt changes
+pub record EndsBefore (i : Sections) (slots : List Slot) (front : ℕ) (time : ℤ) (places : List ℕ) (n : ℕ) : Type 0 where
+  pub parted : ArePartedAt time front slots
+  pub before : IsSure time (code i (schedule_of slots places) n).kernel
+  pub outcome : Outcome
+  pub over : (code i (schedule_of slots places) n).kernel.outcome ≡ Some outcome
+
+abbrev pub IsAtEnd : (time : ℤ) → Kernel → Type 0
+IsAtEnd time k = IsSure time k × ((o : Outcome) × (k.outcome ≡ Some o))
+
+-- so other alternatives of the slots behind the front change nothing that is wanted
+abbrev pub MaySkip : Sections → List Slot → (places : List ℕ) → (front : ℕ) → Type 0
+MaySkip i slots places front = HasMet i slots places front ⊎ ((time : ℤ) × (n : ℕ) × EndsBefore i slots front time places n)
+
+-- the choice stays, or goes on to a later one with its front, behind which nothing is changed
+abbrev pub SkipsMet : Sections → List Slot → (before after : List ℕ) → Type 0
+SkipsMet i slots before after = (after ≡ before) ⊎ ((front : ℕ) × MaySkip i slots before front × IsFurther slots front before after)

@@ -1,0 +1,7 @@
+mod MainExamples
+mod Walks
+mod Objects
+mod PackageBodyExamples
+mod Meanings
+mod Parts
+mod Sample
