@@ -22,7 +22,7 @@ PRAGMA = "pragma Profile (Ravenscar);\n"
 SPECIFIED = "package App is {} procedure Run; end App;\npackage body App is {} procedure Run is begin null; end Run; end App;\nwith App;\nprocedure Main is begin App.Run; end Main;"
 REMARKS = (
     "hint: ", "the other one is at ", "open here: ", "could stand here: ", "the code of ", "the handlers up to ", "`",
-    "expected ", "found ", "left operand: ", "right operand: ",
+    "expected ", "found ", "left operand: ", "right operand: ", "not static: ", "the value is ", "the range ", "its evaluation raises an exception: ",
 )
 
 

@@ -5,7 +5,7 @@ below the line of its place is K.shown, and what `adarun explain 6` tells beside
     faults.py FAULTS.md FOLDER
     faults.py --write PROGRAM FAULTS.md
 
-With --write the lines of each section that has a number are made of what the program says of this number (crates/explanations has these texts by hand).
+With --write the lines of each section that has a number are made of what the program says of this number (crates/diagnostics has these texts by hand).
 
 A text whose first line begins with `$` is what that command writes. The text of an image's fault is changes of the image whose bytes stand under "## Images".
 """

@@ -128,7 +128,7 @@ def frame_line(name, place):
 
 
 def instructions_line(name, place, before):
-    return f"\nthe code of {name} at {place} passes a limit: there may be more than {INSTRUCTIONS} instructions with the {before} in front of it\n"
+    return f"\nthe code of {name} at {place} passes a limit: there may be more than {INSTRUCTIONS} instructions with the {before} before it\n"
 
 
 def rows_line(name, place, rows):

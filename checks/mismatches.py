@@ -12,7 +12,7 @@ import subprocess
 import sys
 
 SPECIFIED = "with Ada.Real_Time; use Ada.Real_Time;\nwith Control_IO; use Control_IO;\npackage App is {} procedure Run; end App;\npackage body App is {} procedure Run is {} end Run; end App;\nwith App;\nprocedure Main is begin App.Run; end Main;"
-OF_NO_NAME = {"any integer": "an integer type", "universal": "type universal integer, that of a number"}
+OF_NO_NAME = {"any integer": "an integer type", "discrete": "an integer type or BOOLEAN", "universal": "type universal integer, that of a number"}
 
 
 def place_of(text, start):

@@ -108,10 +108,18 @@ class Edit:
         """What a check says that it could not prove of the edit's functions; None where it has proved them."""
         for name in self.functions:
             verdict = re.search(rf"^fn (?:.*, )?{self.crate}::(?:\w+::)*{re.escape(name)}(?:, .*)?: (no proof|not proved)(.*)", said, re.M)
-            goal = verdict and (re.search(r"did not prove `(.*?)`", verdict[2]) or re.search(self.place_of(name) + r".*?`(.*?)`", said, re.M))
+            goal = verdict and self.goal_of(name, verdict[2], said)
             if goal:
-                return f"{name}: `{goal[1]}`"
+                return f"{name}: `{goal}`"
         return None
+
+    def goal_of(self, name, verdict, said):
+        """What is not proved of a function: by its verdict, by its lines or its proof, or by its goals in the proof of a cycle of calls; None where nothing says it."""
+        found = re.search(r"did not prove `(.*?)`", verdict) or re.search(self.place_of(name) + r".*?`(.*?)`", said, re.M)
+        if found:
+            return found[1]
+        own = re.findall(rf"^\./proofs/\S*\+\S*: error: `({re.escape(name.split('::')[-1])}-[^`]*)`: (.*)", said, re.M)
+        return next((goal for goal, why in own if "that can be named from here" not in why and "has no field" not in why), None)
 
     def place_of(self, name):
         """A pattern for the beginning of what is said of a line of the function, or of its proof."""

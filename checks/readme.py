@@ -75,8 +75,9 @@ class Checker:
         choices = self.file("choices.txt", "10000 1 20|50|90\n")
         names = {"SRC": SOURCE, "SCHED": SCHEDULE, "LIMIT": "1000000", "IMG": image, "NUMBER": "6", "CHOICES": choices, "UNTIL": "60000", "LABEL": "nobody"}
         for line in lines:
-            shown, _, group = re.fullmatch(r"(.*?)( \[([^]]*\|[^]]*)\])?", re.split(r"  +", line)[0]).groups()
-            for form in [shown] if group is None else [shown, *(f"{shown} {words.strip()}" for words in group.split("|"))]:
+            shown, _, group, part = re.fullmatch(r"(.*?)( \[([^]]*\|[^]]*)\])?( \[--part K/N\])?", re.split(r"  +", line)[0]).groups()
+            forms = [shown] if group is None else [shown, *(f"{shown} {words.strip()}" for words in group.split("|"))]
+            for form in [*forms, *(f"{form} --part 2/3" for form in forms if part)]:
                 words = form.split()
                 status, out, err = self.called([self.program, *(names.get(word.strip("[]"), word) for word in words[1:])])
                 writes = out == written if words[1] in ("go", "run", "simulate") else (out == "") == (words[1] in ("compile", "check"))

@@ -5,7 +5,7 @@
 
 A row is the fault's number and a text: what stands in the specification of a package and, behind `|`, in its body, both before a procedure Run; or, without `|`,
 the whole text behind the pragma. The mark `^` is before the place of the fault, and `~` before another one. The indented lines below a row are what is said; in
-them `~` stands for the line and column of that mark.
+them `~` and `^` are the line and column of that mark.
 """
 import os
 import subprocess
@@ -39,6 +39,7 @@ def main():
         place = place_of(marked, "^")
         if "~" in marked:
             expected = [line.replace("~", place_of(marked, "~")) for line in expected]
+        expected = [line.replace("^", place) for line in expected]
         with open(source, "w", encoding="utf-8") as file:
             file.write(marked.replace("^", "").replace("~", ""))
         run = subprocess.run([program, "simulate", source], capture_output=True, text=True, check=False)

@@ -1,10 +1,12 @@
 #!/usr/bin/env python3
-"""Searches the examples through sets of schedules, with a fixed seed, and compares each answer with the runs of the set's schedules by `go`, one after the other
-in the order of the alternatives; and gives texts of sets with each fault, beside the rules as docs/FORMATS.md states them ("Sets of schedules"), read here anew.
+"""Searches 40 programs through sets of schedules, with a fixed seed, and compares each answer with the runs of the set's schedules by `go`, one after the other
+in the order of the alternatives; of each second set also the answers of its parts. And gives texts of sets with each fault, beside the rules as docs/FORMATS.md
+states them ("Sets of schedules"), read here anew.
 
-    searches.py PROGRAM EXAMPLES SCRATCH COUNT
+    searches.py PROGRAM EXAMPLES SCRATCH COUNT [MOST]
 
-COUNT sets are made for each program, of at most 64 schedules each.
+COUNT sets are made for each program, of at most 64 schedules each, and with MOST one more of at most so many (5000 for a night: some 100,000 runs). The programs
+are 16 of EXAMPLES and 24 that are made here, of four kinds: a task that counts, a handler and an entry, a ring between two tasks, and waiting times that are read.
 """
 import itertools
 import os
@@ -37,6 +39,193 @@ PROGRAMS = {
     "watchdog.adb": ({1: [0, 1, 5_000, 60_000]}, 10_000, ["bites", "starts_again", "done"]),
     "on_call_producer.adb": ({1: [0, 1]}, 100_000, ["refused", "on_call", "last_is_late"]),
 }
+SEARCHED = {
+    "two_sensors": ({1: [50, 100], 2: [50, 100]}, 10_000, ["strike"]),
+    "second_caller": ({1: [0, 7]}, 10_000, ["order", "spare"]),
+    "long_run": ({1: [50, 90]}, 10_000, ["none"]),
+    "lost_wake_up": ({1: [0, 1]}, 14_000, ["none", "packed"]),
+}
+PROGRAMS |= {f"search/{name}{end}.adb": rest for name, rest in SEARCHED.items() for end in ("", "_mended")}
+# Programs that are made: what tasks and protected objects they declare, and the bodies of these.
+PACKAGE = """pragma Profile (Ravenscar);
+with Ada.Real_Time; use Ada.Real_Time;
+with Control_IO; use Control_IO;
+package App is
+DECLARED
+end App;
+package body App is
+BODIES
+end App;
+with App;
+procedure Main is begin null; end Main;
+"""
+COUNTING = (
+    """   subtype Small is Integer range 0 .. LEAST;
+   Count : Small := 0;
+   task Watch with Priority => 10;""",
+    """   procedure Look (Level : Integer) is
+   begin
+      if Level > LIMIT then
+         Count := Count + 1;
+         Put ("high", Level);
+      elsif Count > 0 then
+         Count := Count - 1;
+      end if;
+   end Look;
+   task body Watch is
+      Next : Time := Clock;
+   begin
+      for Turn in 1 .. TURNS loop
+         Look (Read (1));
+         Next := Next + Milliseconds (PERIOD);
+         delay until Next;
+      end loop;
+      Put ("done", Count);
+   end Watch;""",
+)
+HANDLING = (
+    """   protected Bell is
+      procedure Ring with Attach_Handler => 1;
+      entry Wait (Level : out Integer);
+   private
+      Last : Integer := 0;
+      Due  : Boolean := False;
+   end Bell;
+   task Listener with Priority => 10;
+   task Other with Priority => 5;""",
+    """   protected body Bell is
+      procedure Ring is
+      begin
+         Last := Read (1);
+         Due := Last > LIMIT;
+      end Ring;
+      entry Wait (Level : out Integer) when Due is
+      begin
+         Level := Last;
+         Due := False;
+      end Wait;
+   end Bell;
+   task body Listener is
+      Level : Integer;
+   begin
+      for Turn in 1 .. LEAST loop
+         Bell.Wait (Level);
+         Put ("high", Level);
+         delay until Clock + Milliseconds (PERIOD);
+      end loop;
+   end Listener;
+   task body Other is
+      Level : Integer;
+   begin
+      delay until Clock + Milliseconds (TURNS * PERIOD);
+      Bell.Wait (Level);
+      Put ("done", Level);
+   end Other;""",
+)
+RING = (
+    """   type Row is array (0 .. LEAST) of Integer;
+   protected Ring with Priority => 12 is
+      procedure Add (Value : Integer);
+      entry Take (Value : out Integer);
+   private
+      Values : Row;
+      Count  : Integer := 0;
+      Is_Any : Boolean := False;
+   end Ring;
+   task Giver with Priority => 10;
+   task Taker with Priority => 5;""",
+    """   protected body Ring is
+      procedure Add (Value : Integer) is
+      begin
+         Values (Count) := Value;
+         Count := Count + 1;
+         Is_Any := True;
+      end Add;
+      entry Take (Value : out Integer) when Is_Any is
+      begin
+         Count := Count - 1;
+         Value := Values (Count);
+         Values (Count) := 0;
+         Is_Any := Count > 0;
+      end Take;
+   end Ring;
+   task body Giver is
+      Next : Time := Clock;
+   begin
+      for Turn in 1 .. TURNS loop
+         if Read (1) > LIMIT then
+            Ring.Add (Turn mod 3);
+            Ring.Add (1);
+         end if;
+         Next := Next + Milliseconds (PERIOD);
+         delay until Next;
+      end loop;
+   end Giver;
+   task body Taker is
+      Value : Integer;
+   begin
+      loop
+         Ring.Take (Value);
+         if Value > 1 then
+            Put ("high", Value);
+         end if;
+         delay until Clock + Milliseconds (PERIOD + 3);
+      end loop;
+   end Taker;""",
+)
+WAITING = (
+    """   protected Place with Priority => 12 is
+      procedure Enter (Is_Free : out Boolean);
+      procedure Leave;
+   private
+      Taken : Boolean := False;
+   end Place;
+   task One with Priority => 10;
+   task Two with Priority => 8;""",
+    """   protected body Place is
+      procedure Enter (Is_Free : out Boolean) is
+      begin
+         Is_Free := not Taken;
+         Taken := True;
+      end Enter;
+      procedure Leave is
+      begin
+         Taken := False;
+      end Leave;
+   end Place;
+   procedure Pass (Wait : Integer) is
+      Is_Free : Boolean;
+   begin
+      Place.Enter (Is_Free);
+      if not Is_Free then
+         Put ("high", Wait);
+      end if;
+      delay until Clock + Milliseconds (LEAST);
+      Place.Leave;
+   end Pass;
+   task body One is
+   begin
+      for Turn in 1 .. TURNS loop
+         delay until Clock + Milliseconds (Read (1) mod 40);
+         Pass (1);
+      end loop;
+   end One;
+   task body Two is
+      Next : Time := Clock;
+   begin
+      for Turn in 1 .. TURNS loop
+         Next := Next + Milliseconds (PERIOD);
+         delay until Next;
+         Pass (2);
+         if Read (1) > 2 * LIMIT then
+            raise Program_Error;
+         end if;
+      end loop;
+      Put ("done", TURNS);
+   end Two;""",
+)
+KINDS = (COUNTING, HANDLING, RING, WAITING)
+MADE = 24
 # A loop that never waits, and programs whose lines and exceptions depend on what is read at time 0.
 SMALL = {
     "loop": ("", "procedure Run is X : Integer := 0; begin while X >= 0 loop X := X mod 7; end loop; end Run;"),
@@ -171,6 +360,26 @@ def shown(run, until, wanted):
     return None
 
 
+def made_program(rng, kind):
+    """A program of this kind with numbers chosen freely, and what its sets are made of."""
+    period = rng.choice([4, 5, 10])
+    numbers = {"LEAST": rng.randint(1, 4), "LIMIT": rng.choice([3, 10]), "TURNS": rng.randint(3, 9), "PERIOD": period}
+    text = PACKAGE.replace("DECLARED", kind[0]).replace("BODIES", kind[1])
+    for word, number in numbers.items():
+        text = re.sub(rf"\b{word}\b", str(number), text)
+    return text, ({1: [0, 2, 7, 15, 30]}, period * 1000, ["high", "done"])
+
+
+def parts_agree(program, case, file, count, status, told):
+    """Whether the answers of the parts of a set are together that of the set."""
+    source, _, until, wanted = case
+    answers = [call(program, "search", source, file, str(until), str(ENOUGH), *wanted, "--part", f"{k}/{count}") for k in range(1, count + 1)]
+    if status == 0:
+        numbers = [re.fullmatch(r"none of (\d+) schedules\n", out) for _, out, _ in answers]
+        return all(numbers) and sum(int(number[1]) for number in numbers) == int(re.search(r"\d+", told)[0])
+    return (status, told, "") in answers
+
+
 def answer(program, source, text, until, wanted, file):
     """What a search answers, by the runs of all schedules."""
     schedules = list(schedules_of(slots_of(text, until)))
@@ -185,10 +394,10 @@ def answer(program, source, text, until, wanted, file):
     return 0, f"none of {len(schedules)} schedules\n"
 
 
-def random_set(rng, channels, step):
+def random_set(rng, channels, step, most=MOST_SCHEDULES):
     """A text of a set of at most so many schedules, with its end."""
     lines, count = [], 1
-    for _ in range(rng.randint(1, 4)):
+    for _ in range(rng.randint(1, 4) if most == MOST_SCHEDULES else 12):
         channel = rng.choice(sorted(channels))
         first = rng.randint(0, 6) * step
         times = str(first)
@@ -203,7 +412,7 @@ def random_set(rng, channels, step):
             low = max((value for value in values if value is not None), default=0) + 2
             parts.append(f"{low}..{low + 1}")
             size += 2
-        if count * size**slots <= MOST_SCHEDULES:
+        if count * size**slots <= most:
             count *= size**slots
             lines.append(f"{times} {channel} {'|'.join(parts)}\n")
     until = max([0, *(times_of(line.split()[0])[-1] for line in lines)]) + rng.choice([0, 1, step // 2, 2 * step])
@@ -224,13 +433,20 @@ FAULTY = [
 
 
 def main():
-    program, examples, scratch, count = sys.argv[1:]
+    program, examples, scratch, count, *most = sys.argv[1:]
     rng = random.Random(71)
     cases = []
-    for name, (channels, step, labels) in PROGRAMS.items():
-        for _ in range(int(count)):
-            text, until = random_set(rng, channels, step)
-            cases.append((os.path.join(examples, name), text, until, rng.choice([[], ["unhandled"], ["waits"], *[["line", label] for label in labels]])))
+    programs = {os.path.join(examples, name): rest for name, rest in PROGRAMS.items()}
+    for number in range(MADE):
+        text, rest = made_program(rng, KINDS[number % len(KINDS)])
+        name = os.path.join(scratch, f"made{number}.adb")
+        with open(name, "w", encoding="ascii") as file:
+            file.write(text)
+        programs[name] = rest
+    for name, (channels, step, labels) in programs.items():
+        for greatest in [MOST_SCHEDULES] * int(count) + [int(number) for number in most]:
+            text, until = random_set(rng, channels, step, greatest)
+            cases.append((name, text, until, rng.choice([[], ["unhandled"], ["waits"], *[["line", label] for label in labels]])))
     sources = {}
     for name, (spec, body) in SMALL.items():
         sources[name] = os.path.join(scratch, f"{name}.adb")
@@ -252,6 +468,8 @@ def main():
         answers[status] += 1
         if got != (status, told, ""):
             failures.append(f"{source} up to {until} {' '.join(wanted)}\n{text}gave {got}, and not {(status, told, '')}")
+        elif number % 2 and not parts_agree(program, case, file, 2 + number % 5, status, told):
+            failures.append(f"{source} up to {until} {' '.join(wanted)}\n{text}its parts don't answer as the whole set: {told}")
 
     with ThreadPoolExecutor(os.cpu_count()) as pool:
         list(pool.map(lambda numbered: compare(*numbered), enumerate(cases)))
@@ -285,7 +503,7 @@ def main():
     for failure in failures[:20]:
         print(f"searches: {failure}", file=sys.stderr)
     kinds = ", ".join(f"{answers[status]} with status {status}" for status in sorted(answers))
-    print(f"searches: {len(cases)} sets and {len(CYCLE_SETS)} large ones ({kinds}), {refused} of {len(FAULTY)} texts refused: {len(failures)} failures")
+    print(f"searches: {len(cases)} sets of {len(programs)} programs and {len(CYCLE_SETS)} large ones ({kinds}), {refused} of {len(FAULTY)} texts refused: {len(failures)} failures")
     return 1 if failures else 0
 
 

@@ -109,7 +109,7 @@ class Tables:
                 if "edits" in head and not cells[-1].startswith("laws"):
                     self.edits(where, cells[head.index("edits")])
             elif head[0] == "specs" and not cells[0].startswith("-"):
-                for name in re.findall(r"[A-Z]\w+", cells[0].split(":")[0]):
+                for name in re.findall(r"(?:[a-z_]+/)?[A-Z]\w+", cells[0].split(":")[0]):
                     self.expect(os.path.isfile(f"{HERE}/crates/{crate}/specs/{name}.antt"), where, f"specs/{name}")
 
     def proof(self, where):

@@ -7,7 +7,9 @@ _adarun() {
     elif [ "${COMP_WORDS[1]}" = trace ] && [ "$COMP_CWORD" = 2 ] && [[ $word == -* ]]; then
         COMPREPLY=(--vcd)
     elif [ "${COMP_WORDS[1]}" = search ] && [ "$COMP_CWORD" = 6 ]; then
-        mapfile -t COMPREPLY < <(compgen -W "unhandled waits line" -- "$word")
+        mapfile -t COMPREPLY < <(compgen -W "unhandled waits line --part" -- "$word")
+    elif [ "${COMP_WORDS[1]}" = search ] && [ "$COMP_CWORD" -gt 6 ] && [[ $word == -* ]]; then
+        COMPREPLY=(--part)
     fi
 }
 complete -o bashdefault -o default -F _adarun adarun

@@ -11,7 +11,7 @@ use Rattle.compiler.specs.ada_tree.specs.ProgramTree.{program_tree}
 use Rattle.compiler.specs.expr_rules.specs.Faults.{IsLeast}
 use Rattle.legality.specs.ProgramRules.{IsLegal, RefusesProgram, program_faults}
 use Rattle.ravenscar.specs.ProgramRules.{IsRestricted, RefusesUnrestricted, restriction_faults}
-use Rattle.hints.specs.Told.{HasNone, IsUnspelled}
+use Rattle.diagnostics.specs.hints.Notes.{HasNone, IsUnspelled}
 use Rattle.adarun.specs.CodeTold.{IsUnaccepted, TellsCode, TellsStopOrNone}
 
 -- a fault that is not that of memory

@@ -15,7 +15,7 @@ use Rattle.clock.specs.Schedules.{RefusesSchedule, is_channel, last_time, line_f
 use Rattle.clock.specs.Texts.{LineText, line_at}
 use Rattle.clock.specs.declared.faults.TheConstants.{TIME_GOES_BACK, TOO_MANY_LINES, UNKNOWN_CHANNEL}
 use Rattle.clock.specs.declared.schedule.ScheduleFault.{ScheduleFault}
-use Rattle.explanations.specs.Explained.{is_fault_number, is_from}
+use Rattle.diagnostics.specs.explanations.Explained.{is_fault_number, is_from}
 use Rattle.adarun.specs.Accepted.{IsTextFault}
 
 between : (first last n : ℕ) → first ≤ n → n ≤ last → is_from first last n ≡ true

@@ -3,6 +3,7 @@ use Rattle.std.proofs.Common.{◌≡◌, ℕ, ℤ, List, Option, Bool, true, fal
 use Rattle.std.specs.Prelude.{nat_eq}
 use Rattle.base.specs.declared.faults.TheConstants.{MEMORY_REFUSED}
 use Rattle.choices.specs.declared.faults.ChoicesFault.{ChoicesFault}
+use Rattle.choices.specs.declared.part.Part.{Part}
 use Rattle.command_line.specs.Words as words_of
 use Rattle.file_limits.specs.declared.TheConstants.{CHOICES_BYTES, SOURCE_BYTES}
 use Rattle.searching.specs.declared.sight.Wanted.{Wanted}
@@ -18,17 +19,17 @@ use Rattle.adarun.specs.declared.program.Status.TheVariants.{NoMemory, ScheduleR
 use Rattle.adarun.proofs.Reading.{begun, choices_whole, source_whole}
 
 -- what a report is true of
-pub searched_by : (text input : List ℕ) (until : ℤ) (limit : ℕ) (wanted : Wanted) (outcome : SearchOutcome) (report : List ℕ)
-    → IsReport text input until limit wanted outcome report → IsSearched text input until
-searched_by text input until limit wanted outcomes.Unhandled report is = is.finds.searched
-searched_by text input until limit wanted outcomes.WaitsForever report is = is.finds.searched
-searched_by text input until limit wanted outcomes.Line report is = is.finds.searched
-searched_by text input until limit wanted outcomes.TooLong report is = is.finds.searched
-searched_by text input until limit wanted outcomes.Nothing report is = is.finds.searched
+pub searched_by : (text input : List ℕ) (part : Part) (until : ℤ) (limit : ℕ) (wanted : Wanted) (outcome : SearchOutcome) (report : List ℕ)
+    → IsReport text input part until limit wanted outcome report → IsSearched text input until
+searched_by text input part until limit wanted outcomes.Unhandled report is = is.finds.searched
+searched_by text input part until limit wanted outcomes.WaitsForever report is = is.finds.searched
+searched_by text input part until limit wanted outcomes.Line report is = is.finds.searched
+searched_by text input part until limit wanted outcomes.TooLong report is = is.finds.searched
+searched_by text input part until limit wanted outcomes.Nothing report is = is.finds.searched
 
-module _ (contents : Contents) (source : List ℕ) (known : Option (List ℕ)) (until : ℤ) (limit : ℕ) (sought : words_of.Wanted) (old new : Option (List ℕ)) where
-  has_searched : (outcome : SearchOutcome) → HasSearched contents source known until limit sought (search_status outcome) old new
-      → LeavesSearch contents source known until limit sought (search_status outcome) old new
+module _ (contents : Contents) (source : List ℕ) (known : Option (List ℕ)) (until : ℤ) (limit : ℕ) (sought : words_of.Wanted) (part : Part) (old new : Option (List ℕ)) where
+  has_searched : (outcome : SearchOutcome) → HasSearched contents source known until limit sought part (search_status outcome) old new
+      → LeavesSearch contents source known until limit sought part (search_status outcome) old new
   has_searched outcomes.Unhandled h = h
   has_searched outcomes.WaitsForever h = h
   has_searched outcomes.Line h = h
@@ -37,10 +38,10 @@ module _ (contents : Contents) (source : List ℕ) (known : Option (List ℕ)) (
 
   pub search_leaves : (status : Status) (outcome : SearchOutcome) (text lent given input : List ℕ) (wanted : Wanted) → status ≡ search_status outcome
       → IsBeginningRead (contents source) SOURCE_BYTES text → lent ≡ text → IsBeginningRead known CHOICES_BYTES given → input ≡ given → looks_for wanted ≡ sought
-      → WritesReport lent input until limit wanted outcome old new → LeavesSearch contents source known until limit sought status old new
+      → WritesReport lent input part until limit wanted outcome old new → LeavesSearch contents source known until limit sought part status old new
   search_leaves status outcome text lent given input wanted e read same read_too same_too is writes =
-      let searched = searched_by lent input until limit wanted outcome writes.report writes.is_report in
-      subst (λ s. LeavesSearch contents source known until limit sought s old new) (sym e)
+      let searched = searched_by lent input part until limit wanted outcome writes.report writes.is_report in
+      subst (λ s. LeavesSearch contents source known until limit sought part s old new) (sym e)
       (has_searched outcome (record {
         text = lent;
         source_read = source_whole (contents source) text lent same searched.tree read searched.accepted.is_tree;
@@ -55,18 +56,18 @@ module _ (contents : Contents) (source : List ℕ) (known : Option (List ℕ)) (
 
   -- a source that is refused leaves what it leaves to `go`
   pub refused_search : (b : Bool) (status : Status) → status ≡ cond b NoMemory SourceRefused → LeavesGo contents source known limit status old new
-      → LeavesSearch contents source known until limit sought status old new
+      → LeavesSearch contents source known until limit sought part status old new
   refused_search true status e h =
-      subst (λ s. LeavesSearch contents source known until limit sought s old new) (sym e)
+      subst (λ s. LeavesSearch contents source known until limit sought part s old new) (sym e)
       (subst (λ s. LeavesGo contents source known limit s old new) e h)
   refused_search false status e h =
-      subst (λ s. LeavesSearch contents source known until limit sought s old new) (sym e)
+      subst (λ s. LeavesSearch contents source known until limit sought part s old new) (sym e)
       (subst (λ s. LeavesGo contents source known limit s old new) e h)
 
   unchosen : (b : Bool) (x : SearchFault) (fault : ChoicesFault) (text lent given input : List ℕ) → nat_eq fault.number MEMORY_REFUSED ≡ b
       → IsBeginningRead (contents source) SOURCE_BYTES text → lent ≡ text → IsBeginningRead known CHOICES_BYTES given → input ≡ given → x ≡ faults.Choices fault
       → RefusesSearching lent input until x → new ≡ old
-      → LeavesSearch contents source known until limit sought (cond b NoMemory ScheduleRefused) old new
+      → LeavesSearch contents source known until limit sought part (cond b NoMemory ScheduleRefused) old new
   unchosen true x fault text lent given input e read same read_too same_too is refused unwritten = unwritten
   unchosen false x fault text lent given input e read same read_too same_too is refused unwritten = record {
     text = lent;
@@ -85,7 +86,7 @@ module _ (contents : Contents) (source : List ℕ) (known : Option (List ℕ)) (
   pub choices_leave : (status : Status) (x : SearchFault) (fault : ChoicesFault) (text lent given input : List ℕ)
       → status ≡ cond (nat_eq fault.number MEMORY_REFUSED) NoMemory ScheduleRefused → IsBeginningRead (contents source) SOURCE_BYTES text → lent ≡ text
       → IsBeginningRead known CHOICES_BYTES given → input ≡ given → x ≡ faults.Choices fault → RefusesSearching lent input until x → new ≡ old
-      → LeavesSearch contents source known until limit sought status old new
+      → LeavesSearch contents source known until limit sought part status old new
   choices_leave status x fault text lent given input e read same read_too same_too is refused unwritten =
-      subst (λ s. LeavesSearch contents source known until limit sought s old new) (sym e)
+      subst (λ s. LeavesSearch contents source known until limit sought part s old new) (sym e)
       (unchosen (nat_eq fault.number MEMORY_REFUSED) x fault text lent given input refl read same read_too same_too is refused unwritten)

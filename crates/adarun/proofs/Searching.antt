@@ -1,37 +1,39 @@
 -- What the search of an image's code says of the source that means the same.
-use Rattle.std.proofs.Common.{◌≡◌, ◌⊎◌, ℕ, ◌+◌, ◌-◌, ◌≤◌, ℤ, List, ◌∷◌, ◌++◌, Option, Some, true, refl, sym, ap, subst, ◌∙◌, inl, inr, ⊎_elim, append_assoc}
-use Rattle.std.specs.Prelude.{int_le, ◌≤ℤ◌, ◌<ℤ◌}
+use Rattle.std.proofs.Common.{◌≡◌, ℕ, ◌+◌, ◌-◌, ◌≤◌, ℤ, List, ◌∷◌, ◌++◌, Some, true, refl, sym, ap, subst, ◌∙◌, inl, inr, ⊎_elim, append_assoc}
+use Rattle.std.specs.Prelude.{int_le, ◌<ℤ◌}
 use Rattle.std.proofs.Common.{arith}
 use Rattle.std.proofs.lemmas.Int.{ints}
 use Rattle.base.specs.Schedule.{is_schedule}
 use Rattle.base.specs.declared.schedule.ScheduleLine.{ScheduleLine}
 use Rattle.choices.specs.Sets.{IsChoicesText}
-use Rattle.choices.specs.Slots.{IsInSet, Slot, are_slots}
+use Rattle.choices.specs.Parts.{IsInPart}
+use Rattle.choices.specs.Places.{taken}
+use Rattle.choices.specs.Slots.{Slot, are_slots}
+use Rattle.choices.specs.declared.part.Part.{Part}
 use Rattle.choices.proofs.Lawful.{schedule_of_choice}
+use Rattle.choices.proofs.Order.{taken_is_choice}
 use Rattle.image.specs.Attachments.{handling_object}
 use Rattle.image.specs.Code.{code, partition_of, start}
 use Rattle.image.specs.Sections.{Sections}
 use Rattle.image.specs.Steps.{behaviour}
-use Rattle.image.specs.Texts.{names_of}
 use Rattle.kernel.specs.RunLaws.{run_plus}
-use Rattle.kernel.specs.State.{Kernel, Line, Outcome, Unhandled, WaitsForever}
+use Rattle.kernel.specs.State.{Kernel, Outcome, Unhandled, WaitsForever}
 use Rattle.kernel.specs.Worlds.{among, run}
 use Rattle.compiler.specs.ada_tree.specs.ProgramTree.{ProgramTree}
 use Rattle.compiler.specs.expr_code.specs.Coming.{most_steps}
 use Rattle.compiler.specs.meaning.specs.Same.{Covers, ShowSame}
 use Rattle.compiler.specs.meaning.specs.SameMeaning.{KeepsCount, SameMeaning}
-use Rattle.compiler.specs.meaning.specs.Source.{source, source_names}
 use Rattle.searching.specs.Reports.{found_text, report_text}
 use Rattle.searching.specs.Searches.{ComesTo, IsFollowedOn, NeverComes, Searches, kernels}
-use Rattle.searching.specs.Sights.{HasLine, IsWanted, ShowsSight, Sighting, Stopped, Waiting, Written, sight_of}
+use Rattle.searching.specs.Sights.{ShowsSight, Sighting, Stopped, Waiting, Written, sight_of}
 use Rattle.searching.specs.declared.sight.Finding.{Finding}
 use Rattle.searching.specs.declared.sight.Finding.TheVariants as findings
 use Rattle.searching.specs.declared.sight.Wanted.{Wanted}
 use Rattle.searching.specs.declared.whole.Searched.{Searched}
 use Rattle.searching.specs.declared.whole.Searched.TheVariants as searched
-use Rattle.likeness.proofs.Onward.{IsAhead, Onward, begins_ahead, run_onward}
+use Rattle.likeness.proofs.Onward.{IsAhead, begins_ahead, run_onward}
 use Rattle.adarun.specs.Accepted.{Compiles}
-use Rattle.adarun.specs.Searching.{IsFoundReport, IsReport, IsSearched, outcome_by, outcome_found, outcome_of, source_kernels}
+use Rattle.adarun.specs.Searching.{IsFoundReport, IsReport, outcome_by, outcome_found, outcome_of, source_kernels}
 use Rattle.adarun.specs.declared.exploring.SearchOutcome.{SearchOutcome}
 use Rattle.adarun.proofs.Running.{same_names}
 
@@ -94,29 +96,31 @@ module _ (p : ProgramTree) (i : Sections) (means : SameMeaning p i) (counted : K
   pub followed_on : (until : ℤ) → IsFollowedOn until (kernels i schedule) → IsFollowedOn until (source_kernels p schedule)
   followed_on until f = ⊎_elim (λ later. passes until f.steps later) (λ over. ends until f.steps over.0 over.1) f.over
 
-pub lawful_in : (slots : List Slot) (schedule : List ScheduleLine) → are_slots slots ≡ true → IsInSet slots schedule → is_schedule schedule ≡ true
-lawful_in slots schedule are set = subst (λ s. is_schedule s ≡ true) (sym set.2) (schedule_of_choice slots set.0 are set.1)
+lawful_in : (part : Part) (slots : List Slot) (schedule : List ScheduleLine) → are_slots slots ≡ true → IsInPart part slots schedule → is_schedule schedule ≡ true
+lawful_in part slots schedule are set =
+    subst (λ s. is_schedule s ≡ true) (sym set.schedule_is)
+    (schedule_of_choice slots (taken slots set.places) are (taken_is_choice slots set.places set.within))
 
 outcome_same : (i : Sections) (finding : Finding) → outcome_found finding ≡ outcome_of (sight_of i finding)
 outcome_same i (findings.Unhandled x t time) = refl
 outcome_same i (findings.WaitsForever time) = refl
 outcome_same i (findings.Line line) = refl
 
-found_kind : (t input : List ℕ) (until : ℤ) (limit : ℕ) (wanted : Wanted) (outcome : SearchOutcome) (report : List ℕ) (sight : Sighting) → outcome ≡ outcome_of sight
-    → IsFoundReport t input until wanted outcome report → IsReport t input until limit wanted outcome report
-found_kind t input until limit wanted outcome report (Stopped x u time) is found = subst (λ o. IsReport t input until limit wanted o report) (sym is) (subst (λ o. IsFoundReport t input until wanted o report) is found)
-found_kind t input until limit wanted outcome report (Waiting time) is found = subst (λ o. IsReport t input until limit wanted o report) (sym is) (subst (λ o. IsFoundReport t input until wanted o report) is found)
-found_kind t input until limit wanted outcome report (Written line) is found = subst (λ o. IsReport t input until limit wanted o report) (sym is) (subst (λ o. IsFoundReport t input until wanted o report) is found)
+found_kind : (t input : List ℕ) (part : Part) (until : ℤ) (limit : ℕ) (wanted : Wanted) (outcome : SearchOutcome) (report : List ℕ) (sight : Sighting) → outcome ≡ outcome_of sight
+    → IsFoundReport t input part until wanted outcome report → IsReport t input part until limit wanted outcome report
+found_kind t input part until limit wanted outcome report (Stopped x u time) is found = subst (λ o. IsReport t input part until limit wanted o report) (sym is) (subst (λ o. IsFoundReport t input part until wanted o report) is found)
+found_kind t input part until limit wanted outcome report (Waiting time) is found = subst (λ o. IsReport t input part until limit wanted o report) (sym is) (subst (λ o. IsFoundReport t input part until wanted o report) is found)
+found_kind t input part until limit wanted outcome report (Written line) is found = subst (λ o. IsReport t input part until limit wanted o report) (sym is) (subst (λ o. IsFoundReport t input part until wanted o report) is found)
 
 -- what the search of the code says is a report of the source
-pub reported : (t input : List ℕ) (i : Sections) (slots : List Slot) (until : ℤ) (limit : ℕ) (wanted : Wanted) (found : Searched) → Compiles t i
-    → IsChoicesText until input slots → are_slots slots ≡ true → Searches i slots until limit wanted found
-    → IsReport t input until limit wanted (outcome_by found) (report_text i slots limit found)
-reported t input i slots until limit wanted (searched.Found schedule finding) c read are s =
-    let lawful = lawful_in slots schedule are s.0 in
+pub reported : (t input : List ℕ) (part : Part) (i : Sections) (slots : List Slot) (until : ℤ) (limit : ℕ) (wanted : Wanted) (found : Searched) → Compiles t i
+    → IsChoicesText until input slots → are_slots slots ≡ true → Searches i slots part until limit wanted found
+    → IsReport t input part until limit wanted (outcome_by found) (report_text i slots part limit found)
+reported t input part i slots until limit wanted (searched.Found schedule finding) c read are s =
+    let lawful = lawful_in part slots schedule are s.0 in
     let sight = sight_of i finding in
     let names = same_names c.tree i schedule lawful c.means in
-    found_kind t input until limit wanted (outcome_found finding) _ sight (outcome_same i finding) (record {
+    found_kind t input part until limit wanted (outcome_found finding) _ sight (outcome_same i finding) (record {
       schedule = schedule;
       sight = sight;
       finds = record {
@@ -128,17 +132,17 @@ reported t input i slots until limit wanted (searched.Found schedule finding) c 
       outcome_is = outcome_same i finding;
       report_is = ap (λ n. found_text n schedule sight) names;
     })
-reported t input i slots until limit wanted searched.Nothing c read are s = record {
+reported t input part i slots until limit wanted searched.Nothing c read are s = record {
   finds = record {
     searched = record { tree = c.tree; accepted = c.accepted; slots = slots; are_slots = read };
     never = λ schedule set.
-        never_comes c.tree i c.means c.counted schedule (lawful_in slots schedule are set) until wanted (s schedule set).0;
+        never_comes c.tree i c.means c.counted schedule (lawful_in part slots schedule are set) until wanted (s schedule set).0;
     followed = λ schedule set.
-        followed_on c.tree i c.means c.counted schedule (lawful_in slots schedule are set) until (s schedule set).1;
+        followed_on c.tree i c.means c.counted schedule (lawful_in part slots schedule are set) until (s schedule set).1;
   };
   report_is = refl;
 }
-reported t input i slots until limit wanted (searched.TooLong schedule time) c read are s = record {
+reported t input part i slots until limit wanted (searched.TooLong schedule time) c read are s = record {
   schedule = schedule;
   time = time;
   finds = record {

@@ -1,5 +1,5 @@
 -- What is told of a text whose code passes a limit of images, behind what is explained of that fault.
-use Rattle.std.specs.Prelude.{◌≡◌, ◌≢◌, ◌⊎◌, ◌++◌, ℕ, List, [], Option, Some, None}
+use Rattle.std.specs.Prelude.{◌≡◌, ◌≢◌, ◌⊎◌, ℕ, List, [], Option, Some, None}
 use Rattle.base.specs.declared.faults.TheConstants.{LIMIT_PASSED}
 use Rattle.lexer.specs.declared.fault.Fault.{Fault}
 use Rattle.lexer.specs.declared.token.Token.{Token}
@@ -10,8 +10,8 @@ use Rattle.ravenscar.specs.ProgramRules.{restriction_faults}
 use Rattle.compiler.specs.package_code.specs.declared.stopping.Stop.{Stop}
 use Rattle.compiler.specs.package_code.specs.declared.stopping.Stop.TheVariants as stop
 use Rattle.compiler.specs.Stopped.{IsFirstStop, MakesAll}
-use Rattle.hints.specs.Stopped.{frame_line, instructions_line, rows_line}
-use Rattle.hints.specs.Told.{HasNone, IsUnspelled}
+use Rattle.diagnostics.specs.hints.Stopped.{frame_line, instructions_line, rows_line}
+use Rattle.diagnostics.specs.hints.Notes.{HasNone, IsUnspelled}
 use Rattle.adarun.specs.Accepted.{IsAccepted, IsTreeOf}
 
 abbrev pub stop_line : (text : List ℕ) → List Token → Stop → List ℕ

@@ -5,13 +5,14 @@ use Rattle.base.specs.declared.faults.TheConstants.{MEMORY_REFUSED}
 use Rattle.base.specs.declared.schedule.ScheduleLine.{ScheduleLine}
 use Rattle.choices.specs.Faults.{RefusesChoicesText}
 use Rattle.choices.specs.declared.faults.ChoicesFault.{ChoicesFault}
+use Rattle.choices.specs.declared.part.Part.{Part}
 use Rattle.clock.specs.Schedules as schedules
 use Rattle.clock.specs.declared.schedule.ScheduleFault.{ScheduleFault}
-use Rattle.explanations.specs.Explained.{explanation_of}
+use Rattle.diagnostics.specs.explanations.Explained.{explanation_of}
 use Rattle.file_limits.specs.declared.TheConstants.{CHOICES_BYTES, IMAGE_BYTES, SCHEDULE_BYTES, SOURCE_BYTES}
 use Rattle.compiler.specs.package_code.specs.Places.{PlacesTell}
 use Rattle.compiler.specs.stmt_code.specs.declared.tables.PlaceRow.{PlaceRow}
-use Rattle.hints.specs.Explained.{IsExplained}
+use Rattle.diagnostics.specs.hints.Explained.{IsExplained}
 use Rattle.lexer.specs.declared.fault.Fault.{Fault}
 use Rattle.manual.specs.declared.TheConstants.{MANUAL, VERSION}
 use Rattle.image_format.specs.Bytes.{bytes_of}
@@ -421,8 +422,8 @@ search_status searches.TooLong = StepLimit
 search_status searches.Nothing = Done
 
 -- both were read, and the answer of the search was written, of this status
-pub record HasSearched (contents : Contents) (source : List ℕ) (given : Option (List ℕ)) (until : ℤ) (limit : ℕ) (sought : words_of.Wanted) (status : Status)
-    (old new : Option (List ℕ)) : Type 0 where
+pub record HasSearched (contents : Contents) (source : List ℕ) (given : Option (List ℕ)) (until : ℤ) (limit : ℕ) (sought : words_of.Wanted) (part : Part)
+    (status : Status) (old new : Option (List ℕ)) : Type 0 where
   pub text : List ℕ
   pub source_read : IsContentRead (contents source) text
   pub input : List ℕ
@@ -431,7 +432,7 @@ pub record HasSearched (contents : Contents) (source : List ℕ) (given : Option
   pub wanted_is : looks_for wanted ≡ sought
   pub outcome : SearchOutcome
   pub status_is : status ≡ search_status outcome
-  pub writes : WritesReport text input until limit wanted outcome old new
+  pub writes : WritesReport text input part until limit wanted outcome old new
 
 -- both were read, the source compiles, and the set of schedules was refused for its own sake
 pub record HasRefusedChoices (contents : Contents) (source : List ℕ) (given : Option (List ℕ)) (until : ℤ) (old new : Option (List ℕ)) : Type 0 where
@@ -446,7 +447,7 @@ pub record HasRefusedChoices (contents : Contents) (source : List ℕ) (given : 
   pub unwritten : new ≡ old
 
 -- a beginning of an answer was written
-pub record HasBegunReport (contents : Contents) (source : List ℕ) (given : Option (List ℕ)) (until : ℤ) (limit : ℕ) (sought : words_of.Wanted)
+pub record HasBegunReport (contents : Contents) (source : List ℕ) (given : Option (List ℕ)) (until : ℤ) (limit : ℕ) (sought : words_of.Wanted) (part : Part)
     (old new : Option (List ℕ)) : Type 0 where
   pub text : List ℕ
   pub source_read : IsContentRead (contents source) text
@@ -454,18 +455,18 @@ pub record HasBegunReport (contents : Contents) (source : List ℕ) (given : Opt
   pub input_read : IsContentRead given input
   pub wanted : Wanted
   pub wanted_is : looks_for wanted ≡ sought
-  pub begins : BeginsReport text input until limit wanted old new
+  pub begins : BeginsReport text input part until limit wanted old new
 
 -- what `search` wrote to standard output, by the exit status
-abbrev pub LeavesSearch : Contents → (source : List ℕ) → (given : Option (List ℕ)) → (until : ℤ) → (limit : ℕ) → words_of.Wanted → Status
+abbrev pub LeavesSearch : Contents → (source : List ℕ) → (given : Option (List ℕ)) → (until : ℤ) → (limit : ℕ) → words_of.Wanted → Part → Status
     → Option (List ℕ) → Option (List ℕ) → Type 0
-LeavesSearch contents source given until limit sought SourceRefused old new = HasRefusedSource contents source old new
-LeavesSearch contents source given until limit sought ScheduleRefused old new = HasRefusedChoices contents source given until old new
-LeavesSearch contents source given until limit sought NoMemory old new = new ≡ old
-LeavesSearch contents source given until limit sought Failed old new =
-    (new ≡ old) ⊎ HasBegunReport contents source given until limit sought old new
-LeavesSearch contents source given until limit sought ImageFault old new = ⊥
-LeavesSearch contents source given until limit sought status old new = HasSearched contents source given until limit sought status old new
+LeavesSearch contents source given until limit sought part SourceRefused old new = HasRefusedSource contents source old new
+LeavesSearch contents source given until limit sought part ScheduleRefused old new = HasRefusedChoices contents source given until old new
+LeavesSearch contents source given until limit sought part NoMemory old new = new ≡ old
+LeavesSearch contents source given until limit sought part Failed old new =
+    (new ≡ old) ⊎ HasBegunReport contents source given until limit sought part old new
+LeavesSearch contents source given until limit sought part ImageFault old new = ⊥
+LeavesSearch contents source given until limit sought part status old new = HasSearched contents source given until limit sought part status old new
 
 -- ---- all
 
@@ -487,8 +488,8 @@ LeavesWritten (ExplainText number source) standard_input before after status old
 LeavesWritten (CheckText source) standard_input before after status old new = AreFilesKept before after × (new ≡ old)
 LeavesWritten (SimulateText source schedule limit) standard_input before after status old new = AreFilesKept before after
     × LeavesGo (with_input standard_input before) source (input_of before schedule) limit status old new
-LeavesWritten (SearchText source choices until limit sought) standard_input before after status old new = AreFilesKept before after
-    × LeavesSearch (with_input standard_input before) source (before choices) until limit sought status old new
+LeavesWritten (SearchText source choices until limit sought part) standard_input before after status old new = AreFilesKept before after
+    × LeavesSearch (with_input standard_input before) source (before choices) until limit sought part status old new
 LeavesWritten ShowManual standard_input before after status old new = AreFilesKept before after × LeavesShown MANUAL.now status old new
 LeavesWritten ShowVersion standard_input before after status old new = AreFilesKept before after × LeavesShown VERSION.now status old new
 LeavesWritten Nothing standard_input before after status old new = AreFilesKept before after × ((new ≡ old) × ((status ≡ Failed) ⊎ (status ≡ NoMemory)))

@@ -4,7 +4,7 @@ use Rattle.choices.specs.Faults.{RefusesChoicesText}
 use Rattle.choices.specs.declared.faults.ChoicesFault.{ChoicesFault}
 use Rattle.clock.specs.Schedules.{RefusesSchedule}
 use Rattle.clock.specs.declared.schedule.ScheduleFault.{ScheduleFault}
-use Rattle.explanations.specs.Explained.{is_fault_number}
+use Rattle.diagnostics.specs.explanations.Explained.{is_fault_number}
 use Rattle.lexer.specs.declared.fault.Fault.{Fault}
 use Rattle.adarun.specs.Accepted.{RefusesText}
 

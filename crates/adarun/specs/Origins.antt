@@ -2,7 +2,7 @@
 use Rattle.std.specs.Prelude.{ℕ, List, Option, option_map, take}
 use Rattle.compiler.specs.stmt_code.specs.Placing.{place_at}
 use Rattle.compiler.specs.stmt_code.specs.declared.tables.PlaceRow.{PlaceRow}
-use Rattle.hints.specs.Places.{column_from, line_from}
+use Rattle.diagnostics.specs.hints.Places.{column_from, line_from}
 use Rattle.tracing.specs.declared.origin.Origin.{Origin}
 
 -- the line and the column of a byte of the text, both from 1

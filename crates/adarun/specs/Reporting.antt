@@ -6,8 +6,8 @@ use Rattle.base.specs.declared.schedule.ScheduleLine.{ScheduleLine}
 use Rattle.clock.specs.Schedules.{IsScheduleText}
 use Rattle.clock.specs.declared.schedule.ScheduleFault.{ScheduleFault}
 use Rattle.endings.specs.Sources.{raised_from}
-use Rattle.explanations.specs.Explained.{explanation_of}
-use Rattle.hints.specs.Hinted.{AreRemarksAt}
+use Rattle.diagnostics.specs.explanations.Explained.{explanation_of}
+use Rattle.diagnostics.specs.hints.Hinted.{AreRemarksAt}
 use Rattle.image.specs.Sections.{Sections}
 use Rattle.image.specs.Texts.{text_from_one}
 use Rattle.lexer.specs.declared.fault.Fault.{Fault}

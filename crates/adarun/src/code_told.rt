@@ -12,7 +12,7 @@ ghost use Rattle.adarun.specs.CodeTold.{IsCodeTold, TellsCode, TellsStopOrNone, 
 use ada_tree::{Parsed, Program};
 use base::faults::{LIMIT_PASSED, MEMORY_REFUSED};
 use compiler::{Stop, first_stop};
-use hints::{frame_line, instructions_line, rows_line};
+use diagnostics::{frame_line, instructions_line, rows_line};
 use legality::check;
 use lexer::{Fault, Token, tokens};
 use parser::parse;

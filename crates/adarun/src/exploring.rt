@@ -1,4 +1,4 @@
-//! Searching the schedules of a set for one under which a source stops, waits forever or writes a line.
+//! Searching the schedules of a part of a set for one under which a source stops, waits forever or writes a line.
 ghost use Rattle.std.specs.Prelude.{◌≡◌, ◌<◌, Err, IfErr, IfOk, OnOk};
 ghost use Rattle.std.specs.Io.KnownBytes.{Appends};
 ghost use Rattle.compiler.specs.ada_tree.specs.ProgramTree.{ProgramTree};
@@ -10,7 +10,7 @@ ghost use Rattle.adarun.specs.Searching.{BeginsReport, RefusesSearching, WritesR
 ghost use Rattle.adarun.specs.Searching as searches;
 
 use crate::compilation::compile;
-use choices::{Choices, ChoicesFault};
+use choices::{Choices, ChoicesFault, Part};
 use image::Image;
 use image_laws::outcome_stays;
 use lexer::Fault;
@@ -67,19 +67,20 @@ fn write_report<S: Sink>(
     alloc: Global,
     image: &Image,
     choices: &Choices,
+    part: Part,
     limit: u64,
     searched: &Searched,
     sink: &mut S,
 ) -> Result<SearchOutcome, RunFault>
     ensures outcome { IfOk result (λ outcome. outcome ≡ searches.outcome_by searched.now) }
-    ensures text { OnOk result (Appends (S.bytes sink.old) (S.bytes sink.new) (report_text image.now choices.now limit searched.now)) }
+    ensures text { OnOk result (Appends (S.bytes sink.old) (S.bytes sink.new) (report_text image.now choices.now part limit searched.now)) }
     ensures kept { OnOk result (S.failures sink.new ≡ S.failures sink.old) }
     ensures memory { result ≡ Err RunFault.Memory → sink.new ≡ sink.old }
     ensures failed { result ≡ Err RunFault.Write → S.failures sink.old < S.failures sink.new }
     ensures beginning { result ≡ Err RunFault.Write → AppendsBeginning (S.bytes sink.old) (S.bytes sink.new)
-        (report_text image.now choices.now limit searched.now) }
+        (report_text image.now choices.now part limit searched.now) }
 {
-    let Ok(text) = report(alloc, image, choices, limit, searched) else {
+    let Ok(text) = report(alloc, image, choices, part, limit, searched) else {
         return Err(RunFault::Memory);
     };
     match write_all(sink, &text) {
@@ -88,9 +89,9 @@ fn write_report<S: Sink>(
     }
 }
 
-/// Compiles a source text, reads a set of schedules, and runs the image on its schedules, in the order of alternatives, up to `until` (microseconds since the
-/// start) and with `limit` steps at one time at most, until a run comes to what is wanted. It writes the schedule under which this is so and what the run
-/// comes to, or that there is none (docs/FORMATS.md, "Search"). The steps of all runs are counted.
+/// Compiles a source text, reads a set of schedules, and runs the image on the schedules of a part of it, in the order of alternatives, up to `until`
+/// (microseconds since the start) and with `limit` steps at one time at most, until a run comes to what is wanted. It writes the schedule under which this is
+/// so and what the run comes to, or that there is none (docs/FORMATS.md, "Search"). The steps of all runs are counted.
 ///
 /// # Errors
 /// As `compile` and `Choices::read`, in this order; then where memory was refused or a write failed. Nothing was written then, but a beginning of the answer
@@ -99,16 +100,17 @@ pub fn search<S: Sink, L: Ledger>(
     alloc: Global,
     source: &[u8],
     choices: &[u8],
+    part: Part,
     until: i64,
     limit: u64,
     wanted: Wanted<'_>,
     sink: &mut S,
     steps: &mut Steps<L>,
 ) -> Result<SearchOutcome, SearchFault>
-    // What is found the source comes to under the schedule that is written; where there is nothing it comes to it under none of the set.
-    ensures answers { IfOk result (λ outcome. WritesReport source.now choices.now until limit wanted.entry outcome (S.bytes sink.old) (S.bytes sink.new)) }
+    // What is found the source comes to under the schedule that is written; where there is nothing it comes to it under none of the part.
+    ensures answers { IfOk result (λ outcome. WritesReport source.now choices.now part until limit wanted.entry outcome (S.bytes sink.old) (S.bytes sink.new)) }
     // What is found is found under the first of its schedules, in the order of the alternatives.
-    ensures first { IfOk result (λ outcome. WritesFirst source.now choices.now until limit wanted.entry outcome (S.bytes sink.old) (S.bytes sink.new)) }
+    ensures first { IfOk result (λ outcome. WritesFirst source.now choices.now part until limit wanted.entry outcome (S.bytes sink.old) (S.bytes sink.new)) }
     ensures kept { OnOk result (S.failures sink.new ≡ S.failures sink.old) }
     // A refusal is that of the call it comes from, where the calls before it gave their answers.
     ensures refused { IfErr result (RefusesSearching source.now choices.now until) }
@@ -118,7 +120,7 @@ pub fn search<S: Sink, L: Ledger>(
     ensures choices { (fault : ChoicesFault) → result ≡ Err (SearchFault.Choices fault) → sink.new ≡ sink.old }
     ensures memory { result ≡ Err (SearchFault.Run RunFault.Memory) → sink.new ≡ sink.old }
     ensures failed { result ≡ Err (SearchFault.Run RunFault.Write) → S.failures sink.old < S.failures sink.new }
-    ensures beginning { result ≡ Err (SearchFault.Run RunFault.Write) → BeginsReport source.now choices.now until limit wanted.entry (S.bytes sink.old)
+    ensures beginning { result ≡ Err (SearchFault.Run RunFault.Write) → BeginsReport source.now choices.now part until limit wanted.entry (S.bytes sink.old)
         (S.bytes sink.new) }
 {
     outcome_stays();
@@ -131,11 +133,11 @@ pub fn search<S: Sink, L: Ledger>(
         Err(fault) => return Err(SearchFault::Choices(fault)),
     };
     let _slots = choices.slots();
-    let Ok(searched) = searching::search(alloc, &image, &choices, until, limit, wanted, steps)
+    let Ok(searched) = searching::search(alloc, &image, &choices, part, until, limit, wanted, steps)
     else {
         return Err(SearchFault::Run(RunFault::Memory));
     };
-    match write_report(alloc, &image, &choices, limit, &searched, sink) {
+    match write_report(alloc, &image, &choices, part, limit, &searched, sink) {
         Ok(outcome) => Ok(outcome),
         Err(fault) => Err(SearchFault::Run(fault)),
     }

@@ -3,7 +3,7 @@ ghost use Rattle.std.specs.Prelude.{◌≡◌};
 ghost use Rattle.adarun.specs.Origins.{origin_in, position_in};
 
 use compiler::Places;
-use hints::{column_behind, line_behind};
+use diagnostics::{column_after, line_after};
 use tracing::{Origin, Origins};
 
 /// The line and the column of a place of a text, both from 1 and in bytes.
@@ -12,8 +12,8 @@ pub(crate) fn position(text: &[u8], place: u32) -> Origin
 {
     let front = &text[..(place as usize).min(text.len())];
     Origin {
-        line: line_behind(front),
-        column: column_behind(front),
+        line: line_after(front),
+        column: column_after(front),
     }
 }
 

@@ -23,9 +23,8 @@ use crate::search_command::drive_search;
 use base::faults::MEMORY_REFUSED;
 use clock::{Schedule, ScheduleFault};
 use command_line::{Request, WordsError, request_of};
-use explanations::explanation;
+use diagnostics::{explained, explanation};
 use file_limits::{IMAGE_BYTES, SCHEDULE_BYTES, SOURCE_BYTES, image_ends};
-use hints::explained;
 use image::ImageFault;
 use image_format::{encode, list};
 use image_loading::load;
@@ -156,9 +155,10 @@ pub fn drive<F: FileStore, O: Sink, E: Sink, L: Ledger>(
                 until,
                 limit,
                 wanted,
+                part,
             },
         ) => drive_search(
-            alloc, files, source, choices, until, limit, wanted, out, err, steps,
+            alloc, files, source, choices, until, limit, wanted, part, out, err, steps,
         ),
         Ok(Request::Manual) => show(MANUAL, out, err),
         Ok(Request::Version) => show(VERSION, out, err),

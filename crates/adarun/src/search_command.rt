@@ -9,7 +9,7 @@ ghost use Rattle.adarun.specs.Reading.{with_input};
 use crate::exploring::{SearchFault, SearchOutcome, search};
 use crate::files::{FileStore, read_source};
 use crate::program::{Status, cannot_write, no_memory, refuse, refuse_source, unread};
-use choices::ChoicesFault;
+use choices::{ChoicesFault, Part};
 use command_line::Sought;
 use file_limits::CHOICES_BYTES;
 use machine::{RunFault, Sink, Steps};
@@ -58,8 +58,8 @@ fn refuse_choices<E: Sink>(err: &mut E, fault: &ChoicesFault) -> Status
     )
 }
 
-/// Searches the schedules of a set for one under which the source comes to what is sought, up to `until` (microseconds since the start), with `limit` steps at
-/// one time at most.
+/// Searches the schedules of a part of a set for one under which the source comes to what is sought, up to `until` (microseconds since the start), with
+/// `limit` steps at one time at most.
 #[inline(never)]
 pub(crate) fn drive_search<F: FileStore, O: Sink, E: Sink, L: Ledger>(
     alloc: Global,
@@ -69,12 +69,13 @@ pub(crate) fn drive_search<F: FileStore, O: Sink, E: Sink, L: Ledger>(
     until: i64,
     limit: u64,
     sought: Sought<'_>,
+    part: Part,
     out: &mut O,
     err: &mut E,
     steps: &mut Steps<L>,
 ) -> Status
     ensures leaves { LeavesSearch (with_input (F.standard_input files.now) (F.contents files.now)) source.now (F.contents files.now choices.now) until limit
-        (words_of.wanted_of sought.entry) result (O.bytes out.old) (O.bytes out.new) }
+        (words_of.wanted_of sought.entry) part result (O.bytes out.old) (O.bytes out.new) }
     ensures sink { KeepsSink result (out.new ≡ out.old) (O.failures out.old) (O.failures out.new) }
 {
     let text = match read_source(alloc, files, source) {
@@ -89,6 +90,7 @@ pub(crate) fn drive_search<F: FileStore, O: Sink, E: Sink, L: Ledger>(
         alloc,
         &text,
         &lines,
+        part,
         until,
         limit,
         wanted_of(sought),

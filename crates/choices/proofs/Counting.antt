@@ -1,12 +1,12 @@
 -- The digits of numbers, the least first, and of their products.
-use Rattle.std.proofs.Common.{◌≡◌, ℕ, zero, suc, ◌+◌, ◌*◌, ◌/◌, ◌%◌, ◌<◌, ◌≤◌, List, [], ◌∷◌, ◌++◌, drop, get_or, length, ◌^◌, sym, ap, subst, ◌∙◌, arith, append_assoc, reverse, All, true, rules}
+use Rattle.std.proofs.Common.{◌≡◌, ℕ, zero, suc, ◌+◌, ◌*◌, ◌/◌, ◌%◌, ◌<◌, ◌≤◌, List, [], ◌∷◌, ◌++◌, drop, get_or, length, ◌^◌, refl, sym, ap, subst, ◌∙◌, arith, append_assoc, map, reverse, All, true, rules}
 use Rattle.std.specs.Int.Digits.{digits_of}
 use Rattle.std.proofs.lemmas.Int.Digits.{all_below_base_digits_of, digits_of_step}
 use Rattle.std.proofs.lemmas.List.{drop_all, drop_more, reverse-append, reverse-reverse}
 use Rattle.std.proofs.lemmas.List.Elements.{All-from_recursion}
 use Rattle.std.proofs.lemmas.Nat.{mul-le}
 use Rattle.std.proofs.Math.Nat.{mul_assoc}
-use Rattle.choices.specs.Counting.{row_of}
+use Rattle.choices.specs.Counting.{number_text, row_of}
 use Rattle.choices.specs.Slots.{Slot, are_each_slots, is_slot, number_of}
 use Rattle.choices.proofs.Order.{alternatives_lawful, both}
 
@@ -119,15 +119,15 @@ module _ (slots : List Slot) (at : ℕ) (s : Slot) (less : at < length slots) (i
       let some = (alternatives_lawful s (both (is_slot s) (are_each_slots (drop (at + 1) slots)) here).0).1 in
       search (rules, some)
 
-  pub count_next : (n count : ℕ) → count ≡ length s.alternatives → n * number_of (drop at slots) ≡ number_of slots
-      → n * count * number_of (drop (at + 1) slots) ≡ number_of slots
-  count_next n count same h =
+  pub count_next : (n count total : ℕ) → count ≡ length s.alternatives → n * number_of (drop at slots) ≡ total
+      → n * count * number_of (drop (at + 1) slots) ≡ total
+  count_next n count total same h =
       let rest = number_of (drop (at + 1) slots) in
       let there : number_of (drop at slots) ≡ count * rest = ap number_of slots_here ∙ ap (λ m. m * rest) (sym same) in
       mul_assoc n count rest ∙ (ap (λ m. n * m) (sym there) ∙ h)
 
-pub count_last : (slots : List Slot) (at n : ℕ) → length slots ≤ at → n * number_of (drop at slots) ≡ number_of slots → n ≡ number_of slots
-count_last slots at n le h =
+pub count_last : (slots : List Slot) (at n total : ℕ) → length slots ≤ at → n * number_of (drop at slots) ≡ total → n ≡ total
+count_last slots at n total le h =
     let one : n * number_of (drop at slots) ≡ n * 1 = ap (λ l. n * number_of l) (drop_all at slots le) in
     let e = sym one ∙ h in
     omega (arith, e)
@@ -139,3 +139,26 @@ digits_back n = reverse-reverse (digits_of 10 n)
 
 pub digits_small : (n : ℕ) → All (λ d. d < 10) (digits_of 10 n)
 digits_small n = All-from_recursion (λ d. d < 10) (digits_of 10 n) (all_below_base_digits_of 10 n (omega arith))
+
+pub some_choices : (first : ℕ) (slots : List Slot) → (first ≡ 0 → ⊥) → are_each_slots slots ≡ true → (first * number_of slots ≡ 0) → ⊥
+some_choices zero slots some lawful none = some refl
+some_choices (suc n) slots some lawful none = by (suc n) slots lawful none (omega arith)
+  where
+    times : (m n : ℕ) → 0 < m → 0 < n → 0 < m * n
+    times zero n h i = absurd (omega (arith, h))
+    times (suc m) zero h i = absurd (omega (arith, i))
+    times (suc m) (suc n) h i = omega arith
+
+    positive : (all : List Slot) → are_each_slots all ≡ true → 0 < number_of all
+    positive [] h = omega arith
+    positive (s ∷ all) h =
+        let p = both (is_slot s) (are_each_slots all) h in
+        let some = (alternatives_lawful s p.0).1 in
+        times (length s.alternatives) (number_of all) (search (rules, some)) (positive all p.1)
+
+    by : (m : ℕ) (all : List Slot) → are_each_slots all ≡ true → m * number_of all ≡ 0 → 0 < m → ⊥
+    by m all h none more = let x = times m (number_of all) more (positive all h) in omega (arith, x, none)
+
+pub text_of_some : (n : ℕ) → (n ≡ 0 → ⊥) → number_text n ≡ map (λ d. d + 48) (digits_of 10 n)
+text_of_some zero some = absurd (some refl)
+text_of_some (suc n) some = refl

@@ -2,6 +2,8 @@ pub mod Order
 pub mod Lawful
 pub mod Raising
 pub mod Moving
+pub mod Parting
+mod PartRows
 mod Taking
 mod Parts
 mod Values

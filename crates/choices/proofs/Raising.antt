@@ -3,7 +3,7 @@ use Rattle.std.proofs.Common.{◌≡◌, ◌⊎◌, ℕ, zero, suc, ◌+◌, ◌
 use Rattle.std.proofs.lemmas.Nat.{mul-le}
 use Rattle.choices.specs.Slots.{Slot, number_of}
 use Rattle.choices.specs.Places.{AreWithin, IsBefore, left}
-use Rattle.choices.specs.Stepping.{IsEarlierInFront, IsFurther}
+use Rattle.choices.specs.Stepping.{IsFurther}
 use Rattle.choices.proofs.Moving.{long_as, within_at}
 
 pub within_set : (n : ℕ) (slots : List Slot) (ps : List ℕ) (v : ℕ) (d : Slot) → AreWithin slots ps → n < length slots

@@ -8,3 +8,4 @@ pub mod Filling
 pub mod Sets
 pub mod Writing
 pub mod Counting
+pub mod Parts

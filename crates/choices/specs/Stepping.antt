@@ -1,5 +1,5 @@
 -- A step from one choice to the next one, or to a later one with the same alternatives of the slots at the front.
-use Rattle.std.specs.Prelude.{◌≡◌, ◌≤◌, ℕ, List, Bool, true, false, Some, None, drop, length, take}
+use Rattle.std.specs.Prelude.{◌≡◌, ◌≤◌, ℕ, List, Bool, true, false, Some, None, drop, take}
 use Rattle.choices.specs.Places.{AreWithin, IsBefore, firsts, left, next}
 use Rattle.choices.specs.Slots.{Slot}
 

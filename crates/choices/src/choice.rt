@@ -1,10 +1,12 @@
 //! One choice among the alternatives of all slots, and the next one.
 ghost use Rattle.std.specs.Prelude.{◌≡◌, ◌<◌, ◌≤◌, None, Some, IfOk, drop, length, IsTrue, take, true, if◌then◌else◌};
 ghost use Rattle.base.specs.Schedule.{is_schedule};
+ghost use Rattle.choices.specs.Parts.{is_of_part};
 ghost use Rattle.choices.specs.Places.{AreWithin, IsBefore, firsts, next, taken};
 ghost use Rattle.choices.specs.Slots.{are_each_slots, are_slots, lines_of};
 ghost use Rattle.choices.specs.Stepping.{IsEarlierInFront, IsFurther, MovesOn};
 
+use crate::part::{Part, front_in, remainder_in};
 use crate::set::Choices;
 use crate::slot::Slot;
 use base::ScheduleLine;
@@ -78,6 +80,17 @@ impl Choice {
         ensures { result ≡ true → AreWithin choices.now self.now }
     {
         are_within(choices.slots(), &self.places)
+    }
+
+    /// Whether it is of this part of the set.
+    pub fn is_of_part(&self, choices: &Choices, part: Part) -> bool
+        requires { AreWithin choices.now self.now }
+        ensures { result ≡ is_of_part part choices.now self.now }
+    {
+        let parts = part.count();
+        let slots = choices.slots();
+        let front = front_in(parts, slots);
+        remainder_in(parts, front.slots, slots, &self.places) == u64::from(part.before)
     }
 
     /// Whether another choice is later than this one by the first `front` slots alone, and has the same alternatives of the others.

@@ -1,8 +1,10 @@
 //! How many choices a set has, in decimal: the number may have some 15,000 digits.
 ghost use Rattle.std.specs.Prelude.{◌≡◌, ◌<◌, ◌+◌, ◌*◌, ◌++◌, ℕ, IfOk, IsTrue, OnOk, All, map};
 ghost use Rattle.choices.specs.Counting.{number_text, row_of};
+ghost use Rattle.choices.specs.Parts.{number_of_part};
 ghost use Rattle.choices.specs.Slots.{are_each_slots, number_of};
 
+use crate::part::{Part, front_in};
 use crate::set::Choices;
 use crate::slot::Slot;
 use std::alloc::{AllocError, Global};
@@ -36,13 +38,13 @@ fn product(alloc: Global, row: &[u8], factor: usize) -> Result<Vec<u8>, AllocErr
     Ok(made)
 }
 
-// The digits of the number of choices, the least first.
-fn count_row(alloc: Global, slots: &[Slot]) -> Result<Vec<u8>, AllocError>
+// The digits of a number times those of the choices of these slots, the least first.
+fn count_row(alloc: Global, first: u128, slots: &[Slot]) -> Result<Vec<u8>, AllocError>
     requires { IsTrue (are_each_slots slots.now) }
-    ensures { IfOk result (λ row. row.items ≡ row_of (number_of slots.now)) }
+    ensures { IfOk result (λ row. row.items ≡ row_of (first * number_of slots.now)) }
 {
     let mut row = Vec::new(alloc);
-    row.push(1)?;
+    push_digits(&mut row, first)?;
     for slot in slots {
         row = product(alloc, &row, slot.alternatives.len())?;
     }
@@ -57,14 +59,28 @@ fn text_of(alloc: Global, digits: &[u8]) -> Result<Vec<u8>, AllocError>
     digits.iter().map(|digit| *digit + b'0').collect(alloc)
 }
 
-/// The number of choices of a set, in decimal (docs/FORMATS.md, "Search").
+// The text of a number times that of the choices of these slots.
+fn product_text(alloc: Global, first: u128, slots: &[Slot]) -> Result<Vec<u8>, AllocError>
+    requires { IsTrue (are_each_slots slots.now) }
+    ensures { IfOk result (λ text. text.items ≡ number_text (first * number_of slots.now)) }
+{
+    if first == 0 {
+        return text_of(alloc, &[0]);
+    }
+    let mut digits = count_row(alloc, first, slots)?;
+    digits.reverse();
+    text_of(alloc, &digits)
+}
+
+/// The number of choices of a part of a set, in decimal (docs/FORMATS.md, "Search").
 ///
 /// # Errors
 /// Where memory was refused.
-pub fn count_text(alloc: Global, choices: &Choices) -> Result<Vec<u8>, AllocError>
-    ensures { IfOk result (λ text. text.items ≡ number_text (number_of choices.now)) }
+pub fn count_text(alloc: Global, choices: &Choices, part: Part) -> Result<Vec<u8>, AllocError>
+    ensures { IfOk result (λ text. text.items ≡ number_text (number_of_part part choices.now)) }
 {
-    let mut digits = count_row(alloc, choices.slots())?;
-    digits.reverse();
-    text_of(alloc, &digits)
+    let slots = choices.slots();
+    let front = front_in(part.count(), slots);
+    let first = (front.combinations + u128::from(part.after)) / u128::from(part.count());
+    product_text(alloc, first, &slots[front.slots..])
 }

@@ -2,3 +2,4 @@ mod Adding
 mod Judging
 mod Limits
 mod Reading
+mod Few

@@ -1,6 +1,7 @@
 -- Which words ask for what (docs/FORMATS.md, "Commands").
-use Rattle.std.specs.Prelude.{◌≡◌, ◌&&◌, ◌||◌, ◌^◌, ℕ, ℤ, pos, Bool, true, not, List, [], ◌∷◌, length, Option, Some, None, Result, Ok, Err, if◌then◌else◌, bytes_eq, codes, is_some, nat_eq, nat_le, nat_lt, option_map, ⊤}
-use Rattle.std.specs.List.{list_all}
+use Rattle.std.specs.Prelude.{◌≡◌, ◌&&◌, ◌||◌, ◌^◌, ℕ, ◌-◌, ℤ, pos, Bool, true, false, not, List, [], ◌∷◌, length, Option, Some, None, Result, Ok, Err, if◌then◌else◌, bytes_eq, codes, is_some, nat_eq, nat_le, nat_lt, option_map, ⊤}
+use Rattle.std.specs.List.{after_first, before_first, list_all, list_any}
+use Rattle.choices.specs.declared.part.Part.{Part}
 use Rattle.std.specs.Str.Parse.{digits_value}
 use Rattle.command_line.specs.declared.TheConstants.{SIMULATED_STEPS}
 use Rattle.command_line.specs.declared.Request.{Request}
@@ -26,8 +27,8 @@ pub data Command : Type 0 where
   CheckText : (source : List ℕ) → Command
   -- the schedule is empty where none is named
   SimulateText : (source : List ℕ) (schedule : Option (List ℕ)) (limit : ℕ) → Command
-  -- a time in microseconds up to which is searched, and a limit on the steps at one time
-  SearchText : (source choices : List ℕ) (until : ℤ) (limit : ℕ) → Wanted → Command
+  -- a time in microseconds up to which a part of a set is searched, and a limit on the steps at one time
+  SearchText : (source choices : List ℕ) (until : ℤ) (limit : ℕ) → Wanted → Part → Command
   ShowManual ShowVersion Nothing : Command
 
 abbrev pub is_digit : ℕ → Bool
@@ -98,12 +99,22 @@ abbrev pub behind_search : List (List ℕ) → Option (List (List ℕ))
 behind_search [] = None
 behind_search (name ∷ rest) = if bytes_eq name (codes "search") then Some rest else None
 
+-- `--part`, and which part it is
+abbrev pub are_part : List (List ℕ) → Bool
+are_part (mark ∷ part ∷ []) = bytes_eq mark (codes "--part")
+are_part words = false
+
+-- none of them can be an option, but for a part at the end
+abbrev pub are_plain : List (List ℕ) → Bool
+are_plain [] = true
+are_plain (first ∷ rest) = are_part (first ∷ rest) || (is_plain first && are_plain rest)
+
 -- none of them can be an option, or a word `--` in front of them lets names begin with `-`
 abbrev pub unmarked : List (List ℕ) → Option (List (List ℕ))
 unmarked [] = Some []
 unmarked (first ∷ rest) =
     if bytes_eq first (codes "--") then Some rest
-    else (if is_plain first && list_all is_plain rest then Some (first ∷ rest) else None)
+    else (if are_plain (first ∷ rest) then Some (first ∷ rest) else None)
 
 abbrev pub up_to_end : Option ℕ → Option ℤ
 up_to_end None = None
@@ -113,20 +124,56 @@ up_to_end (Some time) = if nat_lt time (2 ^ 63) then Some (pos time) else None
 abbrev pub time_of : List ℕ → Option ℤ
 time_of digits = up_to_end (numeral_of digits)
 
--- what these words look for
-abbrev pub wanted_in : List (List ℕ) → Option Wanted
-wanted_in [] = Some UnhandledOrWaits
+-- what these words look for, and the words after that
+abbrev pub wanted_in : List (List ℕ) → Wanted × List (List ℕ)
+wanted_in [] = (UnhandledOrWaits, [])
 wanted_in (word ∷ []) =
-    if bytes_eq word (codes "unhandled") then Some Unhandled else (if bytes_eq word (codes "waits") then Some WaitsForever else None)
-wanted_in (word ∷ label ∷ []) = if bytes_eq word (codes "line") then Some (LineOf label) else None
-wanted_in words = None
+    if bytes_eq word (codes "unhandled") then (Unhandled, [])
+    else (if bytes_eq word (codes "waits") then (WaitsForever, []) else (UnhandledOrWaits, word ∷ []))
+wanted_in (word ∷ label ∷ rest) =
+    if bytes_eq word (codes "unhandled") then (Unhandled, label ∷ rest)
+    else (if bytes_eq word (codes "waits") then (WaitsForever, label ∷ rest)
+    else (if bytes_eq word (codes "line") then (LineOf label, rest) else (UnhandledOrWaits, word ∷ label ∷ rest)))
 
-abbrev pub search_for : (source choices : List ℕ) → Option ℤ → Option ℕ → Option Wanted → Command
-search_for source choices (Some until) (Some limit) (Some wanted) = SearchText source choices until limit wanted
-search_for source choices until limit wanted = Nothing
+-- the set itself, which is its only part
+abbrev pub whole : Part
+whole = record { before = 0; after = 0 }
+
+-- the part of this number, from 1, of so many
+abbrev pub numbered_part : (number count : ℕ) → Option Part
+numbered_part number count =
+    if nat_le 1 number && (nat_le number count && nat_lt count (2 ^ 32)) then Some (record { before = number - 1; after = count - number })
+    else None
+
+abbrev pub part_by : Option ℕ → Option ℕ → Option Part
+part_by (Some number) (Some count) = numbered_part number count
+part_by number count = None
+
+abbrev pub is_slash : ℕ → Bool
+is_slash c = nat_eq c 47
+
+-- a number, `/`, and how many parts there are
+abbrev pub part_of : List ℕ → Option Part
+part_of text =
+    if list_any is_slash text then part_by (numeral_of (before_first is_slash text)) (numeral_of (after_first is_slash text)) else None
+
+-- that is the last word
+abbrev pub last_part : List (List ℕ) → Option Part
+last_part (part ∷ []) = part_of part
+last_part words = None
+
+-- the part that these words ask for
+abbrev pub part_in : List (List ℕ) → Option Part
+part_in [] = Some whole
+part_in (mark ∷ rest) = if bytes_eq mark (codes "--part") then last_part rest else None
+
+abbrev pub search_for : (source choices : List ℕ) → Option ℤ → Option ℕ → Wanted → Option Part → Command
+search_for source choices (Some until) (Some limit) wanted (Some part) = SearchText source choices until limit wanted part
+search_for source choices until limit wanted part = Nothing
 
 abbrev pub search_in : List (List ℕ) → Command
-search_in (source ∷ choices ∷ until ∷ limit ∷ wanted) = search_for source choices (time_of until) (numeral_of limit) (wanted_in wanted)
+search_in (source ∷ choices ∷ until ∷ limit ∷ rest) =
+    search_for source choices (time_of until) (numeral_of limit) (wanted_in rest).0 (part_in (wanted_in rest).1)
 search_in words = Nothing
 
 abbrev pub search_among : Option (List (List ℕ)) → Command
@@ -174,7 +221,7 @@ command_of (requests.Explain number) = ExplainFault number
 command_of (requests.ExplainText number source) = ExplainText number source.now
 command_of (requests.Check source) = CheckText source.now
 command_of (requests.Simulate source schedule limit) = SimulateText source.now (option_map (λ name. name.now) schedule) limit
-command_of (requests.Search source choices until limit wanted) = SearchText source.now choices.now until limit (wanted_of wanted)
+command_of (requests.Search source choices until limit wanted part) = SearchText source.now choices.now until limit (wanted_of wanted) part
 command_of requests.Manual = ShowManual
 command_of requests.Version = ShowVersion
 

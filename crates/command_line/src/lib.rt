@@ -12,6 +12,7 @@ ghost use Rattle.command_line.specs.Words as words_of;
 mod search;
 
 use crate::search::{behind_search, search_request};
+use choices::Part;
 use clap::error::ErrorKind;
 use clap::{Arg, ArgMatches, Command, Error};
 use std::alloc::{AllocError, Global};
@@ -74,13 +75,14 @@ pub enum Request<'a> {
         schedule: Option<&'a str>,
         limit: u64,
     },
-    /// Compile a source and search the schedules of a set up to a time (microseconds since the start), with at most so many steps at one time.
+    /// Compile a source and search the schedules of a part of a set up to a time (microseconds since the start), with at most so many steps at one time.
     Search {
         source: &'a str,
         choices: &'a str,
         until: i64,
         limit: u64,
         wanted: Sought<'a>,
+        part: Part,
     },
     /// Show the manual.
     Manual,

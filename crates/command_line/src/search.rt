@@ -1,10 +1,10 @@
-//! The words behind `search`, which are read without clap: what is looked for is one word or two, or none.
-ghost use Rattle.std.specs.Prelude.{◌≡◌, ◌&&◌, map, option_map};
-ghost use Rattle.std.specs.List.{list_all};
+//! The words after `search`, which are read without clap: what is looked for is one word or two, or none, and `--part` may follow it.
+ghost use Rattle.std.specs.Prelude.{◌≡◌, map, option_map};
 ghost use Rattle.command_line.specs.Words.{AnswersWords, search_asked, search_in, wanted_in, wanted_of};
 ghost use Rattle.command_line.specs.Words as words_of;
 
 use crate::{Request, Sought, WordsError, is_plain, numeral_of};
+use choices::Part;
 
 /// The words behind `search`.
 pub(crate) fn behind_search<'a>(words: &'a [&'a str]) -> Option<&'a [&'a str]>
@@ -16,11 +16,25 @@ pub(crate) fn behind_search<'a>(words: &'a [&'a str]) -> Option<&'a [&'a str]>
     }
 }
 
+// `--part`, and which part it is.
+fn are_part(words: &[&str]) -> bool
+    ensures { result ≡ words_of.are_part (map (λ w. w.now) words.now) }
+{
+    match words {
+        [mark, _] => *mark == "--part",
+        _ => false,
+    }
+}
+
+// Whether none of them can be an option, but for a part at the end.
 fn are_plain(words: &[&str]) -> bool
-    ensures { result ≡ list_all words_of.is_plain (map (λ w. w.now) words.now) }
+    ensures { result ≡ words_of.are_plain (map (λ w. w.now) words.now) }
 {
     let mut rest = words;
     while let [first, behind @ ..] = rest {
+        if are_part(rest) {
+            return true;
+        }
         if !is_plain(first) {
             return false;
         }
@@ -36,7 +50,7 @@ fn unmarked<'a>(words: &'a [&'a str]) -> Option<&'a [&'a str]>
     match words {
         [] => Some(words),
         [mark, rest @ ..] if *mark == "--" => Some(rest),
-        [first, rest @ ..] if is_plain(first) && are_plain(rest) => Some(words),
+        _ if are_plain(words) => Some(words),
         _ => None,
     }
 }
@@ -48,15 +62,56 @@ fn time_of(digits: &str) -> Option<i64>
     i64::try_from(numeral_of(digits)?).ok()
 }
 
-// What these words look for.
-fn sought_of<'a>(words: &'a [&'a str]) -> Option<Sought<'a>>
-    ensures { option_map wanted_of result ≡ wanted_in (map (λ w. w.now) words.now) }
+// What these words look for, and the words after that.
+fn sought_of<'a>(words: &'a [&'a str]) -> (Sought<'a>, &'a [&'a str])
+    ensures { (wanted_of result.0, map (λ w. w.now) result.1.now) ≡ wanted_in (map (λ w. w.now) words.now) }
 {
     match words {
-        [] => Some(Sought::UnhandledOrWaits),
-        [word] if *word == "unhandled" => Some(Sought::Unhandled),
-        [word] if *word == "waits" => Some(Sought::WaitsForever),
-        [word, label] if *word == "line" => Some(Sought::Line(label)),
+        [word, rest @ ..] if *word == "unhandled" => (Sought::Unhandled, rest),
+        [word, rest @ ..] if *word == "waits" => (Sought::WaitsForever, rest),
+        [word, label, rest @ ..] if *word == "line" => (Sought::Line(label), rest),
+        _ => (Sought::UnhandledOrWaits, words),
+    }
+}
+
+// The part of this number, from 1, of so many.
+fn numbered_part(number: u64, count: u64) -> Option<Part>
+    ensures { result ≡ words_of.numbered_part number count }
+{
+    if number < 1 || count < number || u64::from(u32::MAX) < count {
+        return None;
+    }
+    Some(Part {
+        before: (number - 1) as u32,
+        after: (count - number) as u32,
+    })
+}
+
+// A number, `/`, and how many parts there are.
+fn part_of(text: &str) -> Option<Part>
+    ensures { result ≡ words_of.part_of text.now }
+{
+    let (number, count) = text.split_once('/')?;
+    numbered_part(numeral_of(number)?, numeral_of(count)?)
+}
+
+// That is the last word.
+fn last_part(words: &[&str]) -> Option<Part>
+    ensures { result ≡ words_of.last_part (map (λ w. w.now) words.now) }
+{
+    match words {
+        [part] => part_of(part),
+        _ => None,
+    }
+}
+
+// The part that these words ask for.
+fn part_in(words: &[&str]) -> Option<Part>
+    ensures { result ≡ words_of.part_in (map (λ w. w.now) words.now) }
+{
+    match words {
+        [] => Some(Part::whole()),
+        [mark, rest @ ..] if *mark == "--part" => last_part(rest),
         _ => None,
     }
 }
@@ -65,22 +120,24 @@ fn sought_of<'a>(words: &'a [&'a str]) -> Option<Sought<'a>>
 fn request_in<'a>(words: &'a [&'a str]) -> Result<Request<'a>, WordsError>
     ensures { AnswersWords (search_in (map (λ w. w.now) words.now)) result }
 {
-    let [source, choices, until, limit, wanted @ ..] = words else {
+    let [source, choices, until, limit, rest @ ..] = words else {
         return Err(WordsError::Usage);
     };
+    let (wanted, rest) = sought_of(rest);
     Ok(Request::Search {
         source,
         choices,
         until: time_of(until).ok_or(WordsError::Usage)?,
         limit: numeral_of(limit).ok_or(WordsError::Usage)?,
-        wanted: sought_of(wanted).ok_or(WordsError::Usage)?,
+        wanted,
+        part: part_in(rest).ok_or(WordsError::Usage)?,
     })
 }
 
 /// What the words behind `search` ask for.
 ///
 /// # Errors
-/// Usage for other words than those of the command, and for a time, a limit or what is looked for that is none.
+/// Usage for other words than those of the command, and for a time, a limit, what is looked for or a part that is none.
 pub(crate) fn search_request<'a>(words: &'a [&'a str]) -> Result<Request<'a>, WordsError>
     ensures { AnswersWords (search_asked (map (λ w. w.now) words.now)) result }
 {

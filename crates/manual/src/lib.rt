@@ -13,13 +13,13 @@ NAME
 COMMANDS
 
     adarun simulate SRC [SCHED [LIMIT]]
-        compiles a source and runs it; what is wrong is told with its line, its rule and a hint
+        compiles a source and runs it; what is wrong is reported with its line, its rule and a hint
     adarun go SRC SCHED LIMIT
-        the same, and what is wrong is told by its number and its place alone, for scripts
+        the same, and what is wrong is reported by its number and its place alone
     adarun check SRC
         reports every rule that a source breaks, with its line, its rule and a hint
     adarun trace SRC SCHED LIMIT
-        tells the run row by row: who runs, waits, is preempted, enters and leaves objects,
+        reports the run row by row: who runs, waits, is preempted, enters and leaves objects,
         queues and is served, what is raised and where, and what is refused
     adarun trace --vcd SRC SCHED LIMIT
         writes the run as a value change dump, for viewers of waveforms
@@ -29,11 +29,12 @@ COMMANDS
         lists an image
     adarun run IMG SCHED LIMIT
         runs an image
-    adarun search SRC CHOICES UNTIL LIMIT [unhandled | waits | line LABEL]
+    adarun search SRC CHOICES UNTIL LIMIT [unhandled | waits | line LABEL] [--part K/N]
         searches the schedules of a set for one under which an exception stops the run or it
-        waits forever, or, as the last word says, for one of these or a line with this label
+        waits forever, or, as the word after LIMIT says, for one of these or a line with this
+        label; with --part only those of the K-th of N parts, which together are the set
     adarun explain NUMBER [SRC]
-        explains the fault of this number, and what is told of a source that has it
+        explains the fault of this number, and what is said of a source that has it
     adarun manual
         shows this text
     adarun version
@@ -53,7 +54,8 @@ WORDS
     NUMBER  the number of a fault
 
     A longer name that begins with a hyphen comes after the word --, as in
-    adarun go -- -main.adb /dev/null 1000000. There are no options but --vcd.
+    adarun go -- -main.adb /dev/null 1000000. There are no options but --vcd and
+    --part.
 
 FORMATS
 

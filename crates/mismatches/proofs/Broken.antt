@@ -1,10 +1,9 @@
 -- Where types don't match in an expression rule 12 is broken.
-use Rattle.std.proofs.Common.{◌++◌, ℕ, suc, Bool, true, false, [], Option, refl, inl, inr, arith}
+use Rattle.std.proofs.Common.{◌++◌, ℕ, suc, Bool, true, false, [], refl, inl, inr, arith}
 use Rattle.std.proofs.lemmas.List.Elements.{Contains-append_cases, Contains-append_left, Contains-append_right}
 use Rattle.base.specs.declared.faults.TheConstants.{NO_MEANING}
 use Rattle.ada_tree.specs.declared.expression.Identifier.{Identifier}
 use Rattle.ada_tree.specs.ExpressionTree.{ExprTree, Number, Named, Parenthesized, Conditional, Unary, Binary, ElsifValueTrees, NoElsifValues, MoreElsifValues, SelectorTrees, NoSelectors, MoreSelectors, SelectorTree, Component, Arguments, Attribute, ArgumentTrees, NoArguments, MoreArguments, ArgumentTree, Value, Text}
-use Rattle.types.specs.declared.entity.Subtype.{Subtype}
 use Rattle.types.specs.declared.standing.Standing.{Standing}
 use Rattle.types.specs.declared.standing.Standing.TheVariants as standing
 use Rattle.types.specs.Scopes.{Scope, number_of}
@@ -18,13 +17,12 @@ use Rattle.expr_rules.specs.declared.own.Wanted.TheVariants.{OfType}
 use Rattle.expr_rules.specs.Faults.{Faults, rule}
 use Rattle.expr_rules.specs.ExpressionRules.{argument_faults, arguments_faults, below, beside, call_faults, conditional_wanted, elsif_faults, faults_in, faults_of, name_faults, selector_faults, selectors_faults, target_faults}
 use Rattle.expr_rules.specs.NameRules.{actual_rule, slot_at, slot_rule, slot_wanted, variable_rule}
-use Rattle.expr_rules.specs.StaticRules.{static_faults}
 use Rattle.expr_rules.specs.Typing.{boolean_wanted, own_of}
 use Rattle.mismatches.specs.declared.conflict.Conflict.{Conflict}
 use Rattle.mismatches.specs.declared.conflict.Conflict.TheVariants.{NoVariable}
-use Rattle.mismatches.specs.Conflicts.{Mismatches, conflict_if}
+use Rattle.mismatches.specs.Conflicts.{Mismatches, conflict_if, fault_at, rule_of}
 use Rattle.mismatches.specs.ExpressionMismatches.{actual_mismatch, argument_mismatches, arguments_mismatches, elsifs_mismatches, mismatches_in, mismatches_of, name_mismatches, selector_mismatches, selectors_mismatches, slot_mismatch, variable_mismatch}
-use Rattle.mismatches.specs.Laws.{AreFaults, meaningless_at}
+use Rattle.mismatches.specs.Laws.{AreFaults}
 
 -- ---- joined lists
 
@@ -36,19 +34,19 @@ both {a} {b} {x} {y} f g =
     record {
       each = λ m h.
           elim (Contains-append_cases a b m h) [
-            | inl l ↦ Contains-append_left x y (meaningless_at m.place) (f.each m l)
-            | inr r ↦ Contains-append_right x y (meaningless_at m.place) (g.each m r)
+            | inl l ↦ Contains-append_left x y (fault_at m) (f.each m l)
+            | inr r ↦ Contains-append_right x y (fault_at m) (g.each m r)
           ];
     }
 
--- where more rules are asked behind, or in front
+-- where more rules are asked after, or before
 pub in_front : {a : Mismatches} {x : Faults} → AreFaults a x → (y : Faults) → AreFaults a (x ++ y)
-in_front {a} {x} f y = record { each = λ m h. Contains-append_left x y (meaningless_at m.place) (f.each m h) }
+in_front {a} {x} f y = record { each = λ m h. Contains-append_left x y (fault_at m) (f.each m h) }
 
-pub behind : {a : Mismatches} {y : Faults} (x : Faults) → AreFaults a y → AreFaults a (x ++ y)
-behind {a} {y} x f = record { each = λ m h. Contains-append_right x y (meaningless_at m.place) (f.each m h) }
+pub after : {a : Mismatches} {y : Faults} (x : Faults) → AreFaults a y → AreFaults a (x ++ y)
+after {a} {y} x f = record { each = λ m h. Contains-append_right x y (fault_at m) (f.each m h) }
 
-pub one : (place : ℕ) (conflict : Conflict) (b : Bool) → AreFaults (conflict_if place conflict b) (rule NO_MEANING place b)
+pub one : (place : ℕ) (conflict : Conflict) (b : Bool) → AreFaults (conflict_if place conflict b) (rule (rule_of conflict) place b)
 one place conflict true = record { each = λ m h. search (h.0, h.1, h.2, refl, arith) }
 one place conflict false = none []
 
@@ -87,10 +85,10 @@ slot_broken s TakesLabel e own = none _
 -- ---- expressions
 
 mutual
-  pub inside_broken : (s : Scope) (w : Wanted) (e : ExprTree) → AreFaults (mismatches_in s e) (faults_in s w e)
+  pub inside_broken : (s : Scope) (w : Wanted) (e : ExprTree) → AreFaults (mismatches_in s w e) (faults_in s w e)
   inside_broken s w (Number z place) = none _
   inside_broken s w (Named first selectors) =
-      in_front (behind _ (selectors_broken s first.place (stands_first s (number_of s first.name)) selectors)) _
+      in_front (after _ (selectors_broken s first.place (stands_first s (number_of s first.name)) selectors)) _
   inside_broken s w (Parenthesized place e) = inside_broken s w e
   inside_broken s w (Unary operator place e) = both (inside_broken s (below operator w) e) (one _ _ _)
   inside_broken s w (Binary operator a b) =
@@ -98,13 +96,17 @@ mutual
   inside_broken s w (Conditional place condition value elsifs last) =
       let inner = conditional_wanted s w value elsifs last in
       both
-      (both (both (both (inside_broken s boolean_wanted condition) (one _ _ _)) (in_front (inside_broken s inner value) _)) (elsifs_broken s inner elsifs))
-      (in_front (inside_broken s inner last) _)
+      (both
+      (both (both (inside_broken s boolean_wanted condition) (one _ _ _)) (both (inside_broken s inner value) (one _ _ _)))
+      (elsifs_broken s inner elsifs))
+      (both (inside_broken s inner last) (one _ _ _))
 
-  elsifs_broken : (s : Scope) (w : Wanted) (elsifs : ElsifValueTrees) → AreFaults (elsifs_mismatches s elsifs) (elsif_faults s w elsifs)
+  elsifs_broken : (s : Scope) (w : Wanted) (elsifs : ElsifValueTrees) → AreFaults (elsifs_mismatches s w elsifs) (elsif_faults s w elsifs)
   elsifs_broken s w NoElsifValues = none _
   elsifs_broken s w (MoreElsifValues condition value rest) =
-      both (both (both (inside_broken s boolean_wanted condition) (one _ _ _)) (in_front (inside_broken s w value) _)) (elsifs_broken s w rest)
+      both
+      (both (both (inside_broken s boolean_wanted condition) (one _ _ _)) (both (inside_broken s w value) (one _ _ _)))
+      (elsifs_broken s w rest)
 
   selectors_broken : (s : Scope) (place : ℕ) (x : Standing) (selectors : SelectorTrees)
       → AreFaults (selectors_mismatches s x selectors) (selectors_faults s place x selectors)
@@ -113,7 +115,7 @@ mutual
 
   selector_broken : (s : Scope) (place : ℕ) (x : Standing) (part : SelectorTree) → AreFaults (selector_mismatches s x part) (selector_faults s place x part)
   selector_broken s place x (Component name) = none _
-  selector_broken s place x (Arguments a) = behind _ (arguments_broken s x 0 a)
+  selector_broken s place x (Arguments a) = after _ (arguments_broken s x 0 a)
   selector_broken s place x (Attribute name) = none _
 
   arguments_broken : (s : Scope) (x : Standing) (k : ℕ) (a : ArgumentTrees) → AreFaults (arguments_mismatches s x k a) (arguments_faults s x k a)
@@ -134,15 +136,10 @@ together {a} {b} {x} f g = record { each = λ m h. elim (Contains-append_cases a
 -- ---- names where a statement stands on them
 
 name_broken : (s : Scope) (first : Identifier) (selectors : SelectorTrees) → AreFaults (name_mismatches s first selectors) (name_faults s first selectors)
-name_broken s first selectors = behind _ (selectors_broken s first.place (stands_first s (number_of s first.name)) selectors)
+name_broken s first selectors = after _ (selectors_broken s first.place (stands_first s (number_of s first.name)) selectors)
 
 pub call_broken : (s : Scope) (first : Identifier) (selectors : SelectorTrees) → AreFaults (name_mismatches s first selectors) (call_faults s first selectors)
 call_broken s first selectors = in_front (name_broken s first selectors) _
 
 pub target_broken : (s : Scope) (first : Identifier) (selectors : SelectorTrees) → AreFaults (name_mismatches s first selectors) (target_faults s first selectors)
 target_broken s first selectors = in_front (name_broken s first selectors) _
-
--- ---- expressions that must be static
-
-pub static_broken : (s : Scope) (w : Wanted) (within : Option Subtype) (e : ExprTree) → AreFaults (mismatches_of s w e) (static_faults s w within e)
-static_broken s w within e = in_front (in_front (expression_broken s w e) _) _

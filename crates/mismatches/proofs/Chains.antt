@@ -1,4 +1,4 @@
--- What is found of a chain of operators, operand by operand, and of the parts of an if expression.
+-- What is found of a chain of operators, operand by operand, and of the parts of an if expression; the first obstacle in a chain.
 use Rattle.std.proofs.Common.{◌≡◌, ◌++◌, ℕ, ◌+◌, ◌<◌, List, [], ◌∷◌, length, drop, refl, sym, ap, ◌∙◌, true}
 use Rattle.std.specs.Prelude.{get_or}
 use Rattle.ada_tree.specs.declared.expression.BinaryOperator.{BinaryOperator}
@@ -7,34 +7,38 @@ use Rattle.ada_tree.specs.ExpressionTree.{ExprTree, Binary, Conditional, ElsifVa
 use Rattle.types.specs.Scopes.{Scope}
 use Rattle.types.specs.Statics.{start_of}
 use Rattle.expr_rules.specs.declared.own.Wanted.{Wanted}
-use Rattle.expr_rules.specs.Typing.{own_of}
+use Rattle.expr_rules.specs.ExpressionRules.{beside, conditional_wanted}
+use Rattle.expr_rules.specs.Typing.{boolean_wanted, own_of}
 use Rattle.mismatches.specs.declared.conflict.Conflict.TheVariants.{NoVariable}
 use Rattle.mismatches.specs.declared.expressions.LeftOperand.{LeftOperand}
-use Rattle.mismatches.specs.Conflicts.{Search, conflict_if, noted}
-use Rattle.mismatches.specs.ExpressionMismatches.{actual_mismatch, binary_mismatch, condition_mismatches, elsifs_mismatches, mismatches_in}
+use Rattle.mismatches.specs.Chaining.{operands_obstacle}
+use Rattle.mismatches.specs.Conflicts.{Mismatches, Search, conflict_if, noted}
+use Rattle.mismatches.specs.ExpressionMismatches.{actual_mismatch, binary_mismatch, elsifs_mismatches, mismatches_in, mismatches_of}
 use Rattle.mismatches.specs.Operating.{joined, joined_mismatches, left_operand, operands_mismatches}
+use Rattle.mismatches.specs.StaticMismatches.{obstacle_in, or_obstacle}
 use Rattle.mismatches.proofs.Noted.{noted_append, noted_turn}
 
 -- what the left operand has, and then what the right one and the operation add
-pub binary_mismatches : (s : Scope) (operator : BinaryOperator) (a b : ExprTree) (search : Search)
-    → noted (noted search (mismatches_in s a)) (joined_mismatches s (left_operand s a) operator b) ≡ noted search (mismatches_in s (Binary operator a b))
-binary_mismatches s operator a b search =
-    let left = mismatches_in s a in
-    let right = mismatches_in s b in
+pub binary_mismatches : (s : Scope) (wanted : Wanted) (operator : BinaryOperator) (a b : ExprTree) (search : Search)
+    → noted (noted search (mismatches_in s (beside s operator (own_of s b)) a)) (joined_mismatches s (left_operand s a) operator b)
+    ≡ noted search (mismatches_in s wanted (Binary operator a b))
+binary_mismatches s wanted operator a b search =
+    let left = mismatches_in s (beside s operator (own_of s b)) a in
+    let right = mismatches_in s (beside s operator (own_of s a)) b in
     let last = binary_mismatch s operator (start_of a) (own_of s a) (own_of s b) in
     noted_append (noted search left) right last ∙ ap (λ f. noted f last) (sym (noted_append search left right)) ∙ sym (noted_append search (left ++ right) last)
 
-pub chain_mismatches : (s : Scope) (operator : BinaryOperator) (a b : ExprTree) (operands : List Operand) (search : Search)
-    → noted search (mismatches_in s (chain_tree (Binary operator a b) operands))
-    ≡ noted (noted search (mismatches_in s (Binary operator a b))) (operands_mismatches s (left_operand s (Binary operator a b)) operands)
-chain_mismatches s operator a b [] search = refl
-chain_mismatches s operator a b (o ∷ rest) search =
+pub chain_mismatches : (s : Scope) (wanted : Wanted) (operator : BinaryOperator) (a b : ExprTree) (operands : List Operand) (search : Search)
+    → noted search (mismatches_in s wanted (chain_tree (Binary operator a b) operands))
+    ≡ noted (noted search (mismatches_in s wanted (Binary operator a b))) (operands_mismatches s (left_operand s (Binary operator a b)) operands)
+chain_mismatches s wanted operator a b [] search = refl
+chain_mismatches s wanted operator a b (o ∷ rest) search =
     let both = Binary operator a b in
     let e = expr_tree o.value in
     let after = operands_mismatches s (left_operand s (Binary o.operator both e)) rest in
-    chain_mismatches s o.operator both e rest search
-    ∙ ap (λ f. noted f after) (sym (binary_mismatches s o.operator both e search))
-    ∙ sym (noted_append (noted search (mismatches_in s both)) (joined_mismatches s (left_operand s both) o.operator e) after)
+    chain_mismatches s wanted o.operator both e rest search
+    ∙ ap (λ f. noted f after) (sym (binary_mismatches s wanted o.operator both e search))
+    ∙ sym (noted_append (noted search (mismatches_in s wanted both)) (joined_mismatches s (left_operand s both) o.operator e) after)
 
 -- a turn of the loop over the operands of a chain
 pub operands_turn : (s : Scope) (all : List Operand) (n : ℕ) (x : Operand) (left next : LeftOperand) (search one whole : Search)
@@ -60,18 +64,29 @@ chain_is_no_variable s wanted operator a b (o ∷ rest) = chain_is_no_variable s
 
 -- ---- if expressions
 
-pub conditional_mismatches : (s : Scope) (tree : ExprTree) (place : ℕ) (condition value last : ExprTree) (parts : ElsifValueTrees) (f fc fv fo fl : Search)
+pub conditional_mismatches : (s : Scope) (wanted inner : Wanted) (tree : ExprTree) (place : ℕ) (condition value last : ExprTree) (parts : ElsifValueTrees)
+    (f fc fv fo fl : Search)
     → tree ≡ Conditional place condition value parts last
-    → fc ≡ noted f (condition_mismatches s condition)
-    → fv ≡ noted fc (mismatches_in s value)
-    → fo ≡ noted fv (elsifs_mismatches s parts)
-    → fl ≡ noted fo (mismatches_in s last)
-    → fl ≡ noted f (mismatches_in s tree)
-conditional_mismatches s tree place condition value last parts f fc fv fo fl is hc hv ho hl =
-    let a = condition_mismatches s condition in
-    let b = mismatches_in s value in
-    let d = elsifs_mismatches s parts in
+    → inner ≡ conditional_wanted s wanted value parts last
+    → fc ≡ noted f (mismatches_of s boolean_wanted condition)
+    → fv ≡ noted fc (mismatches_of s inner value)
+    → fo ≡ noted fv (elsifs_mismatches s inner parts)
+    → fl ≡ noted fo (mismatches_of s inner last)
+    → fl ≡ noted f (mismatches_in s wanted tree)
+conditional_mismatches s wanted inner tree place condition value last parts f fc fv fo fl is expected hc hv ho hl =
+    let a = mismatches_of s boolean_wanted condition in
+    let b = mismatches_of s inner value in
+    let d = elsifs_mismatches s inner parts in
+    let whole : Wanted → Mismatches = λ w. a ++ mismatches_of s w value ++ elsifs_mismatches s w parts ++ mismatches_of s w last in
     hl
-    ∙ ap (λ g. noted g (mismatches_in s last)) (ho ∙ ap (λ g. noted g d) (hv ∙ ap (λ g. noted g b) hc ∙ sym (noted_append f a b)) ∙ sym (noted_append f (a ++ b) d))
-    ∙ sym (noted_append f (a ++ b ++ d) (mismatches_in s last))
-    ∙ ap (λ t. noted f (mismatches_in s t)) (sym is)
+    ∙ ap (λ g. noted g (mismatches_of s inner last)) (ho ∙ ap (λ g. noted g d) (hv ∙ ap (λ g. noted g b) hc ∙ sym (noted_append f a b)) ∙ sym (noted_append f (a ++ b) d))
+    ∙ sym (noted_append f (a ++ b ++ d) (mismatches_of s inner last))
+    ∙ ap (λ w. noted f (whole w)) expected
+    ∙ ap (λ t. noted f (mismatches_in s wanted t)) (sym is)
+
+-- ---- obstacles
+
+pub chain_obstacle : (s : Scope) (operator : BinaryOperator) (a b : ExprTree) (operands : List Operand)
+    → obstacle_in s (chain_tree (Binary operator a b) operands) ≡ operands_obstacle s (or_obstacle (obstacle_in s a) (obstacle_in s b)) operands
+chain_obstacle s operator a b [] = refl
+chain_obstacle s operator a b (o ∷ rest) = chain_obstacle s o.operator (Binary operator a b) (expr_tree o.value) rest

@@ -1,12 +1,15 @@
--- Types that don't match at places of a text, the first of them at one place, and how walks find them.
+-- Conflicts at places of a text: types that don't match, and expressions that must be static and are not, or whose value is wrong; the first of them at one
+-- place, and how walks find them.
 use Rattle.std.specs.Prelude.{◌≡◌, ◌≤◌, ◌+◌, ◌-◌, ◌^◌, ◌++◌, ℕ, Bool, not, nat_eq, nat_lt, ◌&&◌, List, [], ◌∷◌, Option, Some, None, if◌then◌else◌, length, min, vec_capacity}
 use Rattle.std.specs.Global.{Vec}
+use Rattle.base.specs.declared.faults.TheConstants.{NO_MEANING, NOT_STATIC, WRONG_STATIC_VALUE}
+use Rattle.lexer.specs.declared.fault.Fault.{Fault}
 use Rattle.types.specs.Scopes.{Scope}
 use Rattle.expr_rules.specs.declared.own.Own.{Own}
 use Rattle.expr_rules.specs.declared.own.Wanted.{Wanted}
 use Rattle.expr_rules.specs.Typing.{is_known, is_wanted}
 use Rattle.mismatches.specs.declared.conflict.Conflict.{Conflict}
-use Rattle.mismatches.specs.declared.conflict.Conflict.TheVariants.{Unexpected}
+use Rattle.mismatches.specs.declared.conflict.Conflict.TheVariants.{NotStatic, NullRange, Outside, Raises, Unexpected}
 use Rattle.mismatches.specs.declared.conflict.Mismatch.{Mismatch}
 
 -- in the order of the text
@@ -17,10 +20,23 @@ Mismatches = List Mismatch
 abbrev pub conflict_if : (place : ℕ) → Conflict → Bool → Mismatches
 conflict_if place conflict is_so = if is_so then record { place = place; conflict = conflict } ∷ [] else []
 
--- the first conflict at a place
-abbrev pub first_at : (place : ℕ) → Mismatches → Option Conflict
-first_at place [] = None
-first_at place (m ∷ ms) = if nat_eq m.place place then Some m.conflict else first_at place ms
+-- the number of the rule that a conflict breaks
+abbrev pub rule_of : Conflict → ℕ
+rule_of (NotStatic obstacle) = NOT_STATIC
+rule_of (Outside value first last) = WRONG_STATIC_VALUE
+rule_of Raises = WRONG_STATIC_VALUE
+rule_of (NullRange first last) = WRONG_STATIC_VALUE
+rule_of conflict = NO_MEANING
+
+-- that rule, broken at the place of the conflict
+abbrev pub fault_at : Mismatch → Fault
+fault_at m = record { number = rule_of m.conflict; place = m.place }
+
+-- the first conflict at a place that breaks the rule of this number
+abbrev pub first_at : (number place : ℕ) → Mismatches → Option Conflict
+first_at number place [] = None
+first_at number place (m ∷ ms) =
+    if nat_eq (rule_of m.conflict) number && nat_eq m.place place then Some m.conflict else first_at number place ms
 
 -- a type that is known is not the one that is expected
 abbrev pub unexpected : Scope → Wanted → Own → (place : ℕ) → Mismatches

@@ -1,9 +1,11 @@
 pub use Rattle.unit_rules.specs.PackageRules
+pub mod Chaining
 pub mod Conflicts
 pub mod ExpressionMismatches
 pub mod Operating
 pub mod StatementMismatches
 pub mod BodyMismatches
 pub mod Remarks
+pub mod StaticMismatches
 pub mod Laws
 pub mod Listed

@@ -5,6 +5,7 @@ use Rattle.ada_tree.specs.declared.expression.Operand.{Operand}
 use Rattle.ada_tree.specs.ExpressionTree.{ExprTree, expr_tree}
 use Rattle.types.specs.Scopes.{Scope}
 use Rattle.types.specs.Statics.{start_of}
+use Rattle.expr_rules.specs.ExpressionRules.{beside}
 use Rattle.expr_rules.specs.Typing.{binary_own, own_of}
 use Rattle.mismatches.specs.declared.expressions.LeftOperand.{LeftOperand}
 use Rattle.mismatches.specs.Conflicts.{Mismatches}
@@ -18,7 +19,7 @@ abbrev pub joined : Scope → LeftOperand → BinaryOperator → ExprTree → Le
 joined s left operator e = record { own = binary_own s operator left.own (own_of s e); place = left.place }
 
 abbrev pub joined_mismatches : Scope → LeftOperand → BinaryOperator → ExprTree → Mismatches
-joined_mismatches s left operator e = mismatches_in s e ++ binary_mismatch s operator left.place left.own (own_of s e)
+joined_mismatches s left operator e = mismatches_in s (beside s operator left.own) e ++ binary_mismatch s operator left.place left.own (own_of s e)
 
 abbrev pub operands_mismatches : Scope → LeftOperand → List Operand → Mismatches
 operands_mismatches s left [] = []

@@ -1,4 +1,5 @@
--- What is said of types that don't match: which types these are, and where they are declared (RM 3.2, A.1, D.8).
+-- What is said of conflicts: which types don't match, and where these are declared (RM 3.2, A.1, D.8); why an expression isn't static, or its value is wrong
+-- (RM 4.9).
 use Rattle.std.specs.Prelude.{ℕ, List, [], ◌∷◌, Option, Some, None, nat_eq, if◌then◌else◌}
 use Rattle.ada_tree.specs.ProgramTree.{BodyItemTree, ItemTree, OfItem, PackageTree, ProgramTree}
 use Rattle.ada_tree.specs.ProgramTree.{OfType as OfDeclaration}
@@ -10,7 +11,7 @@ use Rattle.expr_rules.specs.declared.own.Wanted.{Wanted}
 use Rattle.expr_rules.specs.declared.own.Wanted.TheVariants.{Anything, AnyInteger, OfType}
 use Rattle.declaration_rules.specs.PackageNames.{package_scope}
 use Rattle.mismatches.specs.declared.conflict.Conflict.{Conflict}
-use Rattle.mismatches.specs.declared.conflict.Conflict.TheVariants.{NoVariable, Operands, Unexpected}
+use Rattle.mismatches.specs.declared.conflict.Conflict.TheVariants.{NoVariable, NotDiscrete, NotStatic, NullRange, Operands, Outside, Raises, Unexpected}
 use Rattle.mismatches.specs.declared.remark.NamedType.{NamedType}
 use Rattle.mismatches.specs.declared.remark.NamedType.TheVariants as named
 use Rattle.mismatches.specs.declared.remark.PredefinedType.TheVariants as predefined
@@ -88,16 +89,21 @@ abbrev pub conflict_remark : Scope → PackageTree → Option Conflict → Optio
 conflict_remark s p (Some (Unexpected wanted own)) = unexpected_remark (wanted_named s p wanted) (own_named s p own)
 conflict_remark s p (Some (Operands left right)) = operands_remark (own_named s p left) (own_named s p right)
 conflict_remark s p (Some NoVariable) = Some remark.NoVariable
+conflict_remark s p (Some (NotDiscrete own)) = unexpected_remark (Some named.Discrete) (own_named s p own)
+conflict_remark s p (Some (NotStatic obstacle)) = Some (remark.NotStatic obstacle)
+conflict_remark s p (Some (Outside value first last)) = Some (remark.Outside value first last)
+conflict_remark s p (Some Raises) = Some remark.Raises
+conflict_remark s p (Some (NullRange first last)) = Some (remark.NullRange first last)
 conflict_remark s p None = None
 
--- of the first types at the place that don't match; a type keeps its number, so it has the one that it has behind the package
-abbrev pub package_remark : PackageTree → (place : ℕ) → Option Remark
-package_remark p place = conflict_remark (package_scope standard p) p (first_at place (package_mismatches p))
+-- of the first conflict at the place that breaks the rule; a type keeps its number, so it has the one that it has after the package
+abbrev pub package_remark : PackageTree → (number place : ℕ) → Option Remark
+package_remark p number place = conflict_remark (package_scope standard p) p (first_at number place (package_mismatches p))
 
 -- main has no types
-abbrev pub optional_remark : Option PackageTree → (place : ℕ) → Option Remark
-optional_remark (Some p) place = package_remark p place
-optional_remark None place = None
+abbrev pub optional_remark : Option PackageTree → (number place : ℕ) → Option Remark
+optional_remark (Some p) number place = package_remark p number place
+optional_remark None number place = None
 
-abbrev pub remark_at : ProgramTree → (place : ℕ) → Option Remark
-remark_at t place = optional_remark t.package_ place
+abbrev pub remark_at : ProgramTree → (number place : ℕ) → Option Remark
+remark_at t number place = optional_remark t.package_ number place

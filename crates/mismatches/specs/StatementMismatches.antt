@@ -1,21 +1,24 @@
--- Types that don't match in statements (RM 5, 6.5, 9.6; docs/LANGUAGE.md, "Rules of statements"), in the order of the text.
-use Rattle.std.specs.Prelude.{List, [], ◌∷◌, ◌++◌, Option, Some, None, if◌then◌else◌}
+-- Conflicts in statements (RM 5, 6.5, 9.6; docs/LANGUAGE.md, "Rules of statements"), in the order of the text.
+use Rattle.std.specs.Prelude.{ℕ, Bool, true, false, not, ◌&&◌, List, [], ◌∷◌, ◌++◌, Option, Some, None, if◌then◌else◌}
 use Rattle.ada_tree.specs.ExpressionTree.{ExprTree, NameTree}
 use Rattle.ada_tree.specs.StatementTree.{IterationTree, Forever, While, For, ChoicesTree, Values, OtherValues, RangeTree, DeclarationTree, LocalObject, ObjectTree, StmtTree, Assignment, Call, Exit, Return, Delay, DelayUntil, If, Case, Loop, Block, StmtTrees, NoStmts, MoreStmts, ElsifTrees, NoElsifs, MoreElsifs, AlternativeTrees, NoAlternatives, MoreAlternatives, HandlerTrees, NoHandlers, MoreHandlers}
 use Rattle.types.specs.Scopes.{Scope, form_at, integer_type}
+use Rattle.types.specs.Statics.{start_of}
 use Rattle.expr_rules.specs.declared.own.Own.{Own}
 use Rattle.expr_rules.specs.declared.own.Own.TheVariants.{Typed}
 use Rattle.expr_rules.specs.declared.own.Wanted.{Wanted}
-use Rattle.expr_rules.specs.declared.own.Wanted.TheVariants.{AnyInteger, OfType}
-use Rattle.expr_rules.specs.Typing.{is_integers, own_of}
+use Rattle.expr_rules.specs.declared.own.Wanted.TheVariants.{AnyInteger, Anything, OfType}
+use Rattle.expr_rules.specs.Typing.{is_integers, is_known, own_of}
 use Rattle.type_rules.specs.SubtypeNames.{subtype_of, wanted_by}
 use Rattle.declaration_rules.specs.LocalRules.{local_scope, locals_scope}
 use Rattle.stmt_rules.specs.declared.around.BodyKind.{BodyKind}
-use Rattle.stmt_rules.specs.CaseRules.{choices_wanted}
+use Rattle.stmt_rules.specs.CaseRules.{choices_wanted, is_discrete}
 use Rattle.stmt_rules.specs.SimpleRules.{assigned_wanted, result_wanted, time_wanted}
 use Rattle.stmt_rules.specs.StatementRules.{iteration_scope}
-use Rattle.mismatches.specs.Conflicts.{Mismatches}
+use Rattle.mismatches.specs.declared.conflict.Conflict.TheVariants.{NotDiscrete}
+use Rattle.mismatches.specs.Conflicts.{Mismatches, conflict_if, unexpected}
 use Rattle.mismatches.specs.ExpressionMismatches.{condition_mismatches, mismatches_in, mismatches_of, name_mismatches}
+use Rattle.mismatches.specs.StaticMismatches.{fixed_initial_mismatches, static_mismatches}
 
 -- ---- objects (RM 3.3.1): an initial value is of the type of its object
 
@@ -23,17 +26,19 @@ abbrev pub initial_mismatches : Scope → Wanted → Option ExprTree → Mismatc
 initial_mismatches s wanted (Some e) = mismatches_of s wanted e
 initial_mismatches s wanted None = []
 
-abbrev pub object_mismatches : Scope → ObjectTree → Mismatches
-object_mismatches s d = initial_mismatches s (wanted_by (subtype_of s d.subtype)) d.value
+-- initial values of the package and of task bodies are static
+abbrev pub object_mismatches : Scope → (is_fixed : Bool) → ObjectTree → Mismatches
+object_mismatches s true d = fixed_initial_mismatches s (subtype_of s d.subtype) d.value
+object_mismatches s false d = initial_mismatches s (wanted_by (subtype_of s d.subtype)) d.value
 
 -- of tasks and protected objects in a body, which are refused for themselves, nothing is said
-abbrev pub local_mismatches : Scope → DeclarationTree → Mismatches
-local_mismatches s (LocalObject d) = object_mismatches s d
-local_mismatches s other = []
+abbrev pub local_mismatches : Scope → (is_fixed : Bool) → DeclarationTree → Mismatches
+local_mismatches s is_fixed (LocalObject d) = object_mismatches s is_fixed d
+local_mismatches s is_fixed other = []
 
-abbrev pub locals_mismatches : Scope → List DeclarationTree → Mismatches
-locals_mismatches s [] = []
-locals_mismatches s (d ∷ ds) = local_mismatches s d ++ locals_mismatches (local_scope s d) ds
+abbrev pub locals_mismatches : Scope → (is_fixed : Bool) → List DeclarationTree → Mismatches
+locals_mismatches s is_fixed [] = []
+locals_mismatches s is_fixed (d ∷ ds) = local_mismatches s is_fixed d ++ locals_mismatches (local_scope s d) is_fixed ds
 
 -- ---- simple statements (RM 5.1)
 
@@ -65,7 +70,9 @@ last_wanted s (Typed n) = if is_integers (form_at s n) then OfType n else AnyInt
 last_wanted s first = AnyInteger
 
 abbrev pub range_mismatches : Scope → RangeTree → Mismatches
-range_mismatches s r = mismatches_of s AnyInteger r.first ++ mismatches_of s (last_wanted s (own_of s r.first)) r.last
+range_mismatches s r =
+    mismatches_of s AnyInteger r.first
+    ++ (mismatches_in s AnyInteger r.last ++ unexpected s (last_wanted s (own_of s r.first)) (own_of s r.last) (start_of r.last))
 
 abbrev pub iteration_mismatches : Scope → IterationTree → Mismatches
 iteration_mismatches s Forever = []
@@ -74,11 +81,18 @@ iteration_mismatches s (For parameter reversed range) = range_mismatches s range
 
 abbrev pub values_mismatches : Scope → Wanted → List ExprTree → Mismatches
 values_mismatches s wanted [] = []
-values_mismatches s wanted (e ∷ es) = mismatches_of s wanted e ++ values_mismatches s wanted es
+values_mismatches s wanted (e ∷ es) = static_mismatches s wanted None e ++ values_mismatches s wanted es
 
 abbrev pub choices_mismatches : Scope → Wanted → ChoicesTree → Mismatches
 choices_mismatches s wanted (Values all) = values_mismatches s wanted all
 choices_mismatches s wanted (OtherValues place) = []
+
+-- 12: the type of the selecting expression is known, and is neither an integer type nor Boolean (RM 5.4)
+abbrev pub discrete_mismatch : Scope → Own → (place : ℕ) → Mismatches
+discrete_mismatch s own place = conflict_if place (NotDiscrete own) (is_known own && not (is_discrete s own))
+
+abbrev pub selecting_mismatches : Scope → ExprTree → Mismatches
+selecting_mismatches s e = mismatches_of s Anything e ++ discrete_mismatch s (own_of s e) (start_of e)
 
 -- ---- statements
 
@@ -86,10 +100,10 @@ abbrev mutual
   pub stmt_mismatches : Scope → BodyKind → StmtTree → Mismatches
   stmt_mismatches s k (If place condition body elsifs others) =
       condition_mismatches s condition ++ stmts_mismatches s k body ++ elsifs_mismatches s k elsifs ++ stmts_mismatches s k others
-  stmt_mismatches s k (Case place value all) = mismatches_in s value ++ alternatives_mismatches s k (choices_wanted s (own_of s value)) all
+  stmt_mismatches s k (Case place value all) = selecting_mismatches s value ++ alternatives_mismatches s k (choices_wanted s (own_of s value)) all
   stmt_mismatches s k (Loop place iteration body) = iteration_mismatches s iteration ++ stmts_mismatches (iteration_scope s iteration) k body
   stmt_mismatches s k (Block place locals body all) =
-      locals_mismatches s locals ++ stmts_mismatches (locals_scope s locals) k body ++ handlers_mismatches (locals_scope s locals) k all
+      locals_mismatches s false locals ++ stmts_mismatches (locals_scope s locals) k body ++ handlers_mismatches (locals_scope s locals) k all
   stmt_mismatches s k simple = simple_mismatches s k simple
 
   pub stmts_mismatches : Scope → BodyKind → StmtTrees → Mismatches

@@ -62,7 +62,7 @@ fn conversion_slot(form: Option<&TypeForm>) -> Slot
     }
 }
 
-/// What the argument with this number, from 0 on, is expected to be where the name stands for this before it.
+/// What the argument with this number, from 0 on, is expected to be where the name denotes this before it.
 pub(crate) fn slot_at(scope: &Scope, standing: Standing, index: usize) -> Slot
     ensures { result ≡ slot_at scope.now standing index }
 {

@@ -17,21 +17,23 @@ use stmt_rules::BodyKind;
 use type_rules::{declare_subprogram, subtype_of};
 use types::{Scope, Subtype};
 
-/// A body of this kind, which sees the names of the scope. The scope stays as it was. Memory is the only refusal, and may leave names of the body visible.
+/// A body of this kind, which sees the names of the scope; the initial values of its declarations must be static where they are fixed. The scope stays as it
+/// was. Memory is the only refusal, and may leave names of the body visible.
 pub(crate) fn body_mismatches(
     alloc: Global,
     scope: &mut Scope,
+    is_fixed: bool,
     kind: BodyKind,
     body: &Body,
     search: &mut Search,
 ) -> Result<(), AllocError>
-    ensures search { OnOk result (search.new ≡ noted search.old (body_mismatches scope.old kind (body_tree body.now))) }
+    ensures search { OnOk result (search.new ≡ noted search.old (body_mismatches scope.old is_fixed kind (body_tree body.now))) }
     ensures scope { OnOk result (scope.new ≡ scope.old) }
 {
     noted_by_parts();
     names_are_added();
     let len = scope.len();
-    locals_mismatches(alloc, scope, &body.declarations, search)?;
+    locals_mismatches(alloc, scope, is_fixed, &body.declarations, search)?;
     sequence_mismatches(alloc, scope, kind, &body.statements, &body.handlers, search)?;
     scope.truncate(len);
     Ok(())
@@ -71,7 +73,7 @@ pub(crate) fn subprogram_mismatches(
     let kind = kind_of(scope, &subprogram.result);
     declare_subprogram(alloc, scope, subprogram)?;
     declare_formals(scope, &subprogram.formals)?;
-    body_mismatches(alloc, scope, kind, body, search)?;
+    body_mismatches(alloc, scope, false, kind, body, search)?;
     scope.truncate(len);
     Ok(())
 }

@@ -1,14 +1,23 @@
-//! Types that don't match, as walks find them.
+//! Conflicts, as walks find them: types that don't match, and expressions that must be static and are not, or whose value is wrong.
 ghost use Rattle.std.specs.Prelude.{◌≡◌, ◌&&◌, IfOk, not};
 ghost use Rattle.expr_rules.specs.Typing.{is_known, is_wanted};
-ghost use Rattle.mismatches.specs.Conflicts.{SearchGoesByParts, conflict_if, none_found, noted, noted_one, unexpected};
+ghost use Rattle.mismatches.specs.Conflicts.{SearchGoesByParts, conflict_if, none_found, noted, noted_one, rule_of, unexpected};
 
+use base::faults::{NO_MEANING, NOT_STATIC, WRONG_STATIC_VALUE};
 use expr_rules::{Own, Wanted, mismatch};
 use std::alloc::{AllocError, Global};
 use std::marker::Model;
 use types::Scope;
 
-/// Types that don't match.
+/// What keeps an expression from being static (RM 4.9), by the place where it begins.
+#[derive(Clone, Copy, Debug, PartialEq, Eq)]
+pub enum Obstacle {
+    /// A name of something else than a number, a truth value, or a scalar constant of the package.
+    Name(u32),
+    IfExpression(u32),
+}
+
+/// How an expression breaks a rule: by types that don't match (12), or where it must be static (14, 15).
 #[derive(Clone, Copy, Debug, PartialEq, Eq)]
 pub enum Conflict {
     /// An expression is expected to be the first, and is of the second.
@@ -17,9 +26,34 @@ pub enum Conflict {
     Operands(Own, Own),
     /// The actual parameter for a formal one of mode `out` or `in out` is no object (RM 6.4.1).
     NoVariable,
+    /// The selecting expression of a case statement is of this type, which is neither an integer type nor Boolean (RM 5.4).
+    NotDiscrete(Own),
+    /// An expression isn't static, for this.
+    NotStatic(Obstacle),
+    /// The value of a static expression is the first number, and lies outside the range from the second to the third.
+    Outside(i64, i64, i64),
+    /// The evaluation of a static expression raises an exception.
+    Raises,
+    /// A range that is declared is null: these are its bounds (RM 3.5).
+    NullRange(i64, i64),
 }
 
-/// Types that don't match at a place.
+impl Conflict {
+    /// The number of the rule that is broken.
+    pub(crate) fn number(self) -> u8
+        ensures { result ≡ rule_of self }
+    {
+        match self {
+            Conflict::NotStatic(_) => NOT_STATIC,
+            Conflict::Outside(_, _, _) | Conflict::Raises | Conflict::NullRange(_, _) => {
+                WRONG_STATIC_VALUE
+            }
+            _ => NO_MEANING,
+        }
+    }
+}
+
+/// A conflict at a place.
 #[derive(Clone, Copy, Debug, PartialEq, Eq)]
 pub struct Mismatch {
     pub place: u32,
@@ -77,7 +111,7 @@ impl Search {
         self.count
     }
 
-    /// Those for which there was room, in the order in which they were found.
+    /// The mismatches that are kept: of all that were found the first ones, as many as there was room for.
     pub(crate) fn into_kept(self, alloc: Global) -> Vec<Mismatch>
         ensures { result.items ≡ self.kept }
     {

@@ -1,25 +1,17 @@
-//! Types that don't match in declarations of types and subtypes (RM 3.2 to 3.6): in the bounds of their ranges.
+//! Conflicts in declarations of types and subtypes (RM 3.2 to 3.6): in the bounds of their ranges.
 ghost use Rattle.std.specs.Prelude.{◌≡◌};
 ghost use Rattle.ada_tree.specs.ProgramTree.{definition_tree, index_tree};
 ghost use Rattle.ada_tree.specs.StatementTree.{range_tree};
 ghost use Rattle.type_rules.specs.SubtypeNames.{if_integer};
 ghost use Rattle.mismatches.specs.Conflicts.{noted};
-ghost use Rattle.mismatches.specs.BodyMismatches.{bounds_mismatches, definition_mismatches, index_mismatches, narrowed_wanted};
+ghost use Rattle.mismatches.specs.BodyMismatches.{definition_mismatches, index_mismatches, narrowed_mismatches};
 
-use crate::conflict::{Search, noted_by_parts};
-use crate::expressions::mismatches_of;
+use crate::conflict::Search;
+use crate::statics::bounds_mismatches;
 use ada_tree::{ArrayIndex, Range, TypeDefinition};
 use expr_rules::{Own, Wanted, is_integral};
 use type_rules::subtype_of;
 use types::{Scope, Subtype};
-
-fn bounds_mismatches(scope: &Scope, wanted: Wanted, range: &Range, search: &mut Search)
-    ensures { search.new ≡ noted search.old (bounds_mismatches scope.now wanted (range_tree range.now)) }
-{
-    noted_by_parts();
-    mismatches_of(scope, wanted, &range.first, search);
-    mismatches_of(scope, wanted, &range.last, search);
-}
 
 fn index_mismatches(scope: &Scope, index: &ArrayIndex, search: &mut Search)
     ensures { search.new ≡ noted search.old (index_mismatches scope.now (index_tree index.now)) }
@@ -27,7 +19,7 @@ fn index_mismatches(scope: &Scope, index: &ArrayIndex, search: &mut Search)
     match index {
         ArrayIndex::Range(range) => {
             let wanted = Wanted::OfType(Subtype::INTEGER.type_number);
-            bounds_mismatches(scope, wanted, range, search)
+            bounds_mismatches(scope, wanted, Some(Subtype::INTEGER), range, search)
         }
         ArrayIndex::Subtype(_) => {}
     }
@@ -48,13 +40,16 @@ fn if_integer(scope: &Scope, subtype: Option<Subtype>) -> Option<Subtype>
     }
 }
 
-// What is expected of the bounds in a range of the subtype.
-fn narrowed_wanted(subtype: Option<Subtype>) -> Wanted
-    ensures { result ≡ narrowed_wanted subtype }
+// A range of the subtype.
+fn narrowed_mismatches(scope: &Scope, range: &Range, subtype: Option<Subtype>, search: &mut Search)
+    ensures { search.new ≡ noted search.old (narrowed_mismatches scope.now (range_tree range.now) subtype) }
 {
     match subtype {
-        Some(subtype) => Wanted::OfType(subtype.type_number),
-        None => Wanted::AnyInteger,
+        Some(subtype) => {
+            let wanted = Wanted::OfType(subtype.type_number);
+            bounds_mismatches(scope, wanted, Some(subtype), range, search)
+        }
+        None => bounds_mismatches(scope, Wanted::AnyInteger, None, range, search),
     }
 }
 
@@ -64,14 +59,14 @@ pub(crate) fn definition_mismatches(scope: &Scope, definition: &TypeDefinition, 
 {
     match definition {
         TypeDefinition::Integer(range) => {
-            bounds_mismatches(scope, Wanted::AnyInteger, range, search)
+            bounds_mismatches(scope, Wanted::AnyInteger, None, range, search)
         }
         TypeDefinition::Array(index, _) => index_mismatches(scope, index, search),
         TypeDefinition::Record(_) => {}
         TypeDefinition::Subtype(_, None) => {}
         TypeDefinition::Subtype(name, Some(range)) => {
             let subtype = if_integer(scope, subtype_of(scope, name));
-            bounds_mismatches(scope, narrowed_wanted(subtype), range, search)
+            narrowed_mismatches(scope, range, subtype, search)
         }
     }
 }

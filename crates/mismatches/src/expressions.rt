@@ -1,12 +1,14 @@
 //! Types that don't match in an expression (docs/LANGUAGE.md, "Rules of expressions").
 ghost use Rattle.std.specs.Prelude.{◌≡◌};
 ghost use Rattle.ada_tree.specs.ExpressionTree.{argument_tree, argument_trees, elsif_value_tree, elsif_value_trees, expr_tree, name_tree, selector_tree, selector_trees};
+ghost use Rattle.expr_rules.specs.Typing.{boolean_wanted};
 ghost use Rattle.mismatches.specs.Conflicts.{noted};
-ghost use Rattle.mismatches.specs.ExpressionMismatches.{argument_mismatches, arguments_mismatches, condition_mismatches, elsifs_mismatches, mismatches_in, mismatches_of, name_mismatches, part_mismatches, selector_mismatches, selectors_mismatches};
+ghost use Rattle.mismatches.specs.ExpressionMismatches.{argument_mismatches, arguments_mismatches, elsifs_mismatches, mismatches_in, mismatches_of, name_mismatches, part_mismatches, selector_mismatches, selectors_mismatches};
 ghost use Rattle.mismatches.specs.Operating.{joined, joined_mismatches, left_operand, operands_mismatches};
 
 use crate::arguments::{note_argument, slot_at};
 use crate::conflict::{Search, note_unexpected};
+use crate::expected::{before, below, beside, conditional_wanted, slot_wanted};
 use crate::operators::{binary_own, note_binary, note_unary};
 use ada_tree::laws::{arguments_by_parts, chains_by_parts, conditional_by_parts, names_by_parts};
 use ada_tree::{Argument, ElsifValue, Expr, NameExpr, Operand, Selector};
@@ -31,8 +33,8 @@ fn left_operand(scope: &Scope, e: &Expr) -> LeftOperand
 
 #[cycle(expression)]
 #[tactic(auto, using(crate::proofs::Noted::noted_append))]
-fn inside(scope: &Scope, e: &Expr, search: &mut Search)
-    ensures { search.new ≡ noted search.old (mismatches_in scope.now (expr_tree e.now)) }
+fn inside(scope: &Scope, wanted: Wanted, e: &Expr, search: &mut Search)
+    ensures { search.new ≡ noted search.old (mismatches_in scope.now wanted (expr_tree e.now)) }
 {
     names_by_parts();
     conditional_by_parts();
@@ -40,21 +42,22 @@ fn inside(scope: &Scope, e: &Expr, search: &mut Search)
     match e {
         Expr::Number(..) => {}
         Expr::Name(name) => name_mismatches(scope, name, search),
-        Expr::Parenthesized(_, inner) => inside(scope, inner, search),
+        Expr::Parenthesized(_, inner) => inside(scope, wanted, inner, search),
         Expr::Unary(operator, place, operand) => {
-            inside(scope, operand, search);
+            inside(scope, below(*operator, wanted), operand, search);
             note_unary(scope, *operator, *place, own_of(scope, operand), search);
         }
         Expr::Chain(first, second, more) => {
-            inside(scope, first, search);
+            inside(scope, before(scope, second), first, search);
             let left = operand_mismatches(scope, left_operand(scope, first), second, search);
             operands_mismatches(scope, left, more, search);
         }
         Expr::Conditional(_, condition, value, parts, else_value) => {
-            condition_mismatches(scope, condition, search);
-            inside(scope, value, search);
-            elsifs_mismatches(scope, parts, search);
-            inside(scope, else_value, search);
+            let inner = conditional_wanted(scope, wanted, value, parts, else_value);
+            mismatches_of(scope, Wanted::BOOLEAN, condition, search);
+            mismatches_of(scope, inner, value, search);
+            elsifs_mismatches(scope, inner, parts, search);
+            mismatches_of(scope, inner, else_value, search);
         }
     }
 }
@@ -72,7 +75,8 @@ fn operand_mismatches(
     ensures search { search.new ≡ noted search.old (joined_mismatches scope.now left operand.now.operator (expr_tree operand.now.value)) }
 {
     let right = own_of(scope, &operand.value);
-    inside(scope, &operand.value, search);
+    let expected = beside(scope, operand.operator, left.own);
+    inside(scope, expected, &operand.value, search);
     note_binary(scope, operand.operator, left.place, left.own, right, search);
     LeftOperand {
         own: binary_own(scope, operand.operator, left.own, right),
@@ -90,36 +94,31 @@ fn operands_mismatches(scope: &Scope, first: LeftOperand, operands: &[Operand], 
     }
 }
 
+/// Types that don't match in an expression of which this is expected.
 #[cycle(expression)]
 #[tactic(auto, using(crate::proofs::Noted::noted_append))]
-fn condition_mismatches(scope: &Scope, e: &Expr, search: &mut Search)
-    ensures { search.new ≡ noted search.old (condition_mismatches scope.now (expr_tree e.now)) }
+pub(crate) fn mismatches_of(scope: &Scope, wanted: Wanted, e: &Expr, search: &mut Search)
+    ensures { search.new ≡ noted search.old (mismatches_of scope.now wanted (expr_tree e.now)) }
 {
-    inside(scope, e, search);
-    note_unexpected(
-        scope,
-        Wanted::BOOLEAN,
-        own_of(scope, e),
-        start_of(e),
-        search,
-    );
+    inside(scope, wanted, e, search);
+    note_unexpected(scope, wanted, own_of(scope, e), start_of(e), search);
 }
 
 #[cycle(expression)]
 #[tactic(auto, using(crate::proofs::Noted::noted_append))]
-fn part_mismatches(scope: &Scope, part: &ElsifValue, search: &mut Search)
-    ensures { search.new ≡ noted search.old (part_mismatches scope.now (elsif_value_tree part.now).0 (elsif_value_tree part.now).1) }
+fn part_mismatches(scope: &Scope, wanted: Wanted, part: &ElsifValue, search: &mut Search)
+    ensures { search.new ≡ noted search.old (part_mismatches scope.now wanted (elsif_value_tree part.now).0 (elsif_value_tree part.now).1) }
 {
-    condition_mismatches(scope, &part.condition, search);
-    inside(scope, &part.value, search);
+    mismatches_of(scope, Wanted::BOOLEAN, &part.condition, search);
+    mismatches_of(scope, wanted, &part.value, search);
 }
 
 #[cycle(expression)]
-fn elsifs_mismatches(scope: &Scope, parts: &[ElsifValue], search: &mut Search)
-    ensures { search.new ≡ noted search.old (elsifs_mismatches scope.now (elsif_value_trees parts.now)) }
+fn elsifs_mismatches(scope: &Scope, wanted: Wanted, parts: &[ElsifValue], search: &mut Search)
+    ensures { search.new ≡ noted search.old (elsifs_mismatches scope.now wanted (elsif_value_trees parts.now)) }
 {
     for part in parts {
-        part_mismatches(scope, part, search);
+        part_mismatches(scope, wanted, part, search);
     }
 }
 
@@ -176,25 +175,16 @@ fn argument_mismatches(scope: &Scope, slot: Slot, argument: &Argument, search: &
 {
     match argument {
         Argument::Expr(e) => {
-            inside(scope, e, search);
+            inside(scope, slot_wanted(slot), e, search);
             note_argument(scope, slot, e, own_of(scope, e), search);
         }
         Argument::Label(..) => {}
     }
 }
 
-/// Types that don't match in an expression of which this is expected.
-#[tactic(auto, using(crate::proofs::Noted::noted_append))]
-pub(crate) fn mismatches_of(scope: &Scope, wanted: Wanted, e: &Expr, search: &mut Search)
-    ensures { search.new ≡ noted search.old (mismatches_of scope.now wanted (expr_tree e.now)) }
+/// Types that don't match in an expression, of which this counts where it has no type by itself.
+pub(crate) fn mismatches_in(scope: &Scope, wanted: Wanted, e: &Expr, search: &mut Search)
+    ensures { search.new ≡ noted search.old (mismatches_in scope.now wanted (expr_tree e.now)) }
 {
-    inside(scope, e, search);
-    note_unexpected(scope, wanted, own_of(scope, e), start_of(e), search);
-}
-
-/// Types that don't match in an expression, whatever is expected of it.
-pub(crate) fn mismatches_in(scope: &Scope, e: &Expr, search: &mut Search)
-    ensures { search.new ≡ noted search.old (mismatches_in scope.now (expr_tree e.now)) }
-{
-    inside(scope, e, search);
+    inside(scope, wanted, e, search);
 }

@@ -1,4 +1,4 @@
-//! What is said of all types of a program that don't match, in one list by places.
+//! What is said of all conflicts of a program, in one list by the rules that are broken and by places.
 ghost use Rattle.std.specs.Prelude.{◌≡◌, IfOk};
 ghost use Rattle.ada_tree.specs.ProgramTree.{package_tree, program_tree};
 ghost use Rattle.types.specs.Scopes.{standard};
@@ -14,14 +14,15 @@ use std::alloc::{AllocError, Global};
 use std::marker::Model;
 use types::Scope;
 
-/// What is said of types at this place that don't match; None where both types aren't known.
+/// What is said of the conflict that breaks the rule of this number at this place; None where both types aren't known.
 #[derive(Clone, Copy, Debug, PartialEq, Eq)]
 pub struct PlacedRemark {
+    pub number: u8,
     pub place: u32,
     pub remark: Option<Remark>,
 }
 
-/// What is said of all types of a program that don't match, found once for all places.
+/// What is said of all conflicts of a program, found once for all places.
 #[derive(Drop)]
 pub struct Remarks {
     list: Vec<PlacedRemark>,
@@ -36,14 +37,15 @@ impl Model for Remarks {
     ghost view = { λ r. r.list.items };
 }
 
-// What is found in a package, and what is visible behind it.
+// What is found in a package, and what is visible after it.
 #[derive(Drop)]
 struct FoundInPackage {
     mismatches: Vec<Mismatch>,
     scope: Scope,
 }
 
-// In two walks: the first counts, the second has room for so many. A count of all ones may stand for more, for which no memory has room.
+// All mismatches of a package, found in two walks: the first counts them, the second has room for so many. A count of 2 ** 64 - 1 may mean more than that,
+// for which no memory has room.
 fn found_in(alloc: Global, package_: &Package) -> Result<FoundInPackage, AllocError>
     ensures mismatches { IfOk result (λ found. found.mismatches.items ≡ package_mismatches (package_tree package_.now)) }
     ensures scope { IfOk result (λ found. found.scope ≡ package_scope standard (package_tree package_.now)) }
@@ -71,6 +73,7 @@ fn listed_remarks(
     let mut list = Vec::new(alloc);
     for mismatch in mismatches {
         list.push(PlacedRemark {
+            number: mismatch.conflict.number(),
             place: mismatch.place,
             remark: conflict_remark(scope, package_, Some(mismatch.conflict)),
         })?;
@@ -86,8 +89,8 @@ fn package_remarks(alloc: Global, package_: &Package) -> Result<Vec<PlacedRemark
 }
 
 impl Remarks {
-    /// All of a program, found in two walks over it. At each place it is said of the first types there that don't match: the place of a fault 12. Nothing is
-    /// said where both types aren't known, or none are expected: of a name that has no type, of the values of an if expression, in aspects.
+    /// All of a program, found in two walks over it. Of each rule at each place it is said of the first conflict there: the place of a fault 12, 14 or 15.
+    /// Nothing is said where both types aren't known, or none are expected: of a name that has no type; nor of a constant without an initial value.
     ///
     /// # Errors
     /// Where memory was refused.
@@ -106,12 +109,12 @@ impl Remarks {
         }
     }
 
-    /// What is said of types at this place.
-    pub fn at(&self, place: u32) -> Option<Remark>
-        ensures { result ≡ remark_in self.now place }
+    /// What is said of a fault of this number at this place.
+    pub fn at(&self, number: u8, place: u32) -> Option<Remark>
+        ensures { result ≡ remark_in self.now number place }
     {
         for placed in &self.list {
-            if placed.place == place {
+            if placed.number == number && placed.place == place {
                 return placed.remark;
             }
         }

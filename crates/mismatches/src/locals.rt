@@ -8,6 +8,7 @@ ghost use Rattle.mismatches.specs.StatementMismatches.{initial_mismatches, local
 
 use crate::conflict::{Search, noted_by_parts};
 use crate::expressions::mismatches_of;
+use crate::statics::fixed_initial_mismatches;
 use ada_tree::{Declaration, Expr, ObjectDeclaration};
 use declaration_rules::{declare_protected, declare_task};
 use expr_rules::Wanted;
@@ -15,13 +16,8 @@ use std::alloc::{AllocError, Global};
 use type_rules::{declare_local_object, subtype_of, wanted_by};
 use types::Scope;
 
-/// An initial value of which this is expected.
-pub(crate) fn initial_mismatches(
-    scope: &Scope,
-    wanted: Wanted,
-    value: &Option<Expr>,
-    search: &mut Search,
-)
+// An initial value of which this is expected.
+fn initial_mismatches(scope: &Scope, wanted: Wanted, value: &Option<Expr>, search: &mut Search)
     ensures { search.new ≡ noted search.old (initial_mismatches scope.now wanted (optional_tree expr_tree value.now)) }
 {
     match value {
@@ -30,27 +26,37 @@ pub(crate) fn initial_mismatches(
     }
 }
 
-/// The declaration of an object.
-pub(crate) fn object_mismatches(scope: &Scope, object: &ObjectDeclaration, search: &mut Search)
-    ensures { search.new ≡ noted search.old (object_mismatches scope.now (object_tree object.now)) }
+/// The declaration of an object, whose initial value must be static where it is fixed.
+pub(crate) fn object_mismatches(
+    scope: &Scope,
+    is_fixed: bool,
+    object: &ObjectDeclaration,
+    search: &mut Search,
+)
+    ensures { search.new ≡ noted search.old (object_mismatches scope.now is_fixed (object_tree object.now)) }
 {
-    let wanted = wanted_by(subtype_of(scope, &object.subtype));
-    initial_mismatches(scope, wanted, &object.value, search);
+    let subtype = subtype_of(scope, &object.subtype);
+    if is_fixed {
+        fixed_initial_mismatches(scope, subtype, &object.value, search);
+    } else {
+        initial_mismatches(scope, wanted_by(subtype), &object.value, search);
+    }
 }
 
 // A declaration, whose name becomes visible.
 fn local_mismatches(
     alloc: Global,
     scope: &mut Scope,
+    is_fixed: bool,
     declaration: &Declaration,
     search: &mut Search,
 ) -> Result<(), AllocError>
-    ensures search { OnOk result (search.new ≡ noted search.old (local_mismatches scope.old (declaration_tree declaration.now))) }
+    ensures search { OnOk result (search.new ≡ noted search.old (local_mismatches scope.old is_fixed (declaration_tree declaration.now))) }
     ensures scope { OnOk result (scope.new ≡ local_scope scope.old (declaration_tree declaration.now)) }
 {
     match declaration {
         Declaration::Object(object) => {
-            object_mismatches(scope, object, search);
+            object_mismatches(scope, is_fixed, object, search);
             declare_local_object(scope, object)
         }
         Declaration::Task(task) => declare_task(scope, task),
@@ -58,19 +64,21 @@ fn local_mismatches(
     }
 }
 
-/// The declarations of a body or block, whose names become visible, each from its end on. Memory is the only refusal.
+/// The declarations of a body or block, whose names become visible, each from its end on; their initial values must be static where they are fixed. Memory is
+/// the only refusal.
 pub(crate) fn locals_mismatches(
     alloc: Global,
     scope: &mut Scope,
+    is_fixed: bool,
     declarations: &[Declaration],
     search: &mut Search,
 ) -> Result<(), AllocError>
-    ensures search { OnOk result (search.new ≡ noted search.old (locals_mismatches scope.old (map declaration_tree declarations.now))) }
+    ensures search { OnOk result (search.new ≡ noted search.old (locals_mismatches scope.old is_fixed (map declaration_tree declarations.now))) }
     ensures scope { OnOk result (scope.new ≡ locals_scope scope.old (map declaration_tree declarations.now)) }
 {
     noted_by_parts();
     for declaration in declarations {
-        local_mismatches(alloc, scope, declaration, search)?;
+        local_mismatches(alloc, scope, is_fixed, declaration, search)?;
     }
     Ok(())
 }

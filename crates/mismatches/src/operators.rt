@@ -20,8 +20,8 @@ fn joined_with(scope: &Scope, number: usize) -> Own
     }
 }
 
-// The one type of two parts.
-fn join(scope: &Scope, a: Own, b: Own) -> Own
+/// The one type of two parts.
+pub(crate) fn join(scope: &Scope, a: Own, b: Own) -> Own
     ensures { result ≡ join scope.now a b }
 {
     match (a, b) {
@@ -32,7 +32,7 @@ fn join(scope: &Scope, a: Own, b: Own) -> Own
     }
 }
 
-fn is_logical(operator: BinaryOperator) -> bool
+pub(crate) fn is_logical(operator: BinaryOperator) -> bool
     ensures { result ≡ is_logical operator }
 {
     match operator {
@@ -45,7 +45,7 @@ fn is_logical(operator: BinaryOperator) -> bool
     }
 }
 
-fn is_relation(operator: BinaryOperator) -> bool
+pub(crate) fn is_relation(operator: BinaryOperator) -> bool
     ensures { result ≡ is_relation operator }
 {
     match operator {

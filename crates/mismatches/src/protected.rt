@@ -56,7 +56,7 @@ fn entry_inside(
     noted_by_parts();
     declare_formals(scope, &entry.formals)?;
     condition_mismatches(scope, barrier, search);
-    body_mismatches(alloc, scope, BodyKind::Entry, body, search)
+    body_mismatches(alloc, scope, false, BodyKind::Entry, body, search)
 }
 
 fn entry_mismatches(

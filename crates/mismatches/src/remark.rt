@@ -1,10 +1,10 @@
-//! What is said of types that don't match: which types these are, and where they are declared.
+//! What is said of conflicts: which types don't match, and where they are declared; why an expression isn't static, or its value is wrong.
 ghost use Rattle.std.specs.Prelude.{◌≡◌, map, option_map};
 ghost use Rattle.ada_tree.specs.ProgramTree.{body_item_tree, item_tree, package_tree};
 ghost use Rattle.types.specs.Entities.{form_value};
 ghost use Rattle.mismatches.specs.Remarks.{body_item_place, body_items_place, conflict_remark, declared_place, declared_type, item_place, items_place, named_type, operands_remark, own_named, place_if, type_of_form, unexpected_remark, wanted_named};
 
-use crate::conflict::Conflict;
+use crate::conflict::{Conflict, Obstacle};
 use ada_tree::{BodyItem, Item, Package};
 use expr_rules::{Own, Wanted};
 use types::{Scope, Subtype, TypeForm};
@@ -26,11 +26,13 @@ pub enum NamedType {
     Predefined(PredefinedType),
     /// Each integer type.
     AnyInteger,
+    /// Each integer type, and Boolean.
+    Discrete,
     /// That of a number, which is of each integer type that is expected (RM 3.4.1).
     UniversalInteger,
 }
 
-/// What is said of types that don't match.
+/// What is said of a conflict.
 #[derive(Clone, Copy, Debug, PartialEq, Eq)]
 pub enum Remark {
     /// The type that is expected, and the one that is found.
@@ -39,6 +41,14 @@ pub enum Remark {
     Operands(NamedType, NamedType),
     /// The actual parameter for a formal one of mode `out` or `in out` is no object (RM 6.4.1).
     NoVariable,
+    /// An expression isn't static, for this (RM 4.9).
+    NotStatic(Obstacle),
+    /// The value of a static expression is the first number, and lies outside the range from the second to the third.
+    Outside(i64, i64, i64),
+    /// The evaluation of a static expression raises an exception.
+    Raises,
+    /// A range that is declared is null: these are its bounds (RM 3.5).
+    NullRange(i64, i64),
 }
 
 fn place_if(number: usize, own: Option<usize>, place: u32) -> Option<u32>
@@ -170,7 +180,7 @@ fn operands_remark(left: Option<NamedType>, right: Option<NamedType>) -> Option<
     }
 }
 
-/// What is said of such types, by what is visible behind the package.
+/// What is said of a conflict, by what is visible after the package.
 pub(crate) fn conflict_remark(
     scope: &Scope,
     package_: &Package,
@@ -188,6 +198,14 @@ pub(crate) fn conflict_remark(
             own_named(scope, package_, right),
         ),
         Some(Conflict::NoVariable) => Some(Remark::NoVariable),
+        Some(Conflict::NotDiscrete(own)) => unexpected_remark(
+            Some(NamedType::Discrete),
+            own_named(scope, package_, own),
+        ),
+        Some(Conflict::NotStatic(obstacle)) => Some(Remark::NotStatic(obstacle)),
+        Some(Conflict::Outside(value, first, last)) => Some(Remark::Outside(value, first, last)),
+        Some(Conflict::Raises) => Some(Remark::Raises),
+        Some(Conflict::NullRange(first, last)) => Some(Remark::NullRange(first, last)),
         None => None,
     }
 }

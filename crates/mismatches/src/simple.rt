@@ -1,16 +1,17 @@
-//! Types that don't match in simple statements (RM 5.1), in ranges and in choices.
+//! Conflicts in simple statements (RM 5.1), in ranges, in selecting expressions and in choices.
 ghost use Rattle.std.specs.Prelude.{◌≡◌, codes, map};
 ghost use Rattle.ada_tree.specs.ExpressionTree.{expr_tree, name_tree};
 ghost use Rattle.ada_tree.specs.StatementTree.{choices_tree, optional_tree, range_tree, stmt_tree};
 ghost use Rattle.types.specs.Scopes.{number_of};
 ghost use Rattle.stmt_rules.specs.CaseRules.{choices_wanted, is_discrete};
 ghost use Rattle.stmt_rules.specs.SimpleRules.{assigned_wanted, result_wanted, time_at, time_wanted};
-ghost use Rattle.mismatches.specs.Conflicts.{noted};
+ghost use Rattle.mismatches.specs.Conflicts.{noted, unexpected};
 ghost use Rattle.mismatches.specs.ExpressionMismatches.{condition_mismatches};
-ghost use Rattle.mismatches.specs.StatementMismatches.{assignment_mismatches, choices_mismatches, last_wanted, optional_mismatches, range_mismatches, return_mismatches, simple_mismatches, values_mismatches};
+ghost use Rattle.mismatches.specs.StatementMismatches.{assignment_mismatches, choices_mismatches, discrete_mismatch, last_wanted, optional_mismatches, range_mismatches, return_mismatches, selecting_mismatches, simple_mismatches, values_mismatches};
 
-use crate::conflict::{Search, noted_by_parts};
-use crate::expressions::{mismatches_of, name_mismatches};
+use crate::conflict::{Conflict, Search, is_known, note_unexpected, noted_by_parts};
+use crate::expressions::{mismatches_in, mismatches_of, name_mismatches};
+use crate::statics::static_mismatches;
 use ada_tree::laws::statements_by_parts;
 use ada_tree::{CaseChoices, Expr, NameExpr, Range, Stmt};
 use expr_rules::{
@@ -18,7 +19,7 @@ use expr_rules::{
 };
 use lexer::Text;
 use stmt_rules::BodyKind;
-use types::{Scope, Subtype};
+use types::{Scope, Subtype, start_of};
 
 /// A condition, which is Boolean (RM 5.3).
 pub(crate) fn condition_mismatches(scope: &Scope, e: &Expr, search: &mut Search)
@@ -138,14 +139,35 @@ pub(crate) fn range_mismatches(scope: &Scope, range: &Range, search: &mut Search
 {
     noted_by_parts();
     mismatches_of(scope, Wanted::AnyInteger, &range.first, search);
+    mismatches_in(scope, Wanted::AnyInteger, &range.last, search);
     let wanted = last_wanted(scope, own_of(scope, &range.first));
-    mismatches_of(scope, wanted, &range.last, search);
+    let own = own_of(scope, &range.last);
+    note_unexpected(scope, wanted, own, start_of(&range.last), search);
 }
 
 fn is_discrete(scope: &Scope, own: Own) -> bool
     ensures { result ≡ is_discrete scope.now own }
 {
     is_integral(scope, own) || is_boolean(scope, own)
+}
+
+fn note_discrete(scope: &Scope, own: Own, place: u32, search: &mut Search)
+    ensures { search.new ≡ noted search.old (discrete_mismatch scope.now own place) }
+{
+    search.note(
+        place,
+        Conflict::NotDiscrete(own),
+        is_known(own) && !is_discrete(scope, own),
+    );
+}
+
+/// The selecting expression of a case statement, which is of an integer type or Boolean (RM 5.4).
+pub(crate) fn selecting_mismatches(scope: &Scope, e: &Expr, search: &mut Search)
+    ensures { search.new ≡ noted search.old (selecting_mismatches scope.now (expr_tree e.now)) }
+{
+    noted_by_parts();
+    mismatches_of(scope, Wanted::Anything, e, search);
+    note_discrete(scope, own_of(scope, e), start_of(e), search);
 }
 
 /// What is expected of the choices for an expression of this type (RM 5.4).
@@ -169,7 +191,7 @@ fn values_mismatches(scope: &Scope, wanted: Wanted, values: &[Expr], search: &mu
 {
     noted_by_parts();
     for value in values {
-        mismatches_of(scope, wanted, value, search);
+        static_mismatches(scope, wanted, None, value, search);
     }
 }
 

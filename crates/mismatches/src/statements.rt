@@ -6,10 +6,10 @@ ghost use Rattle.mismatches.specs.Conflicts.{noted};
 ghost use Rattle.mismatches.specs.StatementMismatches.{alternative_mismatches, alternatives_mismatches, elsif_mismatches, elsifs_mismatches, handlers_mismatches, iteration_mismatches, looped_mismatches, stmt_mismatches, stmts_mismatches};
 
 use crate::conflict::{Search, noted_by_parts};
-use crate::expressions::mismatches_in;
 use crate::locals::locals_mismatches;
 use crate::simple::{
-    choices_mismatches, choices_wanted, condition_mismatches, range_mismatches, simple_mismatches,
+    choices_mismatches, choices_wanted, condition_mismatches, range_mismatches,
+    selecting_mismatches, simple_mismatches,
 };
 use ada_tree::laws::statements_by_parts;
 use ada_tree::{Alternative, ElsifPart, Handler, Iteration, Stmt};
@@ -170,7 +170,7 @@ fn statement(
             statements(alloc, scope, kind, others, search)
         }
         Stmt::Case(_, value, alternatives) => {
-            mismatches_in(scope, value, search);
+            selecting_mismatches(scope, value, search);
             let wanted = choices_wanted(scope, own_of(scope, value));
             alternatives_mismatches(alloc, scope, kind, wanted, alternatives, search)
         }
@@ -179,7 +179,7 @@ fn statement(
         }
         Stmt::Block(_, declarations, body, handlers) => {
             let len = scope.len();
-            locals_mismatches(alloc, scope, declarations, search)?;
+            locals_mismatches(alloc, scope, false, declarations, search)?;
             statements(alloc, scope, kind, body, search)?;
             handlers_mismatches(alloc, scope, kind, handlers, search)?;
             scope.truncate(len);

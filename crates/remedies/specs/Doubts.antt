@@ -1,4 +1,4 @@
--- What may be why an `end` doesn't close what it is meant to close: an `if` behind `else`, which has an `end if` of its own, or the words of an `end` in one.
+-- What may be why an `end` doesn't close what it is meant to close: an `if` after `else`, which has an `end if` of its own, or the words of an `end` in one.
 use Rattle.std.specs.Prelude.{ℕ, suc, ◌-◌, ◌&&◌, ◌||◌, Bool, true, false, List, bytes_eq, if◌then◌else◌, length, Option, Some, None}
 use Rattle.lexer.specs.declared.token.Token.{Token}
 use Rattle.lexer.specs.declared.token.TokenKind.{TokenKind}
@@ -25,11 +25,11 @@ is_end_word (Some (kinds.Identifier name)) =
 is_end_word k = false
 
 -- the token with so many before it is `else`, and the next one `if`
-abbrev pub is_if_behind_else : List Token → ℕ → Bool
-is_if_behind_else ts n = is_else (kind_at n ts) && is_if (kind_at (suc n) ts)
+abbrev pub is_if_after_else : List Token → ℕ → Bool
+is_if_after_else ts n = is_else (kind_at n ts) && is_if (kind_at (suc n) ts)
 
 abbrev pub is_doubtful : List Token → ℕ → Bool
-is_doubtful ts n = is_if_behind_else ts n || is_end_word (kind_at n ts)
+is_doubtful ts n = is_if_after_else ts n || is_end_word (kind_at n ts)
 
 abbrev pub doubt_of : List Token → Option ℕ → Option Doubt
 doubt_of ts (Some n) = Some (if is_end_word (kind_at n ts) then doubts.EndWord n else doubts.ElseIf n)

@@ -1,5 +1,5 @@
 -- What is declared in a text, or by the language, with a name like one that isn't visible: a letter more, less, another one, or two exchanged.
-use Rattle.std.specs.Prelude.{ℕ, zero, suc, ◌-◌, ◌&&◌, ◌||◌, Bool, true, false, List, [], ◌∷◌, bytes_eq, if◌then◌else◌, length, nat_eq, nat_le, nat_lt, option_map, Option, Some, None, slice_get}
+use Rattle.std.specs.Prelude.{ℕ, zero, suc, ◌-◌, ◌&&◌, ◌||◌, Bool, true, false, List, [], ◌∷◌, bytes_eq, if◌then◌else◌, length, nat_eq, nat_le, Option, Some, None}
 use Rattle.lexer.specs.declared.delimiter.Delimiter.TheVariants as delimiters
 use Rattle.lexer.specs.declared.token.Token.{Token}
 use Rattle.lexer.specs.declared.token.TokenKind.{TokenKind}
@@ -26,7 +26,7 @@ is_changed (x ∷ []) [] = true
 is_changed (x ∷ xs) (y ∷ ys) = bytes_eq xs ys || bytes_eq xs (y ∷ ys) || bytes_eq (x ∷ xs) ys || are_exchanged x y xs ys
 is_changed xs ys = false
 
--- one name is the other one with one change, behind letters that are the same
+-- one name is the other one with one change, after letters that are the same
 abbrev pub is_like : List ℕ → List ℕ → Bool
 is_like (x ∷ xs) (y ∷ ys) = if nat_eq x y then is_like xs ys else is_changed (x ∷ xs) (y ∷ ys)
 is_like xs ys = is_changed xs ys

@@ -1,4 +1,4 @@
--- Names that tell constructs apart, in upper case.
+-- Names by which constructs are distinguished, in upper case.
 use Rattle.std.specs.Prelude.{ℕ, List, codes}
 use Rattle.remedies.specs.declared.name.Name.{Name}
 use Rattle.remedies.specs.declared.name.Name.TheVariants as names
@@ -78,3 +78,15 @@ name_text names.Bool = codes "BOOL"
 name_text names.EndIf = codes "ENDIF"
 name_text names.EndLoop = codes "ENDLOOP"
 name_text names.EndCase = codes "ENDCASE"
+name_text names.Now = codes "NOW"
+name_text names.Break = codes "BREAK"
+name_text names.Continue = codes "CONTINUE"
+name_text names.Step = codes "STEP"
+name_text names.By = codes "BY"
+name_text names.Var = codes "VAR"
+name_text names.Sleep = codes "SLEEP"
+name_text names.SetPriority = codes "SET_PRIORITY"
+name_text names.Struct = codes "STRUCT"
+name_text names.Img = codes "IMG"
+name_text names.First = codes "FIRST"
+name_text names.Last = codes "LAST"

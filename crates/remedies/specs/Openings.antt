@@ -19,12 +19,12 @@ lead_of (kinds.Word words.End) = leads.End
 lead_of (kinds.Delimiter delimiters.LeftParenthesis) = leads.Parenthesis
 lead_of kind = leads.Other
 
--- behind `end` a word names what is closed, and opens nothing
+-- after `end` a word names what is closed, and opens nothing
 abbrev pub unless_end : Lead → Opened → Action
 unless_end leads.End o = actions.Nothing
 unless_end lead o = actions.Opens o
 
--- the `if` behind a parenthesis is that of an expression
+-- the `if` after a parenthesis is that of an expression
 abbrev pub action_of_if : Lead → Action
 action_of_if leads.Other = actions.Opens opened.If
 action_of_if lead = actions.Nothing
@@ -69,7 +69,7 @@ innermost os = slice_get os (length os - 1)
 abbrev pub without_innermost : List Opening → List Opening
 without_innermost os = take (length os - 1) os
 
--- what is open behind `begin` in place of declarations
+-- what is open after `begin` in place of declarations
 abbrev pub begun : Opened → Option Opened
 begun opened.Declarations = Some opened.Statements
 begun opened.Main = Some opened.MainStatements
@@ -85,7 +85,7 @@ abbrev pub begin_in : List Opening → (before : ℕ) → Option Opening → Lis
 begin_in os before (Some o) = with_begun os before o.before (begun o.opened)
 begin_in os before None = with_begun os before before None
 
--- `body` behind what was introduced
+-- `body` after what was introduced
 abbrev pub body_of : Opened → Opened
 body_of opened.Package = opened.PackageBody
 body_of opened.Protected = opened.ProtectedBody
@@ -105,7 +105,7 @@ abbrev pub with_introduced : (parts : List Opening) → Option Opening → List 
 with_introduced os (Some o) = os ++ record { opened = opened_in os o.opened; before = o.before } ∷ []
 with_introduced os None = os
 
--- what is open behind a token that does this, in front of which there are so many tokens
+-- what is open after a token that does this, before which there are so many tokens
 abbrev pub after : Openings → (before : ℕ) → Action → Openings
 after s before (actions.Opens opened.Case) = record s { parts = s.parts ++ record { opened = opened.Case; before = before } ∷ []; introduced = None }
 after s before (actions.Opens o) = record s { parts = s.parts ++ record { opened = o; before = before } ∷ [] }
@@ -117,7 +117,7 @@ after s before actions.IntroducesNothing = record s { introduced = None }
 after s before actions.OpensIntroduced = record s { parts = with_introduced s.parts s.introduced; introduced = None }
 after s before actions.Nothing = s
 
--- what is open behind these tokens, which stand behind so many others
+-- what is open after these tokens, which stand after so many others
 abbrev pub openings_from : Openings → (before : ℕ) → List Token → Openings
 openings_from s before [] = s
 openings_from s before (t ∷ ts) = openings_from (record (after s before (action_of t.kind s.lead)) { lead = lead_of t.kind }) (suc before) ts
@@ -125,6 +125,6 @@ openings_from s before (t ∷ ts) = openings_from (record (after s before (actio
 abbrev pub nothing_open : Openings
 nothing_open = record { parts = []; introduced = None; lead = leads.Other }
 
--- what was opened last and isn't closed behind these tokens, the first ones of a text
-abbrev pub open_behind : List Token → Option Opening
-open_behind ts = innermost (openings_from nothing_open 0 ts).parts
+-- what was opened last and isn't closed after these tokens, the first ones of a text
+abbrev pub open_after : List Token → Option Opening
+open_after ts = innermost (openings_from nothing_open 0 ts).parts

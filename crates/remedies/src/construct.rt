@@ -35,7 +35,7 @@ pub enum Construct {
     SecondDimension,
     /// A named number (RM 3.3.2).
     NamedNumber,
-    /// A range behind the subtype of an object or a formal parameter (RM 3.2.2).
+    /// A range after the subtype of an object or a formal parameter (RM 3.2.2).
     ObjectRange,
     /// Several names in one declaration (RM 3.3.1).
     SeveralNames,
@@ -43,7 +43,7 @@ pub enum Construct {
     SeveralFormals,
     /// A default value of a formal parameter (RM 6.1).
     FormalDefault,
-    /// Several variables in front of an assignment.
+    /// Several variables before an assignment.
     SeveralTargets,
     /// An aggregate (RM 4.3).
     Aggregate,
@@ -75,7 +75,7 @@ pub enum Construct {
     DownwardLoop,
     /// A loop as in C.
     LoopInC,
-    /// The name of a loop behind exit (RM 5.7).
+    /// The name of a loop after exit (RM 5.7).
     LoopName,
     /// A loop or a block with a name (RM 5.5, 5.6).
     NamedStatement,
@@ -111,7 +111,7 @@ pub enum Construct {
     SeveralAspects,
     /// An aspect of something that has none here (RM 13.1.1).
     OtherAspect,
-    /// Something in parentheses behind the name of a task.
+    /// Something in parentheses after the name of a task.
     PriorityInParentheses,
     /// A task type (RM 9.1).
     TaskType,
@@ -141,7 +141,7 @@ pub enum Construct {
     PackageMissing,
     /// A main procedure without the clause for its package (RM 10.1.2).
     MainWithoutClause,
-    /// Further clauses in front of main (RM 10.1.2).
+    /// Further clauses before main (RM 10.1.2).
     MainClauses,
     /// Declarations of main (RM 6.3).
     MainDeclarations,
@@ -151,12 +151,12 @@ pub enum Construct {
     DeclarationAmongStatements,
     /// A statement among declarations (RM 6.3).
     BeginMissing,
-    /// A semicolon behind is (RM 6.3).
-    SemicolonBehindIs,
+    /// A semicolon after is (RM 6.3).
+    SemicolonAfterIs,
     /// A missing semicolon.
     SemicolonMissing,
     /// An end without the name of what it closes (RM 6.3, 7.1).
-    NameBehindEnd,
+    NameAfterEnd,
     /// The name of an exception occurrence (RM 11.2).
     HandlerOccurrence,
     /// A with clause without its use clause (RM 10.1.2, 8.4).
@@ -183,7 +183,7 @@ pub enum Construct {
     FirstValueFromClock,
     /// A relative delay (RM 9.6).
     RelativeDelay,
-    /// The operator not in front of a relation (RM 4.5).
+    /// The operator not before a relation (RM 4.5).
     NotOfRelation,
     /// A predefined type that the language leaves out (RM A.1).
     OtherType,
@@ -243,7 +243,7 @@ pub enum Construct {
     CallWord,
     /// A subtype without the name of its type (RM 3.2.2).
     SubtypeOfNothing,
-    /// An equals sign behind the name of a type (RM 3.2.1).
+    /// An equals sign after the name of a type (RM 3.2.1).
     EqualsForIs,
     /// A use clause in a package (RM 8.4).
     ClauseInPackage,
@@ -257,7 +257,7 @@ pub enum Construct {
     TaskStatements,
     /// A body in the specification of a package (RM 7.1).
     BodyInSpecification,
-    /// An operand with a sign behind an operator (RM 4.4).
+    /// An operand with a sign after an operator (RM 4.4).
     SignedOperand,
     /// A block for exceptions as in another language (RM 11.2).
     HandledBlock,
@@ -283,6 +283,72 @@ pub enum Construct {
     PackagePrefix,
     /// A protected object where a value or a call is wanted (RM 9.4).
     ProtectedValue,
+    /// A component of a protected object outside of its body (RM 9.4, 9.5.1).
+    ComponentOutside,
+    /// A colon after a condition or a range.
+    ColonAfterCondition,
+    /// A semicolon after the word that begins statements.
+    SemicolonAfterWord,
+    /// The current time by another name (RM D.8).
+    ClockByNow,
+    /// A dot before the name of an attribute (RM 4.1.4).
+    AttributeByDot,
+    /// A conversion to Boolean (RM 4.6).
+    BooleanConversion,
+    /// A loop is left by another word (RM 5.7).
+    LoopExit,
+    /// The rest of a loop's statements is left out.
+    ContinueWord,
+    /// A doubled division sign.
+    DivisionInPython,
+    /// A range as a choice (RM 3.8.1, 5.4).
+    ChoiceRange,
+    /// An exception that isn't declared (RM 11.1).
+    UndeclaredException,
+    /// A loop with a step.
+    LoopStep,
+    /// An operator or an assignment without its last operand.
+    OperandMissing,
+    /// A closing parenthesis where none is open.
+    StrayParenthesis,
+    /// A relation of three operands (RM 4.4).
+    SecondRelation,
+    /// An if expression without one of its words (RM 4.5.7).
+    IfExpressionWords,
+    /// A bar as an operator.
+    BitOperator,
+    /// The word null as a value.
+    NullValue,
+    /// A constant without an initial value (RM 3.3.1).
+    ConstantWithoutValue,
+    /// A component before the operations of a protected object (RM 9.4).
+    ComponentsFirst,
+    /// An operation after the components of a protected object (RM 9.4).
+    OperationsLast,
+    /// A barrier in the declaration of an entry (RM 9.5.2).
+    BarrierInDeclaration,
+    /// A statement among declarations.
+    AssignmentAmongDeclarations,
+    /// The word exception before its name (RM 11.1).
+    ExceptionFirst,
+    /// A type or subtype in a body (RM 3.2).
+    LocalType,
+    /// A record type by another word (RM 3.8).
+    RecordByStruct,
+    /// A name of Ada.Real_Time with its unit (RM 8.4).
+    UnitPrefix,
+    /// An assignment sign in a condition.
+    AssignmentInCondition,
+    /// An arrow in place of an assignment sign.
+    ArrowForAssignment,
+    /// No condition where one is expected.
+    ConditionMissing,
+    /// An argument without parentheses.
+    ParenthesisMissing,
+    /// An if expression that must be static (RM 4.9).
+    StaticIf,
+    /// An expression that must be static (RM 4.9).
+    StaticExpression,
 }
 
 impl Construct {
@@ -364,9 +430,9 @@ impl Construct {
             Construct::MainStatements => MAIN_STATEMENTS,
             Construct::DeclarationAmongStatements => DECLARATION_AMONG_STATEMENTS,
             Construct::BeginMissing => BEGIN_MISSING,
-            Construct::SemicolonBehindIs => SEMICOLON_BEHIND_IS,
+            Construct::SemicolonAfterIs => SEMICOLON_AFTER_IS,
             Construct::SemicolonMissing => SEMICOLON_MISSING,
-            Construct::NameBehindEnd => NAME_BEHIND_END,
+            Construct::NameAfterEnd => NAME_AFTER_END,
             Construct::HandlerOccurrence => HANDLER_OCCURRENCE,
             Construct::ClauseWithoutUse => CLAUSE_WITHOUT_USE,
             Construct::SystemUnit => SYSTEM_UNIT,
@@ -430,6 +496,39 @@ impl Construct {
             Construct::TaskValue => TASK_VALUE,
             Construct::PackagePrefix => PACKAGE_PREFIX,
             Construct::ProtectedValue => PROTECTED_VALUE,
+            Construct::ComponentOutside => COMPONENT_OUTSIDE,
+            Construct::ColonAfterCondition => COLON_AFTER_CONDITION,
+            Construct::SemicolonAfterWord => SEMICOLON_AFTER_WORD,
+            Construct::ClockByNow => CLOCK_BY_NOW,
+            Construct::AttributeByDot => ATTRIBUTE_BY_DOT,
+            Construct::BooleanConversion => BOOLEAN_CONVERSION,
+            Construct::LoopExit => LOOP_EXIT,
+            Construct::ContinueWord => CONTINUE_WORD,
+            Construct::DivisionInPython => DIVISION_IN_PYTHON,
+            Construct::ChoiceRange => CHOICE_RANGE,
+            Construct::UndeclaredException => UNDECLARED_EXCEPTION,
+            Construct::LoopStep => LOOP_STEP,
+            Construct::OperandMissing => OPERAND_MISSING,
+            Construct::StrayParenthesis => STRAY_PARENTHESIS,
+            Construct::SecondRelation => SECOND_RELATION,
+            Construct::IfExpressionWords => IF_EXPRESSION_WORDS,
+            Construct::BitOperator => BIT_OPERATOR,
+            Construct::NullValue => NULL_VALUE,
+            Construct::ConstantWithoutValue => CONSTANT_WITHOUT_VALUE,
+            Construct::ComponentsFirst => COMPONENTS_FIRST,
+            Construct::OperationsLast => OPERATIONS_LAST,
+            Construct::BarrierInDeclaration => BARRIER_IN_DECLARATION,
+            Construct::AssignmentAmongDeclarations => ASSIGNMENT_AMONG_DECLARATIONS,
+            Construct::ExceptionFirst => EXCEPTION_FIRST,
+            Construct::LocalType => LOCAL_TYPE,
+            Construct::RecordByStruct => RECORD_BY_STRUCT,
+            Construct::UnitPrefix => UNIT_PREFIX,
+            Construct::AssignmentInCondition => ASSIGNMENT_IN_CONDITION,
+            Construct::ArrowForAssignment => ARROW_FOR_ASSIGNMENT,
+            Construct::ConditionMissing => CONDITION_MISSING,
+            Construct::ParenthesisMissing => PARENTHESIS_MISSING,
+            Construct::StaticIf => STATIC_IF,
+            Construct::StaticExpression => STATIC_EXPRESSION,
         }
     }
 }
@@ -556,7 +655,7 @@ Loops have no names, and `exit` leaves the innermost one: to leave several, set 
 each loop asks, or `return;` from a procedure.";
 
 const NAMED_STATEMENT: &str = "\
-Loops and blocks have no names: leave the name and the colon out, and the name behind its `end`.";
+Loops and blocks have no names: leave the name and the colon out, and the name after its `end`.";
 
 const GOTO: &str = "\
 There is no goto: write a loop with `exit when`.";
@@ -595,13 +694,13 @@ A handler of an interrupt is attached by an aspect: write `procedure Handle with
 
 const OTHER_PRAGMA: &str = "\
 Leave this pragma out: the only ones are `pragma Profile (Ravenscar);`, first, and `pragma \
-Partition_Elaboration_Policy (Sequential);` behind it.";
+Partition_Elaboration_Policy (Sequential);` after it.";
 
 const OTHER_PROFILE: &str = "\
 The profile is Ravenscar: write `pragma Profile (Ravenscar);`.";
 
 const NO_PROFILE: &str = "\
-Write `pragma Profile (Ravenscar);` in front of everything else.";
+Write `pragma Profile (Ravenscar);` before everything else.";
 
 const SEVERAL_ASPECTS: &str = "\
 A declaration has one aspect: keep `Priority` or `Attach_Handler` alone.";
@@ -643,7 +742,7 @@ const RENAMING: &str = "\
 There are no renamings: write the name itself.";
 
 const NESTED_SUBPROGRAM: &str = "\
-Subprograms stand in the package, not in a body: move this one in front of the body that it is \
+Subprograms stand in the package, not in a body: move this one before the body that it is \
 in.";
 
 const PRIVATE_PART: &str = "\
@@ -662,10 +761,10 @@ What main is to do stands in a package: write `package App is procedure Run; end
 body, `with App;`, and `App.Run;` in main.";
 
 const MAIN_WITHOUT_CLAUSE: &str = "\
-Main names the package: write `with App;` in front of it.";
+Main names the package: write `with App;` before it.";
 
 const MAIN_CLAUSES: &str = "\
-In front of main stands `with App;`, for the package alone: its statements are `null;` and \
+Before main stands `with App;`, for the package alone: its statements are `null;` and \
 `App.Run;`.";
 
 const MAIN_DECLARATIONS: &str = "\
@@ -676,27 +775,27 @@ const MAIN_STATEMENTS: &str = "\
 Main's statements are `null;` and `App.Run;`: move these into a procedure of the package.";
 
 const DECLARATION_AMONG_STATEMENTS: &str = "\
-Declarations stand in front of `begin`: move this one there, or write a block, `declare M : \
+Declarations stand before `begin`: move this one there, or write a block, `declare M : \
 Integer; begin .. end;`.";
 
 const BEGIN_MISSING: &str = "\
-A `begin` is missing in front of the first statement.";
+A `begin` is missing before the first statement.";
 
-const SEMICOLON_BEHIND_IS: &str = "\
-Leave out the `;` behind `is`: declarations and `begin` follow.";
+const SEMICOLON_AFTER_IS: &str = "\
+Leave out the `;` after `is`: declarations and `begin` follow.";
 
 const SEMICOLON_MISSING: &str = "\
-A `;` is missing in front of this, unless what ends there was cut by `--`, which begins a \
+A `;` is missing before this, unless what ends there was cut by `--`, which begins a \
 comment.";
 
-const NAME_BEHIND_END: &str = "\
+const NAME_AFTER_END: &str = "\
 The `end` of a body, a package, a task or a protected object has its name: write `end Main;`.";
 
 const HANDLER_OCCURRENCE: &str = "\
 A handler has no name for the occurrence: write `when others =>`.";
 
 const CLAUSE_WITHOUT_USE: &str = "\
-Behind each `with` stands the `use` of the same unit: write `with Control_IO; use Control_IO;`. \
+After each `with` stands the `use` of the same unit: write `with Control_IO; use Control_IO;`. \
 The units are Ada.Real_Time and Control_IO.";
 
 const SYSTEM_UNIT: &str = "\
@@ -748,18 +847,18 @@ The types are Integer, Boolean, Time, Time_Span and those that the package decla
 Integers.";
 
 const OUTPUT_UNIT: &str = "\
-Put and Read are of a unit: write `with Control_IO; use Control_IO;` in front of the package.";
+Put and Read are of a unit: write `with Control_IO; use Control_IO;` before the package.";
 
 const TIME_UNIT: &str = "\
-Time and its operations are of a unit: write `with Ada.Real_Time; use Ada.Real_Time;` in front \
-of the package.";
+Time and its operations are of a unit: write `with Ada.Real_Time; use Ada.Real_Time;` before the \
+package.";
 
 const STATEMENT_MISSING: &str = "\
 A statement is wanted here: write `null;` where there is nothing to do.";
 
 const MAIN_MISSING: &str = "\
 A text ends with its main procedure: write `with App;` and `procedure Main is begin App.Run; end \
-Main;` behind the package body.";
+Main;` after the package body.";
 
 const PUT_ARGUMENTS: &str = "\
 Put has a label and a value: write `Put (\"level\", Level);`.";
@@ -842,7 +941,7 @@ const EQUALS_FOR_IS: &str = "\
 `is` follows the name: write `type Digit is range 0 .. 9;`.";
 
 const CLAUSE_IN_PACKAGE: &str = "\
-Clauses stand in front of the package: write `with Ada.Real_Time; use Ada.Real_Time;` there.";
+Clauses stand before the package: write `with Ada.Real_Time; use Ada.Real_Time;` there.";
 
 const SEMICOLON_BEFORE_IS: &str = "\
 The `;` ends the declaration: leave it out before `is`.";
@@ -901,3 +1000,110 @@ In the package its names have no prefix: write `Run;`.";
 
 const PROTECTED_VALUE: &str = "\
 A protected object is used by its operations: write `Store.Take (N);`.";
+
+const COMPONENT_OUTSIDE: &str = "\
+The components of a protected object are visible in its body alone: declare a function of it, \
+`function Level return Integer;`, whose body returns the component, and write `Store.Level`.";
+
+const COLON_AFTER_CONDITION: &str = "\
+`then` follows a condition, and `loop` a range: write `if N = 1 then .. else .. end if;` and \
+`for I in 1 .. 3 loop .. end loop;`.";
+
+const SEMICOLON_AFTER_WORD: &str = "\
+Leave out the `;` after this word: statements follow.";
+
+const CLOCK_BY_NOW: &str = "\
+The time is Clock of Ada.Real_Time: write `with Ada.Real_Time; use Ada.Real_Time;` before the \
+package, and `Clock`.";
+
+const ATTRIBUTE_BY_DOT: &str = "\
+An attribute follows an apostrophe: write `Integer'Last`.";
+
+const BOOLEAN_CONVERSION: &str = "\
+Only numbers are converted: write `N /= 0`, and `(if B then 1 else 0)`.";
+
+const LOOP_EXIT: &str = "\
+A loop is left by `exit;`, or `exit when N = 3;`.";
+
+const CONTINUE_WORD: &str = "\
+There is no continue: write the statements that are left out in an `if`.";
+
+const DIVISION_IN_PYTHON: &str = "\
+Write one `/`: the quotient of two integers is an integer.";
+
+const CHOICE_RANGE: &str = "\
+A choice is one value: write `when 1 | 2 | 3 =>`, or an `if` with `N >= 1 and N <= 3`.";
+
+const UNDECLARED_EXCEPTION: &str = "\
+An exception is declared in the package, `Bad : exception;`; Constraint_Error and Program_Error \
+are of the language.";
+
+const LOOP_STEP: &str = "\
+A `for` loop goes on by one: write `while I <= 9 loop .. I := I + 2; end loop;`.";
+
+const OPERAND_MISSING: &str = "\
+An operand is missing before this.";
+
+const STRAY_PARENTHESIS: &str = "\
+No parenthesis is open here: leave `)` out.";
+
+const SECOND_RELATION: &str = "\
+A relation has two operands: write `1 < N and N < 3`.";
+
+const IF_EXPRESSION_WORDS: &str = "\
+An if expression has three words: write `(if B then 1 else 2)`.";
+
+const BIT_OPERATOR: &str = "\
+`or` joins conditions: write `A or B`. There are no operations on bits.";
+
+const NULL_VALUE: &str = "\
+There is no null value: write a number, and keep a Boolean that says whether it counts.";
+
+const CONSTANT_WITHOUT_VALUE: &str = "\
+A constant has an initial value: write `Limit : constant Integer := 4;`.";
+
+const COMPONENTS_FIRST: &str = "\
+Components follow `private`: write `protected Store is procedure Put; private N : Integer := 0; \
+end Store;`.";
+
+const OPERATIONS_LAST: &str = "\
+Operations stand before `private`: move this one there.";
+
+const BARRIER_IN_DECLARATION: &str = "\
+The barrier stands in the body: write `entry Go;` here, and `entry Go when Is_Open is` in the \
+body.";
+
+const ASSIGNMENT_AMONG_DECLARATIONS: &str = "\
+Statements follow `begin`, and a variable is declared with its type: write `Count : Integer := \
+3;`.";
+
+const EXCEPTION_FIRST: &str = "\
+The name comes first: write `Bad : exception;`.";
+
+const LOCAL_TYPE: &str = "\
+Types are declared in the package: move this one there.";
+
+const RECORD_BY_STRUCT: &str = "\
+Write `type Pair is record Low : Integer; High : Integer; end record;`.";
+
+const UNIT_PREFIX: &str = "\
+Names of a unit have no prefix: write `with Ada.Real_Time; use Ada.Real_Time;` before the \
+package, and `Clock`.";
+
+const ASSIGNMENT_IN_CONDITION: &str = "\
+`=` compares: write `if N = 1 then`.";
+
+const ARROW_FOR_ASSIGNMENT: &str = "\
+`:=` assigns: write `N := 1;`.";
+
+const CONDITION_MISSING: &str = "\
+A condition is missing before this: write `if N = 1 then`, or `while N < 3 loop`.";
+
+const PARENTHESIS_MISSING: &str = "\
+An argument stands in parentheses: write `Milliseconds (500)`.";
+
+const STATIC_IF: &str = "\
+No if expression is static: write its value, or assign it in a statement.";
+
+const STATIC_EXPRESSION: &str = "\
+Write a number, or a constant that is declared in the package: `Size : constant Integer := 4;`.";

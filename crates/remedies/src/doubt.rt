@@ -1,13 +1,13 @@
 //! What may be why an `end` doesn't close what it is meant to close.
 ghost use Rattle.std.specs.Prelude.{◌≡◌, ◌≤◌, ◌-◌, length, option_map};
 ghost use Rattle.remedies.specs.Likeness.{first_where};
-ghost use Rattle.remedies.specs.Doubts.{doubt_of, doubtful_from, is_doubtful, is_else, is_end_word, is_if, is_if_behind_else};
+ghost use Rattle.remedies.specs.Doubts.{doubt_of, doubtful_from, is_doubtful, is_else, is_end_word, is_if, is_if_after_else};
 
 use crate::name::{Name, name_text};
 use crate::row::kind_at;
 use lexer::{Token, TokenKind, Word};
 
-/// Why what is open may not be closed. Tokens are told by how many are before them.
+/// Why what is open may not be closed. Tokens are given by how many are before them.
 #[derive(Clone, Copy)]
 pub enum Doubt {
     /// This `else` is followed by `if`.
@@ -42,9 +42,9 @@ fn is_end_word(kind: Option<&TokenKind>) -> bool
     }
 }
 
-fn is_if_behind_else(tokens: &[Token], number: usize) -> bool
+fn is_if_after_else(tokens: &[Token], number: usize) -> bool
     requires { number ≤ length tokens.now }
-    ensures { result ≡ is_if_behind_else tokens.now number }
+    ensures { result ≡ is_if_after_else tokens.now number }
 {
     is_else(kind_at(number, tokens)) && is_if(kind_at(number + 1, tokens))
 }
@@ -53,7 +53,7 @@ fn is_doubtful(tokens: &[Token], number: usize) -> bool
     requires { number ≤ length tokens.now }
     ensures { result ≡ is_doubtful tokens.now number }
 {
-    is_if_behind_else(tokens, number) || is_end_word(kind_at(number, tokens))
+    is_if_after_else(tokens, number) || is_end_word(kind_at(number, tokens))
 }
 
 // The first doubtful token from the one with so many before it on.

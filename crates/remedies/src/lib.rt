@@ -4,14 +4,16 @@
 mod closing;
 mod construct;
 mod doubt;
+mod grammar_rows;
 mod likeness;
 mod misuse;
 mod name;
+mod name_rows;
 mod opening;
 mod openings;
 mod recognition;
 mod row;
-mod rows;
+mod rule_rows;
 mod spelling;
 mod stray;
 

@@ -7,7 +7,7 @@ use crate::recognition::count_before;
 use crate::row::kind_at;
 use lexer::{Delimiter, Token, TokenKind, Word};
 
-/// What is declared with a name like one that isn't visible. Tokens are told by how many are before them.
+/// What is declared with a name like one that isn't visible. Tokens are given by how many are before them.
 #[derive(Clone, Copy)]
 pub enum Like {
     /// The declaration of the same name, after the place of the fault: the token of the word that introduces it.
@@ -70,11 +70,11 @@ fn is_changed(name: &[u8], other: &[u8]) -> bool
 {
     match (name, other) {
         ([], [_]) | ([_], []) => true,
-        ([first, rest @ ..], [second, behind @ ..]) => {
-            rest == behind
+        ([first, rest @ ..], [second, after @ ..]) => {
+            rest == after
                 || rest == other
-                || name == behind
-                || are_exchanged(*first, *second, rest, behind)
+                || name == after
+                || are_exchanged(*first, *second, rest, after)
         }
         _ => false,
     }
@@ -120,7 +120,8 @@ fn introduces(kind: Option<&TokenKind>) -> bool
     )
 }
 
-fn is_colon(kind: Option<&TokenKind>) -> bool
+/// Whether it is a colon.
+pub(crate) fn is_colon(kind: Option<&TokenKind>) -> bool
     ensures { result ≡ is_colon (option_map (λ k. k.now) kind.entry) }
 {
     matches!(kind, Some(TokenKind::Delimiter(Delimiter::Colon)))
@@ -137,7 +138,8 @@ pub(crate) fn kind_before(number: usize, tokens: &[Token]) -> Option<&TokenKind>
     }
 }
 
-fn is_same(name: &[u8], other: Option<&[u8]>) -> bool
+/// Whether the other one is this name.
+pub(crate) fn is_same(name: &[u8], other: Option<&[u8]>) -> bool
     ensures { result ≡ is_same name.now (option_map (λ n. n.now) other.entry) }
 {
     match other {

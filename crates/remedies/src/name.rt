@@ -1,4 +1,4 @@
-//! Names that tell constructs apart.
+//! Names by which constructs are distinguished.
 ghost use Rattle.std.specs.Prelude.{◌≡◌};
 ghost use Rattle.remedies.specs.Names.{name_text};
 
@@ -153,6 +153,30 @@ pub enum Name {
     EndLoop,
     /// `Endcase`
     EndCase,
+    /// `Now`
+    Now,
+    /// `Break`
+    Break,
+    /// `Continue`
+    Continue,
+    /// `Step`
+    Step,
+    /// `By`
+    By,
+    /// `Var`
+    Var,
+    /// `Sleep`
+    Sleep,
+    /// `Set_Priority`
+    SetPriority,
+    /// `Struct`
+    Struct,
+    /// `Img`
+    Img,
+    /// `First`
+    First,
+    /// `Last`
+    Last,
 }
 
 /// The letters of the name, in upper case.
@@ -234,5 +258,17 @@ pub fn name_text(name: Name) -> &'static [u8]
         Name::EndIf => b"ENDIF",
         Name::EndLoop => b"ENDLOOP",
         Name::EndCase => b"ENDCASE",
+        Name::Now => b"NOW",
+        Name::Break => b"BREAK",
+        Name::Continue => b"CONTINUE",
+        Name::Step => b"STEP",
+        Name::By => b"BY",
+        Name::Var => b"VAR",
+        Name::Sleep => b"SLEEP",
+        Name::SetPriority => b"SET_PRIORITY",
+        Name::Struct => b"STRUCT",
+        Name::Img => b"IMG",
+        Name::First => b"FIRST",
+        Name::Last => b"LAST",
     }
 }

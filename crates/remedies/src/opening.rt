@@ -23,7 +23,7 @@ pub enum Opened {
     Declarations,
     /// The statements and handlers of such a body.
     Statements,
-    /// The main procedure in front of its `begin`.
+    /// The main procedure before its `begin`.
     Main,
     /// The statements of the main procedure.
     MainStatements,
@@ -43,14 +43,14 @@ pub enum Opened {
     Select,
 }
 
-/// What is open, and how many tokens stand in front of the one that opened it.
+/// What is open, and how many tokens stand before the one that opened it.
 #[derive(Clone, Copy, Debug, PartialEq, Eq)]
 pub struct Opening {
     pub opened: Opened,
     pub before: usize,
 }
 
-/// Of the token in front of another one, what decides whether that one opens anything.
+/// Of the token before another one, what decides whether that one opens anything.
 #[derive(Clone, Copy)]
 pub enum Lead {
     /// The word `end`.
@@ -93,7 +93,7 @@ pub(crate) fn lead_of(kind: &TokenKind) -> Lead
     }
 }
 
-// What a word opens that behind `end` only names what is closed.
+// What a word opens that after `end` only names what is closed.
 fn unless_end(lead: Lead, opened: Opened) -> Action
     ensures { result ≡ unless_end lead opened }
 {
@@ -103,7 +103,7 @@ fn unless_end(lead: Lead, opened: Opened) -> Action
     }
 }
 
-// An `if` behind a parenthesis is that of an expression.
+// An `if` after a parenthesis is that of an expression.
 fn action_of_if(lead: Lead) -> Action
     ensures { result ≡ action_of_if lead }
 {
@@ -149,7 +149,7 @@ pub(crate) fn action_of(kind: &TokenKind, lead: Lead) -> Action
     }
 }
 
-/// What `is` opens behind `body`.
+/// What `is` opens after `body`.
 pub(crate) fn body_of(opened: Opened) -> Opened
     ensures { result ≡ body_of opened }
 {
@@ -161,7 +161,7 @@ pub(crate) fn body_of(opened: Opened) -> Opened
     }
 }
 
-/// What is open behind `begin` in place of declarations; None where `begin` opens a block.
+/// What is open after `begin` in place of declarations; None where `begin` opens a block.
 pub(crate) fn begun(opened: Opened) -> Option<Opened>
     ensures { result ≡ begun opened }
 {

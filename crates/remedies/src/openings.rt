@@ -1,6 +1,6 @@
 //! What is open at a place of a text.
 ghost use Rattle.std.specs.Prelude.{◌≡◌, ◌++◌, ◌∷◌, [], IfOk, OnOk};
-ghost use Rattle.remedies.specs.Openings.{action_of, after, begin_in, body_introduced, innermost, lead_of, nothing_open, open_behind, openings_from, opened_in, with_introduced, without_innermost};
+ghost use Rattle.remedies.specs.Openings.{action_of, after, begin_in, body_introduced, innermost, lead_of, nothing_open, open_after, openings_from, opened_in, with_introduced, without_innermost};
 
 use crate::opening::{Action, Lead, Opened, Opening, action_of, begun, body_of, lead_of};
 use lexer::{Token, TokenKind};
@@ -158,12 +158,12 @@ impl Openings {
     }
 }
 
-/// What was opened last and isn't closed behind these tokens, the first ones of a text; None where nothing is.
+/// What was opened last and isn't closed after these tokens, the first ones of a text; None where nothing is.
 ///
 /// # Errors
 /// Where memory was refused.
-pub(crate) fn open_behind(alloc: Global, tokens: &[Token]) -> Result<Option<Opening>, AllocError>
-    ensures { IfOk result (λ opening. opening ≡ open_behind tokens.now) }
+pub(crate) fn open_after(alloc: Global, tokens: &[Token]) -> Result<Option<Opening>, AllocError>
+    ensures { IfOk result (λ opening. opening ≡ open_after tokens.now) }
 {
     let mut openings = Openings::new(alloc);
     for (before, token) in tokens.iter().enumerate() {

@@ -1,13 +1,16 @@
 //! Recognizing what a fault is about, by the tokens around its place.
 ghost use Rattle.std.specs.Prelude.{◌≡◌, ◌≤◌, IfOk, length, option_map};
 ghost use Rattle.std.specs.List.{list_any};
-ghost use Rattle.remedies.specs.Recognition.{begins_unit, construct_at, construct_between, count_before, first_fitting, fits_tokens, is_end, is_missing, open_at, unclosed_at, unclosed_between, wants_end, without_end};
+ghost use Rattle.remedies.specs.Recognition.{begins_unit, construct_at, construct_between, count_before, first_fitting, fits_tokens, grammar_between, is_end, is_missing, name_between, open_at, rule_between, unclosed_at, unclosed_between, wants_end, without_end};
 
 use crate::construct::Construct;
+use crate::grammar_rows::GRAMMAR_ROWS;
+use crate::name_rows::NAME_ROWS;
 use crate::opening::Opening;
-use crate::openings::open_behind;
+use crate::openings::open_after;
 use crate::row::{Region, Row, fits, fits_tokens, is_in, kind_at, kind_from_end};
-use crate::rows::ROWS;
+use crate::rule_rows::RULE_ROWS;
+use base::faults::{NAME_NOT_VISIBLE, UNEXPECTED_TOKEN};
 use lexer::{Token, TokenKind, Word};
 use std::alloc::{AllocError, Global};
 
@@ -72,7 +75,7 @@ fn without_end(tokens: &[Token]) -> &[Token]
 fn open_at(alloc: Global, front: &[Token]) -> Result<Option<Opening>, AllocError>
     ensures { IfOk result (λ opening. opening ≡ open_at front.now) }
 {
-    open_behind(alloc, without_end(front))
+    open_after(alloc, without_end(front))
 }
 
 // The construct of the first row that fits. What is open is looked for where some row fits the tokens next to the fault.
@@ -93,7 +96,42 @@ fn first_fitting_at(
     }
 }
 
-#[tactic(auto, unfolding(crate::specs::Recognition::construct_between))]
+#[tactic(auto, unfolding(crate::specs::Recognition::grammar_between))]
+fn grammar_between(
+    alloc: Global,
+    fault: u64,
+    front: &[Token],
+    back: &[Token],
+) -> Result<Option<Construct>, AllocError>
+    ensures { IfOk result (λ construct. construct ≡ grammar_between fault front.now back.now) }
+{
+    first_fitting_at(alloc, &GRAMMAR_ROWS, fault, front, back)
+}
+
+#[tactic(auto, unfolding(crate::specs::Recognition::name_between))]
+fn name_between(
+    alloc: Global,
+    fault: u64,
+    front: &[Token],
+    back: &[Token],
+) -> Result<Option<Construct>, AllocError>
+    ensures { IfOk result (λ construct. construct ≡ name_between fault front.now back.now) }
+{
+    first_fitting_at(alloc, &NAME_ROWS, fault, front, back)
+}
+
+#[tactic(auto, unfolding(crate::specs::Recognition::rule_between))]
+fn rule_between(
+    alloc: Global,
+    fault: u64,
+    front: &[Token],
+    back: &[Token],
+) -> Result<Option<Construct>, AllocError>
+    ensures { IfOk result (λ construct. construct ≡ rule_between fault front.now back.now) }
+{
+    first_fitting_at(alloc, &RULE_ROWS, fault, front, back)
+}
+
 fn construct_between(
     alloc: Global,
     fault: u64,
@@ -102,7 +140,13 @@ fn construct_between(
 ) -> Result<Option<Construct>, AllocError>
     ensures { IfOk result (λ construct. construct ≡ construct_between fault front.now back.now) }
 {
-    first_fitting_at(alloc, &ROWS, fault, front, back)
+    if fault == u64::from(UNEXPECTED_TOKEN) {
+        grammar_between(alloc, fault, front, back)
+    } else if fault == u64::from(NAME_NOT_VISIBLE) {
+        name_between(alloc, fault, front, back)
+    } else {
+        rule_between(alloc, fault, front, back)
+    }
 }
 
 /// The construct at the place of a fault of this number, in a text of these tokens; None where none is recognized.
@@ -166,7 +210,7 @@ fn unclosed_between(
     })
 }
 
-/// What is open at the place, in a text of these tokens, where an `end` of it is wrong or missing there: an `end` is the token in front of the place, the text
+/// What is open at the place, in a text of these tokens, where an `end` of it is wrong or missing there: an `end` is the token before the place, the text
 /// ends there, or what stands there can't be among statements. None where nothing is open, or none of this is so.
 ///
 /// # Errors

@@ -1,6 +1,6 @@
 //! Rows of the table of constructs, and whether one fits a place.
 ghost use Rattle.std.specs.Prelude.{◌≡◌, option_map};
-ghost use Rattle.remedies.specs.Recognition.{fits, fits_tokens, is_in, is_part, kind_at, kind_from_end, kind_in_front};
+ghost use Rattle.remedies.specs.Recognition.{fits, fits_tokens, is_in, is_part, kind_at, kind_from_end, kind_before_opener};
 
 use crate::construct::Construct;
 use crate::name::{Name, name_text};
@@ -43,8 +43,8 @@ pub enum Region {
     AmongDeclarations,
 }
 
-/// A construct, and when the place of a fault is recognized as one: by the fault's number, by what is open there, by the token in front of the one that opened
-/// it, by the three tokens in front of the place, and by the three from there on.
+/// A construct, and when the place of a fault is recognized as one: by the fault's number, by what is open there, by the token before the one that opened
+/// it, by the three tokens before the place, and by the three from there on.
 #[derive(Clone, Copy)]
 pub struct Row {
     pub fault: u8,
@@ -116,9 +116,9 @@ pub(crate) fn kind_from_end(number: usize, tokens: &[Token]) -> Option<&TokenKin
     }
 }
 
-// The kind of the token in front of the one that opened this.
-fn kind_in_front(opening: Option<Opening>, tokens: &[Token]) -> Option<&TokenKind>
-    ensures { option_map (λ k. k.now) result ≡ kind_in_front opening tokens.now }
+// The kind of the token before the one that opened this.
+fn kind_before_opener(opening: Option<Opening>, tokens: &[Token]) -> Option<&TokenKind>
+    ensures { option_map (λ k. k.now) result ≡ kind_before_opener opening tokens.now }
 {
     match opening {
         Some(opening) if opening.before > 0 => kind_at(opening.before - 1, tokens),
@@ -151,5 +151,5 @@ pub(crate) fn fits(
 {
     fits_tokens(row, fault, front, back)
         && is_in(row.region, opening)
-        && is_part(row.opener, kind_in_front(opening, front))
+        && is_part(row.opener, kind_before_opener(opening, front))
 }

@@ -1,6 +1,6 @@
 //! What to write in place of a number or a label that is misspelled.
 ghost use Rattle.std.specs.Prelude.{◌≡◌};
-ghost use Rattle.remedies.specs.Misspelled.{behind_digits, has_blank, is_closed, is_letter, is_of_number, of_label, of_number, of_number_byte};
+ghost use Rattle.remedies.specs.Misspelled.{after_digits, has_blank, is_closed, is_letter, is_of_number, of_label, of_number, of_number_byte};
 
 fn is_of_number(byte: u8) -> bool
     ensures { result ≡ is_of_number byte }
@@ -15,8 +15,8 @@ fn is_letter(byte: u8) -> bool
 }
 
 // What follows the digits and underlines with which the text begins.
-fn behind_digits(text: &[u8]) -> &[u8]
-    ensures { result.now ≡ behind_digits text.now }
+fn after_digits(text: &[u8]) -> &[u8]
+    ensures { result.now ≡ after_digits text.now }
 {
     let mut at = 0;
     while at < text.len() && is_of_number(text[at]) {
@@ -43,7 +43,7 @@ fn of_number_byte(byte: u8) -> &'static str
 pub fn of_number(text: &[u8]) -> &'static str
     ensures { result.now ≡ of_number text.now }
 {
-    match behind_digits(text) {
+    match after_digits(text) {
         [byte, ..] => of_number_byte(*byte),
         [] => PLAIN_NUMBER,
     }
@@ -79,7 +79,7 @@ fn has_blank(text: &[u8]) -> bool
     false
 }
 
-/// What is said of a label that is misspelled (RM 2.6), of which this text stands behind the opening quotation mark: one line without its line feed; code
+/// What is said of a label that is misspelled (RM 2.6), of which this text stands after the opening quotation mark: one line without its line feed; code
 /// stands between two marks (96).
 pub fn of_label(text: &[u8]) -> &'static str
     ensures { result.now ≡ of_label text.now }

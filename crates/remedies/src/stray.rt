@@ -29,7 +29,7 @@ pub fn of_byte(byte: u8) -> &'static str
 }
 
 const BANG: &str = "\
-`!` begins nothing: write `/=` for `!=`, and `not` in front of an operand.";
+`!` begins nothing: write `/=` for `!=`, and `not` before an operand.";
 
 const NUMBER_SIGN: &str = "\
 `#` begins nothing: numbers are decimal.";

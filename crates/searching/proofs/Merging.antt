@@ -1,26 +1,29 @@
 -- Where the run on a choice has met that of an earlier one, nothing is found under any choice with the same front.
-use Rattle.std.proofs.Common.{◌≡◌, ◌⊎◌, ℕ, zero, suc, ◌+◌, ◌<◌, ◌≤◌, ℤ, List, [], ◌∷◌, ◌++◌, Bool, true, false, Option, Some, None, drop, take, length, refl, sym, ap, subst, ◌∙◌, ⊎_elim, arith, append_assoc}
+use Rattle.std.proofs.Common.{◌≡◌, ℕ, zero, suc, ◌+◌, ◌≤◌, ℤ, List, [], ◌∷◌, ◌++◌, true, Option, Some, None, drop, take, refl, sym, ap, subst, ◌∙◌, ⊎_elim, append_assoc}
 use Rattle.std.specs.Prelude.{int_le, int_lt, slice_get, ◌≤ℤ◌}
 use Rattle.base.specs.Schedule.{is_schedule}
 use Rattle.base.specs.declared.schedule.ScheduleLine.{ScheduleLine}
+use Rattle.choices.specs.Parts.{front_of, is_of_part}
+use Rattle.choices.specs.declared.part.Part.{Part}
+use Rattle.choices.proofs.Parting.{mixed_part}
 use Rattle.choices.specs.Places.{AreWithin, IsBefore, flat, taken}
-use Rattle.choices.specs.Slots.{Slot, are_slots, line_of, lines_of}
-use Rattle.choices.specs.Stepping.{IsEarlierInFront, IsFurther}
+use Rattle.choices.specs.Slots.{Slot, are_slots, line_of}
+use Rattle.choices.specs.Stepping.{IsFurther}
 use Rattle.choices.proofs.Lawful.{schedule_of_choice}
 use Rattle.choices.proofs.Moving.{long_as}
 use Rattle.choices.proofs.Order.{taken_is_choice}
 use Rattle.choices.proofs.Raising.{before_front, before_whole}
-use Rattle.kernel.specs.State.{Kernel, Line}
+use Rattle.kernel.specs.State.{Line}
 use Rattle.kernel.specs.Laws.{LeftUnmoved}
-use Rattle.image.specs.Code.{CodeWorld, code}
+use Rattle.image.specs.Code.{code}
 use Rattle.image.specs.Sections.{Sections}
 use Rattle.image_laws.specs.Laws.{OutcomeStays}
 use Rattle.likeness.specs.Schedules.{AgreeAt, AreBefore, AreFrom}
-use Rattle.likeness.specs.Worlds.{IsEarly, IsLastBefore, IsSure, NoneSooner, ReadsNothing}
+use Rattle.likeness.specs.Worlds.{IsEarly, IsSure, NoneSooner, ReadsNothing}
 use Rattle.likeness.proofs.Inputs.{front_input}
 use Rattle.likeness.proofs.Meeting.{HaveOneFuture, LinesBehind, have_one_end, have_one_future}
 use Rattle.searching.specs.Meeting.{AreEachBefore, AreEachFrom, AreLike, EndsBefore, HaveMet, schedule_of}
-use Rattle.searching.specs.Searches.{AnswersRun, kernels}
+use Rattle.searching.specs.Searches.{AnswersRun}
 use Rattle.searching.specs.Sights.{HasLine, IsWanted, Written}
 use Rattle.searching.specs.declared.one.Answer.TheVariants as answers
 use Rattle.searching.specs.declared.sight.Wanted.{Wanted}
@@ -196,9 +199,13 @@ module _ (unmoved : LeftUnmoved) (stays : OutcomeStays) (i : Sections) (behind :
           (subst (λ s. AnswersRun i s until limit wanted answers.Nothing) mixed_is q))
 
     -- where nothing is found under what is before this choice, nothing is found under any with its front
-    pub all_quiet : ((others : List ℕ) → AreWithin slots others → IsBefore others places → IsQuietOn others)
+    pub all_quiet : (part : Part) → is_of_part part slots earlier ≡ true → front_of part slots ≤ front
+        → ((others : List ℕ) → AreWithin slots others → IsBefore others places → is_of_part part slots others ≡ true → IsQuietOn others)
         → (others : List ℕ) → AreWithin slots others → take front others ≡ take front places → IsQuietOn others
-    all_quiet through others v same = quiet_behind others v same (through (mixed others v same) (mixed_within others v same) (mixed_before others v same))
+    all_quiet part is_of no_less through others v same =
+        quiet_behind others v same
+        (through (mixed others v same) (mixed_within others v same) (mixed_before others v same)
+        (mixed_part part slots front earlier (drop front others) met.within no_less ∙ is_of))
 
   -- the same where the run has come to its end before
   module _ (front : ℕ) (time : ℤ) (places : List ℕ) (n : ℕ) (ended : EndsBefore i slots front time places n) (within : AreWithin slots places)
@@ -245,12 +252,12 @@ module _ (unmoved : LeftUnmoved) (stays : OutcomeStays) (i : Sections) (behind :
         (subst (λ s. is_schedule s ≡ true) own_is (schedule_lawful slots places lawful within)) n n lines_then lines_then end_future until limit wanted none_then
         (subst (λ s. AnswersRun i s until limit wanted answers.Nothing) own_is quiet))
 
-  -- so the search may go on behind the last of them
-  pub through_raised : (front : ℕ) (places raised : List ℕ) → AreWithin slots places → IsFurther slots front places raised
-      → ((others : List ℕ) → AreWithin slots others → IsBefore others places → IsQuietOn others)
-      → ((others : List ℕ) → AreWithin slots others → take front others ≡ take front places → IsQuietOn others)
-      → (others : List ℕ) → AreWithin slots others → IsBefore others raised → IsQuietOn others
-  through_raised front places raised w r before same others v b =
-      ⊎_elim (λ e. same others v e) (λ earlier. before others v earlier)
-      (before_front front others raised places r.front_is (long_as slots others v ∙ sym (long_as slots raised r.within))
-      (long_as slots raised r.within ∙ sym (long_as slots places w)) b)
+-- so the search may go on behind the last of them
+pub through_raised : (slots : List Slot) (IsQuiet : List ℕ → Type 0) (front : ℕ) (places raised : List ℕ) → AreWithin slots places
+    → IsFurther slots front places raised → ((others : List ℕ) → AreWithin slots others → IsBefore others places → IsQuiet others)
+    → ((others : List ℕ) → AreWithin slots others → take front others ≡ take front places → IsQuiet others)
+    → (others : List ℕ) → AreWithin slots others → IsBefore others raised → IsQuiet others
+through_raised slots IsQuiet front places raised w r before same others v b =
+    ⊎_elim (λ e. same others v e) (λ earlier. before others v earlier)
+    (before_front front others raised places r.front_is (long_as slots others v ∙ sym (long_as slots raised r.within))
+    (long_as slots raised r.within ∙ sym (long_as slots places w)) b)

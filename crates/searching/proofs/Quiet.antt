@@ -1,5 +1,5 @@
 -- Where two runs have one future, and one of them comes to nothing that is wanted, the other one comes to nothing from there on.
-use Rattle.std.proofs.Common.{◌≡◌, ◌⊎◌, ℕ, zero, suc, ◌+◌, ℤ, List, [], ◌∷◌, ◌++◌, Option, Some, None, true, refl, sym, ap, subst, ◌∙◌, inl, inr, ⊎_elim, arith}
+use Rattle.std.proofs.Common.{◌≡◌, ℕ, suc, ◌+◌, ℤ, List, ◌∷◌, ◌++◌, Some, true, sym, ap, subst, ◌∙◌, inl, inr, ⊎_elim, arith}
 use Rattle.std.specs.Prelude.{int_le, ◌≤ℤ◌, ◌<ℤ◌}
 use Rattle.std.proofs.lemmas.Int.{ints}
 use Rattle.std.proofs.lemmas.List.{append_assoc}
@@ -12,11 +12,11 @@ use Rattle.image.specs.Code.{CodeWorld, code}
 use Rattle.image.specs.Sections.{Sections}
 use Rattle.image_laws.specs.Laws.{OutcomeStays}
 use Rattle.likeness.proofs.Meeting.{HaveOneFuture}
-use Rattle.searching.specs.Searches.{AnswersRun, ComesTo, IsFollowedOn, NeverComes, kernels}
-use Rattle.searching.specs.Sights.{HasLine, IsWanted, Sighting, Stopped, Waiting, Written}
+use Rattle.searching.specs.Searches.{AnswersRun, IsFollowedOn, NeverComes, kernels}
+use Rattle.searching.specs.Sights.{HasLine, IsWanted, Stopped, Waiting, Written}
 use Rattle.searching.specs.declared.one.Answer.TheVariants as answers
 use Rattle.searching.specs.declared.sight.Wanted.{Wanted}
-use Rattle.searching.proofs.Standing.{has_later, le_of, onward, parted, swap}
+use Rattle.searching.proofs.Standing.{has_later, le_of, onward, parted}
 
 -- a line of the second of two lists is one of both
 pub in_second : (xs ys : List Line) (line : Line) → HasLine ys line → HasLine (xs ++ ys) line

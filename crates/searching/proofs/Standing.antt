@@ -1,5 +1,5 @@
 -- Where a search stands in the run of an image's code, and what its answers then say of the whole run.
-use Rattle.std.proofs.Common.{◌≡◌, ◌⊎◌, ℕ, zero, suc, ◌+◌, ◌-◌, ◌*◌, ◌<◌, ◌≤◌, ℤ, List, [], ◌∷◌, ◌++◌, Option, Some, None, Bool, true, false, refl, sym, ap, subst, ◌∙◌, inl, inr, ⊎_elim, arith, append-nil, append_assoc, rules}
+use Rattle.std.proofs.Common.{◌≡◌, ◌⊎◌, ℕ, zero, suc, ◌+◌, ◌-◌, ◌*◌, ◌<◌, ◌≤◌, ℤ, List, [], ◌∷◌, ◌++◌, Option, Some, None, Bool, true, false, refl, sym, ap, subst, ◌∙◌, inl, inr, ⊎_elim, arith, append_assoc, rules}
 use Rattle.std.specs.Prelude.{int_le, ◌≤ℤ◌, ◌<ℤ◌, ◌+ℤ◌, ◌-ℤ◌, pos, negsuc}
 use Rattle.std.proofs.lemmas.Int.{ints}
 use Rattle.std.proofs.Math.Nat.{suc-mul}
@@ -22,7 +22,7 @@ use Rattle.tasking.specs.declared.reports.Outcome.{Outcome as End}
 use Rattle.execution.specs.Held.{HeldWorld, Leads, line_of, lines_of, world_of, world_with}
 use Rattle.execution.specs.declared.line.Line.{Line as HeldLine}
 use Rattle.searching.specs.Judging.{AreSame, FoundLine, JudgedOutcome, ShownBy}
-use Rattle.searching.specs.Searches.{AnswersRun, ComesTo, IsFollowedOn, NeverComes, TakesMore, kernels}
+use Rattle.searching.specs.Searches.{AnswersRun, ComesTo, IsFollowedOn, NeverComes, kernels}
 use Rattle.searching.specs.Sights.{HasLine, IsWanted, ShowsSight, Sighting, Stopped, Waiting, Written, sight_of}
 use Rattle.searching.specs.declared.one.Answer.{Answer}
 use Rattle.searching.specs.declared.one.Answer.TheVariants as answers

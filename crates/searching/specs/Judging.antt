@@ -1,5 +1,5 @@
 -- What is made of a line and of an outcome, as the machine has them.
-use Rattle.std.specs.Prelude.{◌≡◌, ℕ, ℤ, ◌≤ℤ◌, Bool, true, false, Option, Some, None}
+use Rattle.std.specs.Prelude.{◌≡◌, ℤ, ◌≤ℤ◌, Bool, true, false, Option, Some, None}
 use Rattle.kernel.specs.State.{Line}
 use Rattle.execution.specs.Held.{line_of}
 use Rattle.execution.specs.declared.line.Line.{Line as HeldLine}

@@ -3,7 +3,9 @@ use Rattle.std.specs.Prelude.{ℕ, ◌++◌, ℤ, List, Some, codes}
 use Rattle.std.specs.Fmt.{decimal, signed_decimal}
 use Rattle.base.specs.declared.schedule.ScheduleLine.{ScheduleLine}
 use Rattle.choices.specs.Counting.{number_text}
-use Rattle.choices.specs.Slots.{Slot, number_of}
+use Rattle.choices.specs.Parts.{number_of_part}
+use Rattle.choices.specs.Slots.{Slot}
+use Rattle.choices.specs.declared.part.Part.{Part}
 use Rattle.choices.specs.Writing.{schedule_text}
 use Rattle.image.specs.Sections.{Sections}
 use Rattle.image.specs.Texts.{names_of}
@@ -29,12 +31,12 @@ excess_text limit time = codes "found: more than " ++ decimal limit ++ codes " s
 abbrev pub too_long_text : (limit : ℕ) → List ScheduleLine → (time : ℤ) → List ℕ
 too_long_text limit schedule time = schedule_text schedule ++ excess_text limit time
 
--- the number of choices of the set
-abbrev pub nothing_text : List Slot → List ℕ
-nothing_text slots = codes "none of " ++ number_text (number_of slots) ++ codes " schedules\n"
+-- the number of choices of the part
+abbrev pub nothing_text : Part → List Slot → List ℕ
+nothing_text part slots = codes "none of " ++ number_text (number_of_part part slots) ++ codes " schedules\n"
 
 -- by what the machine has found in the code of an image
-abbrev pub report_text : Sections → List Slot → (limit : ℕ) → Searched → List ℕ
-report_text i slots limit (searched.Found schedule finding) = found_text (names_of i) schedule (sight_of i finding)
-report_text i slots limit searched.Nothing = nothing_text slots
-report_text i slots limit (searched.TooLong schedule time) = too_long_text limit schedule time
+abbrev pub report_text : Sections → List Slot → Part → (limit : ℕ) → Searched → List ℕ
+report_text i slots part limit (searched.Found schedule finding) = found_text (names_of i) schedule (sight_of i finding)
+report_text i slots part limit searched.Nothing = nothing_text part slots
+report_text i slots part limit (searched.TooLong schedule time) = too_long_text limit schedule time

@@ -1,8 +1,10 @@
--- What a search answers of the code of an image: of one schedule, and of all of a set.
-use Rattle.std.specs.Prelude.{◌≡◌, ◌⊎◌, ℕ, ◌+◌, ℤ, ◌<ℤ◌, ◌≤ℤ◌, List, Option, Some, None}
+-- What a search answers of the code of an image: of one schedule, and of all of a part of a set.
+use Rattle.std.specs.Prelude.{◌≡◌, ◌⊎◌, ℕ, ◌+◌, ℤ, ◌<ℤ◌, ◌≤ℤ◌, List, Some, None, true}
 use Rattle.base.specs.declared.schedule.ScheduleLine.{ScheduleLine}
+use Rattle.choices.specs.Parts.{IsInPart, is_of_part}
 use Rattle.choices.specs.Places.{AreWithin, IsBefore, taken}
-use Rattle.choices.specs.Slots.{IsInSet, Slot, lines_of}
+use Rattle.choices.specs.Slots.{Slot, lines_of}
+use Rattle.choices.specs.declared.part.Part.{Part}
 use Rattle.image.specs.Code.{code}
 use Rattle.image.specs.Sections.{Sections}
 use Rattle.kernel.specs.State.{Kernel, Outcome}
@@ -45,25 +47,26 @@ AnswersRun i schedule until limit wanted (answers.Found finding) =
 AnswersRun i schedule until limit wanted answers.Nothing = NeverComes until wanted (kernels i schedule) × IsFollowedOn until (kernels i schedule)
 AnswersRun i schedule until limit wanted (answers.TooLong time) = TakesMore until limit time (kernels i schedule)
 
--- of all schedules of a set
-abbrev pub Searches : Sections → List Slot → (until : ℤ) → (limit : ℕ) → Wanted → Searched → Type 0
-Searches i slots until limit wanted (searched.Found schedule finding) =
-    IsInSet slots schedule × AnswersRun i schedule until limit wanted (answers.Found finding)
-Searches i slots until limit wanted searched.Nothing =
-    (schedule : List ScheduleLine) → IsInSet slots schedule → AnswersRun i schedule until limit wanted answers.Nothing
-Searches i slots until limit wanted (searched.TooLong schedule time) =
-    IsInSet slots schedule × AnswersRun i schedule until limit wanted (answers.TooLong time)
+-- of all schedules of a part of a set
+abbrev pub Searches : Sections → List Slot → Part → (until : ℤ) → (limit : ℕ) → Wanted → Searched → Type 0
+Searches i slots part until limit wanted (searched.Found schedule finding) =
+    IsInPart part slots schedule × AnswersRun i schedule until limit wanted (answers.Found finding)
+Searches i slots part until limit wanted searched.Nothing =
+    (schedule : List ScheduleLine) → IsInPart part slots schedule → AnswersRun i schedule until limit wanted answers.Nothing
+Searches i slots part until limit wanted (searched.TooLong schedule time) =
+    IsInPart part slots schedule × AnswersRun i schedule until limit wanted (answers.TooLong time)
 
--- the schedule of a choice of the set, and under those of all choices before it, in the order of alternatives, nothing is found
-pub record IsFirstFound (i : Sections) (slots : List Slot) (until : ℤ) (limit : ℕ) (wanted : Wanted) (schedule : List ScheduleLine) : Type 0 where
+-- the schedule of a choice of the part, and under those of all its choices before this one, in the order of alternatives, nothing is found
+pub record IsFirstFound (i : Sections) (slots : List Slot) (part : Part) (until : ℤ) (limit : ℕ) (wanted : Wanted) (schedule : List ScheduleLine) : Type 0 where
   pub places : List ℕ
   pub within : AreWithin slots places
+  pub is_of : is_of_part part slots places ≡ true
   pub is : schedule ≡ lines_of slots (taken slots places)
-  pub before : (others : List ℕ) → AreWithin slots others → IsBefore others places
+  pub before : (others : List ℕ) → AreWithin slots others → is_of_part part slots others ≡ true → IsBefore others places
       → AnswersRun i (lines_of slots (taken slots others)) until limit wanted answers.Nothing
 
--- what is found is found under the first schedule of the set under which anything is
-abbrev pub FindsFirst : Sections → List Slot → (until : ℤ) → (limit : ℕ) → Wanted → Searched → Type 0
-FindsFirst i slots until limit wanted (searched.Found schedule finding) = IsFirstFound i slots until limit wanted schedule
-FindsFirst i slots until limit wanted searched.Nothing = Unit {0}
-FindsFirst i slots until limit wanted (searched.TooLong schedule time) = IsFirstFound i slots until limit wanted schedule
+-- what is found is found under the first schedule of the part under which anything is
+abbrev pub FindsFirst : Sections → List Slot → Part → (until : ℤ) → (limit : ℕ) → Wanted → Searched → Type 0
+FindsFirst i slots part until limit wanted (searched.Found schedule finding) = IsFirstFound i slots part until limit wanted schedule
+FindsFirst i slots part until limit wanted searched.Nothing = Unit {0}
+FindsFirst i slots part until limit wanted (searched.TooLong schedule time) = IsFirstFound i slots part until limit wanted schedule

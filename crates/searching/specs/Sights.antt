@@ -1,5 +1,5 @@
 -- What a search looks for, and when a run shows it (docs/FORMATS.md, "Search"): of sources and of code, whose kernels are alike.
-use Rattle.std.specs.Prelude.{◌≡◌, ◌≢◌, ◌⊎◌, ℕ, ℤ, ◌≤ℤ◌, List, [], ◌∷◌, ◌++◌, Option, Some, None}
+use Rattle.std.specs.Prelude.{◌≡◌, ℕ, ℤ, ◌≤ℤ◌, List, ◌∷◌, ◌++◌, Some}
 use Rattle.image.specs.Sections.{Sections}
 use Rattle.kernel.specs.State.{Kernel, Line, Unhandled, WaitsForever}
 use Rattle.execution.specs.Held.{line_of}

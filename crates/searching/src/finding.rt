@@ -6,7 +6,7 @@ ghost use Rattle.searching.specs.Meeting.{MaySkip, SkipsMet};
 use crate::meeting::{has_ended, have_met};
 use crate::table::{Row, Table};
 use base::limits::CHANNELS;
-use choices::{Choice, Choices, Slot};
+use choices::{Choice, Choices, Part, Slot};
 use clock::{Delays, ListDelays, Schedule};
 use dispatch::{Ready, RingReady};
 use execution::Execution;
@@ -17,7 +17,7 @@ use std::sync::ledger::Ledger;
 use tasking::{Place, Tasking};
 
 /// Becomes the last choice that differs from this one in slots of later times alone, where just before these times its run is in the world in which the run on
-/// an earlier choice is, or has ended. The table keeps this choice for later ones; a choice that it gives is compared before it counts.
+/// an earlier choice of the part is, or has ended. The table keeps this choice for later ones; a choice that it gives is compared before it counts.
 ///
 /// # Errors
 /// Where memory was refused.
@@ -25,15 +25,16 @@ pub(crate) fn skip_met<L: Ledger>(
     alloc: Global,
     image: &Image,
     choices: &Choices,
+    part: Part,
     choice: &mut Choice,
     until: i64,
     table: &mut Table,
     steps: &mut Steps<L>,
 ) -> Result<(), AllocError>
     requires { AreWithin choices.now choice.old }
-    ensures { OnOk result (SkipsMet image.now choices.now choice.old choice.new) }
+    ensures { OnOk result (SkipsMet image.now choices.now part choice.old choice.new) }
 {
-    match find_meeting(alloc, image, choices, choice, until, table, steps)? {
+    match find_meeting(alloc, image, choices, part, choice, until, table, steps)? {
         Some(front) => choice.go_to_last(choices, front),
         None => {}
     }
@@ -45,13 +46,14 @@ fn find_meeting<L: Ledger>(
     alloc: Global,
     image: &Image,
     choices: &Choices,
+    part: Part,
     choice: &Choice,
     until: i64,
     table: &mut Table,
     steps: &mut Steps<L>,
 ) -> Result<Option<usize>, AllocError>
     requires { AreWithin choices.now choice.now }
-    ensures { IfOk result (λ met. IfSome met (MaySkip image.now choices.now choice.now)) }
+    ensures { IfOk result (λ met. IfSome met (MaySkip image.now choices.now part choice.now)) }
 {
     let schedule = choice.schedule(alloc, choices)?;
     let mut execution: Execution<'_, RingReady, ListDelays> = Execution::start(
@@ -64,7 +66,7 @@ fn find_meeting<L: Ledger>(
             return Ok(None);
         }
         if execution.tasking().outcome().is_some() {
-            return find_end(alloc, image, choices, choice, front, taken, steps);
+            return find_end(alloc, image, choices, part, choice, front, taken, steps);
         }
         let before = digest_of_runner(&execution);
         let _ = execution.step(steps);
@@ -72,7 +74,8 @@ fn find_meeting<L: Ledger>(
         if front < later {
             let digest = digest_of(&execution, before);
             let met = find_among(
-                alloc, image, choices, choice, &schedule, front, later, taken, digest, table, steps,
+                alloc, image, choices, part, choice, &schedule, front, later, taken, digest, table,
+                steps,
             )?;
             if met.is_some() {
                 return Ok(met);
@@ -89,15 +92,16 @@ fn find_end<L: Ledger>(
     alloc: Global,
     image: &Image,
     choices: &Choices,
+    part: Part,
     choice: &Choice,
     front: usize,
     taken: u64,
     steps: &mut Steps<L>,
 ) -> Result<Option<usize>, AllocError>
     requires { AreWithin choices.now choice.now }
-    ensures { IfOk result (λ met. IfSome met (MaySkip image.now choices.now choice.now)) }
+    ensures { IfOk result (λ met. IfSome met (MaySkip image.now choices.now part choice.now)) }
 {
-    if has_ended(alloc, image, choices, front, choice, taken, steps)? {
+    if has_ended(alloc, image, choices, part, front, choice, taken, steps)? {
         return Ok(Some(front));
     }
     Ok(None)
@@ -108,6 +112,7 @@ fn find_among<L: Ledger>(
     alloc: Global,
     image: &Image,
     choices: &Choices,
+    part: Part,
     choice: &Choice,
     schedule: &Schedule,
     front: usize,
@@ -118,14 +123,16 @@ fn find_among<L: Ledger>(
     steps: &mut Steps<L>,
 ) -> Result<Option<usize>, AllocError>
     requires { AreWithin choices.now choice.now }
-    ensures { IfOk result (λ met. IfSome met (MaySkip image.now choices.now choice.now)) }
+    ensures { IfOk result (λ met. IfSome met (MaySkip image.now choices.now part choice.now)) }
 {
     let slots = choices.slots();
     let mut at = front;
     while at < later && at < slots.len() {
         let values = with_values(digest, schedule, slots[at].time().saturating_sub(1));
         let own = digest_with(values, at as u64);
-        if is_met(alloc, image, choices, choice, at, taken, own, table, steps)? {
+        if is_met(
+            alloc, image, choices, part, choice, at, taken, own, table, steps,
+        )? {
             return Ok(Some(at));
         }
         at = next_time(slots, at);
@@ -151,6 +158,7 @@ fn is_met<L: Ledger>(
     alloc: Global,
     image: &Image,
     choices: &Choices,
+    part: Part,
     choice: &Choice,
     front: usize,
     taken: u64,
@@ -159,7 +167,7 @@ fn is_met<L: Ledger>(
     steps: &mut Steps<L>,
 ) -> Result<bool, AllocError>
     requires { AreWithin choices.now choice.now }
-    ensures { IfOk result (λ met. met ≡ true → MaySkip image.now choices.now choice.now front) }
+    ensures { IfOk result (λ met. met ≡ true → MaySkip image.now choices.now part choice.now front) }
 {
     if !choice.is_first_after(front) {
         return Ok(false);
@@ -169,6 +177,7 @@ fn is_met<L: Ledger>(
             alloc,
             image,
             choices,
+            part,
             front,
             &row.choice,
             row.taken,

@@ -10,7 +10,7 @@ ghost use Rattle.searching.specs.Meeting.{AreEachBefore, AreEachFrom, IsAtEnd, M
 
 use crate::comparing::are_like;
 use base::limits::CHANNELS;
-use choices::{Choice, Choices, Slot};
+use choices::{Choice, Choices, Part, Slot};
 use clock::{Delays, ListDelays, Schedule};
 use dispatch::{Ready, RingReady};
 use execution::Execution;
@@ -22,8 +22,8 @@ use std::alloc::{AllocError, Global};
 use std::sync::ledger::Ledger;
 use tasking::Outcome;
 
-/// Whether the run on a choice, after `taken` steps, is in the world in which the run on an earlier one is after `earlier_taken`, which differs from it in the
-/// first `front` slots alone, just before the time of the other slots. `false` doesn't say that it isn't.
+/// Whether the run on a choice, after `taken` steps, is in the world in which the run on an earlier one of the part is after `earlier_taken`, which differs
+/// from it in the first `front` slots alone, just before the time of the other slots. `false` doesn't say that it isn't.
 ///
 /// # Errors
 /// Where memory was refused.
@@ -31,6 +31,7 @@ pub(crate) fn have_met<L: Ledger>(
     alloc: Global,
     image: &Image,
     choices: &Choices,
+    part: Part,
     front: usize,
     earlier: &Choice,
     earlier_taken: u64,
@@ -39,9 +40,15 @@ pub(crate) fn have_met<L: Ledger>(
     steps: &mut Steps<L>,
 ) -> Result<bool, AllocError>
     requires { AreWithin choices.now choice.now }
-    ensures { IfOk result (λ met. met ≡ true → MaySkip image.now choices.now choice.now front) }
+    ensures { IfOk result (λ met. met ≡ true → MaySkip image.now choices.now part choice.now front) }
 {
     if !earlier.is_of(choices) {
+        return Ok(false);
+    }
+    if front < part.front(choices) {
+        return Ok(false);
+    }
+    if !earlier.is_of_part(choices, part) {
         return Ok(false);
     }
     if !earlier.is_earlier_in_front(choice, front) {
@@ -76,13 +83,14 @@ pub(crate) fn has_ended<L: Ledger>(
     alloc: Global,
     image: &Image,
     choices: &Choices,
+    part: Part,
     front: usize,
     choice: &Choice,
     taken: u64,
     steps: &mut Steps<L>,
 ) -> Result<bool, AllocError>
     requires { AreWithin choices.now choice.now }
-    ensures { IfOk result (λ ended. ended ≡ true → MaySkip image.now choices.now choice.now front) }
+    ensures { IfOk result (λ ended. ended ≡ true → MaySkip image.now choices.now part choice.now front) }
 {
     let Some(time) = parting_time(choices.slots(), front) else {
         return Ok(false);

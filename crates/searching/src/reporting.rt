@@ -11,7 +11,7 @@ ghost use Rattle.searching.specs.Sights.{sight_of};
 use crate::one::label_at;
 use crate::sight::Finding;
 use crate::whole::Searched;
-use choices::{Choices, count_text, schedule_text};
+use choices::{Choices, Part, count_text, schedule_text};
 use clock::Schedule;
 use execution::Line;
 use image::Image;
@@ -113,10 +113,10 @@ fn too_long_text(
     Ok(text)
 }
 
-fn nothing_text(alloc: Global, choices: &Choices) -> Result<Vec<u8>, AllocError>
-    ensures { IfOk result (λ text. text.items ≡ nothing_text choices.now) }
+fn nothing_text(alloc: Global, choices: &Choices, part: Part) -> Result<Vec<u8>, AllocError>
+    ensures { IfOk result (λ text. text.items ≡ nothing_text part choices.now) }
 {
-    let count = count_text(alloc, choices)?;
+    let count = count_text(alloc, choices, part)?;
     let mut text = Vec::new(alloc);
     text.extend_from_slice(b"none of ")?;
     text.extend_from_slice(&count)?;
@@ -124,7 +124,7 @@ fn nothing_text(alloc: Global, choices: &Choices) -> Result<Vec<u8>, AllocError>
     Ok(text)
 }
 
-/// The text of what a search of an image through a set has come to, with this limit on the steps at one time.
+/// The text of what a search of an image through a part of a set has come to, with this limit on the steps at one time.
 ///
 /// # Errors
 /// Where memory was refused.
@@ -132,14 +132,15 @@ pub fn report(
     alloc: Global,
     image: &Image,
     choices: &Choices,
+    part: Part,
     limit: u64,
     searched: &Searched,
 ) -> Result<Vec<u8>, AllocError>
-    ensures { IfOk result (λ text. text.items ≡ report_text image.now choices.now limit searched.now) }
+    ensures { IfOk result (λ text. text.items ≡ report_text image.now choices.now part limit searched.now) }
 {
     match searched {
         Searched::Found(schedule, finding) => found_text(alloc, image, schedule, finding),
-        Searched::Nothing => nothing_text(alloc, choices),
+        Searched::Nothing => nothing_text(alloc, choices, part),
         Searched::TooLong(schedule, time) => too_long_text(alloc, limit, schedule, *time),
     }
 }

@@ -1,4 +1,4 @@
-//! The search through all schedules of a set.
+//! The search through all schedules of a part of a set.
 ghost use Rattle.std.specs.Prelude.{◌≡◌, IfOk};
 ghost use Rattle.searching.specs.Searches.{FindsFirst, Searches};
 
@@ -6,7 +6,7 @@ use crate::finding::skip_met;
 use crate::one::{Answer, search_run};
 use crate::sight::{Finding, Wanted};
 use crate::table::Table;
-use choices::{Choice, Choices};
+use choices::{Choice, Choices, Part};
 use clock::Schedule;
 use image::Image;
 use image_laws::{lines_unread, outcome_stays};
@@ -19,7 +19,7 @@ use tasking::laws::lines_apart;
 /// What a search has come to.
 #[derive(Drop)]
 pub enum Searched {
-    /// Under this schedule of the set the run comes to this.
+    /// Under this schedule of the part the run comes to this.
     Found(Schedule, Finding),
     /// Under none.
     Nothing,
@@ -27,9 +27,10 @@ pub enum Searched {
     TooLong(Schedule, i64),
 }
 
-/// Runs an image on the schedules of a set, in the order of alternatives, where the first slot counts most, up to `until` (microseconds since the start) and
-/// with `limit` steps at one time at most, each of which is counted, until one reaches what is wanted. Where a run is, just before the time of some slot, in a
-/// world in which an earlier one was, schedules that differ from its own from that time on are passed over: the earlier one, continued so, has the same result.
+/// Runs an image on the schedules of a part of a set, in the order of alternatives, where the first slot counts most, up to `until` (microseconds since the
+/// start) and with `limit` steps at one time at most, each of which is counted, until one reaches what is wanted. Where a run is, just before the time of some
+/// slot, in a world in which an earlier one was, schedules that differ from its own from that time on are passed over: the earlier one, continued so, has the
+/// same result.
 ///
 /// # Errors
 /// Where memory was refused.
@@ -37,13 +38,14 @@ pub fn search<L: Ledger>(
     alloc: Global,
     image: &Image,
     choices: &Choices,
+    part: Part,
     until: i64,
     limit: u64,
     wanted: Wanted<'_>,
     steps: &mut Steps<L>,
 ) -> Result<Searched, AllocError>
-    ensures answer { IfOk result (Searches image.now choices.now until limit wanted.entry) }
-    ensures first { IfOk result (FindsFirst image.now choices.now until limit wanted.entry) }
+    ensures answer { IfOk result (Searches image.now choices.now part until limit wanted.entry) }
+    ensures first { IfOk result (FindsFirst image.now choices.now part until limit wanted.entry) }
 {
     left_unmoved();
     outcome_stays();
@@ -53,13 +55,26 @@ pub fn search<L: Ledger>(
     let mut choice = Choice::first(alloc, choices)?;
     let mut is_more = true;
     while is_more {
-        let schedule = choice.schedule(alloc, choices)?;
-        match search_run(alloc, image, &schedule, until, limit, wanted, steps)? {
-            Answer::Found(finding) => return Ok(Searched::Found(schedule, finding)),
-            Answer::TooLong(time) => return Ok(Searched::TooLong(schedule, time)),
-            Answer::Nothing => {}
+        if choice.is_of_part(choices, part) {
+            let schedule = choice.schedule(alloc, choices)?;
+            match search_run(alloc, image, &schedule, until, limit, wanted, steps)? {
+                Answer::Found(finding) => return Ok(Searched::Found(schedule, finding)),
+                Answer::TooLong(time) => return Ok(Searched::TooLong(schedule, time)),
+                Answer::Nothing => {}
+            }
+            skip_met(
+                alloc,
+                image,
+                choices,
+                part,
+                &mut choice,
+                until,
+                &mut table,
+                steps,
+            )?;
+        } else {
+            choice.go_to_last(choices, part.front(choices));
         }
-        skip_met(alloc, image, choices, &mut choice, until, &mut table, steps)?;
         is_more = choice.advance(choices);
     }
     Ok(Searched::Nothing)

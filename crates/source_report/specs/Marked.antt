@@ -1,6 +1,6 @@
 -- How a place of a text is shown: its line, with a mark below the place.
 use Rattle.std.specs.Prelude.{ℕ, zero, suc, ◌+◌, ◌-◌, ◌&&◌, ◌||◌, Bool, List, [], ◌∷◌, ◌++◌, codes, drop, if◌then◌else◌, length, map, nat_eq, nat_le, nat_lt, take}
-use Rattle.hints.specs.Places.{line_start}
+use Rattle.diagnostics.specs.hints.Places.{line_start}
 use Rattle.source_report.specs.declared.marked.TheConstants.{SIDE, WIDTH}
 
 -- how many bytes stand in front of the first of this value, or all where there is none

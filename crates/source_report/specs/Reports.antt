@@ -1,6 +1,6 @@
 -- What is said of a place of a file, in the form by which editors find it.
 use Rattle.std.specs.Prelude.{ℕ, suc, ◌-◌, List, [], ◌∷◌, ◌++◌, codes, decimal, drop, if◌then◌else◌, map, nat_eq}
-use Rattle.hints.specs.Places.{place_text}
+use Rattle.diagnostics.specs.hints.Places.{place_text}
 use Rattle.source_report.specs.Marked.{behind, first_line, marked_place, shown, up_to}
 
 -- `FILE:LINE:COLUMN: `

@@ -3,7 +3,7 @@ ghost use Rattle.std.specs.Prelude.{◌≡◌, ◌≤◌, length};
 ghost use Rattle.source_report.specs.Marked.{behind, count_to, first_line, last_line, up_to};
 ghost use Rattle.source_report.specs.Reports.{behind_lines, numbered_line};
 
-use hints::line_start;
+use diagnostics::line_start;
 
 // How many bytes stand in front of the first of this value, or all where there is none.
 fn count_to(value: u8, text: &[u8]) -> usize

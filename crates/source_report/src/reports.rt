@@ -4,7 +4,7 @@ ghost use Rattle.source_report.specs.Reports.{fault_words, line_heading, place_h
 
 use crate::marked::{put_marked_place, put_shown};
 use crate::pieces::{behind, numbered_line, up_to};
-use hints::put_place;
+use diagnostics::put_place;
 use itoa::Buffer;
 use std::alloc::AllocError;
 

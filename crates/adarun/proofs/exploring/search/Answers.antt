@@ -1,5 +1,4 @@
 use Rattle.std.proofs.Common.{◌≡◌, Err, ap, of_z, rules, subst, sym, to_z, w64}
-use Rattle.machine.specs.declared.fault.RunFault.{RunFault}
 use Rattle.machine.specs.declared.fault.RunFault.TheVariants as runs
 use Rattle.searching.specs.Reports.{report_text}
 use Rattle.choices.specs.Faults.{RefusesChoicesText}
@@ -15,13 +14,13 @@ returns-in-Ok-write_report-clause-answers g c =
     let until = to_z w64 (of_z w64 c.args.until) in
     let u : until ≡ c.args.until = search rules in
     let found = c.in-Ok-search.searched in
-    let text = report_text c.in-Ok.image c.in-Ok-read.choices c.args.limit found in
-    let is_report : IsReport c.args.source.now c.args.choices.now until c.args.limit c.args.wanted (outcome_by found) text =
-    reported _ _ _ _ _ _ _ found c.in-Ok.ensures.means c.in-Ok-read.ensures.read c.slots-slots.ensures.lawful c.in-Ok-search.ensures.answer in
-    let named = subst (λ o. IsReport c.args.source.now c.args.choices.now until c.args.limit c.args.wanted o text) (sym c.in-Ok-write_report.ensures.outcome) is_report in
+    let text = report_text c.in-Ok.image c.in-Ok-read.choices c.args.part c.args.limit found in
+    let is_report : IsReport c.args.source.now c.args.choices.now c.args.part until c.args.limit c.args.wanted (outcome_by found) text =
+    reported _ _ c.args.part _ _ _ _ _ found c.in-Ok.ensures.means c.in-Ok-read.ensures.read c.slots-slots.ensures.lawful c.in-Ok-search.ensures.answer in
+    let named = subst (λ o. IsReport c.args.source.now c.args.choices.now c.args.part until c.args.limit c.args.wanted o text) (sym c.in-Ok-write_report.ensures.outcome) is_report in
     record {
       report = text;
-      is_report = subst (λ z. IsReport c.args.source.now c.args.choices.now z c.args.limit c.args.wanted c.in-Ok-write_report.outcome text) u named;
+      is_report = subst (λ z. IsReport c.args.source.now c.args.choices.now c.args.part z c.args.limit c.args.wanted c.in-Ok-write_report.outcome text) u named;
       appends = c.in-Ok-write_report.ensures.text;
     }
 
@@ -30,13 +29,13 @@ returns-in-Ok-write_report-clause-first g c =
     let until = to_z w64 (of_z w64 c.args.until) in
     let u : until ≡ c.args.until = search rules in
     let found = c.in-Ok-search.searched in
-    let text = report_text c.in-Ok.image c.in-Ok-read.choices c.args.limit found in
-    let first : ReportsFirst c.args.source.now c.args.choices.now until c.args.limit c.args.wanted (outcome_by found) text =
-    reported_first _ _ _ _ _ _ _ found c.in-Ok.ensures.means c.in-Ok-read.ensures.read c.slots-slots.ensures.lawful c.in-Ok-search.ensures.first in
-    let named = subst (λ o. ReportsFirst c.args.source.now c.args.choices.now until c.args.limit c.args.wanted o text) (sym c.in-Ok-write_report.ensures.outcome) first in
+    let text = report_text c.in-Ok.image c.in-Ok-read.choices c.args.part c.args.limit found in
+    let first : ReportsFirst c.args.source.now c.args.choices.now c.args.part until c.args.limit c.args.wanted (outcome_by found) text =
+    reported_first _ _ c.args.part _ _ _ _ _ found c.in-Ok.ensures.means c.in-Ok-read.ensures.read c.slots-slots.ensures.lawful c.in-Ok-search.ensures.first in
+    let named = subst (λ o. ReportsFirst c.args.source.now c.args.choices.now c.args.part until c.args.limit c.args.wanted o text) (sym c.in-Ok-write_report.ensures.outcome) first in
     record {
       report = text;
-      first = subst (λ z. ReportsFirst c.args.source.now c.args.choices.now z c.args.limit c.args.wanted c.in-Ok-write_report.outcome text) u named;
+      first = subst (λ z. ReportsFirst c.args.source.now c.args.choices.now c.args.part z c.args.limit c.args.wanted c.in-Ok-write_report.outcome text) u named;
       appends = c.in-Ok-write_report.ensures.text;
     }
 
@@ -45,14 +44,14 @@ returns-clause-beginning g c = λ is.
     let until = to_z w64 (of_z w64 c.args.until) in
     let u : until ≡ c.args.until = search rules in
     let found = c.in-Ok-search.searched in
-    let text = report_text c.in-Ok.image c.in-Ok-read.choices c.args.limit found in
-    let is_report : IsReport c.args.source.now c.args.choices.now until c.args.limit c.args.wanted (outcome_by found) text =
-    reported _ _ _ _ _ _ _ found c.in-Ok.ensures.means c.in-Ok-read.ensures.read c.slots-slots.ensures.lawful c.in-Ok-search.ensures.answer in
+    let text = report_text c.in-Ok.image c.in-Ok-read.choices c.args.part c.args.limit found in
+    let is_report : IsReport c.args.source.now c.args.choices.now c.args.part until c.args.limit c.args.wanted (outcome_by found) text =
+    reported _ _ c.args.part _ _ _ _ _ found c.in-Ok.ensures.means c.in-Ok-read.ensures.read c.slots-slots.ensures.lawful c.in-Ok-search.ensures.answer in
     let write : c.in-Err-write_report.fault ≡ runs.Write = cc in
     record {
       outcome = outcome_by found;
       report = text;
-      is_report = subst (λ z. IsReport c.args.source.now c.args.choices.now z c.args.limit c.args.wanted (outcome_by found) text) u is_report;
+      is_report = subst (λ z. IsReport c.args.source.now c.args.choices.now c.args.part z c.args.limit c.args.wanted (outcome_by found) text) u is_report;
       begins = c.in-Err-write_report.ensures.beginning (ap Err write);
     }
 

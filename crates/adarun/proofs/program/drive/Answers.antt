@@ -118,10 +118,10 @@ returns-in-Ok-Search-clause-answers g c =
     let leaves =
     subst
     (λ z. LeavesSearch (with_input (g.F.FileStore.standard_input c.args.files.now) (g.F.FileStore.contents c.args.files.now)) c.in-Ok-Search.source.now (g.F.FileStore.contents c.args.files.now c.in-Ok-Search.choices.now) z c.in-Ok-Search.limit
-    (wanted_of c.in-Ok-Search.wanted) c.drive_search-status.result (g.O.Sink.bytes c.args.out.now) (g.O.Sink.bytes c.drive_search-status.new.out))
+    (wanted_of c.in-Ok-Search.wanted) c.in-Ok-Search.part c.drive_search-status.result (g.O.Sink.bytes c.args.out.now) (g.O.Sink.bytes c.drive_search-status.new.out))
     u c.drive_search-status.ensures.leaves in
     record {
-      work = SearchText c.in-Ok-Search.source.now c.in-Ok-Search.choices.now until c.in-Ok-Search.limit (wanted_of c.in-Ok-Search.wanted);
+      work = SearchText c.in-Ok-Search.source.now c.in-Ok-Search.choices.now until c.in-Ok-Search.limit (wanted_of c.in-Ok-Search.wanted) c.in-Ok-Search.part;
       status = c.drive_search-status.result;
       answer_is = search rules;
       asked_for = λ plain. inl (asked_as _ _ _ c.in-Ok-Search.field-0-is (c.in-Ok-Search.ensures plain));

@@ -1,6 +1,6 @@
 use Rattle.std.proofs.Common.{Some, ap, refl, subst, sym, ◌∙◌}
-use Rattle.explanations.specs.Explained.{explanation_of}
-use Rattle.hints.specs.Hinted.{AreRemarksAt}
+use Rattle.diagnostics.specs.explanations.Explained.{explanation_of}
+use Rattle.diagnostics.specs.hints.Hinted.{AreRemarksAt}
 use Rattle.adarun.proofs.Reported.{whole_report}
 use Rattle.adarun.proofs.reporting.refusal_of.Goals as goal
 

@@ -1,4 +1,4 @@
-use Rattle.std.proofs.Common.{◌≡◌, ◌∙◌, inl, inr, refl, subst, sym}
+use Rattle.std.proofs.Common.{◌∙◌, inl, inr, refl, subst, sym}
 use Rattle.compiler.specs.ada_tree.specs.ProgramTree.{program_tree}
 use Rattle.legality.specs.ProgramRules.{IsLegal}
 use Rattle.parser.specs.Parsing.{Derives}

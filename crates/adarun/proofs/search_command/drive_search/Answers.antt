@@ -12,12 +12,12 @@ returns-in-Ok-search-clause-leaves g c =
     let u : to_z w64 (of_z w64 c.args.until) ≡ c.args.until = search rules in
     let writes =
     subst
-    (λ z. WritesReport c.deref.result.now c.deref-2.result.now z c.args.limit c.wanted_of.result c.in-Ok-search.outcome (g.O.Sink.bytes c.args.out.now)
+    (λ z. WritesReport c.deref.result.now c.deref-2.result.now c.args.part z c.args.limit c.wanted_of.result c.in-Ok-search.outcome (g.O.Sink.bytes c.args.out.now)
     (g.O.Sink.bytes c.search.new.sink))
     u c.in-Ok-search.ensures.answers in
     let contents = with_input (g.F.FileStore.standard_input c.args.files.now) (g.F.FileStore.contents c.args.files.now) in
     let known = g.F.FileStore.contents c.args.files.now c.args.choices.now in
-    search_leaves contents c.args.source.now known c.args.until c.args.limit _ _ _ _ _ _ _ _ _ _ c.status_of.ensures.is c.in-Ok.ensures c.deref.ensures.value c.in-Ok-read.ensures c.deref-2.ensures.value
+    search_leaves contents c.args.source.now known c.args.until c.args.limit _ c.args.part _ _ _ _ _ _ _ _ _ c.status_of.ensures.is c.in-Ok.ensures c.deref.ensures.value c.in-Ok-read.ensures c.deref-2.ensures.value
     c.wanted_of.ensures writes
 
 pub returns-in-Err-Source-clause-leaves : goal.returns-in-Err-Source-clause-leaves
@@ -25,7 +25,7 @@ returns-in-Err-Source-clause-leaves g c =
     let until = to_z w64 (of_z w64 c.args.until) in
     let contents = with_input (g.F.FileStore.standard_input c.args.files.now) (g.F.FileStore.contents c.args.files.now) in
     let known = g.F.FileStore.contents c.args.files.now c.args.choices.now in
-    refused_search contents c.args.source.now known _ c.args.limit _ _ _ _ _ c.refuse_source.ensures
+    refused_search contents c.args.source.now known _ c.args.limit _ c.args.part _ _ _ _ c.refuse_source.ensures
     (refused_leaves contents c.args.source.now known c.args.limit _ _ _ c.in-Err-Source.fault _ _ c.refuse_source.ensures c.in-Ok.ensures
     c.deref.ensures.value
     (subst (RefusesSearching c.deref.result.now c.deref-2.result.now until) c.in-Err-Source.field-0-is c.in-Err-Source.ensures.refused)
@@ -39,7 +39,7 @@ returns-in-Err-Choices-clause-leaves g c =
     let refused =
     subst (λ z. RefusesSearching c.deref.result.now c.deref-2.result.now z (faults.Choices c.in-Err-Choices.fault)) u
     (subst (RefusesSearching c.deref.result.now c.deref-2.result.now (to_z w64 (of_z w64 c.args.until))) c.in-Err-Choices.field-0-is c.in-Err-Choices.ensures.refused) in
-    choices_leave contents c.args.source.now known c.args.until c.args.limit _ _ _ _ (faults.Choices c.in-Err-Choices.fault) c.in-Err-Choices.fault _ _ _ _
+    choices_leave contents c.args.source.now known c.args.until c.args.limit _ c.args.part _ _ _ (faults.Choices c.in-Err-Choices.fault) c.in-Err-Choices.fault _ _ _ _
     c.refuse_choices.ensures c.in-Ok.ensures c.deref.ensures.value c.in-Ok-read.ensures c.deref-2.ensures.value refl refused
     (ap g.O.Sink.bytes (c.in-Err-Choices.ensures.choices c.in-Err-Choices.fault (ap Err c.in-Err-Choices.field-0-is)))
 
@@ -52,10 +52,10 @@ returns-clause-leaves g c =
     let u : to_z w64 (of_z w64 c.args.until) ≡ c.args.until = search rules in
     let begins =
     subst
-    (λ z. BeginsReport c.deref.result.now c.deref-2.result.now z c.args.limit c.wanted_of.result (g.O.Sink.bytes c.args.out.now)
+    (λ z. BeginsReport c.deref.result.now c.deref-2.result.now c.args.part z c.args.limit c.wanted_of.result (g.O.Sink.bytes c.args.out.now)
     (g.O.Sink.bytes c.search.new.sink))
     u (c.in-Err-Run-Write.ensures.beginning (ap Err (c.in-Err-Run-Write.field-0-is ∙ ap faults.Run c.in-Err-Run-Write.field-0-0-is))) in
-    let searched = searched_by c.deref.result.now c.deref-2.result.now c.args.until c.args.limit c.wanted_of.result begins.outcome begins.report begins.is_report in
+    let searched = searched_by c.deref.result.now c.deref-2.result.now c.args.part c.args.until c.args.limit c.wanted_of.result begins.outcome begins.report begins.is_report in
     let contents = with_input (g.F.FileStore.standard_input c.args.files.now) (g.F.FileStore.contents c.args.files.now) in
     let known = g.F.FileStore.contents c.args.files.now c.args.choices.now in
     rw c.cannot_write.ensures

@@ -1,4 +1,4 @@
-use Rattle.std.proofs.Common.{◌≡◌, ◌-◌, ◌≤◌, ◌∙◌, drop, length, rules, sym, take, true}
+use Rattle.std.proofs.Common.{◌-◌, ◌∙◌, drop, length, rules, sym, take}
 use Rattle.std.specs.Cmp.Lexicographic.{bytes_decides}
 use Rattle.choices.proofs.Parts.{rest_whole}
 use Rattle.choices.proofs.choice.are_alike_after.Goals as goal

@@ -1,4 +1,4 @@
-use Rattle.std.proofs.Common.{◌≡◌, ◌≤◌, drop, length}
+use Rattle.std.proofs.Common.{◌≤◌, drop, length}
 use Rattle.choices.specs.Places.{AreWithin}
 use Rattle.choices.proofs.choice.are_within.Given as goal
 

@@ -1,4 +1,4 @@
-use Rattle.std.proofs.Common.{◌≡◌, ◌<◌, ◌≤◌, arith, get_or, length, rules}
+use Rattle.std.proofs.Common.{◌<◌, ◌≤◌, arith, get_or, length, rules}
 use Rattle.choices.proofs.Raising.{before_at}
 use Rattle.choices.proofs.choice.is_before_within.Goals as goal
 

@@ -1,6 +1,6 @@
-use Rattle.std.proofs.Common.{◌≡◌, ◌<◌, arith, length, rules}
+use Rattle.std.proofs.Common.{arith, rules}
 use Rattle.choices.proofs.Moving.{long_as}
-use Rattle.choices.proofs.Raising.{raised_here, raised_none}
+use Rattle.choices.proofs.Raising.{raised_here}
 use Rattle.choices.proofs.choice.raise_places.Goals as goal
 
 pub overflow_sub-places : goal.overflow_sub-places

@@ -1,4 +1,4 @@
-use Rattle.std.proofs.Common.{◌≡◌, ◌-◌, ◌≤◌, length}
+use Rattle.std.proofs.Common.{◌-◌, ◌≤◌, length}
 use Rattle.choices.specs.Stepping.{IsFurther}
 use Rattle.choices.proofs.choice.raise_places.Given as goal
 

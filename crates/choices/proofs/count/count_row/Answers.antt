@@ -1,5 +1,6 @@
 use Rattle.std.proofs.Common.{arith, rules, ◌≡◌, ◌<◌, ◌*◌, length, ap, ◌∙◌}
 use Rattle.choices.specs.Counting.{row_of}
+use Rattle.choices.specs.Slots.{number_of}
 use Rattle.choices.proofs.Counting.{count_last, count_next, some_here}
 use Rattle.choices.proofs.count.count_row.Goals as goal
 
@@ -17,10 +18,12 @@ loop-slot-preserved c =
     let n = c.loop-slot.invariant.0 in (
       n * c.len.result,
       c.in_ok-row.ensures n (c.deref.ensures.value ∙ c.loop-slot.invariant.1),
-      count_next c.args.slots.now c.loop-slot.slot-index c.slot-item.result less c.slot-item.is n c.len.result count c.loop-slot.invariant.2,
+      count_next c.args.slots.now c.loop-slot.slot-index c.slot-item.result less c.slot-item.is n c.len.result (c.args.first * number_of c.args.slots.now) count
+          c.loop-slot.invariant.2,
     )
 
 pub returns : goal.returns
 returns c =
     c.loop-slot.invariant.1
-    ∙ ap row_of (count_last c.args.slots.now c.loop-slot.slot-index c.loop-slot.invariant.0 (omega arith) c.loop-slot.invariant.2)
+    ∙ ap row_of (count_last c.args.slots.now c.loop-slot.slot-index c.loop-slot.invariant.0 (c.args.first * number_of c.args.slots.now) (omega arith)
+    c.loop-slot.invariant.2)

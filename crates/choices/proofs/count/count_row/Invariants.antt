@@ -4,4 +4,4 @@ use Rattle.choices.specs.Slots.{number_of}
 use Rattle.choices.proofs.count.count_row.Given as goal
 
 abbrev pub invariant-loop-slot : goal.invariant-loop-slot
-invariant-loop-slot l = (n : ℕ) × (l.row.items ≡ row_of n) × (n * number_of (drop l.slot-index l.slots) ≡ number_of l.slots)
+invariant-loop-slot l = (n : ℕ) × (l.row.items ≡ row_of n) × (n * number_of (drop l.slot-index l.slots) ≡ l.first * number_of l.slots)

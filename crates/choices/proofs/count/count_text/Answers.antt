@@ -1,21 +1,22 @@
-use Rattle.std.proofs.Common.{◌≡◌, ◌<◌, ◌+◌, ◌∙◌, All, ap, map, reverse, subst, sym}
+use Rattle.std.proofs.Common.{◌≡◌, ◌∙◌, ap, subst, sym, true}
 use Rattle.std.proofs.lemmas.Result.{IfOk-weaker}
-use Rattle.std.specs.Int.Digits.{digits_of}
 use Rattle.choices.specs.Counting.{number_text}
-use Rattle.choices.specs.Slots.{number_of}
-use Rattle.choices.proofs.Counting.{digits_back, digits_small}
+use Rattle.choices.specs.Slots.{are_each_slots}
+use Rattle.choices.proofs.Lawful.{each_lawful}
+use Rattle.choices.proofs.Parting.{each_behind, number_by, slots_behind}
 use Rattle.choices.proofs.count.count_text.Goals as goal
 
-pub text_of-requires : goal.text_of-requires
-text_of-requires c =
-    let n = number_of c.slots.result.now in
-    let is : c.deref.result.now ≡ digits_of 10 n =
-    c.deref.ensures.value ∙ (c.reverse.ensures.items ∙ (ap reverse c.in_ok-digits.ensures ∙ digits_back n)) in
-    subst (All (λ d. d < 10)) (sym is) (digits_small n)
+pub product_text-requires : goal.product_text-requires
+product_text-requires c =
+    let slots = c.slots-slots.result.now in
+    let front = c.front_in-front.result.slots in
+    let lawful = subst (λ l. are_each_slots l ≡ true) (sym c.slots-slots.ensures.same) (each_lawful c.args.choices.now c.slots-slots.ensures.lawful) in
+    subst (λ l. are_each_slots l ≡ true) (sym (slots_behind front slots)) (each_behind front slots lawful)
 
 pub returns : goal.returns
 returns c =
-    let n = number_of c.slots.result.now in
-    let is : c.deref.result.now ≡ digits_of 10 n =
-    c.deref.ensures.value ∙ (c.reverse.ensures.items ∙ (ap reverse c.in_ok-digits.ensures ∙ digits_back n)) in
-    IfOk-weaker c.text_of.result _ _ (λ text e. e ∙ (ap (map (λ d. d + 48)) is ∙ ap (λ slots. number_text (number_of slots)) c.slots.ensures.same)) c.text_of.ensures
+    let is =
+    number_by c.args.part c.slots-slots.result.now c.args.choices.now c.front_in-front.result.slots c.front_in-front.result.combinations c.from.result c.count.result
+    c.from-2.result c.slots-slots.ensures.same c.count.ensures.is (c.from-2.ensures ∙ c.count-2.ensures.is) c.from.ensures c.front_in-front.ensures.slots
+    c.front_in-front.ensures.combinations in
+    IfOk-weaker c.product_text.result _ _ (λ text e. e ∙ ap number_text is) c.product_text.ensures

@@ -16,8 +16,8 @@ invariant-arguments_mismatches-loop-index l =
 
 abbrev pub invariant-elsifs_mismatches-loop-part : goal.invariant-elsifs_mismatches-loop-part
 invariant-elsifs_mismatches-loop-part l =
-    noted l.search (elsifs_mismatches l.scope (elsif_value_trees (drop l.part-index l.parts)))
-    ≡ noted l.fn.search (elsifs_mismatches l.scope (elsif_value_trees l.parts))
+    noted l.search (elsifs_mismatches l.scope l.wanted (elsif_value_trees (drop l.part-index l.parts)))
+    ≡ noted l.fn.search (elsifs_mismatches l.scope l.wanted (elsif_value_trees l.parts))
 
 abbrev pub invariant-selectors_mismatches-loop-selector : goal.invariant-selectors_mismatches-loop-selector
 invariant-selectors_mismatches-loop-selector l =

@@ -7,6 +7,6 @@ use Rattle.mismatches.proofs.locals.locals_mismatches.Given as goal
 
 abbrev pub invariant-loop-declaration : goal.invariant-loop-declaration
 invariant-loop-declaration l =
-    (noted l.search (locals_mismatches l.scope (map declaration_tree (drop l.declaration-index l.declarations)))
-    ≡ noted l.fn.search (locals_mismatches l.fn.scope (map declaration_tree l.declarations)))
+    (noted l.search (locals_mismatches l.scope l.is_fixed (map declaration_tree (drop l.declaration-index l.declarations)))
+    ≡ noted l.fn.search (locals_mismatches l.fn.scope l.is_fixed (map declaration_tree l.declarations)))
     × (locals_scope l.scope (map declaration_tree (drop l.declaration-index l.declarations)) ≡ locals_scope l.fn.scope (map declaration_tree l.declarations))

@@ -1,4 +1,4 @@
-use Rattle.std.proofs.Common.{◌∙◌, ap, map}
+use Rattle.std.proofs.Common.{◌∙◌, ap, false, map}
 use Rattle.std.proofs.lemmas.Result.{on_ok_weaker}
 use Rattle.ada_tree.specs.ExpressionTree.{expr_tree}
 use Rattle.ada_tree.specs.StatementTree.{alternative_trees, declaration_tree, elsif_trees, handler_trees, iteration_tree, stmt_tree, stmt_trees}
@@ -33,14 +33,14 @@ statement-returns-in-Case-clause-search t c =
     let s = c.args.scope.now in
     let k = c.args.kind in
     let f = c.args.search.now in
-    let fv = c.mismatches_in.new.search in
+    let fv = c.selecting_mismatches.new.search in
     let w = c.choices_wanted-wanted.result in
     on_ok_weaker c.alternatives_mismatches.result
     (λ h. case_found s k (stmt_tree c.args.one.now) c.in-Case.field-0 (expr_tree c.in-Case.value) (alternative_trees c.in-Case.alternatives.items) w f fv
     c.alternatives_mismatches.new.search
     (ap stmt_tree c.in-Case.is ∙ c.statements_by_parts.ensures.cases c.in-Case.field-0 c.in-Case.value c.in-Case.alternatives)
     (c.choices_wanted-wanted.ensures ∙ (λ j. choices_wanted s (c.own_of.ensures j)))
-    c.mismatches_in.ensures
+    c.selecting_mismatches.ensures
     (h ∙ ap (λ l. noted fv (alternatives_mismatches s k w (alternative_trees l))) c.deref-in-Case.ensures.value))
     c.alternatives_mismatches.ensures.search
 
@@ -70,6 +70,6 @@ statement-returns-in_ok-handlers_mismatches-in-Block-clause-search t c =
     (ap stmt_tree c.in-Block.is ∙ c.statements_by_parts.ensures.blocks c.in-Block.field-0 c.in-Block.declarations c.in-Block.body c.in-Block.handlers)
     (c.in_ok-locals_mismatches-in-Block.ensures.scope ∙ ap (λ l. locals_scope s (map declaration_tree l)) c.deref-in-Block.ensures.value)
     c.in_ok-statements-in-Block.ensures.scope
-    (c.in_ok-locals_mismatches-in-Block.ensures.search ∙ ap (λ l. noted f (locals_mismatches s (map declaration_tree l))) c.deref-in-Block.ensures.value)
+    (c.in_ok-locals_mismatches-in-Block.ensures.search ∙ ap (λ l. noted f (locals_mismatches s false (map declaration_tree l))) c.deref-in-Block.ensures.value)
     (c.in_ok-statements-in-Block.ensures.search ∙ ap (λ l. noted fl (stmts_mismatches inner k (stmt_trees l))) c.deref-in-Block-2.ensures.value)
     (c.in_ok-handlers_mismatches-in-Block.ensures.search ∙ ap (λ l. noted fb (handlers_mismatches after k (handler_trees l))) c.deref-in-Block-3.ensures.value)

@@ -1,4 +1,4 @@
-use Rattle.std.proofs.Common.{◌≡◌, ◌≤◌, ◌-◌, length}
+use Rattle.std.proofs.Common.{◌≡◌, ◌-◌, length}
 use Rattle.remedies.specs.Doubts.{is_doubtful}
 use Rattle.remedies.specs.Likeness.{first_where}
 use Rattle.remedies.proofs.doubt.first_doubtful.Given as goal

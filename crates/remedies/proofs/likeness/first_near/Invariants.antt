@@ -1,4 +1,4 @@
-use Rattle.std.proofs.Common.{◌≡◌, ◌≤◌, ◌-◌, length}
+use Rattle.std.proofs.Common.{◌≡◌, ◌-◌, length}
 use Rattle.remedies.specs.Likeness.{declares_near, first_where}
 use Rattle.remedies.proofs.likeness.first_near.Given as goal
 

@@ -1,4 +1,4 @@
-use Rattle.std.proofs.Common.{◌≡◌, ◌≤◌, ◌-◌, length}
+use Rattle.std.proofs.Common.{◌≡◌, ◌-◌, length}
 use Rattle.remedies.specs.Likeness.{introduces_same, first_where}
 use Rattle.remedies.proofs.likeness.first_same.Given as goal
 

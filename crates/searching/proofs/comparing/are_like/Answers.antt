@@ -1,6 +1,4 @@
-use Rattle.std.proofs.Common.{◌≡◌, ◌∙◌, None, Option, ap, false, rules, subst, sym, true}
-use Rattle.image_laws.specs.Whole.{IsWhole}
-use Rattle.execution.specs.Held.{world_of}
+use Rattle.std.proofs.Common.{◌≡◌, ◌∙◌, None, ap, rules, subst, sym}
 use Rattle.tasking.specs.Held.{kernel_of}
 use Rattle.searching.specs.Meeting.{StandAlike}
 use Rattle.searching.proofs.Alike.{worlds_like}

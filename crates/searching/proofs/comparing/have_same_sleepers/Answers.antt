@@ -1,4 +1,4 @@
-use Rattle.std.proofs.Common.{◌≡◌, ◌∙◌, Decides, ap, rules, sym, true}
+use Rattle.std.proofs.Common.{◌≡◌, ◌∙◌, Decides, ap, rules, sym}
 use Rattle.std.specs.Cmp.Lexicographic.{pointwise_decides}
 use Rattle.clock.specs.contracts.delays.SleeperPartialEq.TheImpl.{eq-value}
 use Rattle.clock.specs.declared.delays.Sleeper.{Sleeper}

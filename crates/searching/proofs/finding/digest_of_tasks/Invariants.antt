@@ -1,5 +1,4 @@
 use Rattle.std.proofs.Common.{◌-◌}
-use Rattle.kernel.specs.State.{Partition}
 use Rattle.tasking.specs.Held.{kernel_of}
 use Rattle.searching.proofs.finding.digest_of_tasks.Given as goal
 

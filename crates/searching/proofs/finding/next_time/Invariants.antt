@@ -1,4 +1,4 @@
-use Rattle.std.proofs.Common.{◌≡◌, ◌-◌, ◌<◌, length}
+use Rattle.std.proofs.Common.{◌-◌, ◌<◌, length}
 use Rattle.searching.proofs.finding.next_time.Given as goal
 
 abbrev pub invariant-loop-at : goal.invariant-loop-at

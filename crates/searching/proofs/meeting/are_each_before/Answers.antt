@@ -1,4 +1,4 @@
-use Rattle.std.proofs.Common.{◌≡◌, of_z, rules, to_z, w64}
+use Rattle.std.proofs.Common.{of_z, rules, to_z, w64}
 use Rattle.std.specs.Prelude.{◌<ℤ◌}
 use Rattle.searching.proofs.Reaching.{before_more}
 use Rattle.searching.proofs.meeting.are_each_before.Goals as goal

@@ -1,4 +1,4 @@
-use Rattle.std.proofs.Common.{◌≡◌, take}
+use Rattle.std.proofs.Common.{take}
 use Rattle.searching.specs.Meeting.{AreEachFrom}
 use Rattle.searching.proofs.meeting.are_each_from.Given as goal
 

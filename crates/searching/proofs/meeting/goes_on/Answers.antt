@@ -1,4 +1,4 @@
-use Rattle.std.proofs.Common.{◌≡◌, ◌≤◌, ◌∙◌, None, ap, arith, false, rules, subst}
+use Rattle.std.proofs.Common.{◌≡◌, None, arith, rules, subst}
 use Rattle.tasking.specs.Held.{kernel_of}
 use Rattle.searching.specs.Meeting.{StandsAfter}
 use Rattle.searching.proofs.Reaching.{stands_first, stands_next}

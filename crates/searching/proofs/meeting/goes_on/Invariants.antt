@@ -1,4 +1,4 @@
-use Rattle.std.proofs.Common.{◌≡◌, ◌-◌, ◌≤◌}
+use Rattle.std.proofs.Common.{◌-◌, ◌≤◌}
 use Rattle.searching.specs.Meeting.{StandsAfter}
 use Rattle.searching.proofs.meeting.goes_on.Given as goal
 

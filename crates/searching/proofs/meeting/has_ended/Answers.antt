@@ -1,4 +1,4 @@
-use Rattle.std.proofs.Common.{◌≡◌, inr, of_z, rules, subst, to_z, true, w64}
+use Rattle.std.proofs.Common.{◌≡◌, inr, of_z, rules, subst, to_z, w64}
 use Rattle.execution.specs.Held.{world_of}
 use Rattle.searching.specs.Meeting.{ArePartedAt, IsAtEnd}
 use Rattle.searching.proofs.Reaching.{has_ended}

@@ -1,4 +1,4 @@
-use Rattle.std.proofs.Common.{◌≡◌, inl, of_z, rules, subst, to_z, true, w64}
+use Rattle.std.proofs.Common.{◌≡◌, inl, of_z, rules, subst, to_z, w64}
 use Rattle.likeness.specs.Schedules.{AgreeAt}
 use Rattle.likeness.specs.Worlds.{IsLastBefore}
 use Rattle.searching.specs.Meeting.{ArePartedAt, MeetThere}
@@ -22,4 +22,5 @@ returns g c = λ e.
     (subst (λ z. AgreeAt c.in_ok-here.here c.in_ok-there.there z) v (c.have_same_values.ensures (search (rules, c.if-not-have_same_values.false))))
     (c.goes_on.ensures.stands (search (rules, c.if-not-goes_on.false)))
     (c.goes_on-2.ensures.stands (search (rules, c.if-not-goes_on-2.false)))
-    (subst (λ z. MeetThere z c.goes_on.new.execution c.goes_on-2.new.execution c.meet_there.new.one) u (c.meet_there.ensures e)))
+    (subst (λ z. MeetThere z c.goes_on.new.execution c.goes_on-2.new.execution c.meet_there.new.one) u (c.meet_there.ensures e))
+    c.args.part (search rules) (search rules))

@@ -1,4 +1,4 @@
-use Rattle.std.proofs.Common.{◌≡◌, of_z, rules, subst, to_z, true, w64}
+use Rattle.std.proofs.Common.{◌≡◌, of_z, rules, subst, to_z, w64}
 use Rattle.execution.specs.Held.{lines_of, world_of}
 use Rattle.likeness.specs.Worlds.{IsEarly, NoneSooner}
 use Rattle.searching.proofs.meeting.meet_there.Goals as goal

@@ -1,5 +1,4 @@
-use Rattle.std.proofs.Common.{◌≡◌, ◌∙◌, None, Option, Some, ap, arith, inl, inr, of_z, true, false, ◌<◌, rules, subst, sym, to_z, w64, ⊎_elim}
-use Rattle.image.specs.Sections.{Sections}
+use Rattle.std.proofs.Common.{◌≡◌, ◌∙◌, None, Some, ap, inl, inr, of_z, true, false, ◌<◌, rules, subst, sym, to_z, w64, ⊎_elim}
 use Rattle.execution.specs.Held.{line_of}
 use Rattle.execution.specs.declared.line.Line.{Line}
 use Rattle.tasking.specs.Held.{kernel_of, some_outcome}

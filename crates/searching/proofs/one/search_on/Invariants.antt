@@ -1,4 +1,3 @@
-use Rattle.std.proofs.Common.{◌≡◌}
 use Rattle.searching.proofs.Standing.{Standing, work_left}
 use Rattle.searching.proofs.one.search_on.Given as goal
 

@@ -1,7 +1,0 @@
-use Rattle.std.proofs.Common.{◌≡◌, drop}
-use Rattle.counterparts.specs.Twice.{first_clause}
-use Rattle.counterparts.proofs.twice.first_clause.Given as goal
-
--- what is left decides
-abbrev pub invariant-loop-clause : goal.invariant-loop-clause
-invariant-loop-clause l = first_clause l.fn.name l.fn.place (drop l.clause-index l.fn.clauses) ≡ first_clause l.fn.name l.fn.place l.fn.clauses

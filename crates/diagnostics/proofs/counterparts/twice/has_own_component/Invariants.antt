@@ -1,0 +1,11 @@
+use Rattle.std.proofs.Common.{◌≡◌, drop, map}
+use Rattle.std.specs.List.{list_any}
+use Rattle.ada_tree.specs.StatementTree.{protected_component_tree}
+use Rattle.diagnostics.specs.counterparts.Fronts.{is_at}
+use Rattle.diagnostics.proofs.counterparts.twice.has_own_component.Given as goal
+
+-- what is left decides
+abbrev pub invariant-loop-component : goal.invariant-loop-component
+invariant-loop-component l =
+    list_any (λ c. is_at l.fn.place c.name) (map protected_component_tree (drop l.component-index l.fn.components))
+    ≡ list_any (λ c. is_at l.fn.place c.name) (map protected_component_tree l.fn.components)

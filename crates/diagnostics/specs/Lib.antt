@@ -1,0 +1,5 @@
+pub mod continuations
+pub mod counterparts
+pub mod explanations
+pub mod repairs
+pub mod hints

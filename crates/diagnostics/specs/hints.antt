@@ -1,0 +1,13 @@
+pub mod Places
+pub mod Calls
+pub mod Found
+pub mod EndNames
+pub mod BodyFaults
+pub mod StaticNotes
+pub mod Stopped
+pub mod Conversions
+pub mod Mismatched
+pub mod Notes
+pub mod ParsedTexts
+pub mod Hinted
+pub mod Explained

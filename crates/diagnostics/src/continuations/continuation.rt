@@ -1,0 +1,128 @@
+//! What may stand at a place of a text, as far as the grammar distinguishes it.
+ghost use Rattle.diagnostics.specs.continuations.Following.{EachIsTried};
+
+use lexer::{Delimiter, Word};
+
+/// What may stand after tokens.
+#[derive(Clone, Copy, Debug, PartialEq, Eq)]
+pub enum Continuation {
+    /// An identifier.
+    Identifier,
+    /// A number.
+    Number,
+    /// A label.
+    Label,
+    /// A delimiter.
+    Delimiter(Delimiter),
+    /// A reserved word.
+    Word(Word),
+    /// The end of the text.
+    End,
+}
+
+/// All that may stand after tokens, in the order in which it is reported.
+pub const EVERY_CONTINUATION: [Continuation; 98] = [
+    Continuation::Identifier,
+    Continuation::Number,
+    Continuation::Label,
+    Continuation::Delimiter(Delimiter::LeftParenthesis),
+    Continuation::Delimiter(Delimiter::RightParenthesis),
+    Continuation::Delimiter(Delimiter::Comma),
+    Continuation::Delimiter(Delimiter::Semicolon),
+    Continuation::Delimiter(Delimiter::Colon),
+    Continuation::Delimiter(Delimiter::Dot),
+    Continuation::Delimiter(Delimiter::Apostrophe),
+    Continuation::Delimiter(Delimiter::Plus),
+    Continuation::Delimiter(Delimiter::Minus),
+    Continuation::Delimiter(Delimiter::Asterisk),
+    Continuation::Delimiter(Delimiter::Slash),
+    Continuation::Delimiter(Delimiter::Equals),
+    Continuation::Delimiter(Delimiter::LessThan),
+    Continuation::Delimiter(Delimiter::GreaterThan),
+    Continuation::Delimiter(Delimiter::VerticalLine),
+    Continuation::Delimiter(Delimiter::Arrow),
+    Continuation::Delimiter(Delimiter::DoubleDot),
+    Continuation::Delimiter(Delimiter::Assignment),
+    Continuation::Delimiter(Delimiter::Inequality),
+    Continuation::Delimiter(Delimiter::LessOrEqual),
+    Continuation::Delimiter(Delimiter::GreaterOrEqual),
+    Continuation::Word(Word::Abort),
+    Continuation::Word(Word::Abs),
+    Continuation::Word(Word::Abstract),
+    Continuation::Word(Word::Accept),
+    Continuation::Word(Word::Access),
+    Continuation::Word(Word::Aliased),
+    Continuation::Word(Word::All),
+    Continuation::Word(Word::And),
+    Continuation::Word(Word::Array),
+    Continuation::Word(Word::At),
+    Continuation::Word(Word::Begin),
+    Continuation::Word(Word::Body),
+    Continuation::Word(Word::Case),
+    Continuation::Word(Word::Constant),
+    Continuation::Word(Word::Declare),
+    Continuation::Word(Word::Delay),
+    Continuation::Word(Word::Delta),
+    Continuation::Word(Word::Digits),
+    Continuation::Word(Word::Do),
+    Continuation::Word(Word::Else),
+    Continuation::Word(Word::Elsif),
+    Continuation::Word(Word::End),
+    Continuation::Word(Word::Entry),
+    Continuation::Word(Word::Exception),
+    Continuation::Word(Word::Exit),
+    Continuation::Word(Word::For),
+    Continuation::Word(Word::Function),
+    Continuation::Word(Word::Generic),
+    Continuation::Word(Word::Goto),
+    Continuation::Word(Word::If),
+    Continuation::Word(Word::In),
+    Continuation::Word(Word::Interface),
+    Continuation::Word(Word::Is),
+    Continuation::Word(Word::Limited),
+    Continuation::Word(Word::Loop),
+    Continuation::Word(Word::Mod),
+    Continuation::Word(Word::New),
+    Continuation::Word(Word::Not),
+    Continuation::Word(Word::Null),
+    Continuation::Word(Word::Of),
+    Continuation::Word(Word::Or),
+    Continuation::Word(Word::Others),
+    Continuation::Word(Word::Out),
+    Continuation::Word(Word::Overriding),
+    Continuation::Word(Word::Package),
+    Continuation::Word(Word::Pragma),
+    Continuation::Word(Word::Private),
+    Continuation::Word(Word::Procedure),
+    Continuation::Word(Word::Protected),
+    Continuation::Word(Word::Raise),
+    Continuation::Word(Word::Range),
+    Continuation::Word(Word::Record),
+    Continuation::Word(Word::Rem),
+    Continuation::Word(Word::Renames),
+    Continuation::Word(Word::Requeue),
+    Continuation::Word(Word::Return),
+    Continuation::Word(Word::Reverse),
+    Continuation::Word(Word::Select),
+    Continuation::Word(Word::Separate),
+    Continuation::Word(Word::Some),
+    Continuation::Word(Word::Subtype),
+    Continuation::Word(Word::Synchronized),
+    Continuation::Word(Word::Tagged),
+    Continuation::Word(Word::Task),
+    Continuation::Word(Word::Terminate),
+    Continuation::Word(Word::Then),
+    Continuation::Word(Word::Type),
+    Continuation::Word(Word::Until),
+    Continuation::Word(Word::Use),
+    Continuation::Word(Word::When),
+    Continuation::Word(Word::While),
+    Continuation::Word(Word::With),
+    Continuation::Word(Word::Xor),
+    Continuation::End,
+];
+
+/// Whatever may stand after tokens is in the table of what is tried.
+pub fn each_is_tried()
+    ensures { EachIsTried }
+{}

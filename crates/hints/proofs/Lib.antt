@@ -1,3 +1,0 @@
-pub mod Lines
-pub mod Telling
-pub mod Pieces

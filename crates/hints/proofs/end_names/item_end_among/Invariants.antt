@@ -1,9 +1,0 @@
-use Rattle.std.proofs.Common.{◌≡◌, drop, map}
-use Rattle.ada_tree.specs.ProgramTree.{item_tree}
-use Rattle.hints.specs.EndNames.{item_end}
-use Rattle.hints.specs.Found.{first_found}
-use Rattle.hints.proofs.end_names.item_end_among.Given as goal
-
--- what is left decides
-abbrev pub invariant-loop-item : goal.invariant-loop-item
-invariant-loop-item l = first_found (item_end l.fn.place) (map item_tree (drop l.item-index l.fn.items)) ≡ first_found (item_end l.fn.place) (map item_tree l.fn.items)

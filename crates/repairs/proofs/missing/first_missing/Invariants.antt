@@ -1,7 +1,0 @@
-use Rattle.repairs.specs.MissingTokens.{IsThisOne}
-use Rattle.repairs.proofs.Firsts.{Decides}
-use Rattle.repairs.proofs.missing.first_missing.Given as goal
-
--- what is left decides
-abbrev pub invariant-loop-missing : goal.invariant-loop-missing
-invariant-loop-missing l = Decides (IsThisOne l.fn.front l.fn.back) l.fn.tried l.missing-index

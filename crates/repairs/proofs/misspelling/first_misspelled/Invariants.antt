@@ -1,7 +1,0 @@
-use Rattle.repairs.specs.Misspellings.{IsMisspelledAt}
-use Rattle.repairs.proofs.Firsts.{Decides}
-use Rattle.repairs.proofs.misspelling.first_misspelled.Given as goal
-
--- what is left decides
-abbrev pub invariant-loop-reach : goal.invariant-loop-reach
-invariant-loop-reach l = Decides (IsMisspelledAt l.fn.count l.fn.tokens) l.fn.reaches l.reach-index
