@@ -1,6 +1,7 @@
 #!/usr/bin/env python3
 """Tries each pair of docs/FROM_ADA.md: what Ada has is refused here, and taken by GNAT where that is installed; what to write here is run, and writes what GNAT
-makes the first one write where the pair has no tasks, objects and times.
+makes the first one write where the pair has no tasks, objects and times. Then each whole program of examples/from_ada in both forms: NAME.ada is refused here,
+and NAME.adb writes NAME.out; GNAT takes both.
 
     from_ada.py PROGRAM SCRATCH
 """
@@ -10,8 +11,10 @@ import shutil
 import subprocess
 import sys
 
-DOCUMENT = os.path.join(os.path.dirname(os.path.abspath(__file__)), "..", "docs", "FROM_ADA.md")
-GNAT_RUN = os.path.abspath(os.path.join(os.path.dirname(os.path.abspath(__file__)), "..", "examples", "gnat", "run"))
+HERE = os.path.join(os.path.dirname(os.path.abspath(__file__)), "..")
+DOCUMENT = os.path.join(HERE, "docs", "FROM_ADA.md")
+PROGRAMS = os.path.join(HERE, "examples", "from_ada")
+GNAT_RUN = os.path.abspath(os.path.join(HERE, "examples", "gnat", "run"))
 FRAME = """pragma Profile (Ravenscar);
 with Ada.Real_Time; use Ada.Real_Time;
 with Control_IO; use Control_IO;
@@ -72,6 +75,16 @@ class Tried:
         if self.has_gnat:
             self.beside_gnat(title, ada, here, ran.stdout, not any(TIMED.search(block) for block in blocks))
 
+    def program_in_both_forms(self, name):
+        ada, here = (os.path.join(PROGRAMS, f"{name}.{form}") for form in ("ada", "adb"))
+        with open(os.path.join(PROGRAMS, f"{name}.out"), encoding="utf-8") as file:
+            lines = file.read()
+        self.expect(name, self.called([self.program, "go", ada, os.devnull, LIMIT]).returncode == REFUSED, f"{name}.ada is not refused")
+        ran = self.called([self.program, "go", here, os.devnull, LIMIT])
+        self.expect(name, (ran.returncode, ran.stdout, ran.stderr) == (0, lines, ""), f"{name}.adb writes {ran.stdout}{ran.stderr}")
+        if self.has_gnat:
+            self.beside_gnat(name, ada, here, lines, False)
+
     def compiled(self, path):
         """Has GNAT compile a text, without the profile and without running it."""
         units = os.path.join(self.scratch, "units")
@@ -99,10 +112,13 @@ def main():
         for title, blocks in pairs_of(file.read()):
             tried.pair(title, blocks)
             many += 1
+    programs = sorted(name.removesuffix(".ada") for name in os.listdir(PROGRAMS) if name.endswith(".ada"))
+    for name in programs:
+        tried.program_in_both_forms(name)
     for line in tried.wrong:
         print(f"from_ada: {line}", file=sys.stderr)
-    print(f"from_ada: {many} pairs, {len(tried.wrong)} wrong{'' if tried.has_gnat else ', without GNAT'}")
-    return 1 if tried.wrong or not many else 0
+    print(f"from_ada: {many} pairs and {len(programs)} program in both forms, {len(tried.wrong)} wrong{'' if tried.has_gnat else ', without GNAT'}")
+    return 1 if tried.wrong or not many or not programs else 0
 
 
 if __name__ == "__main__":
