@@ -50,7 +50,7 @@ pub struct Opening {
     pub before: usize,
 }
 
-/// Of the token before another one, what decides whether that one opens anything.
+/// What the token before another one is, as far as it decides whether that one opens anything.
 #[derive(Clone, Copy)]
 pub enum Lead {
     /// The word `end`.

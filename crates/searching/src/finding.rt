@@ -87,7 +87,7 @@ fn find_meeting<L: Ledger>(
     Ok(None)
 }
 
-// The same, where the run has ended after so many steps.
+// The number of first slots that decide the result of a run that has ended after `taken` steps.
 fn find_end<L: Ledger>(
     alloc: Global,
     image: &Image,
@@ -107,7 +107,7 @@ fn find_end<L: Ledger>(
     Ok(None)
 }
 
-// The same, where a step from the world after so many steps passes the times of the slots from `front` to `later`.
+// The number of first slots with which the run has met an earlier one, where the step after `taken` ones passes the times of the slots from `front` to `later`.
 fn find_among<L: Ledger>(
     alloc: Global,
     image: &Image,
