@@ -1,7 +1,7 @@
 -- Visible names that have what code needs: types that code passes, and functions that may be called.
-use Rattle.std.proofs.Common.{◌≡◌, ℕ, zero, suc, [], ◌∷◌, List, true, ◌||◌, not, Option, Some, None, refl, sym, ap, ◌∙◌, subst}
-use Rattle.std.specs.Prelude.{is_some, nat_eq, slice_get}
-use Rattle.std.proofs.lemmas.Bool.{and_from, and_parts}
+use Rattle.std.proofs.Common.{◌≡◌, ℕ, [], ◌∷◌, List, true, ◌||◌, not, Option, Some, None, refl, sym, ap, ◌∙◌, subst}
+use Rattle.std.specs.Prelude.{is_some, nat_eq}
+use Rattle.std.proofs.lemmas.Bool.{and_from}
 use Rattle.base.specs.declared.faults.TheConstants.{NAME_NOT_VISIBLE}
 use Rattle.ada_tree.specs.declared.expression.Identifier.{Identifier}
 use Rattle.ada_tree.specs.ExpressionTree.{Arguments, Attribute, Component, MoreSelectors, Named, NoSelectors, SelectorTrees}
@@ -19,7 +19,6 @@ use Rattle.expr_soundness.specs.expr_rules.specs.Typing.{is_booleans}
 use Rattle.expr_soundness.specs.expr_rules.proofs.TypedLaw.{back_empty, front_empty, unbroken}
 use Rattle.expr_soundness.specs.SoundScopes.{SoundScope}
 use Rattle.expr_soundness.proofs.Expressions.{not_false}
-use Rattle.expr_soundness.proofs.Positions.{same_some}
 use Rattle.expr_soundness.proofs.Goods.{Good, good_select}
 use Rattle.expr_code.specs.Emitting.{IsLegalExpression, has_numbers}
 use Rattle.expr_code.specs.Providing.{AreScalar, FewFormals, HasWhatExpressionsNeed, are_passable, is_called, is_passable, is_scalar_form}
@@ -49,15 +48,8 @@ module _ (s : Scope) where
   formals_passable [] h = refl
   formals_passable (f ∷ fs) h = and_from (is_passable s f.subtype) (are_passable s fs) (scalar_passable f.subtype h.0) (formals_passable fs h.1)
 
-  pub passable_at : (formals : List FormalParameter) (n : ℕ) (f : FormalParameter) → slice_get formals n ≡ Some f → are_passable s formals ≡ true
-      → is_passable s f.subtype ≡ true
-  passable_at [] n f is h = cc
-  passable_at (x ∷ formals) zero f is h =
-      ap (λ y. is_passable s y.subtype) (sym (same_some x f is)) ∙ (and_parts (is_passable s x.subtype) (are_passable s formals) h).0
-  passable_at (x ∷ formals) (suc n) f is h = passable_at formals n f is (and_parts (is_passable s x.subtype) (are_passable s formals) h).1
-
   -- a scalar has one word
-  single_result : (t : Subtype) → is_scalar_form (form_at s t.type_number) ≡ true → providing.is_single s (Some t) ≡ true
+  pub single_result : (t : Subtype) → is_scalar_form (form_at s t.type_number) ≡ true → providing.is_single s (Some t) ≡ true
   single_result t h =
       ap (λ n. nat_eq n 1) (sym (words_by_type s t) ∙ scalar_words s t.type_number (form_at s t.type_number) refl h)
 

@@ -209,9 +209,6 @@ module _ (quiet : QuietStays) (i : Sections) where
         more quiet i schedule k t m calm (placed f from base) fs 1 (suc from - from) (suc from) (on base) (Gives (Number z)) (omega arith)
         (pushes quiet i schedule k t m calm from z here f fs base (suc from) (omega arith))
 
-    pub computes_parenthesized : (from to place : ℕ) (e : ExprTree) → Computes i library sight from to e → Computes i library sight from to (tree.Parenthesized place e)
-    computes_parenthesized from to place e inner = inner
-
     -- an operator of one operand
     plus_same : (a : Value) → (unary_value unary.Plus a ≡ Gives a) ⊎ (unary_value unary.Plus a ≡ Meaningless)
     plus_same (Number z) = inl refl

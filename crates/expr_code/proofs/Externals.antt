@@ -1,13 +1,11 @@
 -- Calls of functions through the names of protected objects (RM 9.4, 9.5): what stands behind such a name, its code, and what refuses that.
-use Rattle.std.proofs.Common.{◌≡◌, ℕ, ◌+◌, ◌*◌, ◌≤◌, List, [], ◌++◌, length, map, take, Option, None, Some, not, refl, sym, ap, ◌∙◌, subst, arith}
-use Rattle.std.specs.Prelude.{bytes_eq, max, position, slice_get}
-use Rattle.kernel.specs.Laws.{QuietStays}
+use Rattle.std.proofs.Common.{◌≡◌, ℕ, ◌+◌, List, [], ◌++◌, map, Option, None, Some, not, refl, sym, ap, ◌∙◌, subst, arith}
+use Rattle.std.specs.Prelude.{bytes_eq, position, slice_get}
 use Rattle.base.specs.declared.faults.TheConstants.{NAME_NOT_VISIBLE}
-use Rattle.ada_tree.specs.declared.expression.Argument.{Argument}
 use Rattle.ada_tree.specs.declared.expression.Identifier.{Identifier}
 use Rattle.ada_tree.specs.ExpressionTree as tree
-use Rattle.ada_tree.specs.ExpressionTree.{argument_tree, argument_trees, ArgumentTrees, Arguments, Component, MoreSelectors, NoSelectors, SelectorTrees}
-use Rattle.ada_tree.specs.Size.{arguments_size, total}
+use Rattle.ada_tree.specs.ExpressionTree.{ArgumentTrees, Arguments, Component, MoreSelectors, NoSelectors, SelectorTrees}
+use Rattle.ada_tree.specs.Size.{total}
 use Rattle.image.specs.Sections.{Sections}
 use Rattle.image.specs.Operations.{called, parameters_of, results_of}
 use Rattle.image.specs.Rules.{is_external, some_and}
@@ -31,34 +29,14 @@ use Rattle.expr_soundness.specs.Agreeing.{OffersFunction, parameter_subtype}
 use Rattle.expr_soundness.specs.SoundScopes.{AreIn, IsSoundProfile, IsSoundResult, SoundScope}
 use Rattle.expr_soundness.proofs.Goods.{Good, GoodCallee, good_first, good_select}
 use Rattle.expr_soundness.proofs.Positions.{same_some}
-use Rattle.expr_code.specs.Actuals.{AddsCall, ArePassedLegally, EmitsActuals}
-use Rattle.expr_code.specs.Code.{here}
 use Rattle.expr_code.specs.Computing.{AlwaysNames}
-use Rattle.expr_code.specs.Emitting.{EmitsExpression, IsLegalExpression}
-use Rattle.expr_code.specs.Refusing.{arguments_peak, IsRefused, RefusesActuals, RefusesExpression, words_below}
-use Rattle.expr_code.specs.Seeing.{external_of, external_profile, library_of, number_behind, object_named, operation_entry, operation_place, Package, profile_behind, Sees, Suits}
-use Rattle.expr_code.specs.declared.code.Code.{Code}
-use Rattle.expr_code.specs.declared.refusal.Refusal.{Refusal}
+use Rattle.expr_code.specs.Emitting.{IsLegalExpression}
+use Rattle.expr_code.specs.Seeing.{external_of, external_profile, library_of, Package, profile_behind, Sees, Suits}
 use Rattle.expr_code.specs.declared.visible.Visible.{Visible}
-use Rattle.expr_code.proofs.Actuals.{alone_emits, each_legal, many_given, none_wanted, with_emits}
+use Rattle.expr_code.proofs.Actuals.{IsCoded}
 use Rattle.expr_code.proofs.Flowing.{Changes}
 use Rattle.expr_code.proofs.Names.{legal_here}
-use Rattle.expr_code.proofs.NamesRefused.{name_refused}
 use Rattle.expr_code.proofs.Passing.{named_value}
-
--- ---- where nothing is told of operations
-
-none_told : (o : Option ProtectedObject) (operation : List ℕ) (number : ℕ) → number_behind [] o operation ≡ Some number → ⊥
-none_told (Some o) operation number is = by_place (operation_place (Some o) operation) is
-  where
-    by_place : (k : Option ℕ) → elim k [ None ↦ None | Some k ↦ operation_entry [] o.number k ] ≡ Some number → ⊥
-    by_place (Some k) h = cc
-    by_place None h = cc
-none_told None operation number is = cc
-
-pub no_external : (v : Visible) → v.operations ≡ [] → (name operation : List ℕ) (number : ℕ) → external_of v name operation ≡ Some number → ⊥
-no_external v none name operation number is =
-    none_told (object_named v.scope name) operation number (ap (λ all. number_behind all (object_named v.scope name) operation) (sym none) ∙ is)
 
 -- ---- the operation that is named behind a protected object
 
@@ -116,34 +94,34 @@ module _ (v : Visible) (first operation : Identifier) (profile : Profile) (told 
   abbrev s : Scope
   s = v.scope
 
-  abbrev at : IsBehind s first.name operation.name profile
+  abbrev pub at : IsBehind s first.name operation.name profile
   at = is_behind s first.name operation.name profile told
 
-  abbrev of_object : Callee
+  abbrev pub of_object : Callee
   of_object = callee.Operation at.number at.place
 
   -- the name with what stands behind the operation
   abbrev pub external_name : SelectorTrees → SelectorTrees
   external_name behind = MoreSelectors (Component operation) behind
 
-  begins : stands_first s (number_of s first.name) ≡ standing.Protected at.number
+  pub begins : stands_first s (number_of s first.name) ≡ standing.Protected at.number
   begins = ap (stands_first s) at.numbered ∙ ap (stands_for at.number) at.stands
 
   protected_is : protected_at s at.number ≡ Some at.protected
   protected_is = ap protected_of at.stands
 
-  profile_is : callee_profile s of_object ≡ Some profile
+  pub profile_is : callee_profile s of_object ≡ Some profile
   profile_is = ap (λ o. profile_among o at.place) protected_is ∙ ap operation_profile at.found ∙ ap Some at.profiled
 
   behind_is : select s (standing.Protected at.number) (Component operation) ≡ standing.Callee of_object
   behind_is =
       ap (λ o. operation_stands at.number o operation.name) protected_is ∙ ap (called_operation at.number) at.placed
 
-  stands_behind : (behind : SelectorTrees) → standing_of s first (external_name behind) ≡ select_all s (standing.Callee of_object) behind
+  pub stands_behind : (behind : SelectorTrees) → standing_of s first (external_name behind) ≡ select_all s (standing.Callee of_object) behind
   stands_behind behind = ap (λ w. select_all s w (external_name behind)) begins ∙ ap (λ w. select_all s w behind) behind_is
 
   -- the rules of what stands behind the operation
-  external_parts : (behind : SelectorTrees) → IsLegalExpression s (tree.Named first (external_name behind))
+  pub external_parts : (behind : SelectorTrees) → IsLegalExpression s (tree.Named first (external_name behind))
       → selectors_faults s first.place (standing.Callee of_object) behind ≡ []
   external_parts behind legal =
       let hidden = rule NAME_NOT_VISIBLE first.place (not (is_visible s first.name)) in
@@ -154,19 +132,6 @@ module _ (v : Visible) (first operation : Identifier) (profile : Profile) (told 
       ap (λ w. selectors_faults s first.place w behind) (sym behind_is)
       ∙ back_empty (selector_faults s first.place (standing.Protected at.number) (Component operation))
       (selectors_faults s first.place (select s (standing.Protected at.number) (Component operation)) behind) whole
-
-  -- ---- actual parameters
-
-  module _ (arguments : List Argument)
-      (legal : IsLegalExpression s (tree.Named first (external_name (MoreSelectors (Arguments (argument_trees arguments)) NoSelectors)))) where
-    abbrev given : SelectorTrees
-    given = MoreSelectors (Arguments (argument_trees arguments)) NoSelectors
-
-    pub external_as_many : length arguments ≡ length profile.formals
-    external_as_many = many_given s first.place profile of_object profile_is arguments (external_parts given legal)
-
-    pub external_legal : ArePassedLegally s profile.formals (map argument_tree arguments)
-    external_legal = each_legal s first.place profile of_object profile_is arguments (external_parts given legal)
 
   -- a legal call gives a result, so that all formals are of mode `in`
   module _ (behind : SelectorTrees) (legal : IsLegalExpression s (tree.Named first (external_name behind))) where
@@ -209,9 +174,9 @@ module _ (v : Visible) (first operation : Identifier) (profile : Profile) (told 
 
   -- ---- the call
 
-  module _ (old new : Code) (height : ℕ) (added : AddsCall v (external_of v first.name operation.name) op.ProtectedCall profile old height new) where
+  module _ (height : ℕ) (added : IsCoded v (external_of v first.name operation.name) profile) where
     -- what the name means
-    external_named : (behind : SelectorTrees) → IsLegalExpression s (tree.Named first (external_name behind))
+    pub external_named : (behind : SelectorTrees) → IsLegalExpression s (tree.Named first (external_name behind))
         → fixed_value (standing_of s first (external_name behind)) ≡ None
         → (g : Package) (i : Sections) → AlwaysNames i (library_of g) (Sees g v) first (external_name behind) behind (op.ProtectedCall added.number)
         (map parameter_subtype profile.formals)
@@ -237,7 +202,7 @@ module _ (v : Visible) (first operation : Identifier) (profile : Profile) (told 
           formals = one.2.formals;
         }
 
-    external_changes : (depth : ℕ) → height ≡ depth + total (words_of s) (map parameter_subtype profile.formals)
+    pub external_changes : (depth : ℕ) → height ≡ depth + total (words_of s) (map parameter_subtype profile.formals)
         → Changes (Suits v) (op.ProtectedCall added.number) height (depth + 1)
     external_changes depth high = record {
       operands = refl;
@@ -256,49 +221,3 @@ module _ (v : Visible) (first operation : Identifier) (profile : Profile) (told 
       stays = refl;
       is_none = refl;
     }
-
-  module _ (quiet : QuietStays) (arguments : List Argument)
-      (legal : IsLegalExpression s (tree.Named first (external_name (MoreSelectors (Arguments (argument_trees arguments)) NoSelectors))))
-      (valueless : fixed_value (standing_of s first (external_name (MoreSelectors (Arguments (argument_trees arguments)) NoSelectors))) ≡ None)
-      (old mid new : Code) (depth height : ℕ)
-      (p : EmitsActuals v old depth (map parameter_subtype (take (length arguments) profile.formals)) (map argument_tree arguments) height mid)
-      (added : AddsCall v (external_of v first.name operation.name) op.ProtectedCall profile mid height new) where
-    pub external_emits : EmitsExpression v old depth 1 (tree.Named first (external_name (MoreSelectors (Arguments (argument_trees arguments)) NoSelectors))) new
-    external_emits =
-        with_emits quiet v first (external_name (MoreSelectors (Arguments (argument_trees arguments)) NoSelectors)) profile
-        (op.ProtectedCall added.number) arguments
-        (external_as_many arguments legal) old mid new depth height p added.adds
-        (external_named mid new height added (MoreSelectors (Arguments (argument_trees arguments)) NoSelectors) legal valueless)
-        (external_changes mid new height added depth) (omega arith)
-
-  pub external_alone_emits : QuietStays → IsLegalExpression s (tree.Named first (external_name NoSelectors))
-      → fixed_value (standing_of s first (external_name NoSelectors)) ≡ None → (old new : Code) (depth : ℕ)
-      → AddsCall v (external_of v first.name operation.name) op.ProtectedCall profile old depth new
-      → EmitsExpression v old depth 1 (tree.Named first (external_name NoSelectors)) new
-  external_alone_emits quiet legal valueless old new depth added =
-      alone_emits quiet v first (external_name NoSelectors) profile (op.ProtectedCall added.number)
-      (none_wanted s first.place profile of_object profile_is (external_parts NoSelectors legal)) old new depth added.adds
-      (external_named old new depth added NoSelectors legal valueless) (external_changes old new depth added depth) (omega arith)
-
-  -- ---- what refuses it
-
-  module _ (old : Code) (depth : ℕ) (why : Refusal) where
-    module _ (a : ArgumentTrees) where
-      abbrev whole : SelectorTrees
-      whole = external_name (MoreSelectors (Arguments a) NoSelectors)
-
-      abbrev below : ℕ
-      below = words_below s (stands_first s (number_of s first.name))
-
-      high : (l n k : ℕ) → l ≤ depth + n → l ≤ depth + max (k + 1) (max (k + n) 1)
-      high l n k h = omega (arith, h)
-
-      pub external_refused : (m l : ℕ) → m ≤ here old + (20 * arguments_size a + 1) → l ≤ depth + arguments_peak s a → IsRefused m l why
-          → RefusesExpression v old depth (tree.Named first whole) why
-      external_refused m l up most r =
-          name_refused v first whole old depth m l why (λ h. absurd h) (omega (arith, up)) (high l (arguments_peak s a) below most) r
-
-      pub external_actuals_refused : RefusesActuals v old depth a why → RefusesExpression v old depth (tree.Named first whole) why
-      external_actuals_refused r =
-          name_refused v first whole old depth _ _ why (λ h. h) (omega arith)
-          (high (depth + arguments_peak s a) (arguments_peak s a) below (omega arith)) r

@@ -157,7 +157,7 @@ module _ (s : Scope) (sound : SoundScope s) (t : Subtype) where
     far_offset told h more = far_unfit told (field_offset (component_shapes (shapes s) cs) name) refl h more
 
 -- a component that a record has stands somewhere in it
-offset_there : (known : List Shape) (cs : List RecordComponent) (name : List ℕ) (u : Subtype) → component_of cs name ≡ Some u
+pub offset_there : (known : List Shape) (cs : List RecordComponent) (name : List ℕ) (u : Subtype) → component_of cs name ≡ Some u
     → (n : ℕ) × (field_offset (component_shapes known cs) name ≡ Some n)
 offset_there known [] name u h = cc
 offset_there known (c ∷ cs) name u h = by_test (bytes_eq c.name name) h (offset_there known cs name u)
@@ -167,13 +167,6 @@ offset_there known (c ∷ cs) name u h = by_test (bytes_eq c.name name) h (offse
         → (n : ℕ) × (cond b (Some 0) (further (words (shape_among known c.subtype)) (field_offset (component_shapes known cs) name)) ≡ Some n)
     by_test true e more = (0, refl)
     by_test false e more = let it = more e in (words (shape_among known c.subtype) + it.0, ap (further (words (shape_among known c.subtype))) it.1)
-
-pub no_offset : (known : List Shape) (cs : List RecordComponent) (name : List ℕ) (u : Subtype) → component_of cs name ≡ Some u
-    → option_map capped (field_offset (component_shapes known cs) name) ≡ None → ⊥
-no_offset known cs name u found none =
-    let it = offset_there known cs name u found in
-    let k = ap (option_map capped) (sym it.1) ∙ none in
-    cc
 
 -- ---- what a selector selects
 

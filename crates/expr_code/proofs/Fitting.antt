@@ -79,17 +79,6 @@ module _ (s : Scope) (sound : SoundScope s) (t : Subtype) where
       by_form o form c = cc
 
 module _ (v : Visible) (old new : Code) (depth : ℕ) (t : Subtype) (e : ExprTree) where
-  -- one word, which was checked
-  pub checked_fitting : EmitsChecked v old depth t e new → EmitsFitting v old depth t e new
-  checked_fitting p = record {
-    extends = p.extends;
-    sized = p.sized;
-    computes = p.computes;
-    flows = subst (λ n. Flows (Suits v) old depth new (depth + n)) (sym p.single) p.flows;
-    known = p.known;
-    typed = p.typed;
-  }
-
   pub fitting_checked : words_of v.scope t ≡ 1 → EmitsFitting v old depth t e new → EmitsChecked v old depth t e new
   fitting_checked single p = record {
     extends = p.extends;

@@ -1,17 +1,14 @@
 -- Code that grows, and the images that hold it.
-use Rattle.std.proofs.Common.{◌≡◌, ◌≢◌, ℤ, ℕ, zero, suc, ◌<◌, ◌≤◌, List, [], ◌∷◌, ◌++◌, length, Some, inl, inr, refl, sym, ap, ◌∙◌, subst, arith, length-append, take}
-use Rattle.std.specs.Prelude.{slice_get, slice_set, Result, Ok, Err, IfErr, OnOk}
+use Rattle.std.proofs.Common.{◌≡◌, ◌≢◌, ℤ, ℕ, zero, suc, ◌<◌, ◌≤◌, List, [], ◌∷◌, ◌++◌, length, Some, refl, ap, ◌∙◌, subst, arith, length-append, take}
+use Rattle.std.specs.Prelude.{slice_get, slice_set}
 use Rattle.image.specs.Sections.{Sections}
 use Rattle.image.specs.declared.instruction.Operation.{Operation}
 use Rattle.image.specs.declared.instruction.Operation.TheVariants as op
 use Rattle.expr_code.specs.Views.{At}
-use Rattle.expr_code.specs.Branches.{Closes}
-use Rattle.expr_code.specs.Code.{Holds, Extends, Adds, IsAsBefore, Patches, here}
-use Rattle.expr_code.specs.Going.{AddsAtOffset, AddsByWords, AddsLessFirst, AddsOffset, AddsTwo}
+use Rattle.expr_code.specs.Code.{Holds, Extends, Adds, Patches, here}
 use Rattle.expr_code.specs.declared.code.Code.{Code}
-use Rattle.expr_code.specs.declared.refusal.Refusal.{Refusal}
 
-get_before : {X : Type 0} (xs ys : List X) (k : ℕ) (x : X) → slice_get xs k ≡ Some x → slice_get (xs ++ ys) k ≡ Some x
+pub get_before : {X : Type 0} (xs ys : List X) (k : ℕ) (x : X) → slice_get xs k ≡ Some x → slice_get (xs ++ ys) k ≡ Some x
 get_before [] ys k x h = absurd cc
 get_before (y ∷ xs) ys zero x h = h
 get_before (y ∷ xs) ys (suc k) x h = get_before xs ys k x h
@@ -73,51 +70,6 @@ extends_trans a b c p q = record {
   deeper = omega (arith, p.deeper, q.deeper);
 }
 
--- one behind the other, and behind an instruction that was added
-pub then_kept : {a b c : Code} → Extends a b → Extends b c → Extends a c
-then_kept p q = extends_trans _ _ _ p q
-
-pub added_kept : {a b c : Code} {depth : ℕ} {o : Operation} → Adds a depth o b → Extends b c → Extends a c
-added_kept p q = extends_trans _ _ _ (added_extends _ _ _ _ p) q
-
--- from an index to an address
-two_kept : {a b : Code} {depth : ℕ} {x y : Operation} → AddsTwo a depth x y b → Extends a b
-two_kept p = added_kept p.push (added_extends _ _ _ _ p.then)
-
-pub less_kept : {a b : Code} {depth : ℕ} {first : ℤ} (words : ℕ) {shift next : ℤ} → AddsLessFirst a depth first words shift next b → Extends a b
-less_kept words (inl p) = two_kept p.0
-less_kept {a = a} words (inr h) = subst (λ c. Extends a c) (sym h.0) (extends_self a)
-
-pub less_same : (old new : Code) (depth : ℕ) (x y : ℤ) (words : ℕ) (a b next : ℤ) → x ≡ y → a ≡ b → AddsLessFirst old depth x words a next new
-    → AddsLessFirst old depth y words b next new
-less_same old new depth x y words a b next same told p =
-    subst (λ z. AddsLessFirst old depth z words b next new) same (subst (λ z. AddsLessFirst old depth x words z next new) told p)
-
-pub at_offset_same : (old new : Code) (depth offset : ℕ) (a b next : ℤ) → a ≡ b → AddsAtOffset old depth offset a next new → AddsAtOffset old depth offset b next new
-at_offset_same old new depth offset a b next told p = subst (λ z. AddsAtOffset old depth offset z next new) told p
-
-pub offset_same : (old new : Code) (depth : ℕ) (x y : ℤ) (words : ℕ) (a b next : ℤ) → x ≡ y → a ≡ b → AddsOffset old depth x words a next new
-    → AddsOffset old depth y words b next new
-offset_same old new depth x y words a b next same told p =
-    subst (λ z. AddsOffset old depth z words b next new) same (subst (λ z. AddsOffset old depth x words z next new) told p)
-
--- to a component of a record
-pub at_offset_kept : {a b : Code} {depth offset : ℕ} {shift next : ℤ} → AddsAtOffset a depth offset shift next b → Extends a b
-at_offset_kept (inl p) = two_kept p.0
-at_offset_kept {a = a} (inr h) = subst (λ c. Extends a c) (sym h.0) (extends_self a)
-
-pub product_kept : {a b : Code} {depth words : ℕ} → AddsByWords a depth words b → Extends a b
-product_kept (inl p) = two_kept p
-product_kept {a = a} (inr h) = subst (λ c. Extends a c) (sym h.1) (extends_self a)
-
--- ... the same code, and code that was cut back to where it began
-pub as_before : (a b : Code) → IsAsBefore a b → Extends a b
-as_before a b s = record {
-  instructions = λ k x le h. ap (λ l. slice_get l k) s.instructions ∙ h;
-  longer = omega (arith, ap length s.instructions);
-  deeper = omega (arith, ap (λ n. n) s.deepest);
-}
-
 cut_there : {X : Type 0} (xs ys : List X) → ((k : ℕ) (x : X) → slice_get xs k ≡ Some x → slice_get ys k ≡ Some x) → take (length xs) ys ≡ xs
 cut_there [] ys h = refl
 cut_there (x ∷ xs) [] h = absurd (let none = h 0 x refl in cc)
@@ -165,18 +117,3 @@ module _ (old new : Code) (place : ℕ) (o : Operation) (p : Patches old place o
       shorter [] k x h = absurd cc
       shorter (y ∷ xs) zero x h = omega arith
       shorter (y ∷ xs) (suc k) x h = let below = shorter xs k x h in omega (arith, below)
-
--- what began in front of the place of a patch, or of a jump that waits and its test, is there still
-pub patched_kept : {start first last new : Code} {place : ℕ} {o : Operation} → place ≡ here first → Extends start first → Extends start last
-    → Patches last place o new → Extends start new
-patched_kept {start} {first} {last} {new} {place} {o} at p q patch =
-    patched_extends last new place o patch start (let up = p.longer in omega (arith, at, up)) q
-
-pub closed_kept : {start first last new : Code} {height place : ℕ} {before after : List ℕ} → place ≡ here first → Extends start first → Extends start last
-    → Closes last height place before after new → Extends start new
-closed_kept at p q c = patched_kept at p (then_kept q (added_extends _ _ _ _ c.adds)) c.patches
-
--- whether all was added or not
-pub either_kept : {X : Type 0} (r : Result X Refusal) (a b : Code) → OnOk r (Extends a b) → IfErr r (λ why. Extends a b) → Extends a b
-either_kept (Ok x) a b p q = p
-either_kept (Err why) a b p q = q

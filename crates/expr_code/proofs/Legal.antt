@@ -1,12 +1,11 @@
 -- What is broken nowhere in a chain of operators is broken nowhere in its parts; and the left operand of a logical operator is a truth value.
 use Rattle.std.proofs.Common.{◌≡◌, ◌<◌, ◌++◌, ℕ, zero, suc, List, [], ◌∷◌, length, map, Bool, true, false, refl, sym, ap, ◌∙◌, subst, arith}
 use Rattle.std.specs.Prelude.{cond, get_or}
-use Rattle.ada_tree.specs.declared.expression.Operand.{Operand}
 use Rattle.ada_tree.specs.declared.expression.UnaryOperator.{UnaryOperator}
 use Rattle.ada_tree.specs.declared.expression.BinaryOperator.{BinaryOperator}
 use Rattle.ada_tree.specs.ExpressionTree as tree
 use Rattle.ada_tree.specs.declared.expression.ElsifValue.{ElsifValue}
-use Rattle.ada_tree.specs.ExpressionTree.{ExprTree, NoElsifValues, MoreElsifValues, chain_tree, elsif_value_trees, expr_tree}
+use Rattle.ada_tree.specs.ExpressionTree.{ExprTree, NoElsifValues, MoreElsifValues, elsif_value_trees, expr_tree}
 use Rattle.image.specs.Sections.{Sections}
 use Rattle.types.specs.Scopes.{Scope}
 use Rattle.types.specs.Statics.{start_of}
@@ -21,7 +20,7 @@ use Rattle.base.specs.declared.faults.TheConstants.{NO_MEANING}
 use Rattle.expr_soundness.specs.Laws.{ExpressionsAreTyped}
 use Rattle.expr_code.specs.Computing.{IsTruth}
 use Rattle.expr_code.specs.Branches.{AreLegalBranches, Branch, branch_of, in_front}
-use Rattle.expr_code.specs.Emitting.{AreLegalOperands, IsLegalExpression}
+use Rattle.expr_code.specs.Emitting.{IsLegalExpression}
 use Rattle.expr_code.specs.Seeing.{library_of, Package, Sees}
 use Rattle.expr_code.specs.declared.visible.Visible.{Visible}
 
@@ -47,13 +46,6 @@ module _ (s : Scope) where
 
     legal_rule : of_both ≡ []
     legal_rule = back_empty (in_left ++ in_right) of_both h.unbroken
-
-  pub legal_chain : (left : ExprTree) (all : List Operand) → IsLegalExpression s (chain_tree left all) → IsLegalExpression s left × AreLegalOperands s all
-  legal_chain left [] h = (h, tt)
-  legal_chain left (o ∷ all) h =
-      let whole = tree.Binary o.operator left (expr_tree o.value) in
-      let parts = legal_chain whole all h in
-      (legal_left o.operator left (expr_tree o.value) parts.0, (legal_right o.operator left (expr_tree o.value) parts.0, parts.1))
 
   -- ---- if expressions
 

@@ -1,14 +1,10 @@
 -- What legality says of the names that code is made of: what stands behind a type, a function or an object, and in the parentheses there.
-use Rattle.std.proofs.Common.{◌≡◌, ◌++◌, ℕ, zero, suc, List, [], ◌∷◌, length, Bool, true, false, not, Option, Some, None, refl, sym, ap, ◌∙◌, subst}
-use Rattle.std.specs.Prelude.{⊤, slice_get}
+use Rattle.std.proofs.Common.{◌≡◌, ◌++◌, ℕ, List, [], Bool, true, false, not, Option, Some, None, refl, sym, ap, ◌∙◌, subst}
+use Rattle.std.specs.Prelude.{⊤}
 use Rattle.base.specs.declared.faults.TheConstants.{NAME_NOT_VISIBLE, NO_MEANING}
-use Rattle.ada_tree.specs.declared.declaration.Mode.TheVariants as mode
-use Rattle.ada_tree.specs.declared.expression.Argument.{Argument}
 use Rattle.ada_tree.specs.declared.expression.Identifier.{Identifier}
-use Rattle.ada_tree.specs.declared.expression.Selector.{Selector}
 use Rattle.ada_tree.specs.ExpressionTree as tree
-use Rattle.ada_tree.specs.ExpressionTree.{argument_trees, ArgumentTrees, Arguments, Attribute, bare_name, Component, MoreSelectors, NoSelectors, selector_tree, selector_trees, SelectorTree, SelectorTrees}
-use Rattle.types.specs.declared.entity.FormalParameter.{FormalParameter}
+use Rattle.ada_tree.specs.ExpressionTree.{ArgumentTrees, Arguments, Attribute, bare_name, Component, MoreSelectors, NoSelectors, SelectorTree, SelectorTrees}
 use Rattle.types.specs.declared.entity.Role.{Role}
 use Rattle.types.specs.declared.entity.Subtype.{Subtype}
 use Rattle.types.specs.declared.standing.Callee.{Callee}
@@ -18,22 +14,21 @@ use Rattle.types.specs.declared.standing.Standing.TheVariants as standing
 use Rattle.types.specs.Entities.{Arrays, Constant, Doubtful, Entity, Entry, Exception, Integers, LibraryUnit, Literal, Object, OfSubtype, OfType, Predefined, Profile, Protected, Put, Subprogram, Task, TypeForm}
 use Rattle.types.specs.Evaluating.{fixed_value}
 use Rattle.types.specs.Scopes.{entity_at, form_at, is_visible, number_of, profile_of, Scope}
-use Rattle.types.specs.Standings.{call_stands, callee_profile, conversion_stands, count, element_stands, is_single, result_stands, select, select_all, standing_of, stands_first, stands_for}
+use Rattle.types.specs.Standings.{call_stands, callee_profile, conversion_stands, element_stands, is_single, result_stands, select, select_all, standing_of, stands_first, stands_for}
 use Rattle.expr_soundness.specs.expr_rules.specs.declared.own.Wanted.TheVariants.{OfType}
 use Rattle.expr_soundness.specs.expr_rules.specs.ExpressionRules.{arguments_faults, selector_faults, selectors_faults}
 use Rattle.expr_soundness.specs.expr_rules.specs.Faults.{Faults, rule}
 use Rattle.expr_soundness.specs.expr_rules.specs.NameRules.{is_doubtful, part_rule, value_rule}
-use Rattle.expr_soundness.specs.expr_rules.proofs.TypedLaw.{back_empty, front_empty, same_number, unbroken}
+use Rattle.expr_soundness.specs.expr_rules.proofs.TypedLaw.{back_empty, front_empty, unbroken}
 use Rattle.expr_soundness.specs.SoundScopes.{AreIn, IsSoundEntry, IsSoundProfile, IsSoundResult, SoundScope}
 use Rattle.expr_soundness.proofs.Denoting.{empty_ends, is_empty}
 use Rattle.expr_soundness.proofs.Expressions.{not_false}
 use Rattle.expr_soundness.proofs.Goods.{Good, GoodCallee, good_first, good_select, part_unbroken}
-use Rattle.expr_soundness.proofs.Positions.{IsNamed, named, same_some}
+use Rattle.expr_soundness.proofs.Positions.{IsNamed, named}
 use Rattle.expr_code.specs.Emitting.{IsLegalExpression}
 use Rattle.expr_code.specs.Going.{IsLegalPart}
 use Rattle.expr_code.specs.Providing.{FewFormals}
 use Rattle.expr_code.specs.Seeing.{NamesProfile, operation_named, operation_of, profile_named, subprogram_profile}
-use Rattle.expr_code.proofs.Actuals.{counted}
 use Rattle.expr_code.proofs.Attributes.{components_only}
 use Rattle.expr_code.proofs.CoveredNames.{procedure_not}
 use Rattle.expr_code.proofs.PeakSlots.{IsPath, value_path}
@@ -44,19 +39,6 @@ use Rattle.expr_code.proofs.PeakSlots.{IsPath, value_path}
 abbrev pub IsApplied : SelectorTrees → Type 0
 IsApplied (MoreSelectors (Arguments a) NoSelectors) = ⊤
 IsApplied all = ⊥
-
-pub applied_once : (all : List Selector) → IsApplied (selector_trees all) → length all ≡ 1
-applied_once [] h = absurd h
-applied_once (x ∷ []) h = refl
-applied_once (x ∷ y ∷ all) h = absurd (many (selector_tree x) (selector_tree y) (selector_trees all) h)
-  where
-    many : (a b : SelectorTree) (rest : SelectorTrees) → IsApplied (MoreSelectors a (MoreSelectors b rest)) → ⊥
-    many (Arguments a) b rest h = h
-    many (Component name) b rest h = h
-    many (Attribute name) b rest h = h
-
-counts_one : (all : List Argument) → is_single (argument_trees all) ≡ true → length all ≡ 1
-counts_one all h = sym (counted all) ∙ same_number (count (argument_trees all)) 1 h
 
 -- ---- legal names
 
@@ -138,15 +120,6 @@ module _ (s : Scope) (first : Identifier) (selectors : SelectorTrees) (legal : I
       begins_otherwise standing.Other is part type callee object = nothing_else standing.Other is refl
       begins_otherwise standing.Doubtful is part type callee object = nothing_else standing.Doubtful is refl
 
-module _ (s : Scope) (first : Identifier) (legal : IsLegalExpression s (tree.Named first NoSelectors)) where
-  -- a type is no value
-  pub no_type_alone : (t : Subtype) → stands_first s (number_of s first.name) ≡ standing.Named t → ⊥
-  no_type_alone t is = let h = end_unbroken s first NoSelectors legal (standing.Named t) is in cc
-
-  -- nor is a protected object
-  pub no_object_alone : (n : ℕ) → stands_first s (number_of s first.name) ≡ standing.Protected n → ⊥
-  no_object_alone n is = let h = end_unbroken s first NoSelectors legal (standing.Protected n) is in cc
-
 module _ (s : Scope) (sound : SoundScope s) where
   -- nothing stands behind a value
   no_more : (place : ℕ) (t : Subtype) (rest : SelectorTrees) → selectors_faults s place (standing.Given t None) rest ≡ [] → rest ≡ NoSelectors
@@ -198,12 +171,6 @@ module _ (s : Scope) (sound : SoundScope s) where
     conversion_shape (MoreSelectors (Arguments a) rest) good h e none =
         subst (λ x. IsApplied (MoreSelectors (Arguments a) x)) (sym (converted_alone a rest h)) tt
 
-    converts_one : (all : List Argument) → selectors_faults s place (standing.Named t) (MoreSelectors (Arguments (argument_trees all)) NoSelectors) ≡ []
-        → length all ≡ 1
-    converts_one all h =
-        counts_one all (converts_single t (form_at s t.type_number) (is_single (argument_trees all))
-        (unbroken NO_MEANING place _ (part_here place (standing.Named t) (Arguments (argument_trees all)) NoSelectors h))).1
-
   -- ---- calls
 
   module _ (place : ℕ) (f : Callee) (good : Good s (standing.Callee f)) where
@@ -243,12 +210,6 @@ module _ (s : Scope) (sound : SoundScope s) (first : Identifier) where
       conversion_shape s sound first.place t selectors (good_begin s first selectors legal sound (standing.Named t) stands)
       (parts_unbroken s first selectors legal (standing.Named t) stands) (end_unbroken s first selectors legal (standing.Named t) stands)
       (subst (λ w. fixed_value (select_all s w selectors) ≡ None) stands valueless)
-
-  pub one_converted : (all : List Argument) (t : Subtype) → stands_first s (number_of s first.name) ≡ standing.Named t
-      → IsLegalExpression s (tree.Named first (MoreSelectors (Arguments (argument_trees all)) NoSelectors)) → length all ≡ 1
-  one_converted all t stands legal =
-      converts_one s sound first.place t all
-      (parts_unbroken s first (MoreSelectors (Arguments (argument_trees all)) NoSelectors) legal (standing.Named t) stands)
 
 -- ---- functions
 
@@ -308,11 +269,6 @@ ins s sound name profile names t is =
     let r : IsSoundResult s profile.formals (Some t) = subst (IsSoundResult s profile.formals) is x.result in
     r.1
 
-pub in_at : (all : List FormalParameter) (n : ℕ) (f : FormalParameter) → slice_get all n ≡ Some f → AreIn all → f.mode ≡ mode.In
-in_at [] n f is h = cc
-in_at (x ∷ all) zero f is h = subst (λ y. y.mode ≡ mode.In) (same_some x f is) h.0
-in_at (x ∷ all) (suc n) f is h = in_at all n f is h.1
-
 -- ---- parts
 
 module _ (s : Scope) (t : Subtype) where
@@ -321,12 +277,9 @@ module _ (s : Scope) (t : Subtype) where
   arrays r (Some (Arrays index many element)) true h = (index, many, element, refl, refl)
   arrays r o b h = absurd cc
 
-  -- what has an index is an array, and the index is one expression
-  pub array_part : (all : List Argument) → IsLegalPart s t (Arguments (argument_trees all))
-      → (index : Subtype) × (many : ℕ) × (element : Subtype) × (form_at s t.type_number ≡ Some (Arrays index many element)) × (length all ≡ 1)
-  array_part all h =
-      let given = argument_trees all in
-      let it = arrays h.role (form_at s t.type_number) (is_single given)
-      (unbroken NO_MEANING h.place _ (front_empty (part_rule s h.place (standing.Part h.role t) (Arguments given))
-      (arguments_faults s (standing.Part h.role t) 0 given) h.unbroken)) in
-      (it.0, it.1, it.2, it.3, counts_one all it.4)
+  pub array_tree : (a : ArgumentTrees) → IsLegalPart s t (Arguments a)
+      → (index : Subtype) × (many : ℕ) × (element : Subtype) × (form_at s t.type_number ≡ Some (Arrays index many element)) × (is_single a ≡ true)
+  array_tree a h =
+      arrays h.role (form_at s t.type_number) (is_single a)
+      (unbroken NO_MEANING h.place _ (front_empty (part_rule s h.place (standing.Part h.role t) (Arguments a))
+      (arguments_faults s (standing.Part h.role t) 0 a) h.unbroken))

@@ -4,6 +4,7 @@ mod Expressions
 pub mod Passing
 pub mod CallFrames
 pub mod CallRefusals
+mod CodeExamples
 mod CountedSteps
 pub mod Calling
 pub mod Naming
@@ -13,23 +14,17 @@ pub mod Growing
 pub mod Flowing
 pub mod Legal
 mod Emitted
-mod ShortCircuits
-mod Chains
 mod Branching
 pub mod Names
 pub mod Checking
 mod Conversions
 pub mod Going
-mod Addressing
 pub mod Fitting
 pub mod Actuals
 pub mod Widths
-mod Selecting
 pub mod Refusals
 mod FitShapes
 mod LegalNames
-mod NamesRefused
-mod CallsRefused
 pub mod Externals
 pub mod Language
 pub mod Shallow
@@ -38,3 +33,17 @@ pub mod NamedBehind
 pub mod ThroughObjects
 pub mod CoveredNames
 pub mod Attributes
+pub mod Pieces
+pub mod FormsMade
+pub mod SelectorsMade
+pub mod StandingPieces
+pub mod ExpressionWorks
+pub mod NameWorks
+pub mod CallWorks
+pub mod LanguageWorks
+pub mod PassedWorks
+pub mod PartWorks
+pub mod CalledWorks
+pub mod NamesWork
+pub mod Appended
+pub mod Emissions

@@ -1,12 +1,10 @@
 -- Legal names that begin with a protected object: behind it stands an operation of it, and behind that its actual parameters at most (RM 9.4, 9.5).
-use Rattle.std.proofs.Common.{◌≡◌, ◌≤◌, ◌++◌, [], ◌∷◌, List, length, ℕ, false, Option, Some, None, refl, sym, ap, ◌∙◌, subst, arith}
-use Rattle.std.specs.Prelude.{⊤, bytes_eq, is_none, not, position, get_or}
+use Rattle.std.proofs.Common.{◌≡◌, ◌++◌, [], List, ℕ, false, Option, Some, None, refl, sym, ap, ◌∙◌, subst}
+use Rattle.std.specs.Prelude.{⊤, bytes_eq, is_none, not, position}
 use Rattle.base.specs.declared.faults.TheConstants.{NAME_NOT_VISIBLE}
 use Rattle.ada_tree.specs.declared.expression.Identifier.{Identifier}
-use Rattle.ada_tree.specs.declared.expression.Selector.{Selector}
-use Rattle.ada_tree.specs.declared.expression.Selector as selectors
 use Rattle.ada_tree.specs.ExpressionTree as tree
-use Rattle.ada_tree.specs.ExpressionTree.{Arguments, ArgumentTrees, Attribute, Component, MoreSelectors, NoSelectors, selector_tree, selector_trees, SelectorTree, SelectorTrees}
+use Rattle.ada_tree.specs.ExpressionTree.{Arguments, Attribute, Component, MoreSelectors, NoSelectors, SelectorTree, SelectorTrees}
 use Rattle.types.specs.declared.entity.Subtype.{Subtype}
 use Rattle.types.specs.declared.standing.Callee.{Callee}
 use Rattle.types.specs.declared.standing.Callee.TheVariants as callee
@@ -142,11 +140,6 @@ module _ (s : Scope) (sound : SoundScope s) (place : ℕ) where
 
 -- ---- whole names
 
--- behind an object's name stands an operation, and behind that its actual parameters at most
-abbrev pub IsCalledBehind : SelectorTrees → Type 0
-IsCalledBehind (MoreSelectors (Component operation) rest) = IsCalledWith rest
-IsCalledBehind all = ⊥
-
 module _ (s : Scope) (sound : SoundScope s) (first : Identifier) (selectors : SelectorTrees) (legal : IsLegalExpression s (tree.Named first selectors)) (n : ℕ)
     (begins : stands_first s (number_of s first.name) ≡ standing.Protected n) where
   abbrev hidden : Faults
@@ -210,56 +203,3 @@ module _ (s : Scope) (sound : SoundScope s) (first : Identifier) (selectors : Se
 
   pub told_behind : IsTold
   told_behind = by_entity it.entity refl
-
-  pub called_behind : IsCalledBehind selectors
-  called_behind = subst IsCalledBehind (sym told_behind.is) told_behind.ends
-
--- the operation is the one that is named
-pub operation_known : (s : Scope) (sound : SoundScope s) (first operation : Identifier) (rest : SelectorTrees)
-    → IsLegalExpression s (tree.Named first (MoreSelectors (Component operation) rest)) → (n : ℕ)
-    → stands_first s (number_of s first.name) ≡ standing.Protected n → external_profile s first.name operation.name ≡ None → ⊥
-operation_known s sound first operation rest legal n begins none =
-    let x = told_behind s sound first (MoreSelectors (Component operation) rest) legal n begins in
-    let same : operation ≡ x.operation = ap (first_name operation) x.is in
-    let never = sym none ∙ ap (λ y. external_profile s first.name y.name) same ∙ x.told in cc
-  where
-    first_name : Identifier → SelectorTrees → Identifier
-    first_name other (MoreSelectors (Component name) all) = name
-    first_name other all = other
-
--- one or two selectors
-pub behind_few : (all : List Selector) → IsCalledBehind (selector_trees all) → (1 ≤ length all) × (length all ≤ 2)
-behind_few [] h = absurd h
-behind_few (x ∷ []) h = (omega arith, omega arith)
-behind_few (x ∷ y ∷ []) h = (omega arith, omega arith)
-behind_few (x ∷ y ∷ z ∷ all) h = absurd (many (selector_tree x) (selector_tree y) (selector_tree z) (selector_trees all) h)
-  where
-    many : (a b c : SelectorTree) (rest : SelectorTrees) → IsCalledBehind (MoreSelectors a (MoreSelectors b (MoreSelectors c rest))) → ⊥
-    many (Component name) (Arguments b) c rest h = h
-    many (Component name) (Component b) c rest h = h
-    many (Component name) (Attribute b) c rest h = h
-    many (Arguments a) b c rest h = h
-    many (Attribute a) b c rest h = h
-
--- of two selectors the first is an operation, and the second its actual parameters
-pub operation_first : (all : List Selector) (x : Selector) → 2 ≤ length all → x ≡ get_or all 0 x → IsCalledBehind (selector_trees all)
-    → ((name : Identifier) → x ≡ selectors.Component name → ⊥) → ⊥
-operation_first [] x long first called wrong = omega (arith, long)
-operation_first (selectors.Component name ∷ rest) x long first called wrong = wrong name first
-operation_first (selectors.Arguments' shape row ∷ rest) x long first called wrong = called
-operation_first (selectors.Attribute name ∷ rest) x long first called wrong = called
-
-pub actuals_second : (all : List Selector) (y : Selector) → 2 ≤ length all → y ≡ get_or all 1 y → IsCalledBehind (selector_trees all)
-    → (a : ArgumentTrees) × (selector_tree y ≡ Arguments a)
-actuals_second [] y long second called = absurd (omega (arith, long))
-actuals_second (x ∷ []) y long second called = absurd (omega (arith, long))
-actuals_second (x ∷ z ∷ rest) y long second called =
-    let it = with_actuals (selector_tree x) (selector_tree z) (selector_trees rest) called in (it.0, ap selector_tree second ∙ it.1)
-  where
-    with_actuals : (a b : SelectorTree) (more : SelectorTrees) → IsCalledBehind (MoreSelectors a (MoreSelectors b more))
-        → (c : ArgumentTrees) × (b ≡ Arguments c)
-    with_actuals (Component name) (Arguments c) more h = (c, refl)
-    with_actuals (Component name) (Component other) more h = absurd h
-    with_actuals (Component name) (Attribute other) more h = absurd h
-    with_actuals (Arguments a) b more h = absurd h
-    with_actuals (Attribute name) b more h = absurd h

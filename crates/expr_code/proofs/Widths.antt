@@ -4,20 +4,19 @@ use Rattle.std.specs.Prelude.{⊤, cond, get_or, nat_eq, pos, slice_get}
 use Rattle.base.specs.declared.faults.TheConstants.{NAME_NOT_VISIBLE, NO_MEANING}
 use Rattle.ada_tree.specs.declared.expression.ElsifValue.{ElsifValue}
 use Rattle.ada_tree.specs.declared.expression.Identifier.{Identifier}
-use Rattle.ada_tree.specs.declared.expression.Operand.{Operand}
 use Rattle.ada_tree.specs.declared.expression.UnaryOperator.{UnaryOperator}
 use Rattle.ada_tree.specs.declared.expression.UnaryOperator.TheVariants as unary
 use Rattle.ada_tree.specs.declared.expression.BinaryOperator.{BinaryOperator}
 use Rattle.ada_tree.specs.declared.expression.BinaryOperator.TheVariants as binary
 use Rattle.ada_tree.specs.ExpressionTree as tree
-use Rattle.ada_tree.specs.ExpressionTree.{chain_tree, elsif_value_trees, expr_tree, ExprTree, ElsifValueTrees, NoElsifValues, MoreElsifValues, SelectorTrees, NoSelectors, MoreSelectors, Arguments, ArgumentTrees}
+use Rattle.ada_tree.specs.ExpressionTree.{elsif_value_trees, expr_tree, ExprTree, ElsifValueTrees, NoElsifValues, MoreElsifValues, SelectorTrees, NoSelectors, MoreSelectors, Arguments, ArgumentTrees}
 use Rattle.types.specs.declared.entity.Subtype.{Subtype}
 use Rattle.types.specs.declared.entity.Role.{Role}
 use Rattle.types.specs.declared.entity.Value.{Value as Scalar}
 use Rattle.types.specs.declared.entity.Value.TheVariants as scalar
 use Rattle.types.specs.declared.standing.Callee.TheVariants as callee
 use Rattle.types.specs.declared.standing.Standing.TheVariants as standing
-use Rattle.types.specs.Entities.{Integers, Booleans, Profile}
+use Rattle.types.specs.Entities.{Integers, Profile}
 use Rattle.types.specs.Evaluating.{fixed_value}
 use Rattle.types.specs.Layouts.{words_of}
 use Rattle.types.specs.Scopes.{Scope, base_range_of, boolean_type, form_at, is_visible, number_of, profile_of}
@@ -44,9 +43,9 @@ use Rattle.expr_code.specs.Branches.{Branch, branch_of, in_front}
 use Rattle.expr_code.specs.Emitting.{has_numbers, IsFit, IsLegalExpression, WantedFits}
 use Rattle.expr_code.specs.Providing.{is_passable}
 use Rattle.expr_code.specs.Seeing.{NamesProfile}
-use Rattle.expr_code.specs.Widths.{AreSingle, AreWide, own_words, width_of}
+use Rattle.expr_code.specs.Widths.{AreWide, own_words, width_of}
 use Rattle.expr_code.proofs.Conversions.{integers, with_argument}
-use Rattle.expr_code.proofs.Legal.{branches_are, legal_chain}
+use Rattle.expr_code.proofs.Legal.{branches_are}
 
 -- ---- shapes
 
@@ -464,25 +463,6 @@ module _ (s : Scope) where
         let broken = unary_rule s o place (own_of s e) in
         unary_one o (own_of s e) (has_sign o place e (known e (below o h.wanted) (front_empty inside broken h.unbroken)) (back_empty inside broken h.unbroken))
 
-    -- a chain of operators, with one behind its first operand
-    pub record ChainIsSingle (left : ExprTree) (all : List Operand) : Type 0 where
-      pub first : width_of s left ≡ 1
-      pub others : AreSingle s all
-      pub whole : width_of s (chain_tree left all) ≡ 1
-
-    pub chain_single : (left : ExprTree) (o : Operand) (all : List Operand) → IsLegalExpression s (chain_tree left (o ∷ all)) → ChainIsSingle left (o ∷ all)
-    chain_single left o [] h = let it = binary_width o.operator left (expr_tree o.value) h in record
-        { first = it.left; others = (it.right, tt); whole = it.both }
-    chain_single left o (p ∷ all) h =
-        let inner = tree.Binary o.operator left (expr_tree o.value) in
-        let it = binary_width o.operator left (expr_tree o.value) (legal_chain s inner (p ∷ all) h).0 in
-        let more = chain_single inner p all h in
-        record { first = it.left; others = (it.right, more.others); whole = more.whole }
-
-    pub chain_words : (e left : ExprTree) (o : Operand) (all : List Operand) → e ≡ chain_tree (tree.Binary o.operator left (expr_tree o.value)) all
-        → IsLegalExpression s e → ChainIsSingle left (o ∷ all)
-    chain_words e left o all same h = chain_single left o all (subst (IsLegalExpression s) same h)
-
     -- ---- the parts of if expressions
 
     boolean_fits : (own : Own) → Fits boolean_wanted own → own_words s own ≡ 1
@@ -578,9 +558,6 @@ module _ (s : Scope) where
     pub integers_fit_width : (t : Subtype) (e : ExprTree) → IsFit s t e → form_at s t.type_number ≡ Some Integers → width_of s e ≡ 1
     integers_fit_width t e h form = numbers_fit_width t e h (ap has_numbers form)
 
-    pub booleans_fit_width : (t : Subtype) (e : ExprTree) → IsFit s t e → form_at s t.type_number ≡ Some Booleans → width_of s e ≡ 1
-    booleans_fit_width t e h form = fit_width t e h (ap (λ o. has_numbers o || is_booleans o) form)
-
     -- ---- names
 
     value_one : (own : Own) (v : Scalar) → is_value_of s own (value_of v) ≡ true → own_words s own ≡ 1
@@ -648,12 +625,6 @@ module _ (s : Scope) where
           ∙ single
 
 -- ---- the operand and the branch at a place
-
-pub single_at : (s : Scope) (all : List Operand) (n : ℕ) (x : Operand) → n < length all → x ≡ get_or all n x → AreSingle s all
-    → width_of s (expr_tree x.value) ≡ 1
-single_at s [] n x less is h = absurd (omega (arith, less))
-single_at s (o ∷ all) zero x less is h = subst (λ y. width_of s (expr_tree y.value) ≡ 1) (sym is) h.0
-single_at s (o ∷ all) (suc n) x less is h = single_at s all n x (omega (arith, less)) is h.1
 
 pub wide_at : (s : Scope) (width : ℕ) (all : List ElsifValue) (n : ℕ) (x : ElsifValue) → n < length all → x ≡ get_or all n x
     → AreWide s width (map branch_of all)

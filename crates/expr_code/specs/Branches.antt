@@ -73,9 +73,3 @@ pub record Closes (old : Code) (height test : ℕ) (before after : List ℕ) (ne
   pub waits : after ≡ before ++ here old ∷ []
   pub adds : Adds old height (op.Jump 0) closed
   pub patches : Patches closed test (op.JumpIfZero (here closed)) new
-
--- code of these branches was added, and the places of their jumps to what waits
-pub record AddsBranches (v : Visible) (old : Code) (depth width : ℕ) (all : List Branch) (before : List ℕ) (after : List ℕ) (new : Code) : Type 0 where
-  pub waiting : List ℕ
-  pub after_is : after ≡ before ++ waiting
-  pub emits : EmitsBranches v old depth width all waiting new

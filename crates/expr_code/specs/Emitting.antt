@@ -1,8 +1,7 @@
 -- What methods that add the code of expressions promise.
-use Rattle.std.specs.Prelude.{◌≡◌, ℕ, ◌+◌, ◌*◌, ◌≤◌, ◌<◌, List, [], ◌∷◌, Bool, true, false, ◌||◌, Option, Some, ⊤}
+use Rattle.std.specs.Prelude.{◌≡◌, ℕ, ◌+◌, ◌*◌, ◌≤◌, ◌<◌, [], Bool, true, false, ◌||◌, Option, Some}
 use Rattle.image.specs.Sections.{Sections}
-use Rattle.ada_tree.specs.declared.expression.Operand.{Operand}
-use Rattle.ada_tree.specs.ExpressionTree.{ExprTree, chain_tree, expr_tree}
+use Rattle.ada_tree.specs.ExpressionTree.{ExprTree}
 use Rattle.ada_tree.specs.Size.{expr_size}
 use Rattle.types.specs.declared.entity.Subtype.{Subtype}
 use Rattle.types.specs.Entities.{Arrays, Records, TypeForm}
@@ -53,11 +52,6 @@ pub record IsFit (s : Scope) (t : Subtype) (e : ExprTree) : Type 0 where
   pub fits : WantedFits s wanted t
   pub unbroken : faults_of s wanted e ≡ []
 
--- ... in the operands behind operators
-abbrev pub AreLegalOperands : Scope → List Operand → Type 0
-AreLegalOperands s [] = ⊤
-AreLegalOperands s (o ∷ rest) = IsLegalExpression s (expr_tree o.value) × AreLegalOperands s rest
-
 -- The code that was added computes the expression, in every image that holds it and wherever a frame stands for the place of evaluation; it keeps the rules
 -- of images; and it has fewer than 20 instructions for each part of the expression, so that the step that raises an exception is one of 20. It finds so many
 -- words on the operand stack, and leaves those of the value, so many, above them.
@@ -88,8 +82,3 @@ pub record EmitsFitting (v : Visible) (old : Code) (depth : ℕ) (t : Subtype) (
   pub known : (form : TypeForm) × (form_at v.scope t.type_number ≡ Some form)
   pub typed : (calls : Calls) (p : Place) → Agrees v.scope p → CallsAnswer calls p → (x : Value) → value_with calls p e ≡ Gives x
       → has_shape (shape_of v.scope t) x ≡ true
-
--- The code that was added makes of an expression's value of one word, computed by the code before it, that of the operators and operands behind it.
-pub record EmitsOperands (v : Visible) (old : Code) (depth : ℕ) (all : List Operand) (new : Code) : Type 0 where
-  pub emits : (start : Code) (left : ExprTree) → EmitsExpression v start depth 1 left old → IsLegalExpression v.scope (chain_tree left all)
-      → EmitsExpression v start depth 1 (chain_tree left all) new

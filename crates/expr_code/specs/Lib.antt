@@ -8,12 +8,14 @@ pub mod Naming
 pub mod Seeing
 pub mod Flows
 pub mod Emitting
-pub mod Checks
 pub mod Branches
 pub mod Locating
 pub mod Going
 pub mod Actuals
+pub mod Appending
 pub mod Widths
 pub mod Refusing
 pub mod Providing
 pub mod NameForms
+pub mod Pieces
+pub mod ExpressionCode

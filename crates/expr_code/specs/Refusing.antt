@@ -3,9 +3,8 @@ use Rattle.std.specs.Prelude.{◌≡◌, ℕ, suc, ◌+◌, ◌*◌, ◌<◌, ma
 use Rattle.base.specs.declared.limits.TheConstants.{FRAME_WORDS, INSTRUCTIONS}
 use Rattle.image.specs.Rules.{is_block}
 use Rattle.ada_tree.specs.declared.expression.BinaryOperator.{BinaryOperator}
-use Rattle.ada_tree.specs.declared.expression.Operand.{Operand}
-use Rattle.ada_tree.specs.ExpressionTree.{expr_tree, ExprTree, Number, Named, Parenthesized, Conditional, Unary, Binary, ElsifValueTrees, NoElsifValues, MoreElsifValues, SelectorTrees, NoSelectors, MoreSelectors, SelectorTree, Component, Arguments, Attribute, ArgumentTrees, NoArguments, MoreArguments, ArgumentTree, Value, Text}
-use Rattle.ada_tree.specs.Size.{argument_size, arguments_size, expr_size, selectors_size}
+use Rattle.ada_tree.specs.ExpressionTree.{ExprTree, Number, Named, Parenthesized, Conditional, Unary, Binary, ElsifValueTrees, NoElsifValues, MoreElsifValues, SelectorTrees, NoSelectors, MoreSelectors, SelectorTree, Component, Arguments, Attribute, ArgumentTrees, NoArguments, MoreArguments, ArgumentTree, Value, Text}
+use Rattle.ada_tree.specs.Size.{expr_size, selectors_size}
 use Rattle.types.specs.declared.entity.PredefinedOperation.TheVariants as predefined
 use Rattle.types.specs.declared.entity.Role.{Role}
 use Rattle.types.specs.declared.entity.Subtype.{Subtype}
@@ -16,7 +15,7 @@ use Rattle.types.specs.Entities.{Entity, Predefined}
 use Rattle.types.specs.Scopes.{entity_at, number_of, Scope}
 use Rattle.types.specs.Shapes.{Shape, Shapes, Repeated, Grouped, NoShapes, MoreShapes, shape_of, words}
 use Rattle.types.specs.Standings.{stands_first}
-use Rattle.expr_code.specs.Branches.{Branch, branches_size}
+use Rattle.expr_code.specs.Branches.{Branch}
 use Rattle.expr_code.specs.Code.{here}
 use Rattle.expr_code.specs.OperatorCode.{binary_operation}
 use Rattle.expr_code.specs.Seeing.{slot_of}
@@ -146,40 +145,12 @@ abbrev pub RefusesFitting : Visible → Code → (depth : ℕ) → Subtype → E
 RefusesFitting v old depth t e =
     IsRefusedBeside (HasUnfitObject v ⊎ IsUnfit v.scope t) (here old + (20 * expr_size e + 3)) (depth + checked_peak (peak v.scope e))
 
--- ... that of selectors behind the address of an object or part of this subtype
-abbrev pub RefusesPath : Visible → Code → (depth : ℕ) → Subtype → SelectorTrees → Refusal → Type 0
-RefusesPath v old depth t all =
-    IsRefusedBeside (HasUnfitObject v ⊎ IsUnfit v.scope t) (here old + 20 * selectors_size all) (depth + selectors_peak v.scope 1 all)
-
 -- ... that of the address of an object, and of these selectors
 abbrev pub RefusesAddress : Visible → Code → (depth : ℕ) → Subtype → SelectorTrees → Refusal → Type 0
 RefusesAddress v old depth t all =
     IsRefusedBeside (HasUnfitObject v ⊎ IsUnfit v.scope t) (here old + (20 * selectors_size all + 1)) (depth + selectors_peak v.scope 1 all)
 
--- ... that of actual parameters, and of one
-abbrev pub RefusesActuals : Visible → Code → (depth : ℕ) → ArgumentTrees → Refusal → Type 0
-RefusesActuals v old depth all = IsRefusedBeside (HasUnfitObject v) (here old + 20 * arguments_size all) (depth + arguments_peak v.scope all)
-
-abbrev pub RefusesActual : Visible → Code → (depth : ℕ) → ArgumentTree → Refusal → Type 0
-RefusesActual v old depth a = IsRefusedBeside (HasUnfitObject v) (here old + 20 * argument_size a) (depth + argument_peak v.scope a)
-
--- ... that of operators and the operands behind them
-abbrev pub operands_size : List Operand → ℕ
-operands_size [] = 0
-operands_size (o ∷ rest) = 1 + expr_size (expr_tree o.value) + operands_size rest
-
-abbrev pub operands_peak : Scope → List Operand → ℕ
-operands_peak s [] = 0
-operands_peak s (o ∷ rest) = max (operand_peak o.operator (peak s (expr_tree o.value))) (operands_peak s rest)
-
-abbrev pub RefusesOperands : Visible → Code → (depth : ℕ) → List Operand → Refusal → Type 0
-RefusesOperands v old depth all = IsRefusedBeside (HasUnfitObject v) (here old + 20 * operands_size all) (depth + operands_peak v.scope all)
-
 -- ... that of parts of an if expression, whose values take so many words
 abbrev pub branches_peak : Scope → List Branch → ℕ
 branches_peak s [] = 0
 branches_peak s (b ∷ rest) = max (peak s b.condition) (max (peak s b.value) (branches_peak s rest))
-
-abbrev pub RefusesBranches : Visible → Code → (depth width : ℕ) → List Branch → Refusal → Type 0
-RefusesBranches v old depth width all = IsRefusedBeside (HasUnfitObject v) (here old + 20 * branches_size all)
-    (depth + max width (branches_peak v.scope all))

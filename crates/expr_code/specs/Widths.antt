@@ -1,7 +1,6 @@
 -- How many words the values of an expression take: those of its own type.
 use Rattle.std.specs.Prelude.{◌≡◌, ℕ, List, [], ◌∷◌, ⊤}
-use Rattle.ada_tree.specs.declared.expression.Operand.{Operand}
-use Rattle.ada_tree.specs.ExpressionTree.{expr_tree, ExprTree}
+use Rattle.ada_tree.specs.ExpressionTree.{ExprTree}
 use Rattle.types.specs.Layouts.{words_of}
 use Rattle.types.specs.Scopes.{base_range_of, Scope}
 use Rattle.expr_soundness.specs.expr_rules.specs.declared.own.Own.{Own}
@@ -17,11 +16,6 @@ own_words s own = 1
 -- the words of the values of an expression: those of its own type
 abbrev pub width_of : Scope → ExprTree → ℕ
 width_of s e = own_words s (own_of s e)
-
--- operands take one word each
-abbrev pub AreSingle : Scope → List Operand → Type 0
-AreSingle s [] = ⊤
-AreSingle s (o ∷ rest) = (width_of s (expr_tree o.value) ≡ 1) × AreSingle s rest
 
 -- conditions take one word each, and values so many
 abbrev pub AreWide : Scope → (width : ℕ) → List Branch → Type 0

@@ -1,248 +1,167 @@
-//! The code of calls of functions (RM 6.4). Of one of the program: the actual parameters in order, each checked against the subtype of its formal, and the
-//! call.
-ghost use Rattle.std.specs.Prelude.{◌≡◌, ◌+◌, map, None, true, take, length, IfErr, IfOk, OnOk};
-ghost use Rattle.ada_tree.specs.ExpressionTree.{argument_tree, argument_trees, Named, NoSelectors};
-ghost use Rattle.ada_tree.specs.declared.declaration.Mode.TheVariants.{In};
+//! The code of calls of functions (RM 6.4): the actual parameters in order, each checked against the subtype of its formal, and the call.
+ghost use Rattle.std.specs.Prelude.{◌≡◌, ◌+◌, length, option_map, IfOk, OnOk};
+ghost use Rattle.ada_tree.specs.ExpressionTree.{argument_tree, argument_trees, selector_trees};
 ghost use Rattle.image.specs.declared.instruction.Operation.TheVariants.{Call, ProtectedCall};
-ghost use Rattle.types.specs.declared.standing.Callee.{Callee};
-ghost use Rattle.types.specs.declared.standing.Standing.TheVariants as standing;
-ghost use Rattle.types.specs.Entities.{profile_value};
-ghost use Rattle.types.specs.Evaluating.{fixed_value};
-ghost use Rattle.types.specs.Scopes.{number_of};
-ghost use Rattle.types.specs.Standings.{standing_of, stands_first};
-ghost use Rattle.expr_soundness.specs.Agreeing.{parameter_subtype};
-ghost use Rattle.expr_code.specs.Emitting.{EmitsExpression, IsLegalExpression};
-ghost use Rattle.expr_code.specs.Actuals.{AddsCall, ArePassedLegally, EmitsActual, EmitsActuals, IsPassedLegally};
-ghost use Rattle.expr_code.specs.Code.{Extends, here, IsShallow};
-ghost use Rattle.expr_code.specs.Providing.{HasWhatExpressionsNeed, are_passable, is_called, is_passable};
-ghost use Rattle.expr_code.specs.Refusing.{IsRefused, RefusesActual, RefusesActuals, RefusesExpression, argument_peak, arguments_peak, peak};
-ghost use Rattle.expr_code.specs.Seeing.{external_of, NamesProfile, subprogram_of};
-ghost use Rattle.expr_code.specs.Widths.{width_of};
-ghost use Rattle.expr_soundness.specs.SoundScopes.{AreIn, SoundScope};
-ghost use Rattle.expr_code.specs.NameForms.{applied, arguments_alone};
+ghost use Rattle.expr_code.specs.ExpressionCode.{actual_code, actuals_code, actuals_count, arguments_code, call_code, called_code, external_code, operation_behind, parts_of};
+ghost use Rattle.expr_code.specs.Pieces.{adds};
+ghost use Rattle.expr_code.specs.Seeing.{operation_named};
 
-use crate::code::{Code, above};
-use crate::refusal::Refusal;
+use crate::fragment::{Fragment, above};
 use crate::visible::Visible;
 use ada_tree::laws::arguments_by_parts;
-use ada_tree::{Argument, Identifier, Mode};
+use ada_tree::{Argument, Identifier, Selector};
 use image::Operation;
-use kernel::laws::quiet_stays;
-use types::laws::values_have_words;
-use types::{FormalParameter, Profile};
+use lexer::Text;
+use std::alloc::AllocError;
+use types::{FormalParameter, Subtype};
 
-impl Code {
+// The operation that follows the name of its protected object.
+fn operation_behind(selectors: &[Selector]) -> Option<&Text>
+    ensures { option_map (λ name. name.now) result ≡ operation_behind (selector_trees selectors.now) }
+{
+    for selector in selectors {
+        if let Selector::Component(operation) = selector {
+            return Some(&operation.name);
+        }
+    }
+    None
+}
+
+impl Fragment {
     /// Adds the code of a call of the function with this name: one of the language, or of the program.
     #[cycle(expression)]
-    pub(crate) fn with_actuals(
+    #[tactic(auto, using(crate::proofs::Pieces::adds_then, crate::proofs::Pieces::adds_nothing))]
+    pub(crate) fn called(
         &mut self,
         visible: &Visible,
-        depth: u16,
+        depth: usize,
         first: &Identifier,
-        arguments: &[Argument],
-    ) -> Result<(), Refusal>
-        requires sound { SoundScope visible.now.scope }
-        requires covered { HasWhatExpressionsNeed visible.now }
-        requires stands { (f : Callee) × (stands_first visible.now.scope (number_of visible.now.scope first.now.name) ≡ standing.Callee f) }
-        requires legal { IsLegalExpression visible.now.scope (applied first.now arguments.now) }
-        requires valueless { fixed_value (standing_of visible.now.scope first.now (arguments_alone arguments.now)) ≡ None }
-        ensures width { OnOk result (width_of visible.now.scope (applied first.now arguments.now) ≡ 1) }
-        ensures refused { IfErr result (λ why. RefusesExpression visible.now self.old depth (applied first.now arguments.now) why) }
-        ensures kept { IfErr result (λ why. Extends self.old self.new) }
-        ensures shallow { OnOk result (IsShallow self.old self.new (depth + peak visible.now.scope (applied first.now arguments.now))) }
-        ensures emits { OnOk result (EmitsExpression visible.now self.old depth 1 (applied first.now arguments.now) self.new) }
+        selectors: &[Selector],
+    ) -> Result<(), AllocError>
+        ensures made { OnOk result (self.new ≡ adds self.old (called_code visible.now depth first.now (selector_trees selectors.now)
+            (parts_of visible.now depth (selector_trees selectors.now)) (operation_named visible.now.scope first.now.name))) }
     {
         match visible.predefined(&first.name) {
-            Some(operation) => self.predefined(visible, depth, operation, first, arguments),
+            Some(operation) => self.predefined(visible, depth, operation, selectors),
             None => match visible.profile(&first.name) {
-                Some(profile) => self.call(visible, depth, first, profile, arguments),
-                None => unreachable!(),
+                Some(profile) => {
+                    let height = self.actuals(visible, depth, &profile.formals, selectors)?;
+                    self.call(height, visible.subprogram(&first.name))
+                }
+                None => Ok(()),
             },
         }
     }
 
-    /// Adds that of a call without actual parameters.
-    pub(crate) fn without_actuals(
-        &mut self,
-        visible: &Visible,
-        depth: u16,
-        first: &Identifier,
-    ) -> Result<(), Refusal>
-        requires sound { SoundScope visible.now.scope }
-        requires covered { HasWhatExpressionsNeed visible.now }
-        requires stands { (f : Callee) × (stands_first visible.now.scope (number_of visible.now.scope first.now.name) ≡ standing.Callee f) }
-        requires legal { IsLegalExpression visible.now.scope (Named first.now NoSelectors) }
-        requires valueless { fixed_value (standing_of visible.now.scope first.now NoSelectors) ≡ None }
-        ensures width { OnOk result (width_of visible.now.scope (Named first.now NoSelectors) ≡ 1) }
-        ensures refused { IfErr result (λ why. RefusesExpression visible.now self.old depth (Named first.now NoSelectors) why) }
-        ensures kept { IfErr result (λ why. Extends self.old self.new) }
-        ensures shallow { OnOk result (IsShallow self.old self.new (depth + peak visible.now.scope (Named first.now NoSelectors))) }
-        ensures emits { OnOk result (EmitsExpression visible.now self.old depth 1 (Named first.now NoSelectors) self.new) }
-    {
-        match visible.predefined(&first.name) {
-            Some(operation) => self.predefined_alone(visible, depth, operation, first),
-            None => match visible.profile(&first.name) {
-                Some(profile) => self.call_alone(visible, depth, first, profile),
-                None => unreachable!(),
-            },
-        }
-    }
-
-    // Adds that of a call of the function of the program with this name and profile.
+    /// Adds that of a call through the name of a protected object (RM 9.4, 9.5).
     #[cycle(expression)]
-    fn call(
+    #[tactic(auto, using(crate::proofs::Pieces::adds_then, crate::proofs::Pieces::adds_nothing))]
+    pub(crate) fn external(
         &mut self,
         visible: &Visible,
-        depth: u16,
+        depth: usize,
         first: &Identifier,
-        profile: &Profile,
-        arguments: &[Argument],
-    ) -> Result<(), Refusal>
-        requires sound { SoundScope visible.now.scope }
-        requires covered { HasWhatExpressionsNeed visible.now }
-        requires names { NamesProfile visible.now.scope first.now.name (profile_value profile.now) }
-        requires legal { IsLegalExpression visible.now.scope (applied first.now arguments.now) }
-        ensures width { OnOk result (width_of visible.now.scope (applied first.now arguments.now) ≡ 1) }
-        ensures refused { IfErr result (λ why. RefusesExpression visible.now self.old depth (applied first.now arguments.now) why) }
-        ensures kept { IfErr result (λ why. Extends self.old self.new) }
-        ensures shallow { OnOk result (IsShallow self.old self.new (depth + peak visible.now.scope (applied first.now arguments.now))) }
-        ensures emits { OnOk result (EmitsExpression visible.now self.old depth 1 (applied first.now arguments.now) self.new) }
+        selectors: &[Selector],
+    ) -> Result<(), AllocError>
+        ensures made { OnOk result (self.new ≡ adds self.old (external_code visible.now depth first.now (selector_trees selectors.now)
+            (parts_of visible.now depth (selector_trees selectors.now)) (operation_behind (selector_trees selectors.now)))) }
     {
-        quiet_stays();
-        let height = self.actuals(visible, depth, &profile.formals, arguments)?;
-        self.invoke(visible, height, first, profile)
-    }
-
-    // The same without actual parameters.
-    fn call_alone(
-        &mut self,
-        visible: &Visible,
-        depth: u16,
-        first: &Identifier,
-        profile: &Profile,
-    ) -> Result<(), Refusal>
-        requires sound { SoundScope visible.now.scope }
-        requires covered { HasWhatExpressionsNeed visible.now }
-        requires names { NamesProfile visible.now.scope first.now.name (profile_value profile.now) }
-        requires legal { IsLegalExpression visible.now.scope (Named first.now NoSelectors) }
-        ensures width { OnOk result (width_of visible.now.scope (Named first.now NoSelectors) ≡ 1) }
-        ensures refused { IfErr result (λ why. RefusesExpression visible.now self.old depth (Named first.now NoSelectors) why) }
-        ensures kept { IfErr result (λ why. Extends self.old self.new) }
-        ensures shallow { OnOk result (IsShallow self.old self.new (depth + peak visible.now.scope (Named first.now NoSelectors))) }
-        ensures emits { OnOk result (EmitsExpression visible.now self.old depth 1 (Named first.now NoSelectors) self.new) }
-    {
-        quiet_stays();
-        self.invoke(visible, depth, first, profile)
-    }
-
-    // Adds the call itself, which finds `height` words on the operand stack with those of the actual parameters, and leaves one for the result.
-    fn invoke(
-        &mut self,
-        visible: &Visible,
-        height: u16,
-        first: &Identifier,
-        profile: &Profile,
-    ) -> Result<(), Refusal>
-        requires called { is_called visible.now.scope (subprogram_of visible.now first.now.name) (profile_value profile.now) ≡ true }
-        ensures refused { IfErr result (λ why. IsRefused (here self.old + 1) height why) }
-        ensures kept { IfErr result (λ why. Extends self.old self.new) }
-        ensures adds { OnOk result (AddsCall visible.now (subprogram_of visible.now first.now.name) Call (profile_value profile.now) self.old height self.new) }
-    {
-        let Some(number) = visible.subprogram(&first.name) else {
-            unreachable!();
+        let Some(operation) = operation_behind(selectors) else {
+            return Ok(());
         };
-        match profile.result {
-            Some(result) if visible.scope.words(result) == 1 => {
-                self.emit(height, Operation::Call(number))
+        match visible.external_profile(&first.name, operation) {
+            Some(profile) => {
+                let height = self.actuals(visible, depth, &profile.formals, selectors)?;
+                self.protected_call(height, visible.external(&first.name, operation))
             }
-            _ => unreachable!(),
+            None => Ok(()),
         }
     }
 
-    /// Adds that of a function that is named behind its protected object.
-    pub(crate) fn invoke_external(
-        &mut self,
-        visible: &Visible,
-        height: u16,
-        object: &Identifier,
-        operation: &Identifier,
-        profile: &Profile,
-    ) -> Result<(), Refusal>
-        requires called { is_called visible.now.scope (external_of visible.now object.now.name operation.now.name) (profile_value profile.now) ≡ true }
-        ensures refused { IfErr result (λ why. IsRefused (here self.old + 1) height why) }
-        ensures kept { IfErr result (λ why. Extends self.old self.new) }
-        ensures adds { OnOk result (AddsCall visible.now (external_of visible.now object.now.name operation.now.name) ProtectedCall
-            (profile_value profile.now) self.old height self.new) }
+    // Adds the call itself, which finds `height` words on the operand stack with those of the actual parameters.
+    #[tactic(auto, using(crate::proofs::Pieces::adds_nothing))]
+    fn call(&mut self, height: usize, number: Option<u16>) -> Result<(), AllocError>
+        ensures made { OnOk result (self.new ≡ adds self.old (call_code height Call number)) }
     {
-        let Some(number) = visible.external(&object.name, &operation.name) else {
-            unreachable!();
-        };
-        match profile.result {
-            Some(result) if visible.scope.words(result) == 1 => {
-                self.emit(height, Operation::ProtectedCall(number))
-            }
-            _ => unreachable!(),
+        match number {
+            Some(number) => self.put(height, Operation::Call(number)),
+            None => Ok(()),
         }
     }
 
-    /// Adds the code of the actual parameters, and tells how many words stand on the operand stack with theirs.
+    #[tactic(auto, using(crate::proofs::Pieces::adds_nothing))]
+    fn protected_call(&mut self, height: usize, number: Option<u16>) -> Result<(), AllocError>
+        ensures made { OnOk result (self.new ≡ adds self.old (call_code height ProtectedCall number)) }
+    {
+        match number {
+            Some(number) => self.put(height, Operation::ProtectedCall(number)),
+            None => Ok(()),
+        }
+    }
+
+    // Adds the code of the actual parameters after a name, and returns how many words are on the operand stack with theirs.
     #[cycle(expression)]
-    pub(crate) fn actuals(
+    #[tactic(auto, using(crate::proofs::Pieces::adds_nothing))]
+    fn actuals(
         &mut self,
         visible: &Visible,
-        depth: u16,
+        depth: usize,
+        formals: &[FormalParameter],
+        selectors: &[Selector],
+    ) -> Result<usize, AllocError>
+        ensures high { IfOk result (λ height. height ≡ depth + actuals_count (selector_trees selectors.now)) }
+        ensures made { OnOk result (self.new ≡ adds self.old (actuals_code visible.now depth formals.now (selector_trees selectors.now))) }
+    {
+        arguments_by_parts();
+        for selector in selectors {
+            match selector {
+                Selector::Arguments(arguments) => {
+                    return self.passed(visible, depth, formals, arguments);
+                }
+                Selector::Component(_) => continue,
+                Selector::Attribute(_) => continue,
+            }
+        }
+        Ok(depth)
+    }
+
+    // The same of what is in the parentheses.
+    #[cycle(expression)]
+    fn passed(
+        &mut self,
+        visible: &Visible,
+        depth: usize,
         formals: &[FormalParameter],
         arguments: &[Argument],
-    ) -> Result<u16, Refusal>
-        requires sound { SoundScope visible.now.scope }
-        requires covered { HasWhatExpressionsNeed visible.now }
-        requires as_many { length arguments.now ≡ length formals.now }
-        requires ins { AreIn formals.now }
-        requires passable { are_passable visible.now.scope formals.now ≡ true }
-        requires legal { ArePassedLegally visible.now.scope formals.now (map argument_tree arguments.now) }
-        ensures refused { IfErr result (λ why. RefusesActuals visible.now self.old depth (argument_trees arguments.now) why) }
-        ensures kept { IfErr result (λ why. Extends self.old self.new) }
-        ensures shallow { OnOk result (IsShallow self.old self.new (depth + arguments_peak visible.now.scope (argument_trees arguments.now))) }
+    ) -> Result<usize, AllocError>
         ensures high { IfOk result (λ height. height ≡ depth + length arguments.now) }
-        ensures emits { IfOk result (λ height. EmitsActuals visible.now self.old depth
-            (map parameter_subtype (take (length arguments.now) formals.now)) (map argument_tree arguments.now) height self.new) }
+        ensures made { OnOk result (self.new ≡ adds self.old (arguments_code visible.now depth formals.now (argument_trees arguments.now))) }
     {
-        quiet_stays();
-        values_have_words();
         let mut height = depth;
         for (index, argument) in arguments.iter().enumerate() {
-            let Some(formal) = formals.get(index) else {
-                unreachable!();
-            };
-            self.actual(visible, height, formal, argument)?;
+            if let Some(formal) = formals.get(index) {
+                self.actual(visible, height, formal.subtype, argument)?;
+            }
             height = above(height)?;
         }
         Ok(height)
     }
 
-    // Adds that of the actual parameter for a formal.
+    // Adds that of the actual parameter for a formal of this subtype.
     #[cycle(expression)]
+    #[tactic(auto, using(crate::proofs::Pieces::adds_nothing))]
     fn actual(
         &mut self,
         visible: &Visible,
-        depth: u16,
-        formal: &FormalParameter,
+        depth: usize,
+        subtype: Subtype,
         argument: &Argument,
-    ) -> Result<(), Refusal>
-        requires sound { SoundScope visible.now.scope }
-        requires covered { HasWhatExpressionsNeed visible.now }
-        requires ins { formal.now.mode ≡ In }
-        requires passable { is_passable visible.now.scope formal.now.subtype ≡ true }
-        requires legal { IsPassedLegally visible.now.scope formal.now (argument_tree argument.now) }
-        ensures refused { IfErr result (λ why. RefusesActual visible.now self.old depth (argument_tree argument.now) why) }
-        ensures kept { IfErr result (λ why. Extends self.old self.new) }
-        ensures shallow { OnOk result (IsShallow self.old self.new (depth + argument_peak visible.now.scope (argument_tree argument.now))) }
-        ensures emits { OnOk result (EmitsActual visible.now self.old depth formal.now.subtype (argument_tree argument.now) self.new) }
+    ) -> Result<(), AllocError>
+        ensures made { OnOk result (self.new ≡ adds self.old (actual_code visible.now depth subtype (argument_tree argument.now))) }
     {
-        arguments_by_parts();
-        match (formal.mode, argument) {
-            (Mode::In, Argument::Expr(e)) => self.checked(visible, depth, formal.subtype, e),
-            _ => unreachable!(),
+        match argument {
+            Argument::Expr(e) => self.checked(visible, depth, Some(subtype), e),
+            Argument::Label(..) => Ok(()),
         }
     }
 }

@@ -1,6 +1,9 @@
 //! The instructions of a program as they are put together.
-ghost use Rattle.std.specs.Prelude.{◌≡◌, ◌+◌, ◌<◌, ◌≤◌, [], false, max, IfErr, IfOk, OnOk};
+ghost use Rattle.std.specs.Prelude.{◌≡◌, ◌+◌, ◌<◌, ◌≤◌, [], ℕ, max, true, IfErr, IfOk, OnOk};
 ghost use Rattle.base.specs.declared.limits.TheConstants.{FRAME_WORDS, INSTRUCTIONS};
+ghost use Rattle.image.specs.declared.instruction.Operation.TheVariants.{JumpIfZero};
+ghost use Rattle.types.specs.Places.{is_among};
+ghost use Rattle.expr_code.specs.Branches.{Closes, Rejoins};
 ghost use Rattle.expr_code.specs.Code.{Adds, Extends, here, Patches};
 ghost use Rattle.expr_code.specs.Refusing.{IsRefused};
 
@@ -90,5 +93,51 @@ impl Code {
     {
         let depth = self.instructions[place].depth;
         self.instructions[place] = Instr { depth, operation };
+    }
+
+    /// Adds a jump where the condition above `depth` words does not hold, and tells its place; where it leads is not known yet.
+    pub fn test(&mut self, depth: u16) -> Result<usize, Refusal>
+        ensures refused { IfErr result (λ why. IsRefused (here self.old + 1) (depth + 1) why) }
+        ensures kept { IfErr result (λ why. Extends self.old self.new) }
+        ensures place { IfOk result (λ place. place ≡ here self.old) }
+        ensures adds { OnOk result (Adds self.old (depth + 1) (JumpIfZero 0) self.new) }
+    {
+        let place = self.instructions.len();
+        self.emit(above(depth)?, Operation::JumpIfZero(0))?;
+        Ok(place)
+    }
+
+    /// Adds a jump behind a value, which finds `height` words on the operand stack with those of the value, and whose place waits for the end; and makes the
+    /// test lead behind it.
+    pub fn close(
+        &mut self,
+        height: u16,
+        test: usize,
+        waiting: &mut Vec<usize>,
+    ) -> Result<(), Refusal>
+        requires there { test < here self.old }
+        ensures refused { IfErr result (λ why. IsRefused (here self.old + 1) height why) }
+        ensures kept { IfErr result (λ why. Extends self.old self.new) }
+        ensures closes { OnOk result (Closes self.old height test waiting.old.items waiting.new.items self.new) }
+    {
+        waiting.push(self.instructions.len())?;
+        self.emit(height, Operation::Jump(0))?;
+        let next = self.end()?;
+        self.patch(test, Operation::JumpIfZero(next));
+        Ok(())
+    }
+
+    /// Makes the jumps at these places lead to the end of the code.
+    pub fn rejoin(&mut self, places: &[usize]) -> Result<(), Refusal>
+        requires there { (k : ℕ) → is_among places.now k ≡ true → k < here self.old }
+        ensures refused { IfErr result (λ why. IsRefused (here self.old) 0 why) }
+        ensures kept { IfErr result (λ why. Extends self.old self.new) }
+        ensures rejoins { OnOk result (Rejoins self.old places.now (here self.old) self.new) }
+    {
+        let end = self.end()?;
+        for place in places {
+            self.patch(*place, Operation::Jump(end));
+        }
+        Ok(())
     }
 }

@@ -1,92 +1,75 @@
-//! The code of if expressions (RM 4.5.7): each condition, a jump behind its value where it does not hold, the value, a jump to the end.
-ghost use Rattle.std.specs.Prelude.{◌≡◌, ◌+◌, ◌<◌, false, map, true, ℕ, IfErr, IfOk, OnOk, max};
-ghost use Rattle.types.specs.Places.{is_among};
-ghost use Rattle.expr_code.specs.Branches.{AddsBranches, AreLegalBranches, branch_of, Closes, Rejoins};
-ghost use Rattle.expr_code.specs.Code.{Adds, Extends, here, IsShallow};
-ghost use Rattle.expr_code.specs.Providing.{HasWhatExpressionsNeed};
-ghost use Rattle.expr_code.specs.Refusing.{IsRefused, RefusesBranches, branches_peak};
-ghost use Rattle.expr_code.specs.Widths.{AreWide};
-ghost use Rattle.expr_soundness.specs.SoundScopes.{SoundScope};
-ghost use Rattle.image.specs.declared.instruction.Operation.TheVariants.{JumpIfZero};
+//! The code of if expressions (RM 4.5.7): each condition, a jump over its value where it does not hold, the value, a jump to the end.
+ghost use Rattle.std.specs.Prelude.{◌≡◌, ◌+◌, ◌++◌, ◌∷◌, [], length, IfOk, OnOk};
+ghost use Rattle.image.specs.declared.instruction.Operation.TheVariants.{Jump, JumpIfZero};
+ghost use Rattle.ada_tree.specs.ExpressionTree.{elsif_value_trees};
+ghost use Rattle.expr_code.specs.ExpressionCode.{elsifs_code};
+ghost use Rattle.expr_code.specs.Pieces.{Opens, adds, end_of, narrow, one, patched, rejoined};
 
-use crate::code::{Code, above, raised};
-use crate::refusal::Refusal;
+use crate::fragment::{Fragment, above, raised};
 use crate::visible::Visible;
 use ada_tree::ElsifValue;
 use image::Operation;
+use std::alloc::AllocError;
 
-impl Code {
-    /// Adds a jump where the condition above `depth` words does not hold, and tells its place; where it leads is not known yet.
-    pub fn test(&mut self, depth: u16) -> Result<usize, Refusal>
-        ensures refused { IfErr result (λ why. IsRefused (here self.old + 1) (depth + 1) why) }
-        ensures kept { IfErr result (λ why. Extends self.old self.new) }
-        ensures place { IfOk result (λ place. place ≡ here self.old) }
-        ensures adds { OnOk result (Adds self.old (depth + 1) (JumpIfZero 0) self.new) }
+impl Fragment {
+    /// Adds a jump where the condition above `depth` words does not hold, and returns its place; where it leads is not known yet.
+    pub(crate) fn test(&mut self, depth: usize) -> Result<usize, AllocError>
+        ensures place { IfOk result (λ place. place ≡ length self.old.code) }
+        ensures made { OnOk result (self.new ≡ adds self.old (one (depth + 1) (JumpIfZero 0))) }
     {
         let place = self.instructions.len();
-        self.emit(above(depth)?, Operation::JumpIfZero(0))?;
+        self.put(above(depth)?, Operation::JumpIfZero(0))?;
         Ok(place)
     }
 
-    /// Adds a jump behind a value, which finds `height` words on the operand stack with those of the value, and whose place waits for the end; and makes the
-    /// test lead behind it.
-    pub fn close(
+    /// Adds a jump after a value, which finds `height` words on the operand stack with those of the value, and whose place waits for the end; and makes the
+    /// test lead to the place after it.
+    pub(crate) fn close(
         &mut self,
-        height: u16,
+        height: usize,
         test: usize,
         waiting: &mut Vec<usize>,
-    ) -> Result<(), Refusal>
-        requires there { test < here self.old }
-        ensures refused { IfErr result (λ why. IsRefused (here self.old + 1) height why) }
-        ensures kept { IfErr result (λ why. Extends self.old self.new) }
-        ensures closes { OnOk result (Closes self.old height test waiting.old.items waiting.new.items self.new) }
+    ) -> Result<(), AllocError>
+        ensures waits { OnOk result (waiting.new.items ≡ waiting.old.items ++ length self.old.code ∷ []) }
+        ensures made { OnOk result (self.new ≡ patched (adds self.old (one height (Jump 0))) test
+            (JumpIfZero (narrow (end_of (adds self.old (one height (Jump 0))))))) }
     {
         waiting.push(self.instructions.len())?;
-        self.emit(height, Operation::Jump(0))?;
-        let next = self.end()?;
+        self.put(height, Operation::Jump(0))?;
+        let next = self.end();
         self.patch(test, Operation::JumpIfZero(next));
         Ok(())
     }
 
-    /// Adds the code of all parts behind the first one, whose values take so many words.
+    /// Adds the code of all parts after the first one, whose values take so many words.
     #[cycle(expression)]
     pub(crate) fn elsifs(
         &mut self,
         visible: &Visible,
-        depth: u16,
+        depth: usize,
         width: u16,
         elsifs: &[ElsifValue],
         waiting: &mut Vec<usize>,
-    ) -> Result<(), Refusal>
-        requires sound { SoundScope visible.now.scope }
-        requires covered { HasWhatExpressionsNeed visible.now }
-        requires legal { AreLegalBranches visible.now.scope (map branch_of elsifs.now) }
-        requires wide { AreWide visible.now.scope width (map branch_of elsifs.now) }
-        ensures refused { IfErr result (λ why. RefusesBranches visible.now self.old depth width (map branch_of elsifs.now) why) }
-        ensures kept { IfErr result (λ why. Extends self.old self.new) }
-        ensures shallow { OnOk result (IsShallow self.old self.new (depth + max width (branches_peak visible.now.scope (map branch_of elsifs.now)))) }
-        ensures adds { OnOk result (AddsBranches visible.now self.old depth width (map branch_of elsifs.now) waiting.old.items waiting.new.items self.new) }
+    ) -> Result<(), AllocError>
+        ensures opens { OnOk result (Opens self.old waiting.old.items (elsifs_code visible.now depth width (elsif_value_trees elsifs.now))
+            self.new waiting.new.items) }
     {
         for elsif in elsifs {
-            self.of_width(visible, depth, 1, &elsif.condition)?;
+            self.expression(visible, depth, &elsif.condition)?;
             let test = self.test(depth)?;
-            self.of_width(visible, depth, width, &elsif.value)?;
+            self.expression(visible, depth, &elsif.value)?;
             self.close(raised(depth, width)?, test, waiting)?;
         }
         Ok(())
     }
 
     /// Makes the jumps at these places lead to the end of the code.
-    pub fn rejoin(&mut self, places: &[usize]) -> Result<(), Refusal>
-        requires there { (k : ℕ) → is_among places.now k ≡ true → k < here self.old }
-        ensures refused { IfErr result (λ why. IsRefused (here self.old) 0 why) }
-        ensures kept { IfErr result (λ why. Extends self.old self.new) }
-        ensures rejoins { OnOk result (Rejoins self.old places.now (here self.old) self.new) }
+    pub(crate) fn rejoin(&mut self, places: &[usize])
+        ensures made { self.new ≡ rejoined self.old places.now (narrow (end_of self.old)) }
     {
-        let end = self.end()?;
+        let end = self.end();
         for place in places {
             self.patch(*place, Operation::Jump(end));
         }
-        Ok(())
     }
 }

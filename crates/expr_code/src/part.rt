@@ -1,32 +1,21 @@
 //! The code of parts of objects (RM 4.1.1, 4.1.3): the address of the object, what goes from there to the part's, and a load of the words there.
-ghost use Rattle.std.specs.Prelude.{◌≡◌, ◌≤◌, ◌+◌, ◌+ℤ◌, ◌-ℤ◌, ◌*ℤ◌, ◌∷◌, [], false, map, pos, None, Some, IfErr, IfOk, OnOk};
-ghost use Rattle.ada_tree.specs.ExpressionTree.{Arguments, argument_trees, bare_name, Component, MoreSelectors, Named, NoSelectors, selector_tree, selector_trees};
-ghost use Rattle.types.specs.declared.entity.Role.{Role};
-ghost use Rattle.types.specs.declared.standing.Standing.TheVariants as standing;
-ghost use Rattle.types.specs.Evaluating.{fixed_value};
-ghost use Rattle.types.specs.Scopes.{number_of};
-ghost use Rattle.types.specs.Standings.{standing_of, stands_first};
-ghost use Rattle.expr_code.specs.Emitting.{EmitsExpression, IsLegalExpression};
-ghost use Rattle.expr_code.specs.Going.{AddsAtOffset, AddsByWords, AddsLessFirst, AddsOffset, EmitsAddress, EmitsPath, EndsAt, IsLegalPart, IsLegalPath, Selects, SelectsAll, TellsNear};
-ghost use Rattle.expr_code.specs.Code.{Extends, here, IsShallow};
+ghost use Rattle.std.specs.Prelude.{◌≡◌, ◌+◌, ◌+ℤ◌, ◌-ℤ◌, ◌*ℤ◌, nat_lt, pos, None, Some, IfOk, OnOk};
+ghost use Rattle.ada_tree.specs.ExpressionTree.{Arguments, argument_trees, Component, selector_tree, selector_trees};
+ghost use Rattle.image.specs.declared.instruction.Operation.TheVariants.{Add};
+ghost use Rattle.base.specs.declared.limits.TheConstants.{WORDS};
+ghost use Rattle.types.specs.Layouts.{capped, words_of};
+ghost use Rattle.expr_code.specs.ExpressionCode.{address_code, at_offset_code, at_offset_shift, by_words_code, if_near, less_first_code, less_first_shift, misfit_code, parts_of, part_behind, path_code, path_part, selector_code, stored_code, stored_words, whole_of};
 ghost use Rattle.expr_code.specs.Locating.{IsNear};
-ghost use Rattle.expr_code.specs.Providing.{HasWhatExpressionsNeed};
-ghost use Rattle.expr_code.specs.Refusing.{IsRefused, KeepsFit, RefusesAddress, RefusesExpression, RefusesPath, peak, selectors_peak};
-ghost use Rattle.expr_code.specs.Seeing.{slot_of};
-ghost use Rattle.expr_code.specs.Widths.{width_of};
-ghost use Rattle.expr_soundness.specs.SoundScopes.{SoundScope};
-ghost use Rattle.expr_code.specs.NameForms.{arguments_alone, component_alone};
+ghost use Rattle.expr_code.specs.Pieces.{adds, one, ◌▸◌};
 
-use crate::code::{Code, above};
-use crate::refusal::{ImageLimit, Refusal};
+use crate::fragment::{Fragment, above};
+use crate::name::loaded_at;
 use crate::visible::{Slot, Visible};
 use ada_tree::laws::arguments_by_parts;
 use ada_tree::{Argument, Identifier, Selector};
 use base::limits::WORDS;
-use expr_soundness::laws::expressions_are_typed;
-use image::Operation;
-use kernel::laws::quiet_stays;
-use types::laws::{parts_have_places, values_have_words};
+use image::{Operation, Region};
+use std::alloc::AllocError;
 use types::{Subtype, TypeForm};
 
 /// How near to 0 a number is that is added to an address when compiling.
@@ -41,7 +30,8 @@ pub(crate) struct PartAt {
 
 // What is told with the offset of a component, if it stays near to 0.
 fn with_offset(shift: i64, offset: u16) -> Option<i64>
-    ensures { TellsNear (shift +ℤ pos offset) result }
+    requires near { IsNear shift }
+    ensures { result ≡ if_near (shift +ℤ pos offset) (Some (shift +ℤ pos offset)) None }
 {
     match shift.checked_add(i64::from(offset)) {
         Some(next) if next.unsigned_abs() <= NEAR => Some(next),
@@ -51,7 +41,8 @@ fn with_offset(shift: i64, offset: u16) -> Option<i64>
 
 // ... without the words in front of the first component of an array, which has this index, where each component has so many.
 fn without_front(shift: i64, first: i64, words: u16) -> Option<i64>
-    ensures { TellsNear (shift -ℤ first *ℤ pos words) result }
+    requires near { IsNear shift }
+    ensures { result ≡ if_near (shift -ℤ first *ℤ pos words) (Some (shift -ℤ first *ℤ pos words)) None }
 {
     match first.checked_mul(i64::from(words)) {
         Some(front) => match shift.checked_sub(front) {
@@ -70,88 +61,72 @@ fn with_shift(offset: u16, shift: i64) -> i64
     i64::from(offset) + shift
 }
 
-impl Code {
-    /// Adds the code of the address of an object that stands there and has this subtype, or of the part of it behind these selectors, and tells the part's
-    /// subtype. What is known of the part's address is added to that of the object when compiling.
+impl Fragment {
+    /// Adds the code of an object that may have a place, or of the part of it that these selectors lead to, and returns how many words it takes.
     #[cycle(expression)]
-    pub fn address(
+    #[tactic(auto, using(crate::proofs::Pieces::adds_then, crate::proofs::Pieces::adds_nothing))]
+    pub(crate) fn stored(
         &mut self,
         visible: &Visible,
-        depth: u16,
-        slot: Slot,
+        depth: usize,
+        place: Option<Slot>,
         subtype: Subtype,
         selectors: &[Selector],
-    ) -> Result<Subtype, Refusal>
-        requires sound { SoundScope visible.now.scope }
-        requires covered { HasWhatExpressionsNeed visible.now }
-        requires legal { IsLegalPath visible.now.scope subtype (selector_trees selectors.now) }
-        ensures refused { IfErr result (λ why. RefusesAddress visible.now self.old depth subtype (selector_trees selectors.now) why) }
-        ensures kept { IfErr result (λ why. Extends self.old self.new) }
-        ensures shallow { OnOk result (IsShallow self.old self.new (depth + selectors_peak visible.now.scope 1 (selector_trees selectors.now))) }
-        ensures fit { IfOk result (λ last. KeepsFit visible.now.scope subtype last) }
-        ensures ends { IfOk result (λ last. EndsAt visible.now.scope subtype (selector_trees selectors.now) last) }
-        ensures emits { IfOk result (λ last. EmitsAddress visible.now self.old depth slot.offset subtype (selector_trees selectors.now) last self.new) }
+    ) -> Result<u16, AllocError>
+        ensures words { IfOk result (λ words. words ≡ stored_words place (capped (words_of visible.now.scope
+            (path_part visible.now.scope (whole_of subtype) (selector_trees selectors.now)).subtype))) }
+        ensures made { OnOk result (self.new ≡ adds self.old (stored_code visible.now depth (selector_trees selectors.now)
+            (parts_of visible.now depth (selector_trees selectors.now)) subtype place)) }
     {
-        let place = self.instructions.len();
-        self.emit(depth, Operation::Push(i64::from(slot.offset)))?;
-        let part = self.path(visible, depth, subtype, selectors)?;
-        self.patch(place, Operation::Push(with_shift(slot.offset, part.shift)));
-        Ok(part.subtype)
-    }
-
-    /// Adds the code of a part of the object with this name, subtype and words, and tells how many words it takes.
-    #[cycle(expression)]
-    pub(crate) fn part(
-        &mut self,
-        visible: &Visible,
-        depth: u16,
-        slot: Slot,
-        subtype: Subtype,
-        first: &Identifier,
-        selectors: &[Selector],
-    ) -> Result<u16, Refusal>
-        requires sound { SoundScope visible.now.scope }
-        requires covered { HasWhatExpressionsNeed visible.now }
-        requires legal { IsLegalExpression visible.now.scope (Named first.now (selector_trees selectors.now)) }
-        requires stands { (r : Role) × (stands_first visible.now.scope (number_of visible.now.scope first.now.name) ≡ standing.Part r subtype) }
-        requires valueless { fixed_value (standing_of visible.now.scope first.now (selector_trees selectors.now)) ≡ None }
-        requires there { slot_of visible.now first.now.name ≡ Some slot }
-        requires parts { bare_name (Named first.now (selector_trees selectors.now)) ≡ None }
-        ensures width { IfOk result (λ width. width ≡ width_of visible.now.scope (Named first.now (selector_trees selectors.now))) }
-        ensures refused { IfErr result (λ why. RefusesExpression visible.now self.old depth (Named first.now (selector_trees selectors.now)) why) }
-        ensures kept { IfErr result (λ why. Extends self.old self.new) }
-        ensures shallow { OnOk result (IsShallow self.old self.new (depth + peak visible.now.scope (Named first.now (selector_trees selectors.now)))) }
-        ensures emits { IfOk result (λ width. EmitsExpression visible.now self.old depth width (Named first.now (selector_trees selectors.now)) self.new) }
-    {
-        quiet_stays();
-        values_have_words();
-        parts_have_places();
-        let address = above(depth)?;
+        let Some(slot) = place else {
+            return Ok(1);
+        };
+        if selectors.is_empty() {
+            let words = visible.scope.words(subtype);
+            self.object(depth, slot, words)?;
+            return Ok(words);
+        }
         let last = self.address(visible, depth, slot, subtype, selectors)?;
-        let words = visible.scope.words(last);
-        self.load_part(address, slot.region, words)?;
+        let words = visible.scope.words(last.subtype);
+        self.put(above(depth)?, loaded_at(slot.region, words))?;
         Ok(words)
     }
 
-    // Adds what goes from the address above `depth` words to that of the part behind these selectors, and tells the part.
+    /// Adds the code of the address of an object that has this place and subtype, or of the part of it that these selectors lead to, and returns the part.
+    /// What is known of the part's address is added to that of the object when compiling.
+    #[cycle(expression)]
+    pub(crate) fn address(
+        &mut self,
+        visible: &Visible,
+        depth: usize,
+        slot: Slot,
+        subtype: Subtype,
+        selectors: &[Selector],
+    ) -> Result<PartAt, AllocError>
+        ensures part { IfOk result (λ part. part ≡ path_part visible.now.scope (whole_of subtype) (selector_trees selectors.now)) }
+        ensures made { OnOk result (self.new ≡ adds self.old (address_code depth slot.offset
+            (path_part visible.now.scope (whole_of subtype) (selector_trees selectors.now))
+            (path_code visible.now (depth + 1) (whole_of subtype) (selector_trees selectors.now)))) }
+    {
+        let place = self.instructions.len();
+        self.put(depth, Operation::Push(i64::from(slot.offset)))?;
+        let part = self.path(visible, above(depth)?, subtype, selectors)?;
+        self.patch(place, Operation::Push(with_shift(slot.offset, part.shift)));
+        Ok(part)
+    }
+
+    // Adds what goes from the address on top, which has `depth` words, to that of the part that these selectors lead to, and returns the part.
     #[cycle(expression)]
     fn path(
         &mut self,
         visible: &Visible,
-        depth: u16,
+        depth: usize,
         subtype: Subtype,
         selectors: &[Selector],
-    ) -> Result<PartAt, Refusal>
-        requires sound { SoundScope visible.now.scope }
-        requires covered { HasWhatExpressionsNeed visible.now }
-        requires legal { IsLegalPath visible.now.scope subtype (selector_trees selectors.now) }
-        ensures refused { IfErr result (λ why. RefusesPath visible.now self.old depth subtype (selector_trees selectors.now) why) }
-        ensures kept { IfErr result (λ why. Extends self.old self.new) }
-        ensures shallow { OnOk result (IsShallow self.old self.new (depth + selectors_peak visible.now.scope 1 (selector_trees selectors.now))) }
-        ensures fit { IfOk result (λ part. KeepsFit visible.now.scope subtype part.subtype) }
-        ensures stands { IfOk result (λ part. SelectsAll visible.now.scope subtype (map selector_tree selectors.now) part.subtype) }
-        ensures emits { IfOk result (λ part.
-            EmitsPath visible.now self.old depth subtype (pos 0) (map selector_tree selectors.now) part.subtype part.shift self.new) }
+    ) -> Result<PartAt, AllocError>
+        ensures near { IfOk result (λ part. IsNear part.shift) }
+        ensures part { IfOk result (λ part. part ≡ path_part visible.now.scope (whole_of subtype) (selector_trees selectors.now)) }
+        ensures made { OnOk result (self.new ≡ adds self.old (path_code visible.now depth (whole_of subtype) (selector_trees selectors.now))) }
     {
         let mut part = PartAt { subtype, shift: 0 };
         for selector in selectors {
@@ -162,172 +137,160 @@ impl Code {
 
     // The same of one selector.
     #[cycle(expression)]
+    #[tactic(auto, using(crate::proofs::Pieces::adds_nothing))]
     fn select(
         &mut self,
         visible: &Visible,
-        depth: u16,
+        depth: usize,
         part: PartAt,
         selector: &Selector,
-    ) -> Result<PartAt, Refusal>
-        requires sound { SoundScope visible.now.scope }
-        requires covered { HasWhatExpressionsNeed visible.now }
-        requires legal { IsLegalPart visible.now.scope part.subtype (selector_tree selector.now) }
-        ensures refused { IfErr result (λ why.
-            RefusesPath visible.now self.old depth part.subtype (MoreSelectors (selector_tree selector.now) NoSelectors) why) }
-        ensures kept { IfErr result (λ why. Extends self.old self.new) }
-        ensures shallow { OnOk result (IsShallow self.old self.new (depth + selectors_peak visible.now.scope 1
-            (MoreSelectors (selector_tree selector.now) NoSelectors))) }
-        ensures stands { IfOk result (λ next. Selects visible.now.scope part.subtype (selector_tree selector.now) next.subtype) }
-        ensures emits { IfOk result (λ next.
-            EmitsPath visible.now self.old depth part.subtype part.shift (selector_tree selector.now ∷ []) next.subtype next.shift self.new) }
+    ) -> Result<PartAt, AllocError>
+        requires near { IsNear part.shift }
+        ensures near { IfOk result (λ next. IsNear next.shift) }
+        ensures part { IfOk result (λ next. next ≡ part_behind visible.now.scope part (selector_tree selector.now)) }
+        ensures made { OnOk result (self.new ≡ adds self.old (selector_code visible.now depth part (selector_tree selector.now))) }
     {
         arguments_by_parts();
         match selector {
             Selector::Component(name) => self.component(visible, depth, part, name),
             Selector::Arguments(arguments) => self.element(visible, depth, part, arguments),
-            Selector::Attribute(_) => unreachable!(),
+            Selector::Attribute(_) => Ok(part),
         }
     }
 
-    // Of a component of a record: its offset, told, or added.
+    // Adds an instruction that no image may have, where a number of words is more than one may have.
+    #[tactic(auto, using(crate::proofs::Pieces::adds_nothing))]
+    fn misfit(&mut self, depth: usize, words: u16) -> Result<(), AllocError>
+        ensures made { OnOk result (self.new ≡ adds self.old (misfit_code (nat_lt WORDS words) depth)) }
+    {
+        if WORDS < usize::from(words) {
+            let region = Region::Locals;
+            return self.put(depth, Operation::LoadBlock { region, words: 0 });
+        }
+        Ok(())
+    }
+
+    // Of a component of a record: its offset, added when compiling, or by an instruction.
+    #[tactic(auto, using(crate::proofs::Pieces::adds_nothing, crate::proofs::Pieces::adds_then))]
     fn component(
         &mut self,
         visible: &Visible,
-        depth: u16,
+        depth: usize,
         part: PartAt,
         name: &Identifier,
-    ) -> Result<PartAt, Refusal>
-        requires sound { SoundScope visible.now.scope }
-        requires legal { IsLegalPart visible.now.scope part.subtype (Component name.now) }
-        ensures refused { IfErr result (λ why. RefusesPath visible.now self.old depth part.subtype (component_alone name.now) why) }
-        ensures kept { IfErr result (λ why. Extends self.old self.new) }
-        ensures shallow { OnOk result (IsShallow self.old self.new (depth + selectors_peak visible.now.scope 1 (component_alone name.now))) }
-        ensures stands { IfOk result (λ next. Selects visible.now.scope part.subtype (Component name.now) next.subtype) }
-        ensures emits { IfOk result (λ next.
-            EmitsPath visible.now self.old depth part.subtype part.shift (Component name.now ∷ []) next.subtype next.shift self.new) }
+    ) -> Result<PartAt, AllocError>
+        requires near { IsNear part.shift }
+        ensures near { IfOk result (λ next. IsNear next.shift) }
+        ensures part { IfOk result (λ next. next ≡ part_behind visible.now.scope part (Component name.now)) }
+        ensures made { OnOk result (self.new ≡ adds self.old (selector_code visible.now depth part (Component name.now))) }
     {
-        let Some(TypeForm::Record(components)) = visible.scope.form(part.subtype.type_number) else {
-            unreachable!();
-        };
-        let Some(last) = components.subtype_of(&name.name) else {
-            unreachable!();
-        };
-        let Some(offset) = visible
-            .scope
-            .component_offset(components.as_slice(), &name.name)
-        else {
-            unreachable!();
-        };
-        if WORDS < usize::from(offset) {
-            return Err(Refusal::Limit(ImageLimit::Block));
+        match visible.field(part.subtype, &name.name) {
+            Some((subtype, offset)) => {
+                self.misfit(depth, offset)?;
+                let shift = self.at_offset(depth, offset, part.shift)?;
+                Ok(PartAt { subtype, shift })
+            }
+            None => Ok(part),
         }
-        let address = above(depth)?;
-        let shift = self.at_offset(address, offset, part.shift)?;
-        Ok(PartAt {
-            subtype: last,
-            shift,
-        })
     }
 
-    // Adds the offset of a component to the address on top, or tells it.
-    fn at_offset(&mut self, depth: u16, offset: u16, shift: i64) -> Result<i64, Refusal>
-        ensures refused { IfErr result (λ why. IsRefused (here self.old + 2) (depth + 1) why) }
-        ensures kept { IfErr result (λ why. Extends self.old self.new) }
-        ensures adds { IfOk result (λ next. AddsAtOffset self.old depth offset shift next self.new) }
+    // Adds the offset of a component to the address on top, or to what is added when compiling.
+    #[tactic(auto, using(crate::proofs::Pieces::adds_then, crate::proofs::Pieces::adds_nothing))]
+    fn at_offset(&mut self, depth: usize, offset: u16, shift: i64) -> Result<i64, AllocError>
+        requires near { IsNear shift }
+        ensures near { IfOk result (λ next. IsNear next) }
+        ensures shift { IfOk result (λ next. next ≡ at_offset_shift shift offset) }
+        ensures made { OnOk result (self.new ≡ adds self.old (at_offset_code depth shift offset)) }
     {
         if let Some(next) = with_offset(shift, offset) {
             return Ok(next);
         }
-        let two = above(depth)?;
-        self.emit(depth, Operation::Push(i64::from(offset)))?;
-        self.emit(two, Operation::Add)?;
+        self.put(depth, Operation::Push(i64::from(offset)))?;
+        self.put(above(depth)?, Operation::Add)?;
         Ok(shift)
     }
 
     // Of a component of an array: the index, checked, less the first one, by the words of a component, added.
     #[cycle(expression)]
+    #[tactic(auto, using(crate::proofs::Pieces::adds_then, crate::proofs::Pieces::adds_nothing))]
     fn element(
         &mut self,
         visible: &Visible,
-        depth: u16,
+        depth: usize,
         part: PartAt,
         arguments: &[Argument],
-    ) -> Result<PartAt, Refusal>
-        requires sound { SoundScope visible.now.scope }
-        requires covered { HasWhatExpressionsNeed visible.now }
-        requires legal { IsLegalPart visible.now.scope part.subtype (Arguments (argument_trees arguments.now)) }
-        ensures refused { IfErr result (λ why. RefusesPath visible.now self.old depth part.subtype (arguments_alone arguments.now) why) }
-        ensures kept { IfErr result (λ why. Extends self.old self.new) }
-        ensures shallow { OnOk result (IsShallow self.old self.new (depth + selectors_peak visible.now.scope 1 (arguments_alone arguments.now))) }
-        ensures stands { IfOk result (λ next. Selects visible.now.scope part.subtype (Arguments (argument_trees arguments.now)) next.subtype) }
-        ensures emits { IfOk result (λ next. EmitsPath visible.now self.old depth part.subtype part.shift (Arguments (argument_trees arguments.now) ∷ [])
-            next.subtype next.shift self.new) }
+    ) -> Result<PartAt, AllocError>
+        requires near { IsNear part.shift }
+        ensures near { IfOk result (λ next. IsNear next.shift) }
+        ensures part { IfOk result (λ next. next ≡ part_behind visible.now.scope part (Arguments (argument_trees arguments.now))) }
+        ensures made { OnOk result (self.new ≡ adds self.old (selector_code visible.now depth part (Arguments (argument_trees arguments.now)))) }
     {
-        quiet_stays();
-        expressions_are_typed();
-        let [argument] = arguments else {
-            unreachable!();
-        };
-        let Argument::Expr(e) = argument else {
-            unreachable!();
-        };
-        let Some(TypeForm::Array(index, many, last)) = visible.scope.form(part.subtype.type_number)
-        else {
-            unreachable!();
-        };
-        let words = visible.scope.words(*last);
-        if WORDS < usize::from(*many) || WORDS < usize::from(words) {
-            return Err(Refusal::Limit(ImageLimit::Block));
+        match visible.scope.form(part.subtype.type_number) {
+            Some(TypeForm::Array(index, many, last)) => {
+                let words = visible.scope.words(*last);
+                self.misfit(depth, (*many).max(words))?;
+                self.first_argument(visible, depth, Some(*index), arguments)?;
+                let shift = self.offset(above(depth)?, index.first, words, part.shift)?;
+                Ok(PartAt {
+                    subtype: *last,
+                    shift,
+                })
+            }
+            _ => Ok(part),
         }
-        let address = above(depth)?;
-        self.checked(visible, address, *index, e)?;
-        let shift = self.offset(above(address)?, index.first, words, part.shift)?;
-        Ok(PartAt {
-            subtype: *last,
-            shift,
-        })
     }
 
     // Adds what makes of an address and a checked index above it the address of the component, given the first index and the words of a component.
-    fn offset(&mut self, depth: u16, first: i64, words: u16, shift: i64) -> Result<i64, Refusal>
-        ensures refused { IfErr result (λ why. IsRefused (here self.old + 5) (depth + 1) why) }
-        ensures kept { IfErr result (λ why. Extends self.old self.new) }
-        ensures adds { IfOk result (λ next. AddsOffset self.old depth first words shift next self.new) }
+    #[tactic(auto, using(crate::proofs::Pieces::adds_then))]
+    fn offset(
+        &mut self,
+        depth: usize,
+        first: i64,
+        words: u16,
+        shift: i64,
+    ) -> Result<i64, AllocError>
+        requires near { IsNear shift }
+        ensures near { IfOk result (λ next. IsNear next) }
+        ensures shift { IfOk result (λ next. next ≡ less_first_shift first words shift) }
+        ensures made { OnOk result (self.new ≡ adds self.old (less_first_code depth first words shift ▸ by_words_code depth words ▸ one depth Add)) }
     {
         let next = self.less_first(depth, first, words, shift)?;
         self.by_words(depth, words)?;
-        self.emit(depth, Operation::Add)?;
+        self.put(depth, Operation::Add)?;
         Ok(next)
     }
 
-    // Takes the first index from the one on top, or tells the words in front of the first one.
-    fn less_first(&mut self, depth: u16, first: i64, words: u16, shift: i64) -> Result<i64, Refusal>
-        ensures refused { IfErr result (λ why. IsRefused (here self.old + 2) (depth + 1) why) }
-        ensures kept { IfErr result (λ why. Extends self.old self.new) }
-        ensures few { OnOk result (here self.new ≤ here self.old + 2) }
-        ensures adds { IfOk result (λ next. AddsLessFirst self.old depth first words shift next self.new) }
+    // Subtracts the first index from the one on top, or the words before the first component from what is added when compiling.
+    #[tactic(auto, using(crate::proofs::Pieces::adds_then, crate::proofs::Pieces::adds_nothing))]
+    fn less_first(
+        &mut self,
+        depth: usize,
+        first: i64,
+        words: u16,
+        shift: i64,
+    ) -> Result<i64, AllocError>
+        requires near { IsNear shift }
+        ensures near { IfOk result (λ next. IsNear next) }
+        ensures shift { IfOk result (λ next. next ≡ less_first_shift first words shift) }
+        ensures made { OnOk result (self.new ≡ adds self.old (less_first_code depth first words shift)) }
     {
         if let Some(next) = without_front(shift, first, words) {
             return Ok(next);
         }
-        let two = above(depth)?;
-        self.emit(depth, Operation::Push(first))?;
-        self.emit(two, Operation::Subtract)?;
+        self.put(depth, Operation::Push(first))?;
+        self.put(above(depth)?, Operation::Subtract)?;
         Ok(shift)
     }
 
     // Multiplies the number on top by the words of a component: nothing is added where it has one.
-    fn by_words(&mut self, depth: u16, words: u16) -> Result<(), Refusal>
-        ensures refused { IfErr result (λ why. IsRefused (here self.old + 2) (depth + 1) why) }
-        ensures kept { IfErr result (λ why. Extends self.old self.new) }
-        ensures few { OnOk result (here self.new ≤ here self.old + 2) }
-        ensures adds { OnOk result (AddsByWords self.old depth words self.new) }
+    #[tactic(auto, using(crate::proofs::Pieces::adds_then, crate::proofs::Pieces::adds_nothing))]
+    fn by_words(&mut self, depth: usize, words: u16) -> Result<(), AllocError>
+        ensures made { OnOk result (self.new ≡ adds self.old (by_words_code depth words)) }
     {
         if words == 1 {
             return Ok(());
         }
-        let two = above(depth)?;
-        self.emit(depth, Operation::Push(i64::from(words)))?;
-        self.emit(two, Operation::Multiply)
+        self.put(depth, Operation::Push(i64::from(words)))?;
+        self.put(above(depth)?, Operation::Multiply)
     }
 }

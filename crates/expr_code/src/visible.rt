@@ -1,7 +1,9 @@
 //! What is visible to code: names, where the words of objects stand, and which subprograms functions have.
-ghost use Rattle.std.specs.Prelude.{◌≡◌, ◌∷◌, ◌++◌, [], false, length, option_map, take, IfErr, IfSome, OnOk};
+ghost use Rattle.std.specs.Prelude.{◌≡◌, ◌∷◌, ◌++◌, [], length, option_map, take, IfErr, IfSome, OnOk};
 ghost use Rattle.types.specs.Entities.{profile_value, protected_value};
+ghost use Rattle.types.specs.Scopes.{form_at};
 ghost use Rattle.expr_code.specs.Entries.{entry_at};
+ghost use Rattle.expr_code.specs.ExpressionCode.{field_of};
 ghost use Rattle.expr_code.specs.Refusing.{IsRefused};
 ghost use Rattle.expr_code.specs.Seeing.{external_of, external_profile, NamesOperation, NamesProfile, object_named, operation_entry, operation_named, profile_named, slot_of, subprogram_of};
 
@@ -10,7 +12,7 @@ use image::Region;
 use lexer::Text;
 use std::alloc::Global;
 use std::marker::Model;
-use types::{Entity, PredefinedOperation, Profile, ProtectedObject, Scope};
+use types::{Entity, PredefinedOperation, Profile, ProtectedObject, Scope, Subtype, TypeForm};
 
 /// Where the first word of an object stands: its region, and how many words stand in front of it there.
 #[derive(Clone, Copy, PartialEq, Eq, Debug)]
@@ -140,6 +142,18 @@ impl Visible {
     {
         let number = self.scope.number_of(name)?;
         self.slots.at(number)
+    }
+
+    /// The subtype of a component of a record, and how many words precede it there.
+    pub(crate) fn field(&self, subtype: Subtype, name: &Text) -> Option<(Subtype, u16)>
+        ensures { result ≡ field_of self.now.scope (form_at self.now.scope subtype.type_number) name.now }
+    {
+        let Some(TypeForm::Record(components)) = self.scope.form(subtype.type_number) else {
+            return None;
+        };
+        let subtype = components.subtype_of(name)?;
+        let offset = self.scope.component_offset(components.as_slice(), name)?;
+        Some((subtype, offset))
     }
 
     /// The number of the subprogram of this name, if it is one that may be called.
