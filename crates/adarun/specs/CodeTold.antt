@@ -25,7 +25,7 @@ pub record TellsStop (tree : ProgramTree) (text : List ℕ) (tokens : List Token
   pub is_first : IsFirstStop tree (Some found)
   pub told_is : told ≡ stop_line text tokens found
 
--- ... or nothing, where all its code is made
+-- told is where the code of the program first passes a limit; or nothing, where all its code is made
 abbrev pub TellsStopOrNone : ProgramTree → (text : List ℕ) → List Token → (told : List ℕ) → Type 0
 TellsStopOrNone tree text tokens told = TellsStop tree text tokens told ⊎ ((told ≡ []) × MakesAll tree)
 

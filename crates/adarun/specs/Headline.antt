@@ -47,7 +47,7 @@ ComesToTheSame tree schedule image =
     → (enough : ℕ) × ((limit : ℕ) → enough ≤ limit → ((code image schedule limit).kernel.outcome ≡ Some o)
     × (code_text image schedule limit ≡ source_text tree schedule steps))
 
--- The same run by its image, for at most `limit` steps of its code: a well-formed image that means the same as the text's tree and keeps the count of steps.
+-- A run by its image, for at most `limit` steps of its code: a well-formed image that means the same as the text's tree and keeps the count of steps.
 -- What was written is what its code writes within the limit, so under every limit that is large enough the run comes to the outcome that the source has.
 pub record Runs (text input : List ℕ) (limit : ℕ) (outcome : machine.Outcome) (old new : Option (List ℕ)) : Type 0 where
   pub schedule : List ScheduleLine

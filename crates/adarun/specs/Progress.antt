@@ -18,7 +18,7 @@ own_steps (n ∷ ns) = max (suc (2 * n)) (own_steps ns)
 abbrev pub body_bounds : ProgramTree → List ℕ
 body_bounds tree = bounds_from tree 0 (declared_in tree.package_) ++ main_bound tree.main.statements ∷ []
 
--- ... and of those among these bodies that may be called: of subprograms, operations and entries
+-- the most instructions of each body that may be called: of subprograms, operations and entries
 abbrev pub callable_bounds : List Coded → List ℕ
 callable_bounds [] = []
 callable_bounds (c ∷ cs) = if is_task_body c.kind then callable_bounds cs else bound_of c ∷ callable_bounds cs

@@ -82,7 +82,7 @@ fn named_of(alloc: Global, accepted: &Accepted) -> Result<Named, Fault>
 /// Compiles a source text as `compile` does, and gives the names of its protected objects and their entries, and the places of its statements.
 ///
 /// # Errors
-/// Those of `compile`.
+/// As `compile`.
 pub(crate) fn compile_named(alloc: Global, source: &[u8]) -> Result<Named, Fault>
     ensures means { IfOk result (λ named. CompilesNamed source.now named.image named.objects.items named.places) }
     ensures accepted { (tree : ProgramTree) → IsAccepted tree source.now → CompilesAccepted source.now tree (imaged result) }

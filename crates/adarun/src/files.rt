@@ -57,7 +57,7 @@ pub trait FileStore {
 /// The first bytes of a source, as many as decide what becomes of it: of standard input by the name `-`, and else of the file of this name.
 ///
 /// # Errors
-/// Those of `FileStore::read`.
+/// As `FileStore::read`.
 pub(crate) fn read_source<F: FileStore>(
     alloc: Global,
     files: &F,

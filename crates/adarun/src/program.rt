@@ -627,7 +627,7 @@ pub(crate) fn refuse_source<E: Sink>(err: &mut E, text: &[u8], fault: &Fault) ->
     tell(err, Status::SourceRefused, &pieces)
 }
 
-// The same in words, with the line, or as `refuse_source` where memory is wanting for them.
+// Reports a source's fault with its rule and its line, or as `refuse_source` where there is no memory for them.
 fn report_source<E: Sink>(
     alloc: Global,
     err: &mut E,
@@ -719,7 +719,7 @@ fn refuse_schedule<E: Sink>(err: &mut E, fault: &ScheduleFault) -> Status
     )
 }
 
-// The same in words, with the line, or as `refuse_schedule` where memory is wanting for them.
+// Reports a schedule's fault with its rule and its line, or as `refuse_schedule` where there is no memory for them.
 fn report_schedule<E: Sink>(
     alloc: Global,
     err: &mut E,

@@ -1,11 +1,11 @@
 -- The parts of a set: the first slots that tell them apart, and the number of a combination of these.
-use Rattle.std.proofs.Common.{◌≡◌, ℕ, zero, suc, ◌+◌, ◌-◌, ◌*◌, ◌/◌, ◌%◌, ◌^◌, ◌<◌, ◌≤◌, List, [], ◌∷◌, ◌++◌, length, drop, take, get_or, true, false, nat_eq, nat_le, refl, sym, ap, subst, ◌∙◌, arith, rules}
+use Rattle.std.proofs.Common.{◌≡◌, Bool, ℕ, zero, suc, ◌+◌, ◌-◌, ◌*◌, ◌/◌, ◌%◌, ◌^◌, ◌<◌, ◌≤◌, List, [], ◌∷◌, ◌++◌, length, drop, take, get_or, true, false, nat_eq, nat_le, nat_lt, if◌then◌else◌, refl, sym, ap, subst, ◌∙◌, arith, rules}
 use Rattle.std.proofs.Math.Seq.{take-length}
 use Rattle.std.proofs.lemmas.List.{drop_all, drop_more, length-drop}
 use Rattle.std.proofs.Math.Nat.{mod-add-mod, mod-mod, mul_assoc}
-use Rattle.std.proofs.lemmas.Nat.{mul-le, mul-mod_first}
+use Rattle.std.proofs.lemmas.Nat.{div-add-mod', div-mul-add, mul-le, mul-mod_first}
 use Rattle.base.specs.declared.schedule.ScheduleLine.{ScheduleLine}
-use Rattle.choices.specs.Parts.{ArePartsOfAll, IsInPart, front_from, front_of, is_of_part, number_from, number_of_part, parts_of, whole}
+use Rattle.choices.specs.Parts.{ArePartsOfAll, IsInPart, count_of_part, front_from, front_of, is_of_part, number_from, number_of_part, parts_of, whole}
 use Rattle.choices.specs.Places.{AreWithin, taken}
 use Rattle.choices.specs.Slots.{IsInSet, Slot, lines_of, are_each_slots, is_slot, number_of}
 use Rattle.choices.specs.declared.part.Part.{Part}
@@ -183,5 +183,53 @@ whole_number slots =
     let e = ap (λ n. (number_of (take n slots) + 0) / 1 * number_of (drop n slots)) (whole_front slots) in
     e ∙ (let one : 1 * number_of slots ≡ number_of slots = omega arith in one)
 
+-- ---- how many combinations a part has
+
+-- one more combination is one more of the part where it leaves the part's remainder
+one_more : (before after n q r : ℕ) → n ≡ q * (before + after + 1) + r → r < before + after + 1
+    → (suc n + after) / (before + after + 1) ≡ (if nat_eq r before then 1 else 0) + (n + after) / (before + after + 1)
+one_more before after n q r is less = by (nat_eq r before) refl
+  where
+    quotient : (m p rest : ℕ) → m ≡ p * (before + after + 1) + rest → rest < before + after + 1 → m / (before + after + 1) ≡ p
+    quotient m p rest e fits = ap (λ k. k / (before + after + 1)) e ∙ div-mul-add p (before + after + 1) rest fits
+
+    turn : (p : ℕ) → (p + 1) * (before + after + 1) ≡ p * (before + after + 1) + (before + after + 1)
+    turn p = omega arith
+
+    by : (b : Bool) → nat_eq r before ≡ b → (suc n + after) / (before + after + 1) ≡ (if b then 1 else 0) + (n + after) / (before + after + 1)
+    by true e =
+        let same : r ≡ before = same_by r before e in
+        let next = turn q in
+        let first = quotient (suc n + after) (q + 1) 0 (omega (arith, is, same, next)) (omega arith) in
+        let second = quotient (n + after) q (before + after) (omega (arith, is, same)) (omega arith) in
+        first ∙ (let k : q + 1 ≡ 1 + q = omega arith in k ∙ ap (λ m. 1 + m) (sym second))
+    by false e =
+        beside (nat_lt r before) (nat_lt before r) refl refl
+        ∙ (let none : (n + after) / (before + after + 1) ≡ 0 + (n + after) / (before + after + 1) = omega arith in none)
+      where
+        beside : (c d : Bool) → nat_lt r before ≡ c → nat_lt before r ≡ d → (suc n + after) / (before + after + 1) ≡ (n + after) / (before + after + 1)
+        beside true d h i =
+            let less_than : r < before = search (rules, h) in
+            quotient (suc n + after) q (suc r + after) (omega (arith, is)) (omega (arith, less_than))
+            ∙ sym (quotient (n + after) q (r + after) (omega (arith, is)) (omega (arith, less_than)))
+        beside false true h i =
+            let more_than : before < r = search (rules, i) in
+            let next = turn q in
+            quotient (suc n + after) (q + 1) (r - before) (omega (arith, is, next, more_than)) (omega (arith, less))
+            ∙ sym (quotient (n + after) (q + 1) (r - (before + 1)) (omega (arith, is, next, more_than)) (omega (arith, less, more_than)))
+        beside false false h i =
+            let at_least : before ≤ r = search (rules, h) in
+            let at_most : r ≤ before = search (rules, i) in
+            let same : r ≡ before = omega (arith, at_least, at_most) in
+            absurd (let no_yes : false ≡ true = sym e ∙ same_number r before same in cc)
+
+pub counts : (part : Part) (n : ℕ) → (n + part.after) / parts_of part ≡ count_of_part part n
+counts part zero =
+    let none : 0 + part.after ≡ 0 * parts_of part + part.after = omega arith in
+    ap (λ n. n / parts_of part) none ∙ div-mul-add 0 (parts_of part) part.after (omega arith)
+counts part (suc n) =
+    one_more part.before part.after n (n / parts_of part) (n % parts_of part) (sym (div-add-mod' n (parts_of part))) (omega arith)
+    ∙ ap (λ m. (if nat_eq (n % parts_of part) part.before then 1 else 0) + m) (counts part n)
+
 pub parts_of_all : ArePartsOfAll
-parts_of_all = record { some = is_of_some; one = is_of_one; all = in_whole; no_more = part_in_set; count = whole_number }
+parts_of_all = record { some = is_of_some; one = is_of_one; all = in_whole; no_more = part_in_set; count = whole_number; combinations = λ part slots. ap (λ n. n * number_of (drop (front_of part slots) slots)) (counts part (number_of (take (front_of part slots) slots))) }

@@ -36,6 +36,11 @@ pub record IsInPart (part : Part) (slots : List Slot) (schedule : List ScheduleL
   pub is_of : is_of_part part slots places ≡ true
   pub schedule_is : schedule ≡ lines_of slots (taken slots places)
 
+-- how many of so many combinations a part has, one after the other
+abbrev pub count_of_part : Part → ℕ → ℕ
+count_of_part part zero = 0
+count_of_part part (suc n) = (if nat_eq (n % parts_of part) part.before then 1 else 0) + count_of_part part n
+
 -- how many choices a part has: those of its combinations, with all choices of the slots after them
 abbrev pub number_of_part : Part → List Slot → ℕ
 number_of_part part slots =
@@ -45,7 +50,8 @@ number_of_part part slots =
 abbrev pub whole : Part
 whole = record { before = 0; after = 0 }
 
--- each choice is of exactly one of so many parts; the only part is the set itself, and has its number of choices
+-- each choice is of exactly one of so many parts; the only part is the set itself, and has its number of choices;
+-- a part has each of its combinations with all choices of the other slots
 pub record ArePartsOfAll : Type 0 where
   pub some : (others : ℕ) (slots : List Slot) (places : List ℕ)
       → (part : Part) × (part.before + part.after ≡ others) × (is_of_part part slots places ≡ true)
@@ -54,3 +60,5 @@ pub record ArePartsOfAll : Type 0 where
   pub all : (slots : List Slot) (schedule : List ScheduleLine) → IsInSet slots schedule → IsInPart whole slots schedule
   pub no_more : (part : Part) (slots : List Slot) (schedule : List ScheduleLine) → IsInPart part slots schedule → IsInSet slots schedule
   pub count : (slots : List Slot) → number_of_part whole slots ≡ number_of slots
+  pub combinations : (part : Part) (slots : List Slot)
+      → number_of_part part slots ≡ count_of_part part (number_of (take (front_of part slots) slots)) * number_of (drop (front_of part slots) slots)

@@ -17,7 +17,7 @@ parent k = (k - 1) / 2
 abbrev pub IsHeap : List Entry → Type 0
 IsHeap entries = (k : ℕ) (d : Entry) → 0 < k → k < length entries → is_before (get_or entries k d) (get_or entries (parent k) d) ≡ false
 
--- the same of the first entries alone, and of those that stand lower than the front's children
+-- of the first entries, and of those below the children of the front, none comes before its parent
 abbrev pub IsHeapUpTo : ℕ → List Entry → Type 0
 IsHeapUpTo count entries = (k : ℕ) (d : Entry) → 0 < k → k < count → is_before (get_or entries k d) (get_or entries (parent k) d) ≡ false
 

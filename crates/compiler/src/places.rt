@@ -33,7 +33,7 @@ fn place_at(rows: &[PlaceRow], address: usize) -> Option<u32>
 }
 
 impl Places {
-    /// Those of these rows.
+    /// The places of statements with these rows.
     pub(crate) fn new(rows: Vec<PlaceRow>) -> Places
         ensures { result ≡ rows.items }
     {

@@ -49,10 +49,10 @@ pub(crate) struct DeclaredTables {
     pub(crate) directory: Directory,
 }
 
-/// Those of a program, in the order of its text.
+/// The tables of what a program declares, in the order of its text.
 ///
 /// # Errors
-/// Those of `sections`.
+/// As `sections`.
 pub(crate) fn declarations(alloc: Global, accepted: &Accepted) -> Result<DeclaredTables, Refusal>
     ensures globals { let t = program_tree accepted.now in IfOk result (λ told. AreGlobals (program_of t).scope (package_items t.package_)
         (record { slots = told.directory.slots; words = told.words; exceptions = told.exceptions })) }

@@ -27,7 +27,7 @@ abbrev pub locals_faults : Scope → List DeclarationTree → Faults
 locals_faults s [] = []
 locals_faults s (d ∷ ds) = local_faults s d ++ locals_faults (local_scope s d) ds
 
--- those of a task body
+-- the faults of the declarations of a task body, where initial values are static
 abbrev pub fixed_locals_faults : Scope → List DeclarationTree → Faults
 fixed_locals_faults s [] = []
 fixed_locals_faults s (d ∷ ds) = fixed_local_faults s d ++ fixed_locals_faults (local_scope s d) ds

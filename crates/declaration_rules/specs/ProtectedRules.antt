@@ -40,7 +40,7 @@ abbrev pub operation_faults : Scope → (own : Identifier) → (before : List Op
 operation_faults s own before o =
     rule DECLARED_TWICE (operation_name o).place (is_operation_like s own before (operation_name o).name) ++ operation_profile_faults s o
 
--- the same where it is known whether an operation before it has its name
+-- 11, at an operation, where it is known whether an operation before it has its name
 abbrev pub like_operation_faults : Scope → (own : Identifier) → (is_second : Bool) → OperationTree → Faults
 like_operation_faults s own is_second o =
     rule DECLARED_TWICE (operation_name o).place (is_visible s (operation_name o).name || bytes_eq own.name (operation_name o).name || is_second)
@@ -67,7 +67,7 @@ abbrev pub part_faults : Scope → (own : Identifier) → List OperationTree →
 part_faults s own operations before c =
     rule DECLARED_TWICE c.name.place (is_component_like s own operations before c.name.name) ++ subtype_faults s c.subtype ++ component_initial_faults s c
 
--- the same where it is known whether an operation, or a component before it, has its name
+-- 11, at a component, where it is known whether an operation, or a component before it, has its name
 abbrev pub like_part_faults : Scope → (own : Identifier) → (is_operation is_second : Bool) → ProtectedComponentTree → Faults
 like_part_faults s own is_operation is_second c =
     rule DECLARED_TWICE c.name.place (is_visible s c.name.name || bytes_eq own.name c.name.name || is_operation || is_second)

@@ -43,7 +43,7 @@ abbrev pub waiting_if : ℕ → TaskPlace → Option LastStep → List Waiting
 waiting_if t (IsQueued o) (Some step) = record { task = t; object = o; call = step } ∷ []
 waiting_if t place step = []
 
--- those of so many tasks from this number on
+-- the tasks that wait, of `count` tasks from a number on
 abbrev pub waiting_from : (ℕ → TaskPlace) → LastSteps → (first count : ℕ) → List Waiting
 waiting_from place steps first zero = []
 waiting_from place steps first (suc n) = waiting_if first (place first) (last_step steps first) ++ waiting_from place steps (suc first) n

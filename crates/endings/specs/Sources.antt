@@ -37,7 +37,7 @@ has_it before after t u = nat_eq u t || is_over (before u) (after u)
 abbrev pub came_from : Froms → ℕ → Raising → Option ℕ
 came_from froms t r = if r.is_pending then from_of froms t else Some r.place
 
--- those of the actors from this number on, behind a step in which t has an exception that came from there
+-- from where the exceptions of the actors from a number on came, after a step in which t has an exception that came from there
 abbrev pub left_from : Option ℕ → (before after : ℕ → TaskPlace) → (t u : ℕ) → Froms → Froms
 left_from came before after t u [] = []
 left_from came before after t u (old ∷ rest) = (if has_it before after t u then came else old) ∷ left_from came before after t (suc u) rest

@@ -102,7 +102,7 @@ fn left_from<R: Ready, D: Delays>(
     Ok(next)
 }
 
-// The same behind a step, by what it raises.
+// From where the actors' exceptions came, after a step, by what it raises.
 fn after_step<R: Ready, D: Delays>(
     alloc: Global,
     froms: Vec<Option<u16>>,

@@ -48,7 +48,7 @@ pub record Owes (h : HeldWorld) (t : ℕ) (a : Act) : Type 0 where
 abbrev pub own_state : (h : HeldWorld) (t : ℕ) → Act → TaskState
 own_state h t a = if is_handler_over (kernel_of h.tasking) t (effect_of h.image a.effect) then initial_state h.image t else tasks_of h t
 
--- the same by the rows that the kernel's part of the step leaves
+-- the task that took the step, by the rows that the kernel's part of the step leaves
 abbrev pub left_state : HeldWorld → List TaskState → (t : ℕ) → Act → TaskState
 left_state h rows t a =
     if is_handler_over (kernel_of h.tasking) t (effect_of h.image a.effect) then initial_state h.image t else task_at h.image h.tasking.handler rows t

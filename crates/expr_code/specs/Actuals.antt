@@ -11,7 +11,7 @@ use Rattle.expr_soundness.specs.expr_rules.specs.NameRules.{formal_slot}
 abbrev pub IsPassedLegally : Scope → FormalParameter → ArgumentTree → Type 0
 IsPassedLegally s f a = argument_faults s (formal_slot f) a ≡ []
 
--- ... in those for the first formals
+-- no rule is broken in the actual parameters for the first formals
 abbrev pub ArePassedLegally : Scope → List FormalParameter → List ArgumentTree → Type 0
 ArePassedLegally s formals all = (k : ℕ) (f : FormalParameter) (a : ArgumentTree) → slice_get formals k ≡ Some f → slice_get all k ≡ Some a
     → IsPassedLegally s f a

@@ -94,7 +94,7 @@ module _ (i : Sections) (library : Library) where
   abbrev pub Computes : Sight → (from to : ℕ) → ExprTree → Type 0
   Computes sight from to e = Everywhere sight from to on (λ calls p. value_with calls p e)
 
-  -- ... the values in parentheses, each checked against its subtype before the next one is computed
+  -- the code between two places computes the values in parentheses, each checked against its subtype before the next one is computed
   abbrev pub ComputesAll : Sight → (from to : ℕ) → List Subtype → ArgumentTrees → Type 0
   ComputesAll sight from to ts arguments = Everywhere sight from to all_on (λ calls p. actuals_with calls p arguments ts)
 

@@ -61,7 +61,7 @@ pub record EmitsExpression (v : Visible) (old : Code) (depth width : ℕ) (e : E
   pub computes : (i : Sections) → Holds i (here old) new → (g : Package) → Computes i (library_of g) (Sees g v) (here old) (here new) e
   pub flows : Flows (Suits v) old depth new (depth + width)
 
--- ... and checks its value against a subtype, one of single words
+-- the code of an expression was added, and the check of its value against a subtype of single words
 pub record EmitsChecked (v : Visible) (old : Code) (depth : ℕ) (t : Subtype) (e : ExprTree) (new : Code) : Type 0 where
   pub extends : Extends old new
   pub sized : here new ≤ here old + (20 * expr_size e + 3)
@@ -73,7 +73,7 @@ pub record EmitsChecked (v : Visible) (old : Code) (depth : ℕ) (t : Subtype) (
   pub typed : (calls : Calls) (p : Place) → Agrees v.scope p → CallsAnswer calls p → (x : Value) → value_with calls p e ≡ Gives x
       → has_shape (shape_of v.scope t) x ≡ true
 
--- ... of whatever words
+-- the code of an expression was added, and the check of its value against a subtype of any number of words
 pub record EmitsFitting (v : Visible) (old : Code) (depth : ℕ) (t : Subtype) (e : ExprTree) (new : Code) : Type 0 where
   pub extends : Extends old new
   pub sized : here new ≤ here old + (20 * expr_size e + 3)

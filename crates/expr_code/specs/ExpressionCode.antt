@@ -72,7 +72,7 @@ abbrev pub with_check : (inside : Bool) → (depth : ℕ) → Subtype → (value
 with_check true d t value = value
 with_check false d t value = value ▸ range_check d t
 
--- ... where the subtype has numbers
+-- the check of a value against its subtype, where the subtype has numbers
 abbrev pub checked_code : Visible → (depth : ℕ) → Subtype → ExprTree → (value : Piece) → Piece
 checked_code v d t e value = cond (has_numbers (form_at v.scope t.type_number)) (with_check (is_inside (bounds_of v.scope e) t) (d + 1) t value) value
 
@@ -104,7 +104,7 @@ at_offset_code d shift offset = if_near (shift +ℤ pos offset) nothing (one d (
 abbrev pub at_offset_shift : (shift : ℤ) → (offset : ℕ) → ℤ
 at_offset_shift shift offset = if_near (shift +ℤ pos offset) (shift +ℤ pos offset) shift
 
--- ... from an index to an address: from the first index on, by the words of a component
+-- an index is made a distance in components: the first index is subtracted from it
 abbrev pub less_first_code : (depth : ℕ) → (first : ℤ) → (words : ℕ) → (shift : ℤ) → Piece
 less_first_code d first words shift = if_near (shift -ℤ first *ℤ pos words) nothing (one d (op.Push first) ▸ one (d + 1) op.Subtract)
 

@@ -57,7 +57,7 @@ module _ (i : Sections) (schedule : List ScheduleLine) (k : Kernel) (t : ℕ) (m
 abbrev pub IsNear : ℤ → Type 0
 IsNear z = unsigned_abs z ≤ NEAR
 
--- ... the distance of two such numbers
+-- as near to 0 as the distance of two numbers that are near
 abbrev pub IsClose : ℤ → Type 0
 IsClose z = unsigned_abs z ≤ 2 * NEAR
 
@@ -77,7 +77,7 @@ module _ (i : Sections) where
   IsLessFirst from to first size shift next =
       (AreTwo from to (op.Push first) op.Subtract × (next ≡ shift)) ⊎ ((to ≡ from) × (next ≡ shift +ℤ first *ℤ pos size))
 
-  -- ... by the words of a component: nothing where it has one
+  -- an index is multiplied by the words of a component: nothing is added where it has one
   abbrev pub IsByWords : (from to : ℕ) → (size : ℕ) → Type 0
   IsByWords from to size = AreTwo from to (op.Push (pos size)) op.Multiply ⊎ ((size ≡ 1) × (to ≡ from))
 

@@ -67,6 +67,6 @@ rejoined m (p ∷ places) end = rejoined (patched m p (op.Jump end)) places end
 pub record Waits (start : Made) (front : Piece → Piece) (now : Made) (places : List ℕ) : Type 0 where
   pub closes : (last : Piece) (end : ℕ) → end ≡ narrow (end_of (adds now last)) → rejoined (adds now last) places end ≡ adds start (front last)
 
--- ... with these parts more, each of which ends by such a jump
+-- from one list of waiting jumps to another, these parts were added, each of which ends by such a jump
 abbrev pub Opens : (old : Made) (before : List ℕ) (parts : Piece → Piece) (new : Made) (after : List ℕ) → Type 0
 Opens old before parts new after = (start : Made) (front : Piece → Piece) → Waits start front old before → Waits start (λ last. front (parts last)) new after

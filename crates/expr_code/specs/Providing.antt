@@ -53,7 +53,7 @@ pub record HasFewFormals (s : Scope) (p : Profile) : Type 0 where
   pub few : length p.formals ≤ FORMALS
   pub scalar : (t : Subtype) → p.result ≡ Some t → AreScalar s p.formals
 
--- ... of all that can be called by a visible name
+-- all that can be called by a visible name has few formal parameters
 abbrev pub FewFormals : Scope → Type 0
 FewFormals s = (f : Callee) (p : Profile) → callee_profile s f ≡ Some p → HasFewFormals s p
 

@@ -128,29 +128,29 @@ abbrev pub IsRefusedBeside : (unfit : Type 0) → (instructions words : ℕ) →
 IsRefusedBeside unfit instructions words refusal.Memory = ⊤
 IsRefusedBeside unfit instructions words (refusal.Limit limit) = MayPass unfit instructions words limit
 
--- ... where no object counts
+-- a refusal of code for which no object is loaded
 abbrev pub IsRefused : (instructions words : ℕ) → Refusal → Type 0
 IsRefused instructions words = IsRefusedBeside ⊥ instructions words
 
--- ... that of an expression, which finds so many words on the operand stack
+-- the refusal of an expression that finds so many words on the operand stack
 abbrev pub RefusesExpression : Visible → Code → (depth : ℕ) → ExprTree → Refusal → Type 0
 RefusesExpression v old depth e = IsRefusedBeside (HasUnfitObject v) (here old + 20 * expr_size e) (depth + peak v.scope e)
 
--- ... that of an expression and its check
+-- the refusal of an expression and its check
 abbrev pub RefusesChecked : Visible → Code → (depth : ℕ) → ExprTree → Refusal → Type 0
 RefusesChecked v old depth e = IsRefusedBeside (HasUnfitObject v) (here old + (20 * expr_size e + 3)) (depth + checked_peak (peak v.scope e))
 
--- ... where the subtype may have more words; values of arrays and records need no check
+-- the refusal of an expression of a subtype that may have several words; values of arrays and records need no check
 abbrev pub RefusesFitting : Visible → Code → (depth : ℕ) → Subtype → ExprTree → Refusal → Type 0
 RefusesFitting v old depth t e =
     IsRefusedBeside (HasUnfitObject v ⊎ IsUnfit v.scope t) (here old + (20 * expr_size e + 3)) (depth + checked_peak (peak v.scope e))
 
--- ... that of the address of an object, and of these selectors
+-- the refusal of the address of an object, and of these selectors
 abbrev pub RefusesAddress : Visible → Code → (depth : ℕ) → Subtype → SelectorTrees → Refusal → Type 0
 RefusesAddress v old depth t all =
     IsRefusedBeside (HasUnfitObject v ⊎ IsUnfit v.scope t) (here old + (20 * selectors_size all + 1)) (depth + selectors_peak v.scope 1 all)
 
--- ... that of parts of an if expression, whose values take so many words
+-- the operand stack that the parts of an if expression take
 abbrev pub branches_peak : Scope → List Branch → ℕ
 branches_peak s [] = 0
 branches_peak s (b ∷ rest) = max (peak s b.condition) (max (peak s b.value) (branches_peak s rest))

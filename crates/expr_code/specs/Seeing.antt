@@ -166,7 +166,7 @@ pub record IsCoded (g : Package) (f : Function) (number : ℕ) : Type 0 where
   pub found : function_of g.functions f.object f.name ≡ Some f
   pub numbered : g.subprograms f.object f.name ≡ Some number
 
--- ... and belongs to this protected object, whose ceiling priority is the one that the package gives the object of its number (RM 9.4, D.3)
+-- the function has code and belongs to this protected object, whose ceiling priority is the one that the package gives the object of its number (RM 9.4, D.3)
 pub record IsOffered (g : Package) (o : ProtectedObject) (f : Function) (number : ℕ) : Type 0 where
   pub coded : IsCoded g f number
   pub owned : f.object ≡ Some o.number

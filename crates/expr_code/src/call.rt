@@ -125,7 +125,7 @@ impl Fragment {
         Ok(depth)
     }
 
-    // The same of what is in the parentheses.
+    // Adds the actual parameters that stand in parentheses. Returns the height of the operand stack.
     #[cycle(expression)]
     fn passed(
         &mut self,

@@ -93,7 +93,7 @@ impl Code {
         self.append(&fragment)
     }
 
-    /// The same of a subtype of whatever words. Returns how many words the value takes.
+    /// Adds the code of an expression whose value is checked against a subtype, which may be of arrays or records. Returns how many words the value takes.
     pub fn of_subtype(
         &mut self,
         visible: &Visible,
@@ -122,7 +122,7 @@ impl Code {
         }
     }
 
-    // The same of one of arrays or records, whose values need no check.
+    // Adds the code of an expression of a subtype of arrays or records, whose values need no check.
     fn composite(
         &mut self,
         visible: &Visible,
@@ -203,7 +203,7 @@ impl Code {
         }
     }
 
-    // The same, but leaves what was added where one does not keep them.
+    // Adds these instructions one by one, as far as they keep the limits; where one does not, those before it stay.
     fn add_all(&mut self, all: &[Instr]) -> Result<(), Refusal>
         ensures appends { OnOk result (Appends self.old all.now self.new) }
         ensures refused { IfErr result (λ why. Misfits self.old all.now why) }

@@ -163,7 +163,7 @@ impl Fragment {
         Ok(())
     }
 
-    // The same of what is in the parentheses.
+    // Adds the first of the arguments that stand in parentheses.
     #[cycle(expression)]
     #[tactic(auto, using(crate::proofs::Pieces::adds_nothing))]
     pub(crate) fn first_argument(

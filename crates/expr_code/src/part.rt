@@ -39,7 +39,7 @@ fn with_offset(shift: i64, offset: u16) -> Option<i64>
     }
 }
 
-// ... without the words in front of the first component of an array, which has this index, where each component has so many.
+// The number to add to an address, less the words before the first component of an array, which has this index, where each component has so many words.
 fn without_front(shift: i64, first: i64, words: u16) -> Option<i64>
     requires near { IsNear shift }
     ensures { result ≡ if_near (shift -ℤ first *ℤ pos words) (Some (shift -ℤ first *ℤ pos words)) None }
@@ -135,7 +135,7 @@ impl Fragment {
         Ok(part)
     }
 
-    // The same of one selector.
+    // Adds what one selector makes of the address of a part.
     #[cycle(expression)]
     #[tactic(auto, using(crate::proofs::Pieces::adds_nothing))]
     fn select(

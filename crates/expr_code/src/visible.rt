@@ -95,7 +95,7 @@ impl Model for OperationNumbers {
 }
 
 impl OperationNumbers {
-    /// Those of no object.
+    /// No object has operations yet.
     pub fn new(alloc: Global) -> OperationNumbers
         ensures { result ≡ [] }
     {

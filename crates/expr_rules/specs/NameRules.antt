@@ -57,7 +57,7 @@ variable_rule s place wanted (standing.Fixed t v) = mismatch s wanted (Typed t.t
 variable_rule s place wanted standing.Doubtful = []
 variable_rule s place wanted w = rule NO_MEANING place true
 
--- the same of an actual for `out` or `in out`, which has to be a name (RM 6.4.1)
+-- 12 and 13 of an actual for `out` or `in out`, which has to be a name (RM 6.4.1)
 abbrev pub actual_rule : Scope → Wanted → ExprTree → Faults
 actual_rule s wanted (Named first selectors) = variable_rule s first.place wanted (standing_of s first selectors)
 actual_rule s wanted e = rule NO_MEANING (start_of e) true

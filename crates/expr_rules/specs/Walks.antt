@@ -43,7 +43,7 @@ walk_turn parts associates tree walk first split all n x f one whole less at h h
     ∙ ap (λ l. sooner f (least l)) (sym step)
     ∙ h
 
--- the same over things that are no trees, of which each is judged with those in front of it
+-- a walk over things that are no trees, of which each is judged with those before it
 pub own_walk_turn : LeastByParts
     → SoonerAssociates
     → {A : Type 0} (walk : List A → List A → Faults) (first : List A → A → Faults)
@@ -106,7 +106,7 @@ noted_walk_turn tree walk first split all n x found whole less at h =
     (split before (tree x) rest ∙ ap (λ b. first before (tree x) rest ++ walk b rest) (sym taken))
     h
 
--- the same over things that are no trees, of which each is judged with those in front of it
+-- a walk over things that are no trees, of which each is judged with those before it
 pub noted_own_walk_turn : {A : Type 0} (walk : List A → List A → Faults) (first : List A → A → Faults)
     → ((before : List A) (y : A) (rest : List A) → walk before (y ∷ rest) ≡ first before y ++ walk (before ++ y ∷ []) rest)
     → (all : List A) (n : ℕ) (x : A) (found whole : Findings)

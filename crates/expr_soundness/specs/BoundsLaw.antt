@@ -24,8 +24,8 @@ ExpressionsLie = (s : Scope) (p : Place) (calls : Calls) → Agrees s p → Call
     → (e : ExprTree) (w : Wanted) → faults_in s w e ≡ []
     → comes_between (bounds_of s e) (value_with calls p e) ≡ true
 
--- The same of the value at a place whose functions are sound, with the frames that are left. What a call returns is checked (RM 6.5), so nothing is asked of
--- functions.
+-- The value of an expression at a place whose functions are sound lies between its bounds, with the frames that are left. What a call returns is checked
+-- (RM 6.5), so nothing is asked of functions.
 abbrev pub ValuesAreBounded : Type 0
 ValuesAreBounded = (s : Scope) (p : Place) → Agrees s p → FunctionsAreSound p → VisibleLies s p
     → (e : ExprTree) (w : Wanted) → faults_in s w e ≡ []
@@ -45,7 +45,7 @@ ChecksAreSpared = (s : Scope) (p : Place) (calls : Calls) → Agrees s p → Cal
 abbrev pub VisibleValuesLie : Type 0
 VisibleValuesLie = (s : Scope) (p : Place) → Agrees s p → PlaceLies p → LoopsLie s p → VisibleLies s p
 
--- ... and with what functions return all that has a value
+-- all that has a value lies in its subtype, where what functions return does
 abbrev pub AllValuesLie : Type 0
 AllValuesLie = (s : Scope) (p : Place) (calls : Calls) → Agrees s p → PlaceLies p → LoopsLie s p → ReturnWithin calls → ValuesLie s p calls
 

@@ -44,7 +44,7 @@ pub fn expressions_lie()
     static_is_value();
 }
 
-/// The same of the value at a place where each function is sound, however many frames are left; what functions return is checked (RM 6.5).
+/// A legal expression has a value between its bounds, or raises an exception, where each function is sound, however many frames are left; results are checked.
 pub fn values_are_bounded()
     ensures { ValuesAreBounded }
 {
@@ -66,7 +66,7 @@ pub fn visible_values_lie()
     language_lies();
 }
 
-/// So does all that has a value, where what functions return lies in the subtypes of their results (RM 6.5).
+/// All that has a value lies in its subtype, where what functions return lies in the subtypes of their results (RM 6.5).
 pub fn all_values_lie()
     ensures { AllValuesLie }
 {

@@ -18,7 +18,7 @@ abbrev pub inner_of : Row → Option Row → Row
 inner_of r None = r
 inner_of r (Some q) = if nat_le (width r) (width q) then r else q
 
--- the same where the row comes after one that was found
+-- the row with the shorter region, where it comes after one that was found
 abbrev pub inside : Option Row → Row → Row
 inside None r = r
 inside (Some q) r = inner_of q (Some r)

@@ -12,7 +12,7 @@ abbrev pub LieAround : List Row → ℕ → ℕ → List Row → Type 0
 LieAround inner place exception outer =
     All (λ q. takes place exception q ≡ true → All (λ r. takes place exception r ≡ true → width r ≤ width q) inner) outer
 
--- the same with a longer region
+-- each row that takes the exception has a longer region than each row of inner that takes it
 abbrev pub LieWellAround : List Row → ℕ → ℕ → List Row → Type 0
 LieWellAround inner place exception outer =
     All (λ q. takes place exception q ≡ true → All (λ r. takes place exception r ≡ true → width r < width q) inner) outer

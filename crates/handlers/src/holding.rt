@@ -25,7 +25,7 @@ impl Model for Holders {
 }
 
 impl Holders {
-    /// Those of subprograms that end at `ends`, in any order. The time is that of the greatest end.
+    /// The holders of the instructions of subprograms that end at `ends`, in any order. The time is in proportion to the greatest end.
     ///
     /// # Errors
     /// Where memory was refused.

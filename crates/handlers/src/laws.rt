@@ -12,7 +12,7 @@ pub fn rows_inside()
     ensures { RowsInside }
 {}
 
-/// So it does where the rows around them come first, if their regions are longer.
+/// Where rows around the inner ones come first, the innermost handler stays the same if their regions are longer.
 pub fn rows_inside_last()
     ensures { RowsInsideLast }
 {}

@@ -67,7 +67,7 @@ mnemonic Clock = codes "CLK"
 abbrev pub field : List ℕ → ℕ → List ℕ
 field word n = word ++ decimal n
 
--- the same of a number that may be missing
+-- a word and a number, or nothing where there is no number
 abbrev pub optional_field : List ℕ → Option ℕ → List ℕ
 optional_field word None = word ++ codes "-"
 optional_field word (Some n) = field word n

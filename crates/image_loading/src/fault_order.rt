@@ -4,7 +4,7 @@ ghost use Rattle.image_loading.specs.FaultOrder.{after, fault_at, first_of, is_n
 
 use image::ImageFault;
 
-/// So many bytes behind a byte, at most the last byte that a fault can name.
+/// The byte that is `count` bytes after a byte, at most the last byte that a fault can name.
 pub(crate) fn after(byte: u32, count: usize) -> u32
     ensures { result ≡ after byte count }
 {

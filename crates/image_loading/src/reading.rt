@@ -41,7 +41,7 @@ impl<T: Drop> From<AllocFailed<T>> for Unread {
     }
 }
 
-// So many bytes, and those behind them.
+// The first `count` bytes, and those after them.
 #[tactic(auto, unfolding(crate::specs::Reading::read_bytes))]
 fn bytes_of(bytes: &[u8], count: usize) -> Result<(&[u8], &[u8]), Unread>
     ensures gives { ReadsAs (λ x. (x.0.now, x.1.now)) result (read_bytes count bytes.now) }

@@ -20,7 +20,7 @@ least time (s ∷ ss) = if int_lt s.wake time then least s.wake ss else least ti
 abbrev pub wakes_if_due : Sleeper → Kernel → Kernel
 wakes_if_due s k = if int_lt k.now s.wake then record k { sleepers = k.sleepers ++ s ∷ [] } else becomes_ready s.task (released s.task k)
 
--- those due leave the list and become ready, in the order in which they began to wait (RM 9.6, D.2.3)
+-- the sleepers that are due leave the list and become ready, in the order in which they began to wait (RM 9.6, D.2.3)
 abbrev pub wakes_due : List Sleeper → Kernel → Kernel
 wakes_due [] k = k
 wakes_due (s ∷ ss) k = wakes_due ss (wakes_if_due s k)

@@ -36,7 +36,7 @@ by_put P t u x f same other =
     (λ ne. subst P (sym (put_other t u x f ne)) (other ne))
     (same_or_not u t)
 
--- the same, from a fact
+-- what follows from a fact about the value at a place, by whether the place is t
 pub of_put : {T : Type 0} (P : T → Type 0) (Q : Type 0) (t u : ℕ) (x : T) (f : ℕ → T) → P (put t x f u) → (u ≡ t → P x → Q) → (u ≢ t → P (f u) → Q) → Q
 of_put P Q t u x f h same other =
     ⊎_elim

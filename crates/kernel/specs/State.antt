@@ -95,7 +95,7 @@ abbrev pub is_object_open : ℕ → List Action → Bool
 is_object_open o [] = false
 is_object_open o (a ∷ outer) = nat_eq (object_of a) o || is_object_open o outer
 
--- those of the first n tasks and actors that have an open action of object o
+-- the tasks and actors, of the first n, that have an open action of object o
 abbrev pub inside_among : ℕ → Kernel → ℕ → List ℕ
 inside_among zero k o = []
 inside_among (suc n) k o = inside_among n k o ++ (if is_object_open o (k.actions n) then n ∷ [] else [])

@@ -33,7 +33,7 @@ pub record Tasks (M T : Type 0) : Type 0 where
   pub memory : M
   pub tasks : ℕ → T
 
--- the same for one task
+-- the memory that all tasks share, and the state of one task
 pub record Solo (M T : Type 0) : Type 0 where
   pub memory : M
   pub task : T

@@ -54,7 +54,7 @@ pub fn steps_settle()
     ensures { StepsSettle }
 {}
 
-/// So does the start, behind the activation of all tasks.
+/// After the activation of all tasks, the start leaves open actions, queued calls and pending interrupts as they are, unless a handler begins.
 pub fn start_settles()
     ensures { StartSettles }
 {}

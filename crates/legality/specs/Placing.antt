@@ -16,6 +16,6 @@ abbrev pub words_of_object : Scope → Option ProtectedObject → List (List ℕ
 words_of_object s (Some p) = components_words s p.components ∷ []
 words_of_object s None = []
 
--- those of the components of the protected object with this number, if it is one
+-- the words of the components of the protected object with this number, if it is one
 abbrev pub object_at : Scope → ℕ → List (List ℕ)
 object_at s n = words_of_object s (protected_at s n)

@@ -14,7 +14,7 @@ state_of (IsQueued o) = Queued o
 state_of (IsServed o) = Queued o
 state_of IsFinished = Finished
 
--- the same of who is asked for by a number: a task, or by 255 the handler that runs (RM C.3.1)
+-- the place of a task that is asked for by its number, or by 255 of the handler that runs (RM C.3.1)
 abbrev pub place_if : Kernel → Option ℕ → TaskPlace
 place_if k None = IsFinished
 place_if k (Some t) = k.place t

@@ -189,7 +189,7 @@ impl<'a, R: Ready, D: Delays> Machine<'a, R, D> {
         }
     }
 
-    /// The same as the kernel has it: a caller whose entry body another task runs is told apart from one that waits in the queue.
+    /// Where a task is as the kernel has it: a caller whose entry body another task runs is distinguished from one that waits in the queue.
     pub fn place(&self, task: u8) -> Place
         ensures { place_of result ≡ place_asked (kernel_of self.now.tasking) task }
     {
@@ -398,10 +398,10 @@ pub fn run_over<R: Ready + Drop, D: Delays + Drop, S: Sink, L: Ledger>(
     }
 }
 
-/// The same over rings of ready tasks and a list of sleeping ones.
+/// Runs an image as `run_over` does, over rings of ready tasks and a list of sleeping ones.
 ///
 /// # Errors
-/// Those of `run_over`.
+/// As `run_over`.
 pub fn run<S: Sink, L: Ledger>(
     alloc: Global,
     image: &Image,

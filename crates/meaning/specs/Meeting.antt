@@ -64,7 +64,7 @@ pub data Counted {N T H : Type 0} (g : Behaviour N T H) (frames limit : T → �
       → n ≤ limit (w.rest.tasks t)
       → j ≡ taken g t frames limit all
       → Counted g frames limit w j
-  -- the same without the last one
+  -- steps up to the last one of those for one step of the other side
   Begun :
       (t n : ℕ) (s : Solo N T)
       → IsRunner w.kernel t
@@ -91,7 +91,7 @@ pub record Relation (Note M S G N T H : Type 0) : Type 1 where
   -- the states of the task with this number in a kernel, between steps
   pub stands : Note → Kernel → ℕ → S → T → Type 0
   -- the states of the running task, and what it gives to the caller that it has served, right after its own step with this effect; note and kernel are
-  -- those before the step
+  -- the states of the running task, and what it gives to the caller that it has served, before its step
   pub leaves : Note → Kernel → ℕ → Effect → S → T → Option G → Option H → Type 0
   -- the size of a state, which falls where no step meets
   pub size : S → ℕ

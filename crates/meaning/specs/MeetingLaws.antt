@@ -113,7 +113,7 @@ module _ {Note M S G N T H : Type 0} (f : Behaviour M S G) (g : Behaviour N T H)
       (subst (λ z. rel.leaves note k t z.effect z.solo.task (g.act k t c).solo.task z.given (g.act k t c).given) (sym is)
       (subst (λ z. rel.leaves note k t x.effect x.solo.task z.solo.task x.given z.given) (sym there) leaves))
 
-  -- ... up to a step that is still to be taken
+  -- steps lead up to a step that is still to be taken
   pub walks_by :
       (j n : ℕ) (c : Solo N T) (x : Act M S G)
       → f.act k t a ≡ x

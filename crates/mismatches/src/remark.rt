@@ -28,7 +28,7 @@ pub enum NamedType {
     AnyInteger,
     /// Each integer type, and Boolean.
     Discrete,
-    /// That of a number, which is of each integer type that is expected (RM 3.4.1).
+    /// The type of a number, which is of each integer type that is expected (RM 3.4.1).
     UniversalInteger,
 }
 

@@ -121,7 +121,7 @@ operation_front s components (EntryBody d barrier b) = components_scope s false 
 abbrev pub of_operation : (object : ℕ) → Scope → List RecordComponent → ProtectedItemTree → Coded
 of_operation o s components i = of_object o (operation_front s components i) i
 
--- those of an object with these components, where these names are visible in front of the first
+-- the bodies of an object's operations with these components, where these names are visible before the first one
 abbrev pub operations_of : (object : ℕ) → Scope → List RecordComponent → List ProtectedItemTree → List Coded
 operations_of o s components [] = []
 operations_of o s components (i ∷ is) = of_operation o s components i ∷ operations_of o (protected_item_scope s i) components is
@@ -130,7 +130,7 @@ abbrev pub components_or_none : Option (List RecordComponent) → List RecordCom
 components_or_none (Some cs) = cs
 components_or_none None = []
 
--- ... of the one whose name has this number among those that are visible in front of its body
+-- the bodies of the operations of the object whose name has this number among those that are visible before its body
 abbrev pub object_bodies : (object : ℕ) → Scope → (visible : Option ℕ) → List ProtectedItemTree → List Coded
 object_bodies o s (Some n) items = operations_of o (object_body_scope s n) (components_or_none (components_at s n)) items
 object_bodies o s None items = operations_of o s [] items

@@ -19,7 +19,7 @@ abbrev pub bounds_from : ProgramTree → (place : ℕ) → List BodyItemTree →
 bounds_from t place [] = []
 bounds_from t place (x ∷ rest) = bounds_at t place x ++ bounds_from t (suc place) rest
 
--- that of the subprogram with this number: bodies in the order of the text, and main behind them
+-- the most instructions of the subprogram with this number: bodies in the order of the text, and main after them
 abbrev pub instructions_bound : ProgramTree → (number : ℕ) → ℕ
 instructions_bound t number = or_zero (slice_get (bounds_from t 0 (declared_in t.package_) ++ main_bound t.main.statements ∷ []) number)
 

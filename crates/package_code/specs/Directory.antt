@@ -133,7 +133,7 @@ abbrev pub entries_of : (object first : ℕ) → List ProtectedItemTree → List
 entries_of o first [] = []
 entries_of o first (i ∷ is) = record { object = o; name = own_name i; number = first } ∷ entries_of o (suc first) is
 
--- ... and of the bodies of protected objects among items
+-- the entries of the bodies of protected objects among items
 abbrev pub entries_in : Scope → (first : ℕ) → BodyItemTree → List OperationNumber
 entries_in s first (ProtectedBody name items end_name) = entries_of (object_number s name) first items
 entries_in s first item = []
@@ -148,7 +148,7 @@ HasNoNumbers many refusal.Memory = ⊤
 HasNoNumbers many (refusal.Limit limits.Subprograms) = 65535 < many
 HasNoNumbers many why = ⊥
 
--- ... the bodies among these items
+-- the bodies among these items have no numbers, for want of memory or because there are more than numbers
 abbrev pub HasManyBodies : List BodyItemTree → Refusal → Type 0
 HasManyBodies items why = HasNoNumbers (bodies_among items) why
 

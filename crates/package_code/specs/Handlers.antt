@@ -51,7 +51,7 @@ abbrev pub with_attachment : (channel : ℕ) → Option ℕ → List Attachment 
 with_attachment channel (Some number) rest = record { channel = channel; subprogram = number } ∷ rest
 with_attachment channel None rest = rest
 
--- those of so many channels from this one on
+-- the attachments of `many` channels from a channel on
 abbrev pub attachments_from : Scope → Directory → Option PackageTree → (channel many : ℕ) → List Attachment
 attachments_from s d p channel zero = []
 attachments_from s d p channel (suc many) =

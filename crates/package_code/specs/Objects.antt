@@ -98,7 +98,7 @@ slots_of o offset [] = []
 slots_of o offset (x ∷ xs) =
     record { object = o; name = x.name; slot = record { region = regions.Object; offset = offset } } ∷ slots_of o (offset + length (value_words x.value)) xs
 
--- those of the objects that are declared among these, the first of which has this number
+-- the components of the objects that are declared among these items, the first of which has this number
 abbrev pub component_slots : Scope → (object : ℕ) → List ItemTree → List ComponentSlot
 component_slots s o [] = []
 component_slots s o (OfProtected d ∷ rest) = slots_of o 0 (map (component s) d.components) ++ component_slots s (suc o) rest
@@ -109,7 +109,7 @@ abbrev pub have_words : List Object → Bool
 have_words [] = true
 have_words (x ∷ xs) = nat_le 1 (length (value_words x.value)) && have_words xs
 
--- ... each of the objects that are declared among these
+-- each component of the objects that are declared among these items has a word at least
 abbrev pub objects_have_words : Scope → List ItemTree → Bool
 objects_have_words s [] = true
 objects_have_words s (OfProtected d ∷ rest) = have_words (map (component s) d.components) && objects_have_words s rest
@@ -133,13 +133,13 @@ RefusesObjects s items refusal.Memory = ⊤
 RefusesObjects s items (refusal.Limit limits.Words) = WORDS < object_words s items
 RefusesObjects s items why = ⊥
 
--- ... of components of one object
+-- why the rows of the components of one object aren't made
 abbrev pub RefusesComponents : Scope → List ProtectedComponentTree → Refusal → Type 0
 RefusesComponents s cs refusal.Memory = ⊤
 RefusesComponents s cs (refusal.Limit limits.Words) = WORDS < length (first_words_of (map (component s) cs))
 RefusesComponents s cs why = ⊥
 
--- ... of one component, behind so many words of others
+-- why the row of one component isn't made, after `words` words of others
 abbrev pub RefusesComponent : (words : ℕ) → Refusal → Type 0
 RefusesComponent words refusal.Memory = ⊤
 RefusesComponent words (refusal.Limit limits.Words) = WORDS < words

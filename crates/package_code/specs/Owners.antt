@@ -7,7 +7,7 @@ use Rattle.types.specs.Places.{or_else}
 use Rattle.types.specs.Scopes.{Scope, protected_at}
 use Rattle.expr_code.specs.declared.visible.Slot.{Slot}
 
--- the same place among the words of the object to which the running body belongs
+-- a place among the words of the object to which the running body belongs
 abbrev pub in_object : Slot → Slot
 in_object slot = record slot { region = regions.Object }
 
@@ -47,6 +47,6 @@ component_names cs = map (λ (c : RecordComponent). c.name) cs
 abbrev pub told_operation : {X : Type 0} → ((name : List ℕ) → Option X) → Operation → Option X
 told_operation tell o = if o.is_entry then None else tell o.name
 
--- ... of the operations of each of these objects, in the order of its declaration
+-- what is known of the operations of each of these objects by their names, in the order of its declaration
 abbrev pub told_behind_objects : {X : Type 0} → ((owner : Option ℕ) → (name : List ℕ) → Option X) → List ProtectedObject → List (List (Option X))
 told_behind_objects tell objects = map (λ (o : ProtectedObject). map (told_operation (tell (Some o.number))) o.operations) objects

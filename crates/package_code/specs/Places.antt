@@ -32,7 +32,7 @@ pub record TellsReturn (i : Sections) (number : ℕ) (q : PlaceRow) (x : StmtTre
   pub first : q.first ≡ first_place i number
   pub behind : q.behind ≡ s.end_
 
--- ... or that of another statement
+-- the row is that of a statement other than the return of a function
 abbrev pub TellsStatement : Sections → Program → Package → Numbers → ℕ → PlaceRow → StmtTree → Type 0
 TellsStatement i program g numbers number q x = TellsPlace i program g numbers q x ⊎ TellsReturn i number q x
 

@@ -61,7 +61,7 @@ seen_by t c = seen_with t c.owner c.front
 
 -- ---- what code needs
 
--- that of a function, which returns the value of one expression
+-- what the code of a function needs, which returns the value of one expression
 abbrev pub function_if_any : Visible → List Formal → Option ExprTree → Needs
 function_if_any v fs (Some e) = function_needs v fs e
 function_if_any v fs None = nothing
@@ -70,7 +70,7 @@ function_if_any v fs None = nothing
 abbrev pub subprogram_needs : Visible → SubprogramTree → BodyTree → Needs
 subprogram_needs v d b = elim d.result [ None ↦ procedure_needs v d.formals b | Some r ↦ function_if_any v d.formals (returned b.statements) ]
 
--- that of an entry's body is that of a procedure's
+-- what the code of a body needs; that of an entry's body needs what a procedure's does
 abbrev pub body_needs : ProgramTree → Coded → Needs
 body_needs t c = subprogram_needs (seen_by t c) c.head c.body
 
@@ -109,7 +109,7 @@ abbrev pub operations_labels : (before : List (List ℕ)) → List ProtectedItem
 operations_labels before [] = before
 operations_labels before (i ∷ is) = operations_labels (operation_labels before i) is
 
--- ... behind these bodies
+-- the labels after these bodies
 abbrev pub coded_labels : (before : List (List ℕ)) → List Coded → List (List ℕ)
 coded_labels before [] = before
 coded_labels before (c ∷ cs) = coded_labels (subprogram_labels before c.head c.body) cs
@@ -140,7 +140,7 @@ abbrev pub operations_rows : (before : ℕ) → List ProtectedItemTree → ℕ
 operations_rows before [] = before
 operations_rows before (i ∷ is) = operations_rows (operation_rows before i) is
 
--- ... behind these bodies
+-- the rows of handlers after these bodies, one for each choice
 abbrev pub coded_rows : (before : ℕ) → List Coded → ℕ
 coded_rows before [] = before
 coded_rows before (c ∷ cs) = coded_rows (subprogram_rows before c.head c.body) cs
@@ -172,7 +172,7 @@ HasMany t (refusal.Limit limits.Tasks) = TASKS < length (program_of t).tasks
 HasMany t (refusal.Limit limits.Objects) = OBJECTS < (program_of t).objects
 HasMany t why = ⊥
 
--- ... or more rows of handlers
+-- it has more rows of handlers than an image
 abbrev pub HasManyRows : ProgramTree → Refusal → Type 0
 HasManyRows t (refusal.Limit limits.Rows) = ROWS < program_rows t
 HasManyRows t why = ⊥
@@ -183,7 +183,7 @@ program_words t =
     length (first_words_of (program_of t).variables)
     + total (map (λ cs. length (first_words_of cs)) (components_among (program_of t).scope (package_items t.package_)))
 
--- ... or more words of these
+-- its variables and the components of its protected objects have more words than an image
 abbrev pub HasManyWords : ProgramTree → Refusal → Type 0
 HasManyWords t (refusal.Limit limits.Words) = WORDS < program_words t
 HasManyWords t why = ⊥

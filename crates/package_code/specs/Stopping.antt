@@ -33,7 +33,7 @@ code_place (SubprogramBody d b) index = d.name.place
 code_place (TaskBody name b) index = name.place
 code_place (ProtectedBody name items end_name) index = own_place (slice_get items index)
 
--- that of an item's own
+-- the place of the name of an item's own body
 abbrev pub item_place : BodyItemTree → ℕ
 item_place (OfItem d) = 0
 item_place (SubprogramBody d b) = d.name.place
@@ -52,13 +52,13 @@ pub record StopsInCode (t : ProgramTree) (limit : ImageLimit) (place : ℕ) : Ty
   pub stops : StopsAt t directory at item made limit
   pub place_is : place ≡ code_place item stops.index
 
--- that of instructions: so many stand in front of it, and with its own there may be more than an image has
+-- the code of the body isn't made for its instructions: `before` ones are before it, and with its own there may be more than an image has
 pub record StopsByInstructions (t : ProgramTree) (place before : ℕ) : Type 0 where
   pub in_code : StopsInCode t limits.Instructions place
   pub before_is : before ≡ here in_code.stops.front.draft.code
   pub many : INSTRUCTIONS < before + bound_of in_code.stops.coded
 
--- that of a frame: its own and its operand stack may need more words together
+-- the code of the body isn't made for its frame: its words and those of its operand stack may be more than a frame has
 pub record StopsByFrame (t : ProgramTree) (place : ℕ) : Type 0 where
   pub in_code : StopsInCode t limits.Frame place
   pub large : FRAME_WORDS < max (body_needs t in_code.stops.coded).stack (body_needs t in_code.stops.coded).frame

@@ -40,11 +40,11 @@ HaveTasks t [] [] = ⊤
 HaveTasks t (x ∷ xs) (row ∷ rest) = HasTask t x row × HaveTasks t xs rest
 HaveTasks t xs rest = ⊥
 
--- those of the tasks among these declarations
+-- the rows are those of the tasks among these declarations
 abbrev pub HaveDeclared : ProgramTree → List ItemTree → List rows.Task → Type 0
 HaveDeclared t items table = HaveTasks t (tasks_among (program_of t).scope (package_bodies t.package_) items) table
 
--- ... were added
+-- the rows of the tasks among these declarations were added
 pub record AddsTasks (t : ProgramTree) (old : List rows.Task) (items : List ItemTree) (new : List rows.Task) : Type 0 where
   pub added : List rows.Task
   pub appended : new ≡ old ++ added

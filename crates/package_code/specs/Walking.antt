@@ -124,7 +124,7 @@ abbrev pub with_components : (whole : Scope) → Directory → (o : ℕ) → (is
 with_components whole directory o is_function components v =
     seen_inside whole directory o (record v { scope = components_scope v.scope is_function components }) (component_names components)
 
--- ... or the name of an operation
+-- what is visible with the name of an operation
 abbrev pub with_own_name : (whole : Scope) → Directory → (o : ℕ) → SubprogramTree → Visible → Visible
 with_own_name whole directory o d v = seen_inside whole directory o (record v { scope = subprogram_scope v.scope d }) (d.name.name ∷ [])
 
@@ -134,7 +134,7 @@ operation_visible whole directory o components (OperationBody d b) v =
     with_own_name whole directory o d (with_components whole directory o (is_some d.result) components v)
 operation_visible whole directory o components (EntryBody d barrier b) v = with_components whole directory o false components v
 
--- ... and behind its body
+-- what is visible after the body of an operation
 abbrev pub behind_operation : (whole : Scope) → Directory → (o : ℕ) → ProtectedItemTree → Visible → Visible
 behind_operation whole directory o (OperationBody d b) v = with_own_name whole directory o d v
 behind_operation whole directory o (EntryBody d barrier b) v = v

@@ -49,7 +49,7 @@ fn handler_by(
     }
 }
 
-// ... where an operation is the channel's handler.
+// The number of an operation that is the channel's handler.
 fn handler_at(
     scope: &Scope,
     directory: &Directory,
@@ -71,7 +71,7 @@ fn handler_at(
     }
 }
 
-// ... of the first of an object's operations that is.
+// The number of the first of an object's operations that is the channel's handler.
 fn handler_among(
     scope: &Scope,
     directory: &Directory,
@@ -89,7 +89,7 @@ fn handler_among(
     None
 }
 
-// ... of a declaration.
+// The number of the channel's handler that a declaration has.
 fn handler_in(scope: &Scope, directory: &Directory, channel: u8, item: &Item) -> Option<Option<u16>>
     ensures { result ≡ handler_told scope.now directory.now (handler_in scope.now channel (item_tree item.now)) }
 {
@@ -122,7 +122,7 @@ fn handler_of_items(
     None
 }
 
-// ... of a declaration in the body of a package; bodies declare none.
+// The number of the channel's handler that a declaration in the body of a package has; bodies have none.
 fn handler_in_body(
     scope: &Scope,
     directory: &Directory,
@@ -155,7 +155,7 @@ fn handler_of_bodies(
     None
 }
 
-// ... of all of a package.
+// The number of the channel's handler in a package.
 fn handler_of(
     scope: &Scope,
     directory: &Directory,

@@ -235,7 +235,7 @@ impl Directory {
         }
     }
 
-    // ... of all of them, in the order of their declarations.
+    // The numbers of the bodies of an object's operations, in the order of their declarations.
     fn numbers_of(
         &self,
         alloc: Global,
@@ -297,7 +297,7 @@ impl Directory {
         }
     }
 
-    // ... in the body of this object, where its operations have no words.
+    // The place of the component or variable with this name in the body of this object, whose operations have no words.
     fn slot_inside(&self, whole: &Scope, object: usize, name: &Text) -> Option<Slot>
         ensures { result ≡ told_slot (slot_told whole.now self.now) (number_told whole.now self.now) (Some object) name.now }
     {

@@ -32,7 +32,7 @@ pub struct Globals {
     pub exceptions: Vec<Text>,
 }
 
-// So many names of which nothing is told.
+// A row of `many` names without a place.
 fn nothing(alloc: Global, many: usize) -> Result<Vec<Option<Slot>>, Refusal>
     ensures none { IfOk result (λ all. all.items ≡ replicate many None) }
     ensures refused { IfErr result (λ why. IsRefused 0 0 why) }
@@ -68,7 +68,7 @@ fn named(exception: PredefinedException) -> Text
 }
 
 impl Globals {
-    // Those of a package without declarations.
+    // The places of the names of a package without declarations.
     fn new(alloc: Global, scope: &Scope) -> Result<Globals, Refusal>
         ensures globals { IfOk result (λ globals. AreGlobals scope.now [] globals) }
         ensures refused { IfErr result (λ why. IsRefused 0 0 why) }

@@ -91,7 +91,7 @@ fn number_operations_in(
     }
 }
 
-// Those of the bodies among some items.
+// Numbers the operations of the bodies among some items.
 fn number_operations_among(
     alloc: Global,
     scope: &Scope,

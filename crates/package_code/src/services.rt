@@ -127,7 +127,7 @@ fn is_object(scope: &Scope, name: &Identifier, object: usize) -> bool
     }
 }
 
-// ... among the bodies of an item, if they are those of the object.
+// The service of an entry among the bodies of an item, if they are those of the object.
 fn service_in(
     accepted: &Accepted,
     directory: &Directory,
@@ -152,7 +152,7 @@ fn service_in(
     }
 }
 
-// ... among the bodies of a package.
+// The service of an entry among the bodies of a package.
 fn service_within(
     accepted: &Accepted,
     directory: &Directory,

@@ -26,7 +26,7 @@ use unit_rules::inside_scope;
 pub enum Stop {
     /// The code of the body whose name stands at this place isn't made: with the instructions in front of it, so many, there may be more than an image has.
     Instructions { place: u32, before: usize },
-    /// That of this body isn't made: its frame and its operand stack may need more words together than a frame has.
+    /// The code of this body isn't made: its frame and its operand stack may need more words together than a frame has.
     Frame { place: u32 },
     /// The handlers up to the end of what has its name at this place have so many choices, more than an image has rows.
     Rows { place: u32, rows: usize },
@@ -63,7 +63,7 @@ fn code_place(item: &BodyItem, index: usize) -> u32
     }
 }
 
-// That of an item's own.
+// The place of the name of an item's own body.
 fn item_place(item: &BodyItem) -> u32
     ensures { result ≡ item_place (body_item_tree item.now) }
 {

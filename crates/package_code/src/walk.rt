@@ -130,7 +130,7 @@ fn operation_kind(object: u16, given: &Option<Identifier>) -> Kind
     }
 }
 
-// That of an operation or an entry.
+// The kind of the body of an operation or an entry of a protected object.
 fn inside_kind(object: u16, item: &ProtectedBodyItem) -> Kind
     ensures { result ≡ own_kind object (protected_item_tree item.now) }
 {
@@ -158,7 +158,7 @@ fn components_copy(
     Ok(copy)
 }
 
-// Those of the protected object whose name has this number.
+// The components of the protected object whose name has this number.
 fn components_of(
     alloc: Global,
     scope: &Scope,
@@ -352,7 +352,7 @@ impl Walk {
         }
     }
 
-    // ... and its row.
+    // Adds the code and the row of an operation or entry of a protected object, whose components are visible.
     fn inside_body(
         &mut self,
         accepted: &Accepted,
@@ -727,7 +727,7 @@ fn walk_package(
     Ok(walk)
 }
 
-/// That of a program without one.
+/// The walk over a program without a package.
 pub(crate) fn walk_nothing(
     alloc: Global,
     accepted: &Accepted,

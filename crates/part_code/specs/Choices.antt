@@ -48,7 +48,7 @@ pub record TestsChoice (s : Scope) (label : ℕ) (old : Code) (c : ExprTree) (ne
   pub gives : static_value s c ≡ Gives (value_of value)
   pub adds : AddsTest old (scalar_word value) label new
 
--- ... and those of choices, one behind another
+-- the tests of several choices were added, one after another
 abbrev pub TestsAll : Scope → (label : ℕ) → (old : Code) → List ExprTree → (new : Code) → Type 0
 TestsAll s label old [] new = new ≡ old
 TestsAll s label old (c ∷ cs) new = (mid : Code) × TestsChoice s label old c mid × TestsAll s label mid cs new

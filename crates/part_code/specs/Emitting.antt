@@ -82,7 +82,7 @@ abbrev pub Pushes : (old : Code) → (height : ℕ) → List ℤ → (new : Code
 Pushes old height [] new = old ≡ new
 Pushes old height (w ∷ ws) new = (next : Code) × Adds old height (op.Push w) next × Pushes next (height + 1) ws new
 
--- ... so many stand there then
+-- these words were pushed, and so many are on the operand stack then
 pub record HasPushed (old : Code) (height : ℕ) (ws : List ℤ) (new : Code) (top : ℕ) : Type 0 where
   pub pushes : Pushes old height ws new
   pub more : top ≡ height + length ws
@@ -98,7 +98,7 @@ pub record StoresWord (v : Visible) (old : Code) (offset : ℕ) (t : Subtype) (o
   pub value : EmitsInitial v old t o valued
   pub store : Adds valued 1 (op.StoreLocal offset) new
 
--- ... of several words, and what stores them from an offset on
+-- the code of an initial value of several words was added, and what stores them from an offset on
 pub record StoresWords (v : Visible) (old : Code) (offset : ℕ) (t : Subtype) (o : Option ExprTree) (new : Code) : Type 0 where
   pub placed : Code
   pub valued : Code
@@ -107,7 +107,7 @@ pub record StoresWords (v : Visible) (old : Code) (offset : ℕ) (t : Subtype) (
   pub value : EmitsInitialWords v placed t o valued
   pub store : Adds valued (1 + words_of v.scope t) (op.StoreBlock regions.Locals (words_of v.scope t)) new
 
--- ... of however many
+-- the code of an initial value was added, and what stores it, of one word or several
 abbrev pub EmitsObject : Visible → (old : Code) → (offset : ℕ) → Subtype → Option ExprTree → (new : Code) → Type 0
 EmitsObject v old offset t o new = StoresWord v old offset t o new ⊎ StoresWords v old offset t o new
 
@@ -129,7 +129,7 @@ pub record SkipsWay (old : Code) (new : Code) : Type 0 where
   pub skips : Adds old 0 (op.Jump (here old + 2)) skipped
   pub leaves : Adds skipped 0 (op.Jump 0) new
 
--- ... or nothing, where no statement of the loop leads there
+-- a loop begins: with a way out, or without one where no statement of the loop leads there
 abbrev pub BeginsLoop : (old : Code) → (exit : Option ℕ) → (new : Code) → Type 0
 BeginsLoop old (Some out) new = SkipsWay old new × (out ≡ here old + 1)
 BeginsLoop old None new = new ≡ old

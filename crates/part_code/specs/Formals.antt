@@ -146,7 +146,7 @@ pub record BeginsWithin (s : Scope) (room : ℕ) (x : PlacedFormal) : Type 0 whe
 abbrev pub HasWord : (offset : ℕ) → Sections → Subprogram → Type 0
 HasWord offset i q = offset < q.locals
 
--- ... those of a parameter, of one with this address, and of all
+-- the frame of a subprogram has the words of a parameter
 abbrev pub HasFormalRoom : Scope → PlacedFormal → Sections → Subprogram → Type 0
 HasFormalRoom s x i q = BeginsWithin s q.locals x
 
@@ -207,7 +207,7 @@ pub record AddsLoaded (old : Code) (offset many : ℕ) (new : Code) : Type 0 whe
   pub sized : here new ≤ here old + 2
   pub loads : (i : Sections) → Holds i (here old) new → IsLoadingCode i (here old) (here new) offset many
 
--- ... and of an address in front of it
+-- the code that loads a parameter and the address before it was added
 pub record AddsReturned (s : Scope) (old : Code) (address : ℕ) (x : PlacedFormal) (new : Code) : Type 0 where
   pub extends : Extends old new
   pub longer : suc (here old) ≤ here new

@@ -29,7 +29,7 @@ abbrev pub or_answer : Option ℕ → Option ℕ → Option ℕ
 or_answer (Some target) other = Some target
 or_answer None other = other
 
--- ... where rows were added for the code between these places: as they tell, and else as the rows around it
+-- where rows were added for the code between these places, an exception goes where they say, and else where the rows around it say
 abbrev pub GoesByRows : Sections → List Row → Handling → (from to : ℕ) → Type 0
 GoesByRows i added r from to =
     (place x : ℕ) → from ≤ place → place < to → handler_of i.rows place x ≡ or_answer (handler_of added place x) (r x)
@@ -54,7 +54,7 @@ module _ (i : Sections) (g : Package) where
         ≡ does Quiet m (record f { place = suc place; locals = locals; stack = [] }) fs None None
     pub rests : RestsWith g inner (exception_in word x ∷ held) a locals
 
-  -- ... whatever frame and exception it is
+  -- the exception is kept in this word, in each frame and for each exception
   pub record KeepsException (v inner : Framed) (word place : ℕ) : Type 0 where
     pub shows : Shows g inner v
     pub reserved : inner.reserved ≡ word ∷ v.reserved

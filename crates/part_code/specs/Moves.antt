@@ -30,8 +30,8 @@ pub record EmitsMove (v : Visible) (to : Moved) (old : Code) (e : ExprTree) (new
   pub stands : (i : Sections) → Holds i (here old) new → (g : Package) → IsMoved i g v to.region to.words (here old) (here new) e
   pub flows : Flows (SuitsStatements v) old 1 new 0
 
--- ... that of branches, in every image that joins the jumps which wait, and find an empty operand stack, to what stands behind; where a condition does not
--- hold, the address is still on the operand stack
+-- the code of branches that are moved was added: in every image that joins the jumps which wait, with an empty operand stack, to what comes after; where a
+-- condition does not hold, the address is still on the operand stack
 pub record EmitsMoves (v : Visible) (to : Moved) (old : Code) (all : List Branch) (waiting : List ℕ) (new : Code) : Type 0 where
   pub extends : Extends old new
   pub sized : here new ≤ here old + 20 * elsif_values_size (alone all)

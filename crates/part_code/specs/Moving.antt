@@ -35,7 +35,7 @@ variable_at (standing.Part role.LoopParameter t) x = None
 variable_at (standing.Part r t) (Some x) = Some (record { slot = x; whole = t })
 variable_at w x = None
 
--- ... where a part of it is named that is an object
+-- the source by which a part of an object is named
 abbrev pub source_by : Standing → Option Source → Option Source
 source_by (standing.Part r t) x = x
 source_by w x = None

@@ -115,7 +115,7 @@ abbrev pub single_needs : Visible → Option ExprTree → Needs
 single_needs v None = stacked 1
 single_needs v (Some e) = record { stack = checked_peak (peak v.scope e); frame = 0; unfit = has_unfit v }
 
--- That of an initial value of a subtype, above the place of several words.
+-- What an initial value of a subtype needs, above the address of several words.
 abbrev pub initial_needs : Visible → Subtype → Option ExprTree → Needs
 initial_needs v t None = stacked (suc (words_of v.scope t))
 initial_needs v t (Some e) =
@@ -301,12 +301,12 @@ invoked_needs v name profile = passed_needs v profile.formals (actuals_behind na
 abbrev pub put_needs : Visible → NameTree → Needs
 put_needs v name = line_needs v (line_of name)
 
--- ... of one through the name of a protected object, whose operation or entry has this profile
+-- what a call through the name of a protected object needs, whose operation or entry has this profile
 abbrev pub behind_needs : Visible → ExternalName → Option Profile → Needs
 behind_needs v x None = nothing
 behind_needs v x (Some profile) = passed_needs v profile.formals (Some x.arguments)
 
--- ... of an entry of the body's own object, which is a test alone; or of a line
+-- what a bare name needs: of an entry of the body's own object, which is a test alone, or of a line
 abbrev pub bare_needs : Visible → NameTree → (own_entry : Bool) → Needs
 bare_needs v name true = nothing
 bare_needs v name false = put_needs v name
@@ -358,7 +358,7 @@ initial_bound s t (Some e) = 3 + 20 * expr_size e
 abbrev pub RefusesInitial : Visible → (old : Code) → Subtype → Option ExprTree → (more : ℕ) → Refusal → Type 0
 RefusesInitial v old t value more why = IsNeeding (here old + (more + initial_bound v.scope t value)) (initial_needs v t value) why
 
--- ... of one of a single word
+-- how many instructions the initial value of a single word has at most
 abbrev pub single_bound : Option ExprTree → ℕ
 single_bound None = 1
 single_bound (Some e) = 3 + 20 * expr_size e

@@ -79,7 +79,7 @@ module _ (i : Sections) (program : Program) (g : Package) (v : Framed) where
       → ArePassed (map (shape_of g.scope) (map parameter_subtype (taken ps))) a.values × AreOf program.scope (taken_types ps) a.values
       × ArePlaced v ds a.targets
 
-  -- ... in front of others, whatever these are
+  -- these actual parameters are passed before others, of whatever kind
   pub record ArePassedInFront (from mid : ℕ) (ps : List Parameter) (all : List ArgumentTree) (ds : List Destination) : Type 0 where
     pub computes : (to : ℕ) (qs : List Parameter) (rest : ArgumentTrees) → mid ≤ to → ComputesActuals mid to qs rest
         → ComputesActuals from to (ps ++ qs) (arguments_in_front all rest)
@@ -100,7 +100,7 @@ pub record EmitsPassedActuals (v : Visible) (old : Code) (depth : ℕ) (fs : Lis
   pub back : total (returned_width v.scope) fs ≡ total (copied_width v.scope) ds
   pub flows : Flows (Suits v) old depth new height
 
--- ... and what it is copied back to was added to a list
+-- the code of actual parameters was added, and the variables that they are copied back to were added to a list
 pub record AddsActuals (v : Visible) (old : Code) (depth : ℕ) (fs : List FormalParameter) (all : List ArgumentTree) (before after : List Destination)
     (height : ℕ) (new : Code) : Type 0 where
   pub destinations : List Destination
@@ -133,7 +133,7 @@ pub record AddsRange (old : Code) (depth : ℕ) (t : Subtype) (new : Code) : Typ
   pub last : Adds one (depth + 1) (op.Push t.last) two
   pub check : Adds two (depth + 2) op.CheckRange new
 
--- ... of a value of such a type
+-- the check of a value of this type was added, where it has one
 abbrev pub AddsCheck : Option TypeForm → (old : Code) → (depth : ℕ) → Subtype → (new : Code) → Type 0
 AddsCheck (Some Integers) old depth t new = AddsRange old depth t new
 AddsCheck (Some Times) old depth t new = AddsRange old depth t new

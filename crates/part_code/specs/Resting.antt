@@ -88,7 +88,7 @@ AreHeld locals (h ∷ hs) = (slice_get locals h.offset ≡ Some h.word) × AreHe
 abbrev pub AreKept : (places : List ℕ) → (before after : List ℤ) → Type 0
 AreKept places before after = (n : ℕ) → is_among places n ≡ true → slice_get after n ≡ slice_get before n
 
--- ... and the words that are held are those that statements leave alone
+-- an activation rests, and the words that are held are those that statements leave alone
 pub record RestsWith (g : Package) (v : Framed) (words : List HeldWord) (a : Activation) (locals : List ℤ) : Type 0 where
   pub rests : Rests g v a locals
   pub held : AreHeld locals words

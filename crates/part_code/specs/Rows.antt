@@ -38,7 +38,7 @@ abbrev mutual
   handlers_rows before NoHandlers = before
   handlers_rows before (MoreHandlers choices body rest) = handlers_rows (stmts_rows (before + length choices) body) rest
 
--- ... behind those of a body
+-- how many rows there are after those of a body
 abbrev pub body_rows : (before : ℕ) → BodyTree → ℕ
 body_rows before b = handlers_rows (stmts_rows before b.statements) b.handlers
 

@@ -36,7 +36,7 @@ next_operation false = op.Add
 abbrev pub bounds_stored : Turns → List Instr
 bounds_stored t = instruction 2 (op.StoreLocal (word_of_last t)) ∷ instruction 1 (op.StoreLocal (word_of_first t)) ∷ []
 
--- ... and compared again
+-- both bounds are stored, loaded and compared
 abbrev pub bounds_compared : Turns → List Instr
 bounds_compared t =
     instruction 2 (op.StoreLocal (word_of_last t)) ∷ instruction 1 (op.StoreLocal (word_of_first t)) ∷ instruction 0 (op.LoadLocal (word_of_last t))
@@ -44,14 +44,14 @@ bounds_compared t =
     ∷ instruction 2 op.Less
     ∷ []
 
--- ... and then a jump where the last one is less, whose place waits
+-- the bounds are stored and compared, and there is a jump where the last one is less, whose place waits
 pub record BeginsTurns (old : Code) (t : Turns) (null : ℕ) (new : Code) : Type 0 where
   pub compared : Code
   pub compares : AddsAll old (bounds_compared t) compared
   pub place : null ≡ here compared
   pub jumps : Adds compared 1 (op.JumpIfNotZero 0) new
 
--- ... but no jump, and nothing compared, where the range is full: it has a value whatever its bounds are worth
+-- the turns begin: without a jump, and nothing compared, where the range is full, which has a value whatever its bounds are worth
 abbrev pub StartsTurns : (old : Code) → Turns → (full : Bool) → (null : Option ℕ) → (new : Code) → Type 0
 StartsTurns old t full (Some null) new = BeginsTurns old t null new
 StartsTurns old t full None new = (full ≡ true) × AddsAll old (bounds_stored t) new

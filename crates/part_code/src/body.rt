@@ -119,7 +119,7 @@ fn give_back(
     Ok(height)
 }
 
-// The same where it is copied back, and nothing for another. Tells the depth behind them.
+// Puts the address and the value of a parameter that is copied back on the operand stack, and nothing for another one; returns the depth after them.
 fn give_back_if_any(
     code: &mut Code,
     scope: &Scope,

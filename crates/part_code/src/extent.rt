@@ -14,7 +14,7 @@ pub struct Extent {
 }
 
 impl Extent {
-    /// That of what is visible now, and of the words that are taken.
+    /// The extent of what is visible now, and of the words that are taken.
     pub fn of(visible: &Visible, words: FrameWords) -> Extent
         ensures names { result.names ≡ length visible.now.scope }
         ensures slots { result.slots ≡ length visible.now.slots }

@@ -26,7 +26,7 @@ pub struct PlacedFormal {
     pub address: Option<u16>,
 }
 
-/// Those of all formal parameters, and how many words a call passes for them.
+/// The places of all formal parameters, and how many words a call passes for them.
 #[derive(Drop)]
 pub struct PlacedFormals {
     pub formals: Vec<PlacedFormal>,

@@ -13,7 +13,7 @@ pub struct Leaving {
 }
 
 impl Leaving {
-    /// Those in a loop with this way out, if it has one.
+    /// The ways out in a loop with this way out, if it has one.
     pub fn in_loop(self, exit: Option<u16>) -> Leaving
         ensures { ways_of result ≡ with_exit exit (ways_of self) }
     {
@@ -23,7 +23,7 @@ impl Leaving {
             handled: self.handled,
         }
     }
-    /// Those in a handler whose exception this word holds.
+    /// The ways out in a handler whose exception this word holds.
     pub fn in_handler(self, word: u16) -> Leaving
         ensures { ways_of result ≡ within_handler word (ways_of self) }
     {

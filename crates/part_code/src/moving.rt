@@ -103,7 +103,7 @@ pub fn is_moved(visible: &Visible, e: &Expr) -> bool
     }
 }
 
-// ... in the parts behind the first one.
+// Whether the values in the parts after the first one of an if expression are moved.
 #[cycle(is_moved)]
 fn are_moved(visible: &Visible, elsifs: &[ElsifValue]) -> bool
     ensures { result ≡ are_moved visible.now (elsif_value_trees elsifs.now) }

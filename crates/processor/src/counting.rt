@@ -42,7 +42,7 @@ impl<L: Ledger> Steps<L> {
         self.book.add(&mut self.share, 1);
     }
 
-    /// So many steps more.
+    /// `count` steps more.
     pub fn tick_by(&mut self, count: u64)
         ensures { self.new ≡ self.old + count }
     {

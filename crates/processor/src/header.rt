@@ -49,7 +49,7 @@ impl Headers {
         Ok(Headers { items })
     }
 
-    /// That of the running frame.
+    /// The header of the running frame.
     #[inline(always)]
     pub(crate) fn running(&self) -> &Header
         ensures { result.now ≡ self.now.running }

@@ -42,11 +42,11 @@ use Rattle.stmt_code.specs.WholeRefusals.{function_needs, procedure_needs}
 abbrev pub formals_take : Scope → List FormalParameter → ℕ
 formals_take s fs = total (λ f. words_of s f.subtype) fs
 
--- those of each subprogram that is visible are few
+-- the formals of each subprogram that is visible have few words
 abbrev pub FewWords : Scope → Type 0
 FewWords s = (name : List ℕ) (p : Profile) → profile_named s name ≡ Some p → formals_take s p.formals ≤ 64
 
--- ... and of each operation or entry that is named behind its protected object
+-- the formals of each operation or entry that is named after its protected object have few words
 abbrev pub FewWordsBehind : Scope → Type 0
 FewWordsBehind s = (object operation : List ℕ) (p : Profile) → external_profile s object operation ≡ Some p → formals_take s p.formals ≤ 64
 
@@ -63,7 +63,7 @@ pub record IsSmallScope (s : Scope) : Type 0 where
   pub objects : ObjectsHaveRoom s
   pub behind : FewWordsBehind s
 
--- ... where code knows of each name what it needs, in a program with these exceptions
+-- what is visible in a small source, where code knows of each name what it needs, in a program with these exceptions
 pub record IsSmallVisible (exceptions : List (List ℕ)) (v : Visible) : Type 0 where
   pub names : IsSmallScope v.scope
   -- what code knows of a name stands at the name's number
@@ -96,7 +96,7 @@ pub record IsSmallProcedure (s : Scope) (fs : List Formal) (b : BodyTree) : Type
   pub shallow : body_depth b ≤ 16
   pub words : formals_words s (formals_scope s fs) fs + body_words (formals_scope s fs) b ≤ 64
 
--- ... that of a function, which returns the value of an expression
+-- a function that returns the value of an expression fits a frame
 pub record IsSmallFunction (s : Scope) (fs : List Formal) (t : Subtype) (e : ExprTree) : Type 0 where
   pub few : length fs ≤ FORMALS
   pub head : AreLegalFormals s fs

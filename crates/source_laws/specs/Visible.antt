@@ -38,7 +38,7 @@ abbrev pub FrontsKeepLimits : Type 0
 FrontsKeepLimits = (limit : Limit) (t : ProgramTree) (tokens : List Token) → program limit t tokens → IsLegal t → IsRestricted t → (place : ℕ)
     → KeepsLimits (front t place)
 
--- ... and in front of the parameters of each of these
+-- objects have no more words than an image before the parameters of each body of an accepted text
 abbrev pub BodiesKeepLimits : Type 0
 BodiesKeepLimits = (limit : Limit) (t : ProgramTree) (tokens : List Token) → program limit t tokens → IsLegal t → IsRestricted t
     → (c : Coded) → IsBodyOf t c → KeepsLimits c.front
@@ -54,7 +54,7 @@ NothingIsUnfit = (limit : Limit) (t : ProgramTree) (tokens : List Token) → pro
 abbrev pub CalleesHaveFew : Type 0
 CalleesHaveFew = (t : ProgramTree) → IsLegal t → IsRestricted t → (place : ℕ) → FewFormals (front t place)
 
--- ... and in front of the parameters of each body with code
+-- what can be called has few formals before the parameters of each body with code of an accepted text
 abbrev pub BodiesCallFew : Type 0
 BodiesCallFew = (t : ProgramTree) → IsLegal t → IsRestricted t → (c : Coded) → IsBodyOf t c → FewFormals c.front
 

@@ -11,7 +11,7 @@ pub fn procedures_have_room()
     ensures { ProceduresHaveRoom }
 {}
 
-/// ... and so are those of a small function.
+/// The frame and operand stack of a small function are no larger than an image's.
 pub fn functions_have_room()
     ensures { FunctionsHaveRoom }
 {}

@@ -39,7 +39,7 @@ pub fn fronts_keep_limits()
     words_have_room();
 }
 
-/// ... and so it is in front of the parameters of each body with code, also in the body of a protected object.
+/// Before the parameters of each body with code, also in the body of a protected object, objects have no more words than an image.
 pub fn bodies_keep_limits()
     ensures { BodiesKeepLimits }
 {
@@ -77,7 +77,7 @@ pub fn callees_have_few()
     scopes_are_sound();
 }
 
-/// ... and so it is in front of the parameters of each body with code, also in the body of a protected object.
+/// What can be called before the parameters of each body with code, also in the body of a protected object, has few formals.
 pub fn bodies_call_few()
     ensures { BodiesCallFew }
 {
@@ -120,7 +120,7 @@ pub fn small_has_room()
     values_have_words();
 }
 
-/// So the code of an accepted text passes a limit of images only by the instructions, or the rows of handlers, of all of it, or by the words of a frame, where
+/// The code of an accepted text passes a limit of images only by the instructions, or the rows of handlers, of all of it, or by the words of a frame, where
 /// not each body is small.
 pub fn limits_are_told()
     ensures { LimitsAreTold }
@@ -129,7 +129,7 @@ pub fn limits_are_told()
     small_has_room();
 }
 
-/// And that of a small accepted text passes none.
+/// The code of a small accepted text passes no limit of images.
 pub fn small_is_unlimited()
     ensures { SmallIsUnlimited }
 {

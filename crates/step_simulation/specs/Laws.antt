@@ -96,7 +96,7 @@ OfServed P Inner = ⊤
 OfServed P (Opened o) = ⊤
 OfServed P (Serving o u pending) = P u
 
--- ... of those of all these frames
+-- this holds of the callers for whom these frames run the bodies of entries
 abbrev pub OfAllServed : (ℕ → Type 0) → List Frame → Type 0
 OfAllServed P [] = ⊤
 OfAllServed P (f ∷ fs) = OfServed P f.role × OfAllServed P fs

@@ -94,7 +94,7 @@ module _ (i : Sections) (program : Program) (g : Package) (numbers : Numbers) wh
   abbrev pub in_loop : ℕ → Framed → Around → Around
   in_loop exit v outer = record outer { visible = v; ways = within_loop exit outer.ways; behind = outer.visible }
 
-  -- ... in those of a turn of a loop over a range
+  -- in the statements of a turn of a loop over a range, of which this is around
   abbrev pub in_range : (exit counter limit : ℕ) → (now last : ℤ) → Framed → Around → Around
   in_range exit counter limit now last v outer = record outer {
     visible = v;
@@ -127,7 +127,7 @@ module _ (i : Sections) (program : Program) (g : Package) (numbers : Numbers) wh
     pub up : at ≤ to
     pub to_inside : Inside n to
 
-  -- ... from which ways out may lead
+  -- the part of the subprogram's code between two places from which ways out may lead
   pub record LeadsByWays (a : Around) (n from at to : ℕ) (now : Framed) : Type 0 where
     pub jumps : Jumps i from at
     pub narrows : NarrowsFrame g a.visible now

@@ -84,7 +84,7 @@ pub record AreAcceptedElsifs (s : Scope) (w : Ways) (all : ElsifTrees) : Type 0 
   pub unbroken : elsifs_faults s around all ≡ []
   pub restricted : restrictions.elsifs_faults all ≡ []
 
--- ... in handlers, behind others that name some exceptions
+-- no rule is broken in handlers that come after others, which name some exceptions
 pub record AreAcceptedHandlers (s : Scope) (w : Ways) (all : HandlerTrees) : Type 0 where
   pub around : Around
   pub ways : HasWays w around (handlers_leave all)
@@ -215,7 +215,7 @@ abbrev pub EmitsStatement : Visible → Ways → Draft → StmtTree → Draft �
 EmitsStatement v w old x new = Emits (λ i program g numbers f handling from to. IsStatement i program g numbers f w handling from to x) v w old
     (stmt_bound v.scope x) (stmt_within x) new
 
--- ... and its own
+-- a statement's code was added, and its own place
 abbrev pub EmitsMarkedStatement : Visible → Ways → Draft → StmtTree → Draft → Type 0
 EmitsMarkedStatement v w old x new = Emits (λ i program g numbers f handling from to. IsStatement i program g numbers f w handling from to x) v w old
     (stmt_bound v.scope x) (stmt_within x ++ x ∷ []) new
@@ -262,7 +262,7 @@ pub record EmitsDeclarations (v : Visible) (old : Draft) (ds : List DeclarationT
 abbrev pub MeantTo : Type 1
 MeantTo = Sections → Program → Package → Numbers → Framed → Handling → (end from to : ℕ) → Type 0
 
--- ... in every image that joins the waiting jumps, which find an empty operand stack, to what stands behind; in front of it and behind it stand so many words
+-- code with jumps that wait was added: in every image that joins them, with an empty operand stack, to what comes after; words before and after are given
 pub record EmitsOpen (Is : MeantTo) (v : Visible) (w : Ways) (depth : ℕ) (old : Draft) (size : ℕ) (within : List StmtTree) (waiting : List ℕ) (new : Draft)
     : Type 0 where
   pub extends : Extends old.code new.code

@@ -50,7 +50,7 @@ abbrev mutual
   handlers_within NoHandlers = []
   handlers_within (MoreHandlers choices body rest) = stmts_within body ++ handlers_within rest
 
--- ... within statements and their handlers
+-- the statements within a sequence and its handlers
 abbrev pub sequence_within : StmtTrees → HandlerTrees → List StmtTree
 sequence_within body all = stmts_within body ++ handlers_within all
 

@@ -106,7 +106,7 @@ Refuses old labels bound n why = IsNeeding (here old.code + bound) n why ⊎ Has
 abbrev pub RefusesStatement : Visible → (old : Draft) → StmtTree → Refusal → Type 0
 RefusesStatement v old x why = Refuses old (stmt_labels old.labels x) (stmt_bound v.scope x) (stmt_needs (around v old) x) why
 
--- ... of a call, by what this one needs
+-- the refusal of a call, which needs this much
 abbrev pub RefusesCall : Visible → (old : Draft) → NameTree → Needs → Refusal → Type 0
 RefusesCall v old name n why = Refuses old (stmt_labels old.labels (Call name)) (stmt_bound v.scope (Call name)) n why
 

@@ -21,7 +21,7 @@ pub record Stays (old : Draft) (n : Needs) (behind : List (List ℕ)) (many : �
 abbrev pub StaysStatement : Visible → (old : Draft) → StmtTree → (new : Draft) → Type 0
 StaysStatement v old x new = Stays old (stmt_needs (around v old) x) (stmt_labels old.labels x) (stmt_rows (length old.rows.items) x) new
 
--- ... of a call, by what this one needs
+-- what stays as it was where a call was added, which needs this much
 abbrev pub StaysCall : (old : Draft) → NameTree → Needs → (new : Draft) → Type 0
 StaysCall old name n new = Stays old n (stmt_labels old.labels (Call name)) (length old.rows.items) new
 
@@ -39,7 +39,7 @@ StaysAlternatives v old all new =
 abbrev pub StaysHandlers : Visible → (old : Draft) → HandlerTrees → (new : Draft) → Type 0
 StaysHandlers v old all new = Stays old (handlers_needs (around v old) all) (handlers_labels old.labels all) (bodies_rows (length old.rows.items) all) new
 
--- ... with these rows
+-- handlers whose rows have been added
 abbrev pub StaysHandled : Visible → (old : Draft) → HandlerTrees → (new : Draft) → Type 0
 StaysHandled v old all new = Stays old (handlers_needs (around v old) all) (handlers_labels old.labels all) (handlers_rows (length old.rows.items) all) new
 

@@ -136,7 +136,7 @@ pub record IsCalledProcedure (s : Scope) (fs : List Formal) (words : SubprogramW
   pub passed : (all : List FormalParameter) → formal_parameters s fs ≡ Some all → words.passed ≡ total (passed_width s) all
   pub results : (all : List FormalParameter) → formal_parameters s fs ≡ Some all → words.results ≡ total (returned_width s) all
 
--- ... of a function, which has this result
+-- the words of a function that is called, which has this result
 pub record IsCalledFunction (s : Scope) (fs : List Formal) (result : Subtype) (words : SubprogramWords) : Type 0 where
   pub passed : (all : List FormalParameter) → formal_parameters s fs ≡ Some all → AreIn all → words.passed ≡ total (words_of s) (map parameter_subtype all)
   pub results : IsKnown s result → words.results ≡ words_of s result

@@ -37,7 +37,7 @@ pub struct SubprogramWords {
 }
 
 impl SubprogramWords {
-    // The same, where a frame and its operand stack have no more than 512 words together (docs/FORMATS.md).
+    // These words, where a frame and its operand stack have no more than 512 words together (docs/FORMATS.md).
     fn within_frame(self) -> Result<SubprogramWords, Refusal>
         ensures same { IfOk result (λ words. words ≡ self) }
         ensures fits { OnOk result (self.locals + self.stack ≤ FRAME_WORDS) }

@@ -137,7 +137,7 @@ fn keep_block(
     true
 }
 
-// The same from a place on.
+// Keeps a copy of a block of words from a place on, where it lies inside.
 fn keep_words(
     program: &Program,
     state: &TaskState,
@@ -181,7 +181,7 @@ fn put_block(
     true
 }
 
-// The same from a place on.
+// Puts the words that are kept from a place on, where they lie inside.
 fn put_words(
     program: &Program,
     state: &mut TaskState,

@@ -45,7 +45,7 @@ pub enum Ending {
     HandsBack { caller: u8 },
 }
 
-/// The same, and whether it is the end of a handler: its own action closes (RM C.3.1).
+/// What the end of an action results in, and whether it is the end of a handler: its own action closes (RM C.3.1).
 #[derive(Clone, Copy, PartialEq, Eq, Debug)]
 pub struct Ended {
     pub ending: Ending,

@@ -122,7 +122,7 @@ impl<'a, R: Ready, D: Delays> Tasking<'a, R, D> {
         tasking
     }
 
-    // The same before any task is ready.
+    // The tasks and objects at time 0, before any task is ready.
     fn blank(bases: &[u8], ceilings: &[u8], attached: Attached, lines: &'a [ScheduleLine]) -> Self
         requires tasks { length bases.now ≤ TASKS }
         requires objects { length ceilings.now ≤ OBJECTS }
@@ -490,7 +490,7 @@ impl<'a, R: Ready, D: Delays> Tasking<'a, R, D> {
         }
     }
 
-    // Those due at a time leave the sleepers; it is that time.
+    // The tasks that are due at a time leave the sleepers; the clock is at that time then.
     fn expire(&mut self, time: i64) -> ArrayVec<u8, TASKS>
         ensures tasks { result.items ≡ due time (kernel_of self.old).sleepers }
         ensures left { kernel_of self.new ≡ record (kernel_of self.old) { now = time; sleepers = waiting time (kernel_of self.old).sleepers } }
@@ -501,7 +501,7 @@ impl<'a, R: Ready, D: Delays> Tasking<'a, R, D> {
         self.delays.expire(time)
     }
 
-    // It is a time, and the tasks due become ready in the order in which they began to wait (RM 9.6, D.2.3).
+    // The clock moves to a time, and the tasks that are due become ready in the order in which they began to wait (RM 9.6, D.2.3).
     fn wake_due(&mut self, time: i64)
         ensures { kernel_of self.new ≡ wakes_due (kernel_of self.old).sleepers (record (kernel_of self.old) { now = time; sleepers = [] }) }
     {

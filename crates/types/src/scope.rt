@@ -228,7 +228,7 @@ impl Scope {
         }
     }
 
-    // The same with one name more, which stands for this.
+    // The number of protected objects among the names, with one name more, which denotes this.
     fn objects_with(&self, entity: &Entity) -> usize
         ensures { result ≡ protected_count self.now + one_if_protected (entity_value entity.now) }
     {

@@ -60,7 +60,7 @@ abbrev pub declared_meaning : List ItemTree → Identifier → Meaning
 declared_meaning [] name = meaning.Nothing
 declared_meaning (d ∷ ds) name = elim (same_name (item_name d) name) [ true ↦ item_meaning d | false ↦ declared_meaning ds name ]
 
--- the same by the place where the name stands first
+-- the name that an item of the specification declares, by the place where it is first
 abbrev pub item_bytes : Item → List ℕ
 item_bytes i = (item_name (item_tree i)).name
 

@@ -76,7 +76,7 @@ abbrev pub values_text : ℕ → List ℕ → List ℕ
 values_text s [] = []
 values_text s (v ∷ vs) = value_text s v ++ values_text (suc s) vs
 
--- those that are other ones than before
+-- the values of signals from number s on that differ from those before
 abbrev pub changes_text : ℕ → List ℕ → List ℕ → List ℕ
 changes_text s (v ∷ vs) (w ∷ ws) = (if nat_eq v w then [] else value_text s w) ++ changes_text (suc s) vs ws
 changes_text s _ _ = []

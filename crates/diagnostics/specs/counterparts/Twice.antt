@@ -51,7 +51,7 @@ abbrev pub of_body : List ℕ → ℕ → (own : Identifier) → List Formal →
 of_body name place own formals b =
     or_first (in_front name place own) (or_first (first_formal name place formals) (first_local name place b.declarations))
 
--- ... and what the blocks and loops have that the place is in
+-- the declaration of this name in a body, also in the blocks and loops that the place is in
 abbrev pub within_body : List ℕ → ℕ → (own : Identifier) → List Formal → BodyTree → Option ℕ
 within_body name place own formals b =
     if is_between place own b.end_name then or_first (nested_in name place b) (of_body name place own formals b) else None
