@@ -148,7 +148,7 @@ class Caller:
         run = subprocess.run([self.program, "trace", *words], cwd=self.folder, capture_output=True, check=False)
         self.calls += 1
         *rows, last = run.stdout.splitlines(keepends=True) or [b""]
-        written = b"".join(told[1] for told in (re.fullmatch(rb"\d+ \d+ \S+ writes (.*\n)", told) for told in rows) if told) + last
+        written = b"".join(told[1] + b"\n" for told in (re.fullmatch(rb"\d+ \d+ \S+ writes (.*?)(?: at \d+:\d+)?\n", told) for told in rows) if told) + last
         if (written, run.stderr, run.returncode) != (out, err, status):
             self.wrong.append(f"{row['name']}: trace: status {run.returncode}, {written[-300:]!r}, {run.stderr!r}; expected {status}, {out[-300:]!r}, {err!r}")
 

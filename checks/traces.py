@@ -1,6 +1,6 @@
 #!/usr/bin/env python3
 """Compares the traces of the sources in the tables and of the examples, byte for byte, with those that bench/reference.py makes of their images. An image has no
-places of the source: where an exception comes from is left out there, and told by raises.txt and by the examples' whole traces.
+places of the source: those of rows are left out there, compared with the statements that begin there, and by raises.txt and the examples' whole traces.
 
     traces.py PROGRAM FOLDER EXAMPLES SCRATCH
 
@@ -20,7 +20,7 @@ from reference import STATUSES, World  # noqa: E402
 TABLES = ("programs", "time", "delays", "tasks", "protected", "entries", "interrupts", "traces")
 STEPS, ALL_STEPS = 3_000, 1_000_000
 REFUSED = (rows.STATUSES["fault"], rows.STATUSES["schedule"])
-PLACED = re.compile(r"^(\d+ \d+ \w+ raises \w+(?: at its call)?) at \d+:\d+$", re.M)
+PLACED = re.compile(r"^(\d+ \d+ \w+ .*) at \d+:\d+$", re.M)
 
 
 def rows_of(folder):
@@ -37,6 +37,27 @@ def examples_of(folder):
     for name in sorted(name[:-4] for name in os.listdir(folder) if name.endswith(".adb")):
         source, schedule, trace = (os.path.join(folder, f"{name}.{kind}") for kind in ("adb", "schedule", "trace"))
         yield name, read(source), read(schedule) if os.path.exists(schedule) else b"", read(trace).decode()
+
+
+# What the statement begins with at the place of a row, by what the row reports.
+PLACES = {
+    r"writes \d+ \w+ (.*) -?\d+": lambda found: rf'put\s*\(\s*"{re.escape(found[1])}"',
+    r"(?:waits until|is late by) -?\d+": lambda found: r"delay\b",
+    r"(?:reads -?\d+ from \d+|(?:enters|leaves|queues|is refused).*)": lambda found: r"[a-z]",
+}
+
+
+def misplaced(source, trace):
+    """The rows of a trace at whose place in the source no statement begins that does what they report."""
+    lines = source.decode("latin-1").split("\n")
+    for row in trace.splitlines():
+        placed = re.fullmatch(r"\d+ \d+ \w+ (.*) at (\d+):(\d+)", row)
+        if placed and not placed[1].startswith("raises "):
+            text = "\n".join([lines[int(placed[2]) - 1][int(placed[3]) - 1 :], *lines[int(placed[2]) : int(placed[2]) + 3]])
+            for form, wanted in PLACES.items():
+                found = re.fullmatch(form, placed[1])
+                if found and not re.match(wanted(found), text, re.I):
+                    yield row
 
 
 def objects_of(source):
@@ -82,13 +103,15 @@ class Comparer:
         return world_of(self.program, self.folder, source, schedule, objects_of(source)).trace(STEPS)
 
     def compare(self, name, steps, expected, placed):
-        """Traces the source that was written: its trace is what is expected, with the places of exceptions or without them, and the status that of its last line."""
+        """Traces the source that was written: its trace is what is expected, with the places of rows or without them, at each place a statement begins that does what
+        the row reports, and the status is that of the last line."""
         run = self.call("trace", "main.adb", "input", str(steps))
         told = run.stdout.decode() if placed else PLACED.sub(r"\1", run.stdout.decode())
         self.rows += told.count("\n")
         if (told, run.stderr, run.returncode) != (expected, b"", STATUSES[expected.splitlines()[-1].split()[0]]):
             first = next((pair for pair in zip(told.splitlines(), expected.splitlines()) if pair[0] != pair[1]), None)
             self.wrong.append(f"{name}: status {run.returncode}, {run.stderr!r}; they differ first in {first}")
+        self.wrong += [f"{name}: no such statement is there: {row}" for row in misplaced(read(os.path.join(self.folder, "main.adb")), run.stdout.decode())]
 
 
 def main():

@@ -1,7 +1,7 @@
 //! Files and streams in memory, and one call of the program over them.
 ghost use Rattle.std.specs.Prelude.{◌≡◌, None};
 
-use adarun::{FileStore, ReadError, WriteError, drive};
+use adarun::{FileStore, ReadError, Stopwatch, WriteError, drive};
 use machine::{MemorySink, Plan, Steps};
 use std::alloc::{AllocError, Global};
 use std::marker::Brand;
@@ -47,6 +47,16 @@ impl<'a> FileStore for Files<'a> {
         let bytes = bytes.to_vec(self.alloc).map_err(|_| WriteError::Memory)?;
         self.written = Some((name, bytes));
         Ok(())
+    }
+}
+
+/// Nobody waits at a terminal.
+#[derive(Clone, Copy)]
+struct Nobody;
+
+impl Stopwatch for Nobody {
+    fn seconds(&self) -> Option<u64> {
+        None
     }
 }
 
@@ -105,7 +115,9 @@ fn call_over<L: Ledger, M: Ledger, N: Ledger>(
         entries,
         written: None,
     };
-    let status = drive(alloc, words, &mut files, &mut out, &mut err, &mut steps);
+    let status = drive(
+        alloc, words, &mut files, &Nobody, &mut out, &mut err, &mut steps,
+    );
     Ok(Left {
         status,
         written: files.written.take(),

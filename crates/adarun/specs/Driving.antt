@@ -488,7 +488,7 @@ LeavesWritten (ExplainText number source) standard_input before after status old
 LeavesWritten (CheckText source) standard_input before after status old new = AreFilesKept before after × (new ≡ old)
 LeavesWritten (SimulateText source schedule limit) standard_input before after status old new = AreFilesKept before after
     × LeavesGo (with_input standard_input before) source (input_of before schedule) limit status old new
-LeavesWritten (SearchText source choices until limit sought part) standard_input before after status old new = AreFilesKept before after
+LeavesWritten (SearchText source choices until limit sought part is_quiet) standard_input before after status old new = AreFilesKept before after
     × LeavesSearch (with_input standard_input before) source (before choices) until limit sought part status old new
 LeavesWritten ShowManual standard_input before after status old new = AreFilesKept before after × LeavesShown MANUAL.now status old new
 LeavesWritten ShowVersion standard_input before after status old new = AreFilesKept before after × LeavesShown VERSION.now status old new

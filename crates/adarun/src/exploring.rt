@@ -15,7 +15,7 @@ use image::Image;
 use image_laws::outcome_stays;
 use lexer::Fault;
 use machine::{RunFault, Sink, Steps, write_all};
-use searching::{Finding, Searched, Wanted, report};
+use searching::{Finding, Progress, Searched, Wanted, report};
 use std::alloc::Global;
 use std::sync::ledger::Ledger;
 use thiserror::Error;
@@ -91,12 +91,12 @@ fn write_report<S: Sink>(
 
 /// Compiles a source text, reads a set of schedules, and runs the image on the schedules of a part of it, in the order of alternatives, up to `until`
 /// (microseconds since the start) and with `limit` steps at one time at most, until a run comes to what is wanted. It writes the schedule under which this is
-/// so and what the run comes to, or that there is none (docs/FORMATS.md, "Search"). The steps of all runs are counted.
+/// so and what the run comes to, or that there is none (docs/FORMATS.md, "Search"). Meanwhile it reports how far it is. The steps of all runs are counted.
 ///
 /// # Errors
 /// As `compile` and `Choices::read`, in this order; then where memory was refused or a write failed. Nothing was written then, but a beginning of the answer
 /// where a write failed.
-pub fn search<S: Sink, L: Ledger>(
+pub fn search<S: Sink, P: Progress, L: Ledger>(
     alloc: Global,
     source: &[u8],
     choices: &[u8],
@@ -104,6 +104,7 @@ pub fn search<S: Sink, L: Ledger>(
     until: i64,
     limit: u64,
     wanted: Wanted<'_>,
+    progress: &mut P,
     sink: &mut S,
     steps: &mut Steps<L>,
 ) -> Result<SearchOutcome, SearchFault>
@@ -133,8 +134,9 @@ pub fn search<S: Sink, L: Ledger>(
         Err(fault) => return Err(SearchFault::Choices(fault)),
     };
     let _slots = choices.slots();
-    let Ok(searched) = searching::search(alloc, &image, &choices, part, until, limit, wanted, steps)
-    else {
+    let Ok(searched) = searching::search(
+        alloc, &image, &choices, part, until, limit, wanted, progress, steps,
+    ) else {
         return Err(SearchFault::Run(RunFault::Memory));
     };
     match write_report(alloc, &image, &choices, part, limit, &searched, sink) {

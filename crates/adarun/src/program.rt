@@ -17,6 +17,7 @@ use crate::files::{FileStore, ReadError, WriteError, read_source};
 use crate::going::{GoFault, go};
 use crate::naming::names_alone;
 use crate::origins::{Statements, position};
+use crate::progress::Stopwatch;
 use crate::reporting::{fault_report, outcome_report, schedule_refusal, source_refusal};
 use crate::rules::text_faults;
 use crate::search_command::drive_search;
@@ -68,11 +69,13 @@ pub(crate) enum TraceForm {
 /// version was asked for, this; and no write to `out` failed under any status but 1. Where a text, an image or a schedule was refused or memory was wanting,
 /// nothing was written; where a write to `out` failed, a beginning of what was to be written. `compile` writes the image's file, and nothing to `out`: that
 /// file stays as it was unless the bytes of the source's image were there to be written, and no other file changes. The steps of runs, searches and traces
-/// are counted, among them those of a second run, by which `simulate` says where an exception came from.
-pub fn drive<F: FileStore, O: Sink, E: Sink, L: Ledger>(
+/// are counted, among them those of a second run, by which `simulate` says where an exception came from. `watch` has the
+/// seconds that somebody has waited.
+pub fn drive<F: FileStore, W: Stopwatch, O: Sink, E: Sink, L: Ledger>(
     alloc: Global,
     words: &[&str],
     files: &mut F,
+    watch: &W,
     out: &mut O,
     err: &mut E,
     steps: &mut Steps<L>,
@@ -156,9 +159,11 @@ pub fn drive<F: FileStore, O: Sink, E: Sink, L: Ledger>(
                 limit,
                 wanted,
                 part,
+                is_quiet,
             },
         ) => drive_search(
-            alloc, files, source, choices, until, limit, wanted, part, out, err, steps,
+            alloc, files, source, choices, until, limit, wanted, part, is_quiet, watch, out, err,
+            steps,
         ),
         Ok(Request::Manual) => show(MANUAL, out, err),
         Ok(Request::Version) => show(VERSION, out, err),

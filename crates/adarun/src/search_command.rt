@@ -9,6 +9,7 @@ ghost use Rattle.adarun.specs.Reading.{with_input};
 use crate::exploring::{SearchFault, SearchOutcome, search};
 use crate::files::{FileStore, read_source};
 use crate::program::{Status, cannot_write, no_memory, refuse, refuse_source, unread};
+use crate::progress::{Reporter, Stopwatch};
 use choices::{ChoicesFault, Part};
 use command_line::Sought;
 use file_limits::CHOICES_BYTES;
@@ -59,9 +60,9 @@ fn refuse_choices<E: Sink>(err: &mut E, fault: &ChoicesFault) -> Status
 }
 
 /// Searches the schedules of a part of a set for one under which the source comes to what is sought, up to `until` (microseconds since the start), with
-/// `limit` steps at one time at most.
+/// `limit` steps at one time at most. Unless it is quiet it reports meanwhile how far it is, each second, where standard error is a terminal.
 #[inline(never)]
-pub(crate) fn drive_search<F: FileStore, O: Sink, E: Sink, L: Ledger>(
+pub(crate) fn drive_search<F: FileStore, W: Stopwatch, O: Sink, E: Sink, L: Ledger>(
     alloc: Global,
     files: &F,
     source: &str,
@@ -70,6 +71,8 @@ pub(crate) fn drive_search<F: FileStore, O: Sink, E: Sink, L: Ledger>(
     limit: u64,
     sought: Sought<'_>,
     part: Part,
+    is_quiet: bool,
+    watch: &W,
     out: &mut O,
     err: &mut E,
     steps: &mut Steps<L>,
@@ -86,6 +89,7 @@ pub(crate) fn drive_search<F: FileStore, O: Sink, E: Sink, L: Ledger>(
         Ok(lines) => lines,
         Err(error) => return unread(err, error, choices),
     };
+    let mut reporter = Reporter::new(err, watch, is_quiet);
     match search(
         alloc,
         &text,
@@ -94,6 +98,7 @@ pub(crate) fn drive_search<F: FileStore, O: Sink, E: Sink, L: Ledger>(
         until,
         limit,
         wanted_of(sought),
+        &mut reporter,
         out,
         steps,
     ) {

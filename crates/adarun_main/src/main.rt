@@ -3,14 +3,15 @@
 
 ghost use Rattle.std.specs.Prelude.{◌≡◌, None};
 
-use adarun::{FileStore, ReadError, Status, WriteError, drive};
+use adarun::{FileStore, ReadError, Status, Stopwatch, WriteError, drive};
 use machine::{Steps, WriterSink};
 use std::alloc::Global;
 use std::env;
-use std::io::{self, ErrorKind};
+use std::io::{self, ErrorKind, IsTerminal};
 use std::marker::Brand;
 use std::process::ExitCode;
 use std::sync::ledger::{Blank, Ledger};
+use std::time::Instant;
 use system_files::{FileError, SystemFiles};
 
 /// The files of the system, as the program asks for them.
@@ -55,6 +56,32 @@ impl<'a> FileStore for Files<'a> {
     }
 }
 
+/// The time since the program began, where standard error is a terminal.
+#[derive(Drop)]
+struct Watch<'a> {
+    rt: &'a HostRuntime,
+    start: Option<Instant>,
+}
+
+impl<'a> Watch<'a> {
+    // One that begins now. Without a clock nobody is told how far a search is.
+    fn new(rt: &'a HostRuntime) -> Watch<'a> {
+        let start = if rt.stderr().is_terminal() {
+            Instant::now(rt).ok()
+        } else {
+            None
+        };
+        Watch { rt, start }
+    }
+}
+
+impl<'a> Stopwatch for Watch<'a> {
+    fn seconds(&self) -> Option<u64> {
+        let elapsed = self.start?.elapsed(self.rt).ok()?;
+        Some(elapsed.as_secs())
+    }
+}
+
 // The status of the program's work over its streams.
 fn status_over<L: Ledger, M: Ledger, N: Ledger>(
     rt: &HostRuntime,
@@ -81,6 +108,7 @@ fn status_over<L: Ledger, M: Ledger, N: Ledger>(
         rt.alloc(),
         words,
         &mut Files { system },
+        &Watch::new(rt),
         &mut out,
         &mut err,
         &mut steps,

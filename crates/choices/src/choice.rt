@@ -115,6 +115,18 @@ impl Choice {
         true
     }
 
+    /// How far it is in the order of the alternatives: about how many millionths of the choices are before it.
+    pub fn millionths(&self, choices: &Choices) -> u64 {
+        let mut before: u64 = 0;
+        let mut share: u64 = 1_000_000;
+        for (slot, place) in choices.slots().iter().zip(self.places.iter()) {
+            let count = slot.alternatives.len() as u64;
+            share = share.checked_div(count).unwrap_or(0);
+            before = before.saturating_add(share.saturating_mul(*place as u64));
+        }
+        before
+    }
+
     /// The schedule of the choice.
     ///
     /// # Errors

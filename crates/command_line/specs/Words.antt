@@ -27,8 +27,8 @@ pub data Command : Type 0 where
   CheckText : (source : List ℕ) → Command
   -- the schedule is empty where none is named
   SimulateText : (source : List ℕ) (schedule : Option (List ℕ)) (limit : ℕ) → Command
-  -- a time in microseconds up to which a part of a set is searched, and a limit on the steps at one time
-  SearchText : (source choices : List ℕ) (until : ℤ) (limit : ℕ) → Wanted → Part → Command
+  -- a time in microseconds up to which a part of a set is searched, and a limit on the steps at one time; whether nothing is reported meanwhile
+  SearchText : (source choices : List ℕ) (until : ℤ) (limit : ℕ) → Wanted → Part → (is_quiet : Bool) → Command
   ShowManual ShowVersion Nothing : Command
 
 abbrev pub is_digit : ℕ → Bool
@@ -167,22 +167,27 @@ abbrev pub part_in : List (List ℕ) → Option Part
 part_in [] = Some whole
 part_in (mark ∷ rest) = if bytes_eq mark (codes "--part") then last_part rest else None
 
-abbrev pub search_for : (source choices : List ℕ) → Option ℤ → Option ℕ → Wanted → Option Part → Command
-search_for source choices (Some until) (Some limit) wanted (Some part) = SearchText source choices until limit wanted part
-search_for source choices until limit wanted part = Nothing
+abbrev pub search_for : (is_quiet : Bool) → (source choices : List ℕ) → Option ℤ → Option ℕ → Wanted → Option Part → Command
+search_for is_quiet source choices (Some until) (Some limit) wanted (Some part) = SearchText source choices until limit wanted part is_quiet
+search_for is_quiet source choices until limit wanted part = Nothing
 
-abbrev pub search_in : List (List ℕ) → Command
-search_in (source ∷ choices ∷ until ∷ limit ∷ rest) =
-    search_for source choices (time_of until) (numeral_of limit) (wanted_in rest).0 (part_in (wanted_in rest).1)
-search_in words = Nothing
+abbrev pub search_in : (is_quiet : Bool) → List (List ℕ) → Command
+search_in is_quiet (source ∷ choices ∷ until ∷ limit ∷ rest) =
+    search_for is_quiet source choices (time_of until) (numeral_of limit) (wanted_in rest).0 (part_in (wanted_in rest).1)
+search_in is_quiet words = Nothing
 
-abbrev pub search_among : Option (List (List ℕ)) → Command
-search_among (Some words) = search_in words
-search_among None = Nothing
+abbrev pub search_among : (is_quiet : Bool) → Option (List (List ℕ)) → Command
+search_among is_quiet (Some words) = search_in is_quiet words
+search_among is_quiet None = Nothing
 
--- what the words behind `search` ask for
+-- `--quiet`, directly after `search`, and the words after it
+abbrev pub quiet_in : List (List ℕ) → Bool × List (List ℕ)
+quiet_in [] = (false, [])
+quiet_in (mark ∷ rest) = if bytes_eq mark (codes "--quiet") then (true, rest) else (false, mark ∷ rest)
+
+-- what the words after `search` ask for
 abbrev pub search_asked : List (List ℕ) → Command
-search_asked words = search_among (unmarked words)
+search_asked words = search_among (quiet_in words).0 (unmarked (quiet_in words).1)
 
 -- ---- all
 
@@ -221,7 +226,7 @@ command_of (requests.Explain number) = ExplainFault number
 command_of (requests.ExplainText number source) = ExplainText number source.now
 command_of (requests.Check source) = CheckText source.now
 command_of (requests.Simulate source schedule limit) = SimulateText source.now (option_map (λ name. name.now) schedule) limit
-command_of (requests.Search source choices until limit wanted part) = SearchText source.now choices.now until limit (wanted_of wanted) part
+command_of (requests.Search source choices until limit wanted part is_quiet) = SearchText source.now choices.now until limit (wanted_of wanted) part is_quiet
 command_of requests.Manual = ShowManual
 command_of requests.Version = ShowVersion
 

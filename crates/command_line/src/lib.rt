@@ -75,7 +75,8 @@ pub enum Request<'a> {
         schedule: Option<&'a str>,
         limit: u64,
     },
-    /// Compile a source and search the schedules of a part of a set up to a time (microseconds since the start), with at most so many steps at one time.
+    /// Compile a source and search the schedules of a part of a set up to a time (microseconds since the start), with at most so many steps at one time; a
+    /// quiet search doesn't report how far it is.
     Search {
         source: &'a str,
         choices: &'a str,
@@ -83,6 +84,7 @@ pub enum Request<'a> {
         limit: u64,
         wanted: Sought<'a>,
         part: Part,
+        is_quiet: bool,
     },
     /// Show the manual.
     Manual,

@@ -1,12 +1,12 @@
-//! The words after `search`, which are read without clap: what is looked for is one word or two, or none, and `--part` may follow it.
+//! The words after `search`, which are read without clap: `--quiet` may come first; what is looked for is one word or two, or none, and `--part` may follow it.
 ghost use Rattle.std.specs.Prelude.{◌≡◌, map, option_map};
-ghost use Rattle.command_line.specs.Words.{AnswersWords, search_asked, search_in, wanted_in, wanted_of};
+ghost use Rattle.command_line.specs.Words.{AnswersWords, quiet_in, search_asked, search_in, wanted_in, wanted_of};
 ghost use Rattle.command_line.specs.Words as words_of;
 
 use crate::{Request, Sought, WordsError, is_plain, numeral_of};
 use choices::Part;
 
-/// The words behind `search`.
+/// The words after `search`.
 pub(crate) fn behind_search<'a>(words: &'a [&'a str]) -> Option<&'a [&'a str]>
     ensures { option_map (λ rest. map (λ w. w.now) rest.now) result ≡ words_of.behind_search (map (λ w. w.now) words.now) }
 {
@@ -95,7 +95,7 @@ fn part_of(text: &str) -> Option<Part>
     numbered_part(numeral_of(number)?, numeral_of(count)?)
 }
 
-// That is the last word.
+// The part that the last word names.
 fn last_part(words: &[&str]) -> Option<Part>
     ensures { result ≡ words_of.last_part (map (λ w. w.now) words.now) }
 {
@@ -117,8 +117,8 @@ fn part_in(words: &[&str]) -> Option<Part>
 }
 
 // What the words ask for, without a mark in front of them.
-fn request_in<'a>(words: &'a [&'a str]) -> Result<Request<'a>, WordsError>
-    ensures { AnswersWords (search_in (map (λ w. w.now) words.now)) result }
+fn request_in<'a>(is_quiet: bool, words: &'a [&'a str]) -> Result<Request<'a>, WordsError>
+    ensures { AnswersWords (search_in is_quiet (map (λ w. w.now) words.now)) result }
 {
     let [source, choices, until, limit, rest @ ..] = words else {
         return Err(WordsError::Usage);
@@ -131,18 +131,30 @@ fn request_in<'a>(words: &'a [&'a str]) -> Result<Request<'a>, WordsError>
         limit: numeral_of(limit).ok_or(WordsError::Usage)?,
         wanted,
         part: part_in(rest).ok_or(WordsError::Usage)?,
+        is_quiet,
     })
 }
 
-/// What the words behind `search` ask for.
+// Whether the first word asks for a quiet search, and the words after it.
+fn quiet_in<'a>(words: &'a [&'a str]) -> (bool, &'a [&'a str])
+    ensures { (result.0, map (λ w. w.now) result.1.now) ≡ quiet_in (map (λ w. w.now) words.now) }
+{
+    match words {
+        [mark, rest @ ..] if *mark == "--quiet" => (true, rest),
+        _ => (false, words),
+    }
+}
+
+/// What the words after `search` ask for.
 ///
 /// # Errors
 /// Usage for other words than those of the command, and for a time, a limit, what is looked for or a part that is none.
 pub(crate) fn search_request<'a>(words: &'a [&'a str]) -> Result<Request<'a>, WordsError>
     ensures { AnswersWords (search_asked (map (λ w. w.now) words.now)) result }
 {
+    let (is_quiet, words) = quiet_in(words);
     match unmarked(words) {
-        Some(words) => request_in(words),
+        Some(words) => request_in(is_quiet, words),
         None => Err(WordsError::Usage),
     }
 }

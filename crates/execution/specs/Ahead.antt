@@ -1,11 +1,13 @@
--- The next step of a run: the address of its instruction, and the exception that it raises.
+-- The next step of a run: the address of its instruction, the exception that it raises, and what it asks for beside the operation of an object.
 use Rattle.std.specs.Prelude.{ℕ, List, Option, Some, None}
 use Rattle.base.specs.declared.schedule.ScheduleLine.{ScheduleLine}
 use Rattle.kernel.specs.State.{Outcome}
 use Rattle.kernel.specs.Worlds.{solo_of}
 use Rattle.image.specs.Code.{CodeWorld}
 use Rattle.image.specs.Sections.{Sections}
+use Rattle.task_steps.specs.Asked.{asking_ahead}
 use Rattle.task_steps.specs.Raised.{raising_ahead}
+use Rattle.task_steps.specs.declared.asking.Asking.{Asking}
 use Rattle.task_steps.specs.declared.foreseeing.Raising.{Raising}
 
 -- by the outcome, and who runs
@@ -16,6 +18,14 @@ raising_by i schedule w None (Some t) = raising_ahead i schedule w.kernel t (sol
 
 abbrev pub next_raising : Sections → List ScheduleLine → CodeWorld → Option Raising
 next_raising i schedule w = raising_by i schedule w w.kernel.outcome w.kernel.running
+
+abbrev pub asking_by : Sections → List ScheduleLine → CodeWorld → Option Outcome → Option ℕ → Option Asking
+asking_by i schedule w (Some o) running = None
+asking_by i schedule w None None = None
+asking_by i schedule w None (Some t) = asking_ahead i schedule w.kernel t (solo_of t w.rest).task
+
+abbrev pub next_asking : Sections → List ScheduleLine → CodeWorld → Option Asking
+next_asking i schedule w = asking_by i schedule w w.kernel.outcome w.kernel.running
 
 -- the address of the instruction of the frame that runs, by the outcome, and who runs
 abbrev pub address_by : CodeWorld → Option Outcome → Option ℕ → Option ℕ

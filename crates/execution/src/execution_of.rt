@@ -5,7 +5,7 @@ ghost use Rattle.image_laws.specs.Whole.{IsWhole};
 ghost use Rattle.kernel.specs.Calm.{IsRunner};
 ghost use Rattle.kernel.specs.State.{Line as KernelLine, Outcome as KernelOutcome};
 ghost use Rattle.tasking.specs.Held.{kernel_of};
-ghost use Rattle.execution.specs.Ahead.{next_address, next_raising};
+ghost use Rattle.execution.specs.Ahead.{next_address, next_asking, next_raising};
 ghost use Rattle.execution.specs.Held.{Leads, lines_of, tasks_of, world_of, world_with};
 
 use crate::line::Line;
@@ -19,7 +19,7 @@ use processor::Steps;
 use std::alloc::{AllocError, Global};
 use std::marker::Model;
 use std::sync::ledger::Ledger;
-use task_steps::{Memory, Raising};
+use task_steps::{Asking, Memory, Raising};
 use tasking::Tasking;
 use tasking::laws::{kept_with_lines, lines_apart};
 
@@ -149,6 +149,14 @@ impl<'a, R: Ready, D: Delays> Execution<'a, R, D> {
     {
         let task = self.runner()?;
         self.state.raising_ahead(task)
+    }
+
+    /// What the next step asks for beside the operation of an object, if it asks for anything and raises nothing; nothing changes.
+    pub fn asking_ahead(&self) -> Option<Asking>
+        ensures { (lines : List KernelLine) → result ≡ next_asking self.now.image self.now.schedule (world_with lines self.now) }
+    {
+        let task = self.runner()?;
+        self.state.asking_ahead(task)
     }
 
     /// The address of the instruction that the next step does, unless there is an outcome; nothing changes.

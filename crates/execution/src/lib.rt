@@ -11,4 +11,4 @@ mod state;
 
 pub use execution_of::{Advance, Execution};
 pub use line::Line;
-pub use task_steps::{Cause, Raising};
+pub use task_steps::{Asking, Cause, Raising};

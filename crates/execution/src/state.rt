@@ -10,6 +10,7 @@ ghost use Rattle.kernel.specs.Invariant.{Fits};
 ghost use Rattle.kernel.specs.State.{Line};
 ghost use Rattle.kernel.specs.Worlds.{solo_of};
 ghost use Rattle.task_steps.specs.Acting.{ComesToAct, solo_in};
+ghost use Rattle.task_steps.specs.Asked.{asking_ahead};
 ghost use Rattle.task_steps.specs.Raised.{raising_ahead};
 ghost use Rattle.kernel.specs.Interrupts.{actor_if};
 ghost use Rattle.tasking.specs.Held.{is_handler, kernel_of, partition_of};
@@ -32,7 +33,9 @@ use processor::{Program, Role, Steps, TaskState};
 use std::alloc::{AllocError, Global};
 use std::marker::Model;
 use std::sync::ledger::Ledger;
-use task_steps::{Memory, Raising, Went, called, first_place, go, raising_ahead};
+use task_steps::{
+    Asking, Memory, Raising, Went, asking_ahead, called, first_place, go, raising_ahead,
+};
 use tasking::{Attached, Tasking};
 
 /// What a run holds: between steps a world of code, and within one what its parts have made of it so far.
@@ -187,6 +190,22 @@ impl<'a, R: Ready, D: Delays> State<'a, R, D> {
             state,
             &self.memory,
         )
+    }
+
+    /// What the next step of the running task asks for beside the operation of an object.
+    pub(crate) fn asking_ahead(&self, task: u8) -> Option<Asking>
+        requires whole { IsWhole self.now.image (world_of self.now) }
+        requires runs { IsRunner (kernel_of self.now.tasking) task }
+        ensures { (lines : List Line) → result ≡ asking_ahead self.now.image self.now.schedule (record (kernel_of self.now.tasking) { lines = lines }) task
+            (solo_of task (rest_of self.now)).task }
+    {
+        steps_whole();
+        let _handler = self.tasking.handler();
+        let row = self.row(task);
+        let Some(state) = self.tasks.get(row) else {
+            unreachable!()
+        };
+        asking_ahead(&self.program, self.schedule, &self.tasking, task, state)
     }
 
     /// Whether another run of the image has the same frames, of its tasks and of the handler that runs. `false` doesn't say that they differ.

@@ -10,7 +10,7 @@ mod text;
 mod writer_sink;
 mod writing;
 
-pub use execution::{Cause, Raising};
+pub use execution::{Asking, Cause, Raising};
 pub use fault::RunFault;
 pub use memory_sink::{MemorySink, Plan};
 pub use processor::Steps;

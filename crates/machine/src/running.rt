@@ -8,7 +8,7 @@ ghost use Rattle.kernel.specs.Text.{line_text as text_line, lines_text};
 ghost use Rattle.image.specs.Code.{code, code_text};
 ghost use Rattle.image.specs.Steps.{is_open};
 ghost use Rattle.image.specs.Texts.{names_of};
-ghost use Rattle.execution.specs.Ahead.{next_address, next_raising};
+ghost use Rattle.execution.specs.Ahead.{next_address, next_asking, next_raising};
 ghost use Rattle.execution.specs.Held.{line_of, world_of, world_with};
 ghost use Rattle.machine.specs.Exclusion.{Excludes, observed};
 ghost use Rattle.machine.specs.Stands.{EndsBy, IsLast, ShowsText, HoldsWorld, kernel_outcome};
@@ -26,7 +26,7 @@ use arrayvec::ArrayVec;
 use base::limits::{CEILING, TASKS};
 use clock::{Delays, ListDelays, Schedule};
 use dispatch::{Ready, RingReady};
-use execution::{Execution, Line, Raising};
+use execution::{Asking, Execution, Line, Raising};
 use image::Image;
 use image_laws::{code_leads_on, lines_grow_on, outcome_stays, steps_whole};
 use kernel::laws::{four_statements_hold, inside_lists, left_unmoved};
@@ -300,6 +300,13 @@ impl<'a, R: Ready, D: Delays> Machine<'a, R, D> {
         ensures { (lines : List KernelLine) → result ≡ next_raising self.now.image self.now.schedule (world_with lines self.now) }
     {
         self.execution.raising_ahead()
+    }
+
+    /// What the next step asks for beside the operation of an object, if it asks for anything and raises nothing; nothing changes.
+    pub fn asking_ahead(&self) -> Option<Asking>
+        ensures { (lines : List KernelLine) → result ≡ next_asking self.now.image self.now.schedule (world_with lines self.now) }
+    {
+        self.execution.asking_ahead()
     }
 
     /// The address of the instruction that the next step does, unless there is an outcome; nothing changes.

@@ -32,7 +32,8 @@ COMMANDS
     adarun search SRC CHOICES UNTIL LIMIT [unhandled | waits | line LABEL] [--part K/N]
         searches the schedules of a set for one under which an exception stops the run or it
         waits forever, or, as the word after LIMIT says, for one of these or a line with this
-        label; with --part only those of the K-th of N parts, which together are the set
+        label; with --part only those of the K-th of N parts, which together are the set;
+        at a terminal it reports each second how far it is, not as search --quiet SRC ..
     adarun explain NUMBER [SRC]
         explains the fault of this number, and what is said of a source that has it
     adarun manual
@@ -54,8 +55,8 @@ WORDS
     NUMBER  the number of a fault
 
     A longer name that begins with a hyphen comes after the word --, as in
-    adarun go -- -main.adb /dev/null 1000000. There are no options but --vcd and
-    --part.
+    adarun go -- -main.adb /dev/null 1000000. There are no options but --vcd,
+    --part and --quiet.
 
 FORMATS
 

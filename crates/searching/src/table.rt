@@ -21,6 +21,7 @@ pub(crate) struct Row {
 #[derive(Drop)]
 pub(crate) struct Table {
     rows: Vec<Option<Row>>,
+    count: u64,
 }
 
 impl Table {
@@ -34,7 +35,7 @@ impl Table {
         while rows.len() < count {
             rows.push(None)?;
         }
-        Ok(Table { rows })
+        Ok(Table { rows, count: 0 })
     }
 
     /// The row of a digest, if there is one.
@@ -47,10 +48,18 @@ impl Table {
         }
     }
 
+    /// How many rows are kept.
+    pub(crate) fn count(&self) -> u64 {
+        self.count
+    }
+
     /// Keeps a row in place of what has the same remainder.
     pub(crate) fn keep(&mut self, row: Row) {
         let place = self.place(row.digest);
         if place < self.rows.len() {
+            if self.rows[place].is_none() {
+                self.count = self.count.saturating_add(1);
+            }
             self.rows[place] = Some(row);
         }
     }

@@ -4,6 +4,7 @@ ghost use Rattle.searching.specs.Searches.{FindsFirst, Searches};
 
 use crate::finding::skip_met;
 use crate::one::{Answer, search_run};
+use crate::progress::Progress;
 use crate::sight::{Finding, Wanted};
 use crate::table::Table;
 use choices::{Choice, Choices, Part};
@@ -30,11 +31,11 @@ pub enum Searched {
 /// Runs an image on the schedules of a part of a set, in the order of alternatives, where the first slot counts most, up to `until` (microseconds since the
 /// start) and with `limit` steps at one time at most, each of which is counted, until one reaches what is wanted. Where a run is, just before the time of some
 /// slot, in a world in which an earlier one was, schedules that differ from its own from that time on are passed over: the earlier one, continued so, has the
-/// same result.
+/// same result. After each run it reports how far it is.
 ///
 /// # Errors
 /// Where memory was refused.
-pub fn search<L: Ledger>(
+pub fn search<P: Progress, L: Ledger>(
     alloc: Global,
     image: &Image,
     choices: &Choices,
@@ -42,6 +43,7 @@ pub fn search<L: Ledger>(
     until: i64,
     limit: u64,
     wanted: Wanted<'_>,
+    progress: &mut P,
     steps: &mut Steps<L>,
 ) -> Result<Searched, AllocError>
     ensures answer { IfOk result (Searches image.now choices.now part until limit wanted.entry) }
@@ -53,10 +55,12 @@ pub fn search<L: Ledger>(
     lines_unread();
     let mut table = Table::new(alloc, choices.slots().len())?;
     let mut choice = Choice::first(alloc, choices)?;
+    let mut runs: u64 = 0;
     let mut is_more = true;
     while is_more {
         if choice.is_of_part(choices, part) {
             let schedule = choice.schedule(alloc, choices)?;
+            runs = runs.saturating_add(1);
             match search_run(alloc, image, &schedule, until, limit, wanted, steps)? {
                 Answer::Found(finding) => return Ok(Searched::Found(schedule, finding)),
                 Answer::TooLong(time) => return Ok(Searched::TooLong(schedule, time)),
@@ -76,6 +80,7 @@ pub fn search<L: Ledger>(
             choice.go_to_last(choices, part.front(choices));
         }
         is_more = choice.advance(choices);
+        progress.report(choice.millionths(choices), runs, table.count());
     }
     Ok(Searched::Nothing)
 }

@@ -71,8 +71,8 @@ fn failure(value: Checked) -> Option<u16>
     }
 }
 
-// The word on top of the running frame's operand stack.
-fn top(state: &TaskState) -> i64
+/// The word on top of the running frame's operand stack.
+pub(crate) fn top(state: &TaskState) -> i64
     requires there { 1 ≤ length state.now.task.frame.stack }
     requires few { length state.now.task.frame.stack ≤ FRAME_WORDS }
     ensures { state.now.task.frame.stack ≡ result ∷ drop 1 state.now.task.frame.stack }

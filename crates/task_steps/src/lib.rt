@@ -2,6 +2,7 @@
 #![tactic(auto)]
 
 mod acts;
+mod asking;
 mod blocks;
 mod calls;
 mod foreseeing;
@@ -15,6 +16,7 @@ mod returns;
 mod steps;
 
 pub use acts::{Act, Effect, Given};
+pub use asking::{Asking, asking_ahead};
 pub use foreseeing::{Cause, Raising, raising_ahead};
 pub use lookups::{called, entry, first_place};
 pub use memory::Memory;

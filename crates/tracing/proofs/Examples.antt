@@ -6,7 +6,6 @@ use Rattle.base.specs.Names.{predefined}
 use Rattle.base.specs.declared.schedule.ScheduleLine.{ScheduleLine}
 use Rattle.image.specs.ObjectTable.{ObjectRow}
 use Rattle.image.specs.Sections.{Sections}
-use Rattle.image.specs.declared.attachments.Attachment.{Attachment}
 use Rattle.image.specs.declared.instruction.Instr.{Instr}
 use Rattle.image.specs.declared.instruction.Operation.{Operation}
 use Rattle.image.specs.declared.instruction.Operation.TheVariants as op
@@ -127,10 +126,10 @@ line_at time = record { time = pos time; channel = 1; value = pos 0 }
 
 interrupted_trace : trace_text interrupted (codes "LATCH" ∷ []) nowhere (line_at 3 ∷ line_at 3 ∷ line_at 5 ∷ []) 100
     ≡ codes "0 0 MAIN is ready\n0 0 MAIN runs at 5\n"
-    ++ codes "0 2 MAIN waits until 6\n3 2 - the clock moves\n3 2 INTERRUPT_1 runs at 31\n"
+    ++ codes "0 2 MAIN waits until 6\n3 2 - line 1 0\n3 2 - line 1 0\n3 2 - the clock moves\n3 2 INTERRUPT_1 runs at 31\n"
     ++ codes "3 4 INTERRUPT_1 writes 3 INTERRUPT_1 got 7\n3 5 INTERRUPT_1 leaves LATCH at 31\n3 5 INTERRUPT_1 ends\n3 5 INTERRUPT_1 runs at 31\n"
     ++ codes "3 7 INTERRUPT_1 writes 3 INTERRUPT_1 got 7\n3 8 INTERRUPT_1 leaves LATCH at 31\n3 8 INTERRUPT_1 ends\n"
-    ++ codes "5 8 - the clock moves\n5 8 INTERRUPT_1 runs at 31\n"
+    ++ codes "5 8 - line 1 0\n5 8 - the clock moves\n5 8 INTERRUPT_1 runs at 31\n"
     ++ codes "5 10 INTERRUPT_1 writes 5 INTERRUPT_1 got 7\n5 11 INTERRUPT_1 leaves LATCH at 31\n5 11 INTERRUPT_1 ends\n"
     ++ codes "6 11 - the clock moves\n6 11 MAIN wakes\n6 11 MAIN runs at 5\n6 12 MAIN ends\nended at 6\n"
 unfolding digits
@@ -151,8 +150,8 @@ divides =
     (at 0 (op.Push (pos 1)) ∷ at 1 (op.Push (pos 0)) ∷ at 2 op.Divide ∷ at 1 op.Return ∷ at 0 (op.ProtectedCall 0) ∷ at 0 op.Return ∷ [])
 
 divides_trace : trace_text divides (codes "DOOR" ∷ []) marked [] 100
-    ≡ codes "0 0 MAIN is ready\n0 0 MAIN runs at 5\n0 1 MAIN enters DOOR at 10\n"
-    ++ codes "0 4 MAIN raises CONSTRAINT_ERROR at 3:7\n0 4 MAIN leaves DOOR at 5\n"
+    ≡ codes "0 0 MAIN is ready\n0 0 MAIN runs at 5\n0 1 MAIN enters DOOR at 10 at 12:10\n"
+    ++ codes "0 4 MAIN raises CONSTRAINT_ERROR at 3:7\n0 4 MAIN leaves DOOR at 5 at 3:7\n"
     ++ codes "0 5 MAIN raises CONSTRAINT_ERROR at its call at 12:10\n0 5 MAIN is left by CONSTRAINT_ERROR\nunhandled CONSTRAINT_ERROR in MAIN at 0\n"
 unfolding digits
 divides_trace = refl

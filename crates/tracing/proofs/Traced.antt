@@ -11,9 +11,7 @@ use Rattle.image.specs.Sections.{Sections}
 use Rattle.image.specs.Texts.{names_of}
 use Rattle.image_laws.specs.Laws.{OutcomeStays}
 use Rattle.tasking.specs.Held.{kernel_of}
-use Rattle.execution.specs.Ahead.{next_raising}
 use Rattle.execution.specs.Held.{HeldWorld, world_of, world_with}
-use Rattle.task_steps.specs.declared.foreseeing.Raising.{Raising}
 use Rattle.machine.specs.Outcomes.{ending_of, time_of}
 use Rattle.machine.specs.Stands.{EndsBy, HoldsWorld, ShowsText}
 use Rattle.machine.specs.Written.{AppendsBeginning}
@@ -21,9 +19,10 @@ use Rattle.machine.specs.declared.reports.Event.{Event}
 use Rattle.machine.specs.declared.reports.Event.TheVariants as events
 use Rattle.machine.specs.declared.reports.Outcome.{Outcome}
 use Rattle.machine.proofs.Runs.{appends_two, beginning_after, beginning_of_more}
-use Rattle.tracing.specs.Changes.{since_clock, starts, until_clock}
-use Rattle.tracing.specs.Traces.{heading, row_names, rows, rows_of_step, rows_text, shown, trace_text, wrote}
-use Rattle.tracing.specs.Writing.{line_text_of, step_text}
+use Rattle.tracing.specs.Changes.{next_ahead, since_clock, starts, until_clock}
+use Rattle.tracing.specs.declared.ahead.Ahead.{Ahead}
+use Rattle.tracing.specs.Traces.{came, heading, lines_come, place_text, row_names, rows, rows_of_step, rows_text, shown, trace_text, without_end, wrote}
+use Rattle.tracing.specs.Writing.{line_text_of, start_text, step_text}
 use Rattle.tracing.specs.declared.event.Event as change
 use Rattle.tracing.specs.declared.origin.Origin.{Origin}
 use Rattle.tracing.proofs.Rows.{after_length, rows_grow, rows_stay, rows_text-append}
@@ -32,41 +31,56 @@ use Rattle.tracing.proofs.Rows.{after_length, rows_grow, rows_stay, rows_text-ap
 abbrev beside : List Line → Kernel → Kernel
 beside lines k = record k { lines = lines }
 
-module _ (i : Sections) (objects : List (List ℕ)) (origin : ℕ → Option Origin) (a : Option Raising) (k l : Kernel) (xs ys : List Line) (told : Event) (shows : ShowsText i (beside xs k) (beside ys l) told) (n : ℕ) where
-  no_line : (t : ℕ) → ys ≡ xs → rows_text (row_names i objects origin) (wrote k.now n t (drop (length xs) ys)) ≡ []
-  no_line t same = ap (λ v. rows_text (row_names i objects origin) (wrote k.now n t v)) (ap (drop (length xs)) same ∙ drop-length xs)
+module _ (i : Sections) (objects : List (List ℕ)) (origin : ℕ → Option Origin) (given : List ScheduleLine) (a : Ahead) (k l : Kernel) (xs ys : List Line) (told : Event) (shows : ShowsText i (beside xs k) (beside ys l) told) (n : ℕ) where
+  no_line : (t : ℕ) → ys ≡ xs → rows_text (row_names i objects origin) (wrote k.now n t a.address (drop (length xs) ys)) ≡ []
+  no_line t same = ap (λ v. rows_text (row_names i objects origin) (wrote k.now n t a.address v)) (ap (drop (length xs)) same ∙ drop-length xs)
 
   -- the row of a line, by what the machine has told
-  line_is : (t : ℕ) (e : Event) → ShowsText i (beside xs k) (beside ys l) e → rows_text (row_names i objects origin) (wrote k.now n t (drop (length xs) ys)) ≡ line_text_of (row_names i objects origin) k.now n t e
+  line_is : (t : ℕ) (e : Event) → ShowsText i (beside xs k) (beside ys l) e → rows_text (row_names i objects origin) (wrote k.now n t a.address (drop (length xs) ys)) ≡ line_text_of (row_names i objects origin) k.now n t a.address e
   line_is t events.Quiet s = no_line t s.0
   line_is t (events.Done o) s = no_line t s.0
   line_is t (events.Line text) s =
       let names = row_names i objects origin in
       let head = heading k.now n (names.line.task t) in
       let one : drop (length xs) ys ≡ s.0 ∷ [] = ap (drop (length xs)) s.1 ∙ after_length xs (s.0 ∷ []) in
-      ap (λ v. rows_text names (wrote k.now n t v)) one
-      ∙ append-nil (head ++ codes "writes " ++ line_text names.line s.0)
-      ∙ ap (λ v. (head ++ codes "writes ") ++ v) (sym s.2)
+      let end = place_text names a.address ++ codes "\n" in
+      ap (λ v. rows_text names (wrote k.now n t a.address v)) one
+      ∙ append-nil ((head ++ codes "writes ") ++ without_end (line_text names.line s.0) ++ end)
+      ∙ ap (λ v. (head ++ codes "writes ") ++ without_end v ++ end) (sym s.2)
 
   -- the rows of a step without outcome, by what the machine has told and what both hold
-  step_is : (r : Option ℕ) → rows_text (row_names i objects origin) (rows_of_step a (beside xs k) (beside ys l) n None r) ≡ step_text (row_names i objects origin) a k l n told r
+  step_is : (r : Option ℕ) → rows_text (row_names i objects origin) (rows_of_step given a (beside xs k) (beside ys l) n None r) ≡ step_text (row_names i objects origin) given a k l n told r
   step_is None = refl
   step_is (Some t) =
       let names = row_names i objects origin in
-      let lines = wrote k.now n t (drop (length xs) ys) in
+      let lines = wrote k.now n t a.address (drop (length xs) ys) in
       let until = shown k.now n (until_clock a k l t) in
+      let inputs = came n (lines_come (Some k.now) l.now given) in
       let since = shown l.now n (since_clock k l t) in
-      rows_text-append names (lines ++ until) since
-      ∙ ap (λ v. v ++ rows_text names since) (rows_text-append names lines until)
-      ∙ ap (λ v. v ++ rows_text names until ++ rows_text names since) (line_is t told shows)
+      rows_text-append names (lines ++ until ++ inputs) since
+      ∙ ap (λ v. v ++ rows_text names since) (rows_text-append names (lines ++ until) inputs)
+      ∙ ap (λ v. v ++ rows_text names inputs ++ rows_text names since) (rows_text-append names lines until)
+      ∙ ap (λ v. v ++ rows_text names until ++ rows_text names inputs ++ rows_text names since) (line_is t told shows)
 
 -- the parts of a step's text, by what is written
-pub step_parts : (i : Sections) (objects : List (List ℕ)) (origin : ℕ → Option Origin) (a : Option Raising) (k l : Kernel) (n : ℕ) (told : Event) (ran : ℕ) (running : Option ℕ) (now later : ℤ) (until since : List change.Event) → running ≡ Some ran → now ≡ k.now → later ≡ l.now →
+pub step_parts : (i : Sections) (objects : List (List ℕ)) (origin : ℕ → Option Origin) (given : List ScheduleLine) (a : Ahead) (k l : Kernel) (n : ℕ) (told : Event) (ran : ℕ) (running : Option ℕ) (now from to later : ℤ) (until since : List change.Event) → running ≡ Some ran → now ≡ k.now → from ≡ k.now → to ≡ l.now → later ≡ l.now →
     until ≡ until_clock a k l ran → since ≡ since_clock k l ran →
-    step_text (row_names i objects origin) a k l n told running ≡ (line_text_of (row_names i objects origin) now n ran told ++ rows_text (row_names i objects origin) (shown now n until)) ++ rows_text (row_names i objects origin) (shown later n since)
-step_parts i objects origin a k l n told ran running now later until since runs is_now is_later is_until is_since =
-    ap (step_text (row_names i objects origin) a k l n told) runs
-    ∙ sym (λ j. (line_text_of (row_names i objects origin) (is_now j) n ran told ++ rows_text (row_names i objects origin) (shown (is_now j) n (is_until j))) ++ rows_text (row_names i objects origin) (shown (is_later j) n (is_since j)))
+    let names = row_names i objects origin in
+    step_text names given a k l n told running
+    ≡ ((line_text_of names now n ran a.address told ++ rows_text names (shown now n until)) ++ rows_text names (came n (lines_come (Some from) to given))) ++ rows_text names (shown later n since)
+step_parts i objects origin given a k l n told ran running now from to later until since runs is_now is_from is_to is_later is_until is_since =
+    let names = row_names i objects origin in
+    ap (step_text names given a k l n told) runs
+    ∙ sym (λ j. ((line_text_of names (is_now j) n ran a.address told ++ rows_text names (shown (is_now j) n (is_until j)))
+    ++ rows_text names (came n (lines_come (Some (is_from j)) (is_to j) given))) ++ rows_text names (shown (is_later j) n (is_since j)))
+
+-- those of the text of the start
+pub start_parts : (i : Sections) (objects : List (List ℕ)) (origin : ℕ → Option Origin) (given : List ScheduleLine) (k : Kernel) (to now : ℤ) (events : List change.Event) → to ≡ k.now → now ≡ k.now → events ≡ starts k →
+    let names = row_names i objects origin in
+    start_text names given k ≡ rows_text names (came 0 (lines_come None to given)) ++ rows_text names (shown now 0 events)
+start_parts i objects origin given k to now events is_to is_now are =
+    let names = row_names i objects origin in
+    sym (λ j. rows_text names (came 0 (lines_come None (is_to j) given)) ++ rows_text names (shown (is_now j) 0 (are j)))
 
 -- after n steps: both machines stand for the world, and its rows are written
 pub record Traced (i : Sections) (objects : List (List ℕ)) (origin : ℕ → Option Origin) (schedule : List ScheduleLine) (n : ℕ) (g h : HeldWorld) (old new : Option (List ℕ)) (before after : ℕ) : Type 0 where
@@ -93,9 +107,12 @@ stepped i schedule n h next told image same steps =
     (subst (λ j. HoldsWorld h (code j h.schedule n) → HoldsWorld next (code j h.schedule (n + 1)) × ShowsText j (code j h.schedule n).kernel (code j h.schedule (n + 1)).kernel told) image (steps n)))
 
 module _ (i : Sections) (objects : List (List ℕ)) (origin : ℕ → Option Origin) (schedule : List ScheduleLine) (n : ℕ) (g h : HeldWorld) (old new : Option (List ℕ)) (before after : ℕ) (r : Traced i objects origin schedule n g h old new before after) where
-  module _ (raises : Option Raising) (ahead : (lines : List Line) → raises ≡ next_raising g.image g.schedule (world_with lines g)) (next : HeldWorld) (told : Event) (steps : StepsBy h next told) (going : (kernel_of h.tasking).outcome ≡ None) (later : Option (List ℕ)) where
+  module _ (raises : Ahead) (ahead : (lines : List Line) → raises ≡ next_ahead g.image g.schedule (world_with lines g)) (next : HeldWorld) (told : Event) (steps : StepsBy h next told) (going : (kernel_of h.tasking).outcome ≡ None) (later : Option (List ℕ)) where
+    abbrev pub text_by : List ScheduleLine → ℕ → List ℕ
+    text_by given m = step_text (row_names i objects origin) given raises (kernel_of g.tasking) (kernel_of next.tasking) m told (kernel_of g.tasking).running
+
     abbrev pub text : ℕ → List ℕ
-    text m = step_text (row_names i objects origin) raises (kernel_of g.tasking) (kernel_of next.tasking) m told (kernel_of g.tasking).running
+    text = text_by schedule
 
     rows_more : rows_text (row_names i objects origin) (rows i schedule (suc n)) ≡ rows_text (row_names i objects origin) (rows i schedule n) ++ text (suc n)
     rows_more =
@@ -110,15 +127,15 @@ module _ (i : Sections) (objects : List (List ℕ)) (origin : ℕ → Option Ori
         let made : v.kernel ≡ beside ys l = ap (λ (x : CodeWorld). x.kernel) s.0 in
         let none : w.kernel.outcome ≡ None = ap (λ (x : CodeWorld). x.kernel.outcome) r.stands ∙ going in
         let shows : ShowsText i (beside xs k) (beside ys l) told = subst (λ x. ShowsText i (beside xs k) x told) made (subst (λ x. ShowsText i x v.kernel told) held s.1) in
-        let raised : next_raising i schedule w ≡ raises =
-        ap (next_raising i schedule) r.stands_before ∙ sym (ahead xs ∙ (λ j. next_raising (r.image_before j) (r.schedule_before j) (world_with xs g))) in
-        let same : rows_of_step (next_raising i schedule w) w.kernel v.kernel (suc n) w.kernel.outcome w.kernel.running ≡ rows_of_step raises (beside xs k) (beside ys l) (suc n) None k.running =
-        ap (λ a. rows_of_step a w.kernel v.kernel (suc n) w.kernel.outcome w.kernel.running) raised
-        ∙ ap (λ x. rows_of_step raises w.kernel x (suc n) w.kernel.outcome w.kernel.running) made
-        ∙ ap (λ x. rows_of_step raises w.kernel (beside ys l) (suc n) x w.kernel.running) none
-        ∙ ap (λ (x : Kernel). rows_of_step raises x (beside ys l) (suc n) None x.running) held in
-        rows_text-append (row_names i objects origin) (rows i schedule n) (rows_of_step (next_raising i schedule w) w.kernel v.kernel (suc n) w.kernel.outcome w.kernel.running)
-        ∙ ap (λ x. rows_text (row_names i objects origin) (rows i schedule n) ++ x) (ap (rows_text (row_names i objects origin)) same ∙ step_is i objects origin raises k l xs ys told shows (suc n) k.running)
+        let raised : next_ahead i schedule w ≡ raises =
+        ap (next_ahead i schedule) r.stands_before ∙ sym (ahead xs ∙ (λ j. next_ahead (r.image_before j) (r.schedule_before j) (world_with xs g))) in
+        let same : rows_of_step schedule (next_ahead i schedule w) w.kernel v.kernel (suc n) w.kernel.outcome w.kernel.running ≡ rows_of_step schedule raises (beside xs k) (beside ys l) (suc n) None k.running =
+        ap (λ a. rows_of_step schedule a w.kernel v.kernel (suc n) w.kernel.outcome w.kernel.running) raised
+        ∙ ap (λ x. rows_of_step schedule raises w.kernel x (suc n) w.kernel.outcome w.kernel.running) made
+        ∙ ap (λ x. rows_of_step schedule raises w.kernel (beside ys l) (suc n) x w.kernel.running) none
+        ∙ ap (λ (x : Kernel). rows_of_step schedule raises x (beside ys l) (suc n) None x.running) held in
+        rows_text-append (row_names i objects origin) (rows i schedule n) (rows_of_step schedule (next_ahead i schedule w) w.kernel v.kernel (suc n) w.kernel.outcome w.kernel.running)
+        ∙ ap (λ x. rows_text (row_names i objects origin) (rows i schedule n) ++ x) (ap (rows_text (row_names i objects origin)) same ∙ step_is i objects origin schedule raises k l xs ys told shows (suc n) k.running)
 
     next_traced : (follow : HeldWorld) (said : Event) → StepsBy g follow said → follow.image ≡ g.image → next.image ≡ h.image → follow.schedule ≡ g.schedule → next.schedule ≡ h.schedule →
         (count : ℕ) → Appends new later (text (suc n)) → count ≡ after → Traced i objects origin schedule (suc n) follow next old later before count
@@ -135,15 +152,15 @@ module _ (i : Sections) (objects : List (List ℕ)) (origin : ℕ → Option Ori
         }
 
     pub traced_on : (follow : HeldWorld) (said : Event) → StepsBy g follow said → follow.image ≡ g.image → next.image ≡ h.image → follow.schedule ≡ g.schedule → next.schedule ≡ h.schedule →
-        (count : ℕ) → Appends new later (text (n + 1)) → count ≡ after → Traced i objects origin schedule (n + 1) follow next old later before count
-    traced_on follow said follows image_g image_h schedule_g schedule_h count app same =
+        (count : ℕ) → (given : List ScheduleLine) → given ≡ schedule → Appends new later (text_by given (n + 1)) → count ≡ after → Traced i objects origin schedule (n + 1) follow next old later before count
+    traced_on follow said follows image_g image_h schedule_g schedule_h count given is app same =
         let at : n + 1 ≡ suc n = omega arith in
         subst (λ x. Traced i objects origin schedule x follow next old later before count) (sym at)
-        (next_traced follow said follows image_g image_h schedule_g schedule_h count (subst (λ x. Appends new later (text x)) at app) same)
+        (next_traced follow said follows image_g image_h schedule_g schedule_h count (subst (λ x. Appends new later (text x)) at (subst (λ s. Appends new later (text_by s (n + 1))) is app)) same)
 
     -- a step whose rows could not be written: what is written is a beginning of the trace's rows
-    pub broken_step : (limit : ℕ) → n + 1 ≤ limit → AppendsBeginning new later (text (n + 1)) → AppendsBeginning old later (rows_text (row_names i objects origin) (rows i schedule limit))
-    broken_step limit le begun =
+    pub broken_step : (limit : ℕ) → n + 1 ≤ limit → (given : List ScheduleLine) → given ≡ schedule → AppendsBeginning new later (text_by given (n + 1)) → AppendsBeginning old later (rows_text (row_names i objects origin) (rows i schedule limit))
+    broken_step limit le given is begun =
         let rest = rows_grow i schedule (suc n) (limit - suc n) in
         let here : n + 1 ≡ suc n = omega arith in
         let at : suc n + (limit - suc n) ≡ limit = omega (arith, le) in
@@ -152,41 +169,49 @@ module _ (i : Sections) (objects : List (List ℕ)) (origin : ℕ → Option Ori
         ap (rows_text (row_names i objects origin)) more ∙ rows_text-append (row_names i objects origin) (rows i schedule (suc n)) rest.0 ∙ ap (λ v. v ++ rows_text (row_names i objects origin) rest.0) rows_more in
         subst (AppendsBeginning old later) (sym whole)
         (beginning_of_more old later (rows_text (row_names i objects origin) (rows i schedule n) ++ text (suc n)) (rows_text (row_names i objects origin) rest.0)
-        (beginning_after old new later (rows_text (row_names i objects origin) (rows i schedule n)) (text (suc n)) r.written (subst (λ x. AppendsBeginning new later (text x)) here begun)))
+        (beginning_after old new later (rows_text (row_names i objects origin) (rows i schedule n)) (text (suc n)) r.written (subst (λ x. AppendsBeginning new later (text x)) here (subst (λ s. AppendsBeginning new later (text_by s (n + 1))) is begun))))
 
 -- the start
 module _ (i : Sections) (objects : List (List ℕ)) (origin : ℕ → Option Origin) (schedule : List ScheduleLine) (h : HeldWorld) (image : h.image ≡ i) (schedule_after : h.schedule ≡ schedule) (stands : HoldsWorld h (code h.image h.schedule 0))
-    (now : ℤ) (events : List change.Event) (is_now : now ≡ (kernel_of h.tasking).now) (are : events ≡ starts (kernel_of h.tasking)) where
-  stands_there : (g : HeldWorld) → g.image ≡ i → g.schedule ≡ schedule → HoldsWorld g (code g.image g.schedule 0) → HoldsWorld g (code i schedule 0)
-  stands_there g same there s = subst (λ x. HoldsWorld g (code i x 0)) there (subst (λ x. HoldsWorld g (code x g.schedule 0)) same s)
+  where
+    stands_there : (g : HeldWorld) → g.image ≡ i → g.schedule ≡ schedule → HoldsWorld g (code g.image g.schedule 0) → HoldsWorld g (code i schedule 0)
+    stands_there g same there s = subst (λ x. HoldsWorld g (code i x 0)) there (subst (λ x. HoldsWorld g (code x g.schedule 0)) same s)
 
-  first_rows : rows_text (row_names i objects origin) (rows i schedule 0) ≡ rows_text (row_names i objects origin) (shown now 0 events)
-  first_rows =
-      ap (λ (w : CodeWorld). rows_text (row_names i objects origin) (shown w.kernel.now 0 (starts w.kernel))) (stands_there h image schedule_after stands)
-      ∙ sym (λ j. rows_text (row_names i objects origin) (shown (is_now j) 0 (are j)))
+    abbrev pub first_by : List ScheduleLine → List ℕ
+    first_by given = start_text (row_names i objects origin) given (kernel_of h.tasking)
 
-  pub traced_start : (g : HeldWorld) → g.image ≡ i → g.schedule ≡ schedule → HoldsWorld g (code g.image g.schedule 0) → (old new : Option (List ℕ)) (before after : ℕ) →
-      Appends old new (rows_text (row_names i objects origin) (shown now 0 events)) → after ≡ before → Traced i objects origin schedule 0 g h old new before after
-  traced_start g same there s old new before after app kept =
-      record {
-        image_before = same;
-        image = image;
-        schedule_before = there;
-        schedule_after = schedule_after;
-        stands_before = stands_there g same there s;
-        stands = stands_there h image schedule_after stands;
-        written = subst (Appends old new) (sym first_rows) app;
-        kept = kept;
-      }
+    abbrev pub first : List ℕ
+    first = first_by schedule
 
-  pub broken_start : (limit : ℕ) (old new : Option (List ℕ)) → AppendsBeginning old new (rows_text (row_names i objects origin) (shown now 0 events)) → AppendsBeginning old new (rows_text (row_names i objects origin) (rows i schedule limit))
-  broken_start limit old new begun =
-      let rest = rows_grow i schedule 0 limit in
-      let at : 0 + limit ≡ limit = omega arith in
-      let more : rows i schedule limit ≡ rows i schedule 0 ++ rest.0 = subst (λ x. rows i schedule x ≡ rows i schedule 0 ++ rest.0) at rest.1 in
-      let whole : rows_text (row_names i objects origin) (rows i schedule limit) ≡ rows_text (row_names i objects origin) (shown now 0 events) ++ rows_text (row_names i objects origin) rest.0 =
-      ap (rows_text (row_names i objects origin)) more ∙ rows_text-append (row_names i objects origin) (rows i schedule 0) rest.0 ∙ ap (λ v. v ++ rows_text (row_names i objects origin) rest.0) first_rows in
-      subst (AppendsBeginning old new) (sym whole) (beginning_of_more old new (rows_text (row_names i objects origin) (shown now 0 events)) (rows_text (row_names i objects origin) rest.0) begun)
+    first_rows : rows_text (row_names i objects origin) (rows i schedule 0) ≡ first
+    first_rows =
+        let names = row_names i objects origin in
+        let k = (code i schedule 0).kernel in
+        rows_text-append names (came 0 (lines_come None k.now schedule)) (shown k.now 0 (starts k))
+        ∙ ap (λ (w : CodeWorld). start_text names schedule w.kernel) (stands_there h image schedule_after stands)
+
+    pub traced_start : (g : HeldWorld) → g.image ≡ i → g.schedule ≡ schedule → HoldsWorld g (code g.image g.schedule 0) → (old new : Option (List ℕ)) (before after : ℕ) →
+        (given : List ScheduleLine) → given ≡ schedule → Appends old new (first_by given) → after ≡ before → Traced i objects origin schedule 0 g h old new before after
+    traced_start g same there s old new before after given is app kept =
+        record {
+          image_before = same;
+          image = image;
+          schedule_before = there;
+          schedule_after = schedule_after;
+          stands_before = stands_there g same there s;
+          stands = stands_there h image schedule_after stands;
+          written = subst (Appends old new) (sym first_rows) (subst (λ s. Appends old new (first_by s)) is app);
+          kept = kept;
+        }
+
+    pub broken_start : (limit : ℕ) (old new : Option (List ℕ)) → (given : List ScheduleLine) → given ≡ schedule → AppendsBeginning old new (first_by given) → AppendsBeginning old new (rows_text (row_names i objects origin) (rows i schedule limit))
+    broken_start limit old new given is begun =
+        let rest = rows_grow i schedule 0 limit in
+        let at : 0 + limit ≡ limit = omega arith in
+        let more : rows i schedule limit ≡ rows i schedule 0 ++ rest.0 = subst (λ x. rows i schedule x ≡ rows i schedule 0 ++ rest.0) at rest.1 in
+        let whole : rows_text (row_names i objects origin) (rows i schedule limit) ≡ first ++ rows_text (row_names i objects origin) rest.0 =
+        ap (rows_text (row_names i objects origin)) more ∙ rows_text-append (row_names i objects origin) (rows i schedule 0) rest.0 ∙ ap (λ v. v ++ rows_text (row_names i objects origin) rest.0) first_rows in
+        subst (AppendsBeginning old new) (sym whole) (beginning_of_more old new first (rows_text (row_names i objects origin) rest.0) (subst (λ s. AppendsBeginning old new (first_by s)) is begun))
 
 -- the rows up to the outcome, or at the limit, are those at the limit
 pub record Over (i : Sections) (objects : List (List ℕ)) (origin : ℕ → Option Origin) (schedule : List ScheduleLine) (limit : ℕ) (o : Outcome) (old new : Option (List ℕ)) (before after : ℕ) : Type 0 where

@@ -1,12 +1,19 @@
 -- What a step changes of who runs, who waits and who is inside an object, told by the kernels before and after it.
-use Rattle.std.specs.Prelude.{ℕ, zero, suc, List, [], ◌∷◌, ◌++◌, length, Option, Some, None, ℤ, Bool, true, false, not, ◌&&◌, ◌||◌, int_lt, nat_eq, nat_lt, if◌then◌else◌}
+use Rattle.std.specs.Prelude.{ℕ, zero, suc, List, [], ◌∷◌, ◌++◌, length, Option, Some, None, ℤ, Bool, true, false, not, ◌&&◌, ◌||◌, ◌-ℤ◌, int_lt, unsigned_abs, nat_eq, nat_lt, if◌then◌else◌}
+use Rattle.base.specs.declared.schedule.ScheduleLine.{ScheduleLine}
 use Rattle.kernel.specs.State as kernel
 use Rattle.kernel.specs.State.{Kernel, TaskPlace, IsRunning, IsReady, IsAsleep, IsQueued, IsServed, IsFinished, active, is_object_open, is_task}
+use Rattle.image.specs.Code.{CodeWorld}
+use Rattle.image.specs.Sections.{Sections}
 use Rattle.tasking.specs.Waits.{wake_time}
+use Rattle.execution.specs.Ahead.{next_address, next_asking, next_raising}
+use Rattle.task_steps.specs.declared.asking.Asking.{Asking}
+use Rattle.task_steps.specs.declared.asking.Asking.TheVariants as asks
 use Rattle.task_steps.specs.declared.foreseeing.Cause.{Cause}
 use Rattle.task_steps.specs.declared.foreseeing.Raising.{Raising}
+use Rattle.tracing.specs.declared.ahead.Ahead.{Ahead}
 use Rattle.tracing.specs.declared.event.Event.{Event}
-use Rattle.tracing.specs.declared.event.Event.TheVariants.{Ready, Runs, Refused, Raises, RaisesAtCall, Preempted, GivesWay, Waits, Wakes, Enters, Leaves, Queues, Served, Returns, Ends, Unhandled, ClockMoves}
+use Rattle.tracing.specs.declared.event.Event.TheVariants.{Ready, Runs, Refused, Raises, RaisesAtCall, Preempted, GivesWay, Waits, Late, Reads, Wakes, Enters, Leaves, Queues, Served, Returns, Ends, Unhandled, ClockMoves}
 
 -- Throughout, a step leads from kernel k to kernel l, and t is the task that ran.
 
@@ -27,31 +34,43 @@ is_later k l = int_lt k.now l.now
 abbrev pub is_followed : Kernel → Kernel → ℕ → Bool
 is_followed k l t = not (is_task l.partition t) && nat_lt (length l.pending) (length k.pending)
 
--- Exceptions
+-- The step, as far as it is known before it is taken
 
-abbrev pub refusal : ℕ → Option Cause → List Event
-refusal t None = []
-refusal t (Some cause) = Refused t cause ∷ []
+abbrev pub next_ahead : Sections → List ScheduleLine → CodeWorld → Ahead
+next_ahead i schedule w = record { address = next_address w; raising = next_raising i schedule w; asking = next_asking i schedule w }
+
+-- Exceptions. Throughout, a is the address of the step's instruction, which what its statement does is reported with
+
+abbrev pub refusal : ℕ → Option ℕ → Option Cause → List Event
+refusal t a None = []
+refusal t a (Some cause) = Refused t cause a ∷ []
 
 abbrev pub raises : ℕ → Raising → Event
 raises t r = if r.is_pending then RaisesAtCall t r.exception r.subprogram r.place else Raises t r.exception r.subprogram r.place
 
 -- by what the step raises, if it raises one; why, where it is refused something, in front of it
-abbrev pub raising : ℕ → Option Raising → List Event
-raising t None = []
-raising t (Some r) = refusal t r.cause ++ raises t r ∷ []
+abbrev pub raising : ℕ → Option ℕ → Option Raising → List Event
+raising t a None = []
+raising t a (Some r) = refusal t a r.cause ++ raises t r ∷ []
+
+-- What it asks for: an input, or to wait for a time that has passed
+
+abbrev pub asked : ℕ → (address : Option ℕ) → (now : ℤ) → Option Asking → Option Event
+asked t a now None = None
+asked t a now (Some (asks.Reads channel value)) = Some (Reads t channel value a)
+asked t a now (Some (asks.Waits until)) = if int_lt until now then Some (Late t (unsigned_abs (now -ℤ until)) a) else None
 
 -- Objects
 
 -- by whether t was inside o, and whether it is
-abbrev pub crossed : Kernel → ℕ → ℕ → Bool → Bool → Option Event
-crossed l t o false true = Some (Enters t o (active l t))
-crossed l t o true false = Some (Leaves t o (active l t))
-crossed l t o _ _ = None
+abbrev pub crossed : Kernel → ℕ → Option ℕ → ℕ → Bool → Bool → Option Event
+crossed l t a o false true = Some (Enters t o (active l t) a)
+crossed l t a o true false = Some (Leaves t o (active l t) a)
+crossed l t a o _ _ = None
 
 -- a handler that is followed is inside no more: the next one is
-abbrev pub crossing : Kernel → Kernel → ℕ → ℕ → Option Event
-crossing k l t o = crossed l t o (is_object_open o (k.actions t)) (not (is_followed k l t) && is_object_open o (l.actions t))
+abbrev pub crossing : Kernel → Kernel → ℕ → Option ℕ → ℕ → Option Event
+crossing k l t a o = crossed l t a o (is_object_open o (k.actions t)) (not (is_followed k l t) && is_object_open o (l.actions t))
 
 -- Callers
 
@@ -77,31 +96,32 @@ abbrev pub or_now : ℤ → Option ℤ → ℤ
 or_now now None = now
 or_now now (Some wake) = wake
 
-abbrev pub waits : Kernel → ℕ → Event
-waits l t = Waits t (or_now l.now (wake_time t l.sleepers))
+abbrev pub waits : Kernel → ℕ → Option ℕ → Event
+waits l t a = Waits t (or_now l.now (wake_time t l.sleepers)) a
 
 -- how it gave up the processor, if it did: by whether the clock has moved, and where t is
-abbrev pub gave_up : Kernel → ℕ → Bool → TaskPlace → Option Event
-gave_up l t later IsAsleep = Some (waits l t)
-gave_up l t later (IsQueued o) = Some (Queues t o)
-gave_up l t later (IsServed o) = None
-gave_up l t later IsFinished = Some (Ends t)
-gave_up l t true IsRunning = Some (waits l t)
-gave_up l t false IsRunning = None
-gave_up l t true IsReady = Some (waits l t)
-gave_up l t false IsReady = outranked l t l.running
+abbrev pub gave_up : Kernel → ℕ → Option ℕ → Bool → TaskPlace → Option Event
+gave_up l t a later IsAsleep = Some (waits l t a)
+gave_up l t a later (IsQueued o) = Some (Queues t o a)
+gave_up l t a later (IsServed o) = None
+gave_up l t a later IsFinished = Some (Ends t)
+gave_up l t a true IsRunning = Some (waits l t a)
+gave_up l t a false IsRunning = None
+gave_up l t a true IsReady = Some (waits l t a)
+gave_up l t a false IsReady = outranked l t l.running
 
 -- where it is behind the step
 abbrev pub place_left : Kernel → Kernel → ℕ → TaskPlace
 place_left k l t = if is_followed k l t then IsFinished else l.place t
 
 -- what has happened when the clock may move: what t raised, what it did, and what that made of callers
-abbrev pub until_clock : Option Raising → Kernel → Kernel → ℕ → List Event
-until_clock r k l t =
-    raising t r
-    ++ each l.partition.objects (crossing k l t)
+abbrev pub until_clock : Ahead → Kernel → Kernel → ℕ → List Event
+until_clock ahead k l t =
+    raising t ahead.address ahead.raising
+    ++ list_of (asked t ahead.address k.now ahead.asking)
+    ++ each l.partition.objects (crossing k l t ahead.address)
     ++ each l.partition.tasks (calling k l t)
-    ++ list_of (gave_up l t (is_later k l) (place_left k l t))
+    ++ list_of (gave_up l t ahead.address (is_later k l) (place_left k l t))
 
 -- The clock
 

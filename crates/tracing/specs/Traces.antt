@@ -1,5 +1,5 @@
 -- The trace of a run, row by row, and its text (docs/FORMATS.md, "Traces").
-use Rattle.std.specs.Prelude.{ℕ, zero, suc, List, [], ◌∷◌, ◌++◌, ℤ, Option, Some, None, codes, decimal, drop, length, map, slice_get}
+use Rattle.std.specs.Prelude.{ℕ, zero, suc, ◌-◌, List, [], ◌∷◌, ◌++◌, ℤ, Bool, Option, Some, None, ◌&&◌, codes, decimal, drop, int_le, int_lt, length, map, slice_get, take, if◌then◌else◌}
 use Rattle.std.specs.Fmt.{signed_decimal}
 use Rattle.base.specs.declared.schedule.ScheduleLine.{ScheduleLine}
 use Rattle.kernel.specs.State.{Kernel, Line, Outcome}
@@ -7,18 +7,18 @@ use Rattle.kernel.specs.Text.{Names, last_line, line_text}
 use Rattle.image.specs.Code.{code}
 use Rattle.image.specs.Sections.{Sections}
 use Rattle.image.specs.Texts.{names_of}
-use Rattle.execution.specs.Ahead.{next_raising}
 use Rattle.task_steps.specs.declared.foreseeing.Cause.{Cause}
 use Rattle.task_steps.specs.declared.foreseeing.Cause.TheVariants as causes
-use Rattle.task_steps.specs.declared.foreseeing.Raising.{Raising}
-use Rattle.tracing.specs.Changes.{since_clock, starts, until_clock}
+use Rattle.tracing.specs.Changes.{next_ahead, since_clock, starts, until_clock}
+use Rattle.tracing.specs.declared.ahead.Ahead.{Ahead}
 use Rattle.tracing.specs.declared.event.Event.{Event}
-use Rattle.tracing.specs.declared.event.Event.TheVariants.{Ready, Runs, Refused, Raises, RaisesAtCall, Preempted, GivesWay, Waits, Wakes, Enters, Leaves, Queues, Served, Returns, Ends, Unhandled, ClockMoves}
+use Rattle.tracing.specs.declared.event.Event.TheVariants.{Ready, Runs, Refused, Raises, RaisesAtCall, Preempted, GivesWay, Waits, Late, Reads, Wakes, Enters, Leaves, Queues, Served, Returns, Ends, Unhandled, ClockMoves}
 use Rattle.tracing.specs.declared.origin.Origin.{Origin}
 
--- what a row tells: a line that the task wrote, or an event
+-- what a row reports: a line that the task wrote, by the instruction of this address; a line of the schedule to which the clock has come; or an event
 pub data Telling : Type 0 where
-  Wrote : (task : ℕ) (line : Line) → Telling
+  Wrote : (task : ℕ) (address : Option ℕ) (line : Line) → Telling
+  Comes : (input : ScheduleLine) → Telling
   Shows : (event : Event) → Telling
 
 -- a row: the time, how many steps had been taken with the one that it tells of, and what it tells
@@ -33,21 +33,38 @@ row time step telling = record { time = time; step = step; telling = telling }
 abbrev pub shown : ℤ → ℕ → List Event → List TraceRow
 shown time step events = map (λ e. row time step (Shows e)) events
 
-abbrev pub wrote : ℤ → ℕ → ℕ → List Line → List TraceRow
-wrote time step t lines = map (λ l. row time step (Wrote t l)) lines
+abbrev pub wrote : ℤ → ℕ → ℕ → Option ℕ → List Line → List TraceRow
+wrote time step t a lines = map (λ l. row time step (Wrote t a l)) lines
 
--- the rows of step n, which leads from kernel k to kernel l and raises r: none where there was an outcome, and so nobody ran
-abbrev pub rows_of_step : Option Raising → Kernel → Kernel → ℕ → Option Outcome → Option ℕ → List TraceRow
-rows_of_step r k l n (Some o) running = []
-rows_of_step r k l n None None = []
-rows_of_step r k l n None (Some t) = wrote k.now n t (drop (length k.lines) l.lines) ++ shown k.now n (until_clock r k l t) ++ shown l.now n (since_clock k l t)
+-- the clock, which was at `since`, has come to a line of the schedule
+abbrev pub has_come : (since : Option ℤ) → (now : ℤ) → ScheduleLine → Bool
+has_come None now x = int_le x.time now
+has_come (Some since) now x = int_lt since x.time && int_le x.time now
+
+abbrev pub lines_come : (since : Option ℤ) → (now : ℤ) → List ScheduleLine → List ScheduleLine
+lines_come since now [] = []
+lines_come since now (x ∷ schedule) = if has_come since now x then x ∷ lines_come since now schedule else lines_come since now schedule
+
+-- the rows of these lines, each at its own time
+abbrev pub came : ℕ → List ScheduleLine → List TraceRow
+came step lines = map (λ x. row x.time step (Comes x)) lines
+
+-- the rows of step n, which leads from kernel k to kernel l, and of which that is known before it is taken: none where there was an outcome, and so nobody ran
+abbrev pub rows_of_step : List ScheduleLine → Ahead → Kernel → Kernel → ℕ → Option Outcome → Option ℕ → List TraceRow
+rows_of_step schedule ahead k l n (Some o) running = []
+rows_of_step schedule ahead k l n None None = []
+rows_of_step schedule ahead k l n None (Some t) =
+    wrote k.now n t ahead.address (drop (length k.lines) l.lines)
+    ++ shown k.now n (until_clock ahead k l t)
+    ++ came n (lines_come (Some k.now) l.now schedule)
+    ++ shown l.now n (since_clock k l t)
 
 -- the rows of the start and of the first n steps of an image's code
 abbrev pub rows : Sections → List ScheduleLine → ℕ → List TraceRow
-rows i schedule zero = let k = (code i schedule 0).kernel in shown k.now 0 (starts k)
+rows i schedule zero = let k = (code i schedule 0).kernel in came 0 (lines_come None k.now schedule) ++ shown k.now 0 (starts k)
 rows i schedule (suc n) =
     let w = code i schedule n in
-    rows i schedule n ++ rows_of_step (next_raising i schedule w) w.kernel (code i schedule (suc n)).kernel (suc n) w.kernel.outcome w.kernel.running
+    rows i schedule n ++ rows_of_step schedule (next_ahead i schedule w) w.kernel (code i schedule (suc n)).kernel (suc n) w.kernel.outcome w.kernel.running
 
 -- Text
 
@@ -72,14 +89,16 @@ task_of names (Ready t) = names.task t
 task_of names (Runs t p) = names.task t
 task_of names (Preempted t u) = names.task t
 task_of names (GivesWay t u) = names.task t
-task_of names (Refused t cause) = names.task t
+task_of names (Refused t cause a) = names.task t
 task_of names (Raises t x s a) = names.task t
 task_of names (RaisesAtCall t x s a) = names.task t
-task_of names (Waits t time) = names.task t
+task_of names (Waits t time a) = names.task t
+task_of names (Late t by a) = names.task t
+task_of names (Reads t channel value a) = names.task t
 task_of names (Wakes t) = names.task t
-task_of names (Enters t o p) = names.task t
-task_of names (Leaves t o p) = names.task t
-task_of names (Queues t o) = names.task t
+task_of names (Enters t o p a) = names.task t
+task_of names (Leaves t o p a) = names.task t
+task_of names (Queues t o a) = names.task t
 task_of names (Served t o u) = names.task t
 task_of names (Returns t o) = names.task t
 task_of names (Ends t) = names.task t
@@ -99,19 +118,29 @@ abbrev pub origin_text : Option Origin → List ℕ
 origin_text None = []
 origin_text (Some o) = (codes " at " ++ decimal o.line) ++ (codes ":" ++ decimal o.column)
 
+-- where the instruction of an address comes from
+abbrev pub origin_at : (ℕ → Option Origin) → Option ℕ → Option Origin
+origin_at origin None = None
+origin_at origin (Some a) = origin a
+
+abbrev pub place_text : RowNames → Option ℕ → List ℕ
+place_text names a = origin_text (origin_at names.origin a)
+
 abbrev pub event_text : RowNames → Event → List ℕ
 event_text names (Ready t) = codes "is ready"
 event_text names (Runs t p) = codes "runs at " ++ decimal p
 event_text names (Preempted t u) = codes "is preempted by " ++ names.line.task u
 event_text names (GivesWay t u) = codes "gives way to " ++ names.line.task u
-event_text names (Refused t cause) = cause_text names.object cause
+event_text names (Refused t cause a) = cause_text names.object cause ++ place_text names a
 event_text names (Raises t x s a) = (codes "raises " ++ names.line.exception x) ++ origin_text (names.origin a)
 event_text names (RaisesAtCall t x s a) = ((codes "raises " ++ names.line.exception x) ++ codes " at its call") ++ origin_text (names.origin a)
-event_text names (Waits t time) = codes "waits until " ++ signed_decimal time
+event_text names (Waits t time a) = (codes "waits until " ++ signed_decimal time) ++ place_text names a
+event_text names (Late t by a) = (codes "is late by " ++ decimal by) ++ place_text names a
+event_text names (Reads t channel value a) = ((codes "reads " ++ signed_decimal value) ++ (codes " from " ++ signed_decimal channel)) ++ place_text names a
 event_text names (Wakes t) = codes "wakes"
-event_text names (Enters t o p) = (codes "enters " ++ names.object o) ++ (codes " at " ++ decimal p)
-event_text names (Leaves t o p) = (codes "leaves " ++ names.object o) ++ (codes " at " ++ decimal p)
-event_text names (Queues t o) = codes "queues at " ++ names.object o
+event_text names (Enters t o p a) = ((codes "enters " ++ names.object o) ++ (codes " at " ++ decimal p)) ++ place_text names a
+event_text names (Leaves t o p a) = ((codes "leaves " ++ names.object o) ++ (codes " at " ++ decimal p)) ++ place_text names a
+event_text names (Queues t o a) = (codes "queues at " ++ names.object o) ++ place_text names a
 event_text names (Served t o u) = (codes "is served at " ++ names.object o) ++ (codes " by " ++ names.line.task u)
 event_text names (Returns t o) = codes "has been served at " ++ names.object o
 event_text names (Ends t) = codes "ends"
@@ -122,9 +151,18 @@ event_text names ClockMoves = codes "the clock moves"
 abbrev pub heading : ℤ → ℕ → List ℕ → List ℕ
 heading time step task = signed_decimal time ++ codes " " ++ decimal step ++ codes " " ++ task ++ codes " "
 
--- a line of the run stands word for word at the end of its row
+-- a line without the line feed at its end
+abbrev pub without_end : List ℕ → List ℕ
+without_end text = take (length text - 1) text
+
+abbrev pub input_text : ScheduleLine → List ℕ
+input_text x = (codes "line " ++ decimal x.channel) ++ (codes " " ++ signed_decimal x.value)
+
+-- a line of the run is word for word in its row
 abbrev pub telling_text : RowNames → ℤ → ℕ → Telling → List ℕ
-telling_text names time step (Wrote t line) = heading time step (names.line.task t) ++ codes "writes " ++ line_text names.line line
+telling_text names time step (Wrote t a line) =
+    (heading time step (names.line.task t) ++ codes "writes ") ++ without_end (line_text names.line line) ++ (place_text names a ++ codes "\n")
+telling_text names time step (Comes x) = heading time step (codes "-") ++ input_text x ++ codes "\n"
 telling_text names time step (Shows e) = heading time step (task_of names.line e) ++ event_text names e ++ codes "\n"
 
 abbrev pub row_text : RowNames → TraceRow → List ℕ
@@ -144,7 +182,8 @@ trace_text i objects origin schedule limit =
 -- Lines
 
 abbrev pub line_of : Telling → List Line
-line_of (Wrote t line) = line ∷ []
+line_of (Wrote t a line) = line ∷ []
+line_of (Comes x) = []
 line_of (Shows e) = []
 
 -- the lines that rows tell, in their order

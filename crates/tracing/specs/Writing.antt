@@ -1,20 +1,27 @@
 -- What is written of one step, by what the machine's step has told.
 use Rattle.std.specs.Prelude.{ℕ, List, [], ◌++◌, ℤ, Option, Some, None, codes}
 use Rattle.kernel.specs.State.{Kernel}
-use Rattle.task_steps.specs.declared.foreseeing.Raising.{Raising}
+use Rattle.base.specs.declared.schedule.ScheduleLine.{ScheduleLine}
 use Rattle.machine.specs.declared.reports.Event.{Event}
 use Rattle.machine.specs.declared.reports.Event.TheVariants as events
-use Rattle.tracing.specs.Changes.{since_clock, until_clock}
-use Rattle.tracing.specs.Traces.{RowNames, heading, rows_text, shown}
+use Rattle.tracing.specs.Changes.{since_clock, starts, until_clock}
+use Rattle.tracing.specs.declared.ahead.Ahead.{Ahead}
+use Rattle.tracing.specs.Traces.{RowNames, came, heading, lines_come, place_text, rows_text, shown, without_end}
 
--- the row of the line that was told, if one was
-abbrev pub line_text_of : RowNames → ℤ → ℕ → ℕ → Event → List ℕ
-line_text_of names time step t (events.Line text) = (heading time step (names.line.task t) ++ codes "writes ") ++ text.items
-line_text_of names time step t _ = []
+-- the row of the line that was reported, if one was
+abbrev pub line_text_of : RowNames → ℤ → ℕ → ℕ → Option ℕ → Event → List ℕ
+line_text_of names time step t a (events.Line text) =
+    (heading time step (names.line.task t) ++ codes "writes ") ++ without_end text.items ++ (place_text names a ++ codes "\n")
+line_text_of names time step t a _ = []
 
-abbrev pub step_text : RowNames → Option Raising → Kernel → Kernel → ℕ → Event → Option ℕ → List ℕ
-step_text names r k l step told None = []
-step_text names r k l step told (Some t) =
-    line_text_of names k.now step t told
-    ++ rows_text names (shown k.now step (until_clock r k l t))
+abbrev pub step_text : RowNames → List ScheduleLine → Ahead → Kernel → Kernel → ℕ → Event → Option ℕ → List ℕ
+step_text names schedule ahead k l step told None = []
+step_text names schedule ahead k l step told (Some t) =
+    line_text_of names k.now step t ahead.address told
+    ++ rows_text names (shown k.now step (until_clock ahead k l t))
+    ++ rows_text names (came step (lines_come (Some k.now) l.now schedule))
     ++ rows_text names (shown l.now step (since_clock k l t))
+
+-- what is written of the start
+abbrev pub start_text : RowNames → List ScheduleLine → Kernel → List ℕ
+start_text names schedule k = rows_text names (came 0 (lines_come None k.now schedule)) ++ rows_text names (shown k.now 0 (starts k))

@@ -1,20 +1,21 @@
-//! What a step has changed, told by a machine that stands before it and one that stands after it.
+//! What a step has changed, by a machine before it and one after it.
 ghost use Rattle.std.specs.Prelude.{◌≡◌, ◌+◌, ◌<◌, ◌≤◌, ◌++◌, ◌||◌, ℕ, [], length, Some, int_lt};
 ghost use Rattle.arrayvec.specs.ArrayVec.{array_vec_len};
 ghost use Rattle.base.specs.declared.limits.TheConstants.{OBJECTS, TASKS};
 ghost use Rattle.tasking.specs.Held.{kernel_of};
-ghost use Rattle.tracing.specs.Changes.{calling, crossing, dispatched, each, first_runs, gave_up, is_followed, is_later, list_of, outranked, place_left, raises, raising, ready, refusal, since_clock, starts, stopped, until_clock, waits, waking};
+ghost use Rattle.tracing.specs.Changes.{asked, calling, crossing, dispatched, each, first_runs, gave_up, is_followed, is_later, list_of, outranked, place_left, raises, raising, ready, refusal, since_clock, starts, stopped, until_clock, waits, waking};
 ghost use Rattle.tracing.specs.declared.comparing.TheConstants.{EVENTS};
 
+use crate::ahead::Ahead;
 use crate::event::Event;
 use arrayvec::ArrayVec;
 use base::limits::{OBJECTS, TASKS};
 use clock::Delays;
 use dispatch::Ready;
-use machine::{Machine, Outcome, Place, Raising};
+use machine::{Asking, Machine, Outcome, Place, Raising};
 
 /// The most events of one step at one time.
-pub(crate) const EVENTS: usize = OBJECTS + TASKS + 3;
+pub(crate) const EVENTS: usize = OBJECTS + TASKS + 4;
 
 /// Events of one step at one time, in their order.
 pub(crate) type Events = ArrayVec<Event, EVENTS>;
@@ -54,11 +55,12 @@ fn crossing<R: Ready, D: Delays>(
     before: &Machine<'_, R, D>,
     after: &Machine<'_, R, D>,
     task: u8,
+    address: Option<u16>,
     object: u8,
 ) -> Option<Event>
     requires image { before.now.image ≡ after.now.image }
     requires object { object < length after.now.image.objects }
-    ensures { result ≡ crossing (kernel_of before.now.tasking) (kernel_of after.now.tasking) task object }
+    ensures { result ≡ crossing (kernel_of before.now.tasking) (kernel_of after.now.tasking) task address object }
 {
     let priority = after.active_of_actor(task);
     let is_followed = is_followed(before, after, task);
@@ -70,11 +72,13 @@ fn crossing<R: Ready, D: Delays>(
             task,
             object,
             priority,
+            address,
         }),
         (true, false) => Some(Event::Leaves {
             task,
             object,
             priority,
+            address,
         }),
         _ => None,
     }
@@ -111,14 +115,18 @@ fn outranked<R: Ready, D: Delays>(after: &Machine<'_, R, D>, task: u8) -> Option
 }
 
 // Until when the task that ran waits, where it gave up the processor to wait.
-fn waits<R: Ready, D: Delays>(after: &Machine<'_, R, D>, task: u8) -> Event
-    ensures { result ≡ waits (kernel_of after.now.tasking) task }
+fn waits<R: Ready, D: Delays>(after: &Machine<'_, R, D>, task: u8, address: Option<u16>) -> Event
+    ensures { result ≡ waits (kernel_of after.now.tasking) task address }
 {
     let until = match after.wake_time(task) {
         Some(wake) => wake,
         None => after.now(),
     };
-    Event::Waits { task, until }
+    Event::Waits {
+        task,
+        until,
+        address,
+    }
 }
 
 // How the task that ran gave up the processor, if it did.
@@ -126,16 +134,23 @@ fn gave_up<R: Ready, D: Delays>(
     before: &Machine<'_, R, D>,
     after: &Machine<'_, R, D>,
     task: u8,
+    address: Option<u16>,
 ) -> Option<Event>
-    ensures { result ≡ gave_up (kernel_of after.now.tasking) task (is_later (kernel_of before.now.tasking) (kernel_of after.now.tasking))
+    ensures { result ≡ gave_up (kernel_of after.now.tasking) task address (is_later (kernel_of before.now.tasking) (kernel_of after.now.tasking))
         (place_left (kernel_of before.now.tasking) (kernel_of after.now.tasking) task) }
 {
     if is_followed(before, after, task) {
         return Some(Event::Ends { task });
     }
     match (is_later(before, after), after.place_of_actor(task)) {
-        (_, Place::Asleep) | (true, Place::Running | Place::Ready) => Some(waits(after, task)),
-        (_, Place::Queued(object)) => Some(Event::Queues { task, object }),
+        (_, Place::Asleep) | (true, Place::Running | Place::Ready) => {
+            Some(waits(after, task, address))
+        }
+        (_, Place::Queued(object)) => Some(Event::Queues {
+            task,
+            object,
+            address,
+        }),
         (_, Place::Finished) => Some(Event::Ends { task }),
         (false, Place::Ready) => outranked(after, task),
         (false, Place::Running) | (_, Place::Served(_)) => None,
@@ -221,18 +236,44 @@ fn raises(task: u8, raising: &Raising) -> Event
 }
 
 // What a task raises, and why, where it is refused something.
-fn raising(task: u8, raised: Option<Raising>) -> Events
-    ensures items { result.items ≡ raising task raised }
+fn raising(task: u8, address: Option<u16>, raised: Option<Raising>) -> Events
+    ensures items { result.items ≡ raising task address raised }
     ensures few { array_vec_len result ≤ 2 }
 {
     let mut events = ArrayVec::new();
     if let Some(raised) = raised {
         if let Some(cause) = raised.cause {
-            events.push(Event::Refused { task, cause });
+            events.push(Event::Refused {
+                task,
+                cause,
+                address,
+            });
         }
         events.push(raises(task, &raised));
     }
     events
+}
+
+// The input that a task reads, or how late it is.
+fn asked(task: u8, address: Option<u16>, now: i64, asking: Option<Asking>) -> Option<Event>
+    ensures { result ≡ asked task address now asking }
+{
+    match asking? {
+        Asking::Reads { channel, value } => Some(Event::Reads {
+            task,
+            channel,
+            value,
+            address,
+        }),
+        Asking::Waits { until } => {
+            if until < now {
+                let by = now.abs_diff(until);
+                Some(Event::Late { task, by, address })
+            } else {
+                None
+            }
+        }
+    }
 }
 
 // The objects that the task that ran has entered or left.
@@ -241,15 +282,16 @@ fn crossings<R: Ready, D: Delays>(
     before: &Machine<'_, R, D>,
     after: &Machine<'_, R, D>,
     task: u8,
+    address: Option<u16>,
 )
     requires image { before.now.image ≡ after.now.image }
-    requires room { array_vec_len events.old ≤ 2 }
+    requires room { array_vec_len events.old ≤ 3 }
     ensures items { events.new.items ≡ events.old.items ++ each (kernel_of after.now.tasking).partition.objects
-        (crossing (kernel_of before.now.tasking) (kernel_of after.now.tasking) task) }
-    ensures few { array_vec_len events.new ≤ 2 + OBJECTS }
+        (crossing (kernel_of before.now.tasking) (kernel_of after.now.tasking) task address) }
+    ensures few { array_vec_len events.new ≤ 3 + OBJECTS }
 {
     for object in 0..after.objects() {
-        add(events, crossing(before, after, task, object));
+        add(events, crossing(before, after, task, address, object));
     }
 }
 
@@ -258,17 +300,21 @@ pub(crate) fn until_clock<R: Ready, D: Delays>(
     before: &Machine<'_, R, D>,
     after: &Machine<'_, R, D>,
     ran: u8,
-    raised: Option<Raising>,
+    ahead: Ahead,
 ) -> Events
     requires image { before.now.image ≡ after.now.image }
-    ensures { result.items ≡ until_clock raised (kernel_of before.now.tasking) (kernel_of after.now.tasking) ran }
+    ensures { result.items ≡ until_clock ahead (kernel_of before.now.tasking) (kernel_of after.now.tasking) ran }
 {
-    let mut events = raising(ran, raised);
-    crossings(&mut events, before, after, ran);
+    let mut events = raising(ran, ahead.address, ahead.raising);
+    add(
+        &mut events,
+        asked(ran, ahead.address, before.now(), ahead.asking),
+    );
+    crossings(&mut events, before, after, ran, ahead.address);
     for task in 0..after.tasks() {
         add(&mut events, calling(before, after, ran, task));
     }
-    add(&mut events, gave_up(before, after, ran));
+    add(&mut events, gave_up(before, after, ran, ahead.address));
     events
 }
 
@@ -292,7 +338,7 @@ pub(crate) fn since_clock<R: Ready, D: Delays>(
     events
 }
 
-/// What is told of the start.
+/// What has happened at the start.
 pub(crate) fn starts<R: Ready, D: Delays>(machine: &Machine<'_, R, D>) -> Events
     ensures { result.items ≡ starts (kernel_of machine.now.tasking) }
 {

@@ -1,8 +1,9 @@
-//! What a trace tells of tasks.
+//! What a trace reports of tasks.
 
 use machine::Cause;
 
-/// What has changed of a task, or that the clock has moved. Tasks, objects and exceptions are their numbers.
+/// What has changed of a task, or that the clock has moved. Tasks, objects and exceptions are their numbers; an address is that of the instruction of the step,
+/// where the event is something that a statement does.
 #[derive(Clone, Copy, PartialEq, Eq, Debug)]
 pub enum Event {
     /// It is ready at the start (RM 9.2).
@@ -28,6 +29,7 @@ pub enum Event {
     Refused {
         task: u8,
         cause: Cause,
+        address: Option<u16>,
     },
     /// It raises an exception, handled or not, in this subprogram at the instruction of this address (RM 11.3).
     Raises {
@@ -47,6 +49,20 @@ pub enum Event {
     Waits {
         task: u8,
         until: i64,
+        address: Option<u16>,
+    },
+    /// The time that its `delay until` asks for has passed, by so many microseconds (RM 9.6).
+    Late {
+        task: u8,
+        by: u64,
+        address: Option<u16>,
+    },
+    /// It reads this value from an input channel.
+    Reads {
+        task: u8,
+        channel: i64,
+        value: i64,
+        address: Option<u16>,
     },
     /// Its time has come, and it is ready (RM 9.6).
     Wakes {
@@ -57,17 +73,20 @@ pub enum Event {
         task: u8,
         object: u8,
         priority: u8,
+        address: Option<u16>,
     },
     /// Its action of an object is over, and it has this active priority.
     Leaves {
         task: u8,
         object: u8,
         priority: u8,
+        address: Option<u16>,
     },
     /// Its call waits in the queue of an object's entry (RM 9.5.3).
     Queues {
         task: u8,
         object: u8,
+        address: Option<u16>,
     },
     /// Another task begins to run the entry body for its call (RM 9.5.3).
     Served {

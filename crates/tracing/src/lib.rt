@@ -1,6 +1,7 @@
-//! Traces of runs: the same run as the machine's, told event by event (docs/FORMATS.md, "Traces").
+//! Traces of runs: the same run as the machine's, reported event by event (docs/FORMATS.md, "Traces").
 #![tactic(auto)]
 
+mod ahead;
 mod comparing;
 mod event;
 pub mod laws;
@@ -8,6 +9,7 @@ mod origin;
 mod text;
 mod tracing_of;
 
+pub use ahead::Ahead;
 pub use event::Event;
 pub use origin::{Origin, Origins};
 pub use tracing_of::trace;

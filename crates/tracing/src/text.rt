@@ -4,18 +4,19 @@ ghost use Rattle.std.specs.Fmt.{signed_decimal};
 ghost use Rattle.arrayvec.specs.ArrayVec.{array_vec_len};
 ghost use Rattle.base.specs.declared.limits.TheConstants.{NAME_LIMIT};
 ghost use Rattle.image.specs.Texts.{names_of};
-ghost use Rattle.tracing.specs.Traces.{cause_text, event_text, heading, named_object, origin_text, row_names, task_of, telling_text, Shows};
+ghost use Rattle.tracing.specs.Traces.{cause_text, event_text, heading, input_text, named_object, origin_at, origin_text, place_text, row_names, task_of, telling_text, without_end, Comes, Shows};
 ghost use Rattle.tracing.specs.declared.text.TheConstants.{ROW_BYTES};
 
 use crate::event::Event;
 use crate::origin::{Origin, Origins};
 use arrayvec::ArrayVec;
+use base::ScheduleLine;
 use image::{Image, Text};
 use itoa::Buffer;
 use machine::{ActorName, Cause, actor_name, exception_name};
 
-/// The most bytes of a row, its end included, but for a row that ends with a line of the run: this is how many bytes are in front of that.
-pub(crate) const ROW_BYTES: usize = 192;
+/// The most bytes of a row, its end included; of a row with a line of the run, the most that are before that line, or after it.
+pub(crate) const ROW_BYTES: usize = 256;
 
 /// The text of a row, or its beginning.
 pub(crate) type RowText = ArrayVec<u8, ROW_BYTES>;
@@ -63,7 +64,7 @@ fn heading(time: i64, step: u64, task: &[u8]) -> RowText
     row
 }
 
-// The name of the task that an event is told of, or a dash where it is the clock.
+// The name of the task of an event, or a dash where it is the clock.
 fn task_of(image: &Image, event: &Event) -> ActorName
     ensures same { result.items ≡ task_of (names_of image.now) event.now }
     ensures short { array_vec_len result ≤ NAME_LIMIT }
@@ -82,6 +83,8 @@ fn task_of(image: &Image, event: &Event) -> ActorName
         | Event::Raises { task, .. }
         | Event::RaisesAtCall { task, .. }
         | Event::Waits { task, .. }
+        | Event::Late { task, .. }
+        | Event::Reads { task, .. }
         | Event::Wakes { task }
         | Event::Enters { task, .. }
         | Event::Leaves { task, .. }
@@ -209,7 +212,29 @@ fn put_origin(row: &mut RowText, origin: Option<Origin>)
     }
 }
 
-// Appends what is told of an event.
+// Where the instruction of an address comes from, where that is known.
+fn origin_at<O: Origins>(origins: &O, address: Option<u16>) -> Option<Origin>
+    ensures { result ≡ origin_at (O.origin origins.now) address }
+{
+    origins.origin_of(address?)
+}
+
+// Appends where the instruction of an address comes from, where that is known.
+fn put_place<O: Origins>(
+    row: &mut RowText,
+    image: &Image,
+    objects: &[Text],
+    origins: &O,
+    address: Option<u16>,
+)
+    requires { array_vec_len row.old + 45 ≤ ROW_BYTES }
+    ensures items { row.new.items ≡ row.old.items ++ place_text (row_names image.now objects.now (O.origin origins.now)) address }
+    ensures len { array_vec_len row.new ≤ array_vec_len row.old + 45 }
+{
+    put_origin(row, origin_at(origins, address));
+}
+
+// Appends what an event is.
 fn put_event<O: Origins>(
     row: &mut RowText,
     image: &Image,
@@ -219,7 +244,7 @@ fn put_event<O: Origins>(
 )
     requires { array_vec_len row.old ≤ 83 }
     ensures items { row.new.items ≡ row.old.items ++ event_text (row_names image.now objects.now (O.origin origins.now)) event.now }
-    ensures len { array_vec_len row.new ≤ array_vec_len row.old + 108 }
+    ensures len { array_vec_len row.new ≤ array_vec_len row.old + 153 }
 {
     match event {
         Event::Ready { .. } => put(row, b"is ready"),
@@ -230,7 +255,10 @@ fn put_event<O: Origins>(
         Event::GivesWay { to, .. } => {
             put_named(row, b"gives way to ", actor_name(image, *to).as_slice());
         }
-        Event::Refused { cause, .. } => put_cause(row, objects, cause),
+        Event::Refused { cause, address, .. } => {
+            put_cause(row, objects, cause);
+            put_place(row, image, objects, origins, *address);
+        }
         Event::Raises {
             exception,
             address,
@@ -256,25 +284,54 @@ fn put_event<O: Origins>(
             put(row, b" at its call");
             put_origin(row, origins.origin_of(*address));
         }
-        Event::Waits { until, .. } => put_until(row, b"waits until ", *until),
+        Event::Waits { until, address, .. } => {
+            put_until(row, b"waits until ", *until);
+            put_place(row, image, objects, origins, *address);
+        }
+        Event::Late { by, address, .. } => {
+            put(row, b"is late by ");
+            put_count(row, *by);
+            put_place(row, image, objects, origins, *address);
+        }
+        Event::Reads {
+            channel,
+            value,
+            address,
+            ..
+        } => {
+            put_until(row, b"reads ", *value);
+            put_until(row, b" from ", *channel);
+            put_place(row, image, objects, origins, *address);
+        }
         Event::Wakes { .. } => put(row, b"wakes"),
         Event::Enters {
             object,
             priority,
+            address,
             ..
         } => {
             put_at(row, b"enters ", objects, *object);
             put_with(row, b" at ", *priority);
+            put_place(row, image, objects, origins, *address);
         }
         Event::Leaves {
             object,
             priority,
+            address,
             ..
         } => {
             put_at(row, b"leaves ", objects, *object);
             put_with(row, b" at ", *priority);
+            put_place(row, image, objects, origins, *address);
         }
-        Event::Queues { object, .. } => put_at(row, b"queues at ", objects, *object),
+        Event::Queues {
+            object,
+            address,
+            ..
+        } => {
+            put_at(row, b"queues at ", objects, *object);
+            put_place(row, image, objects, origins, *address);
+        }
         Event::Served { object, by, .. } => {
             put_at(row, b"is served at ", objects, *object);
             put_named(row, b" by ", actor_name(image, *by).as_slice());
@@ -309,7 +366,46 @@ pub(crate) fn event_row<O: Origins>(
     row
 }
 
-/// What stands in front of a line that a task has written.
+/// The row of a line of the schedule to which the clock has come.
+pub(crate) fn input_row<O: Origins>(
+    image: &Image,
+    objects: &[Text],
+    origins: &O,
+    step: u64,
+    line: &ScheduleLine,
+) -> RowText
+    ensures { result.items ≡ telling_text (row_names image.now objects.now (O.origin origins.now)) line.now.time step (Comes line.now) }
+{
+    let mut row = heading(line.time, step, b"-");
+    put_with(&mut row, b"line ", line.channel);
+    put_until(&mut row, b" ", line.value);
+    put(&mut row, b"\n");
+    row
+}
+
+/// What comes after a line that a task has written, without its line feed.
+pub(crate) fn line_end<O: Origins>(
+    image: &Image,
+    objects: &[Text],
+    origins: &O,
+    address: Option<u16>,
+) -> RowText
+    ensures { result.items ≡ place_text (row_names image.now objects.now (O.origin origins.now)) address ++ codes "\n" }
+{
+    let mut row = ArrayVec::new();
+    put_place(&mut row, image, objects, origins, address);
+    put(&mut row, b"\n");
+    row
+}
+
+/// A line without the line feed at its end.
+pub(crate) fn without_end(line: &[u8]) -> &[u8]
+    ensures { result.now ≡ without_end line.now }
+{
+    &line[..line.len().saturating_sub(1)]
+}
+
+/// What comes before a line that a task has written.
 pub(crate) fn line_heading(image: &Image, time: i64, step: u64, task: u8) -> RowText
     ensures { result.items ≡ heading time step ((names_of image.now).task task) ++ codes "writes " }
 {

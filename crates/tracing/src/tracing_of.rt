@@ -6,18 +6,20 @@ ghost use Rattle.machine.specs.Stands.{EndsBy, HoldsWorld};
 ghost use Rattle.machine.specs.Written.{AppendsBeginning};
 ghost use Rattle.tasking.specs.Held.{kernel_of};
 ghost use Rattle.tracing.specs.Changes.{since_clock, starts, until_clock};
-ghost use Rattle.tracing.specs.Traces.{row_names, rows, rows_text, shown, trace_text};
-ghost use Rattle.tracing.specs.Writing.{line_text_of, step_text};
+ghost use Rattle.tracing.specs.Traces.{came, has_come, lines_come, row_names, rows, rows_text, shown, trace_text};
+ghost use Rattle.tracing.specs.Writing.{line_text_of, start_text, step_text};
 
+use crate::ahead::{Ahead, ahead_of};
 use crate::comparing::{since_clock, starts, until_clock};
 use crate::event::Event;
 use crate::origin::Origins;
-use crate::text::{event_row, line_heading};
+use crate::text::{event_row, input_row, line_end, line_heading, without_end};
+use base::ScheduleLine;
 use clock::{Delays, HeapDelays, Schedule};
 use dispatch::{Ready, RingReady};
 use image::{Image, Text};
 use image_laws::outcome_stays;
-use machine::{Machine, Outcome, Raising, RunFault, Sink, SinkError, Steps, last_line, write_all};
+use machine::{Machine, Outcome, RunFault, Sink, SinkError, Steps, last_line, write_all};
 use std::alloc::Global;
 use std::sync::ledger::Ledger;
 
@@ -48,6 +50,46 @@ fn write_events<O: Origins, S: Sink>(
     Ok(())
 }
 
+// Whether the clock, which was at `since`, has come to a line of the schedule.
+fn has_come(since: Option<i64>, now: i64, line: &ScheduleLine) -> bool
+    ensures { result ≡ has_come since now line.now }
+{
+    match since {
+        None => line.time <= now,
+        Some(since) => since < line.time && line.time <= now,
+    }
+}
+
+// Writes the rows of the lines of the schedule to which the clock has come.
+fn write_inputs<O: Origins, S: Sink>(
+    image: &Image,
+    objects: &[Text],
+    origins: &O,
+    lines: &[ScheduleLine],
+    since: Option<i64>,
+    now: i64,
+    step: u64,
+    sink: &mut S,
+) -> Result<(), SinkError>
+    ensures whole { OnOk result (Appends (S.bytes sink.old) (S.bytes sink.new)
+        (rows_text (row_names image.now objects.now (O.origin origins.now)) (came step (lines_come since now lines.now)))) }
+    ensures kept { OnOk result (S.failures sink.new ≡ S.failures sink.old) }
+    ensures failed { OnErr result (S.failures sink.old < S.failures sink.new) }
+    ensures beginning { OnErr result (AppendsBeginning (S.bytes sink.old) (S.bytes sink.new)
+        (rows_text (row_names image.now objects.now (O.origin origins.now)) (came step (lines_come since now lines.now)))) }
+{
+    for line in lines {
+        if has_come(since, now, line) {
+            let row = input_row(image, objects, origins, step, line);
+            match write_all(sink, row.as_slice()) {
+                Ok(()) => {}
+                Err(error) => return Err(error),
+            }
+        }
+    }
+    Ok(())
+}
+
 // Writes the row of the line that a step has written, if it has.
 fn write_line<O: Origins, S: Sink>(
     image: &Image,
@@ -56,54 +98,74 @@ fn write_line<O: Origins, S: Sink>(
     time: i64,
     step: u64,
     task: u8,
-    told: &machine::Event,
+    address: Option<u16>,
+    shown: &machine::Event,
     sink: &mut S,
 ) -> Result<(), SinkError>
     ensures whole { OnOk result (Appends (S.bytes sink.old) (S.bytes sink.new)
-        (line_text_of (row_names image.now objects.now (O.origin origins.now)) time step task told.now)) }
+        (line_text_of (row_names image.now objects.now (O.origin origins.now)) time step task address shown.now)) }
     ensures kept { OnOk result (S.failures sink.new ≡ S.failures sink.old) }
     ensures failed { OnErr result (S.failures sink.old < S.failures sink.new) }
     ensures beginning { OnErr result (AppendsBeginning (S.bytes sink.old) (S.bytes sink.new)
-        (line_text_of (row_names image.now objects.now (O.origin origins.now)) time step task told.now)) }
+        (line_text_of (row_names image.now objects.now (O.origin origins.now)) time step task address shown.now)) }
 {
-    let machine::Event::Line(line) = told else {
+    let machine::Event::Line(line) = shown else {
         return Ok(());
     };
     let heading = line_heading(image, time, step, task);
     match write_all(sink, heading.as_slice()) {
-        Ok(()) => write_all(sink, line.as_slice()),
-        Err(error) => Err(error),
+        Ok(()) => {}
+        Err(error) => return Err(error),
     }
+    match write_all(sink, without_end(line.as_slice())) {
+        Ok(()) => {}
+        Err(error) => return Err(error),
+    }
+    let end = line_end(image, objects, origins, address);
+    write_all(sink, end.as_slice())
 }
 
-// Writes the rows of a step: the line that it has told, what it has raised, and what has changed from one machine to the other.
+// Writes the rows of a step: the line that it has written, what it has raised, what has changed from one machine to the other, and the lines of the schedule to
+// which the clock has come.
 fn write_step<R: Ready, D: Delays, O: Origins, S: Sink>(
     image: &Image,
     objects: &[Text],
     origins: &O,
     before: &Machine<'_, R, D>,
     after: &Machine<'_, R, D>,
-    raising: Option<Raising>,
-    told: &machine::Event,
+    lines: &[ScheduleLine],
+    ahead: Ahead,
+    shown: &machine::Event,
     step: u64,
     sink: &mut S,
 ) -> Result<(), SinkError>
     requires { before.now.image ≡ after.now.image }
-    ensures whole { OnOk result (Appends (S.bytes sink.old) (S.bytes sink.new) (step_text (row_names image.now objects.now (O.origin origins.now)) raising
-        (kernel_of before.now.tasking) (kernel_of after.now.tasking) step told.now (kernel_of before.now.tasking).running)) }
+    ensures whole { OnOk result (Appends (S.bytes sink.old) (S.bytes sink.new) (step_text (row_names image.now objects.now (O.origin origins.now)) lines.now
+        ahead (kernel_of before.now.tasking) (kernel_of after.now.tasking) step shown.now (kernel_of before.now.tasking).running)) }
     ensures kept { OnOk result (S.failures sink.new ≡ S.failures sink.old) }
     ensures failed { OnErr result (S.failures sink.old < S.failures sink.new) }
     ensures beginning { OnErr result (AppendsBeginning (S.bytes sink.old) (S.bytes sink.new)
-        (step_text (row_names image.now objects.now (O.origin origins.now)) raising (kernel_of before.now.tasking) (kernel_of after.now.tasking) step told.now
-        (kernel_of before.now.tasking).running)) }
+        (step_text (row_names image.now objects.now (O.origin origins.now)) lines.now ahead (kernel_of before.now.tasking) (kernel_of after.now.tasking) step
+        shown.now (kernel_of before.now.tasking).running)) }
 {
     let Some(ran) = before.actor() else {
         return Ok(());
     };
     let time = before.now();
-    let until = until_clock(before, after, ran, raising);
+    let now = after.now();
+    let until = until_clock(before, after, ran, ahead);
     let since = since_clock(before, after, ran);
-    match write_line(image, objects, origins, time, step, ran, told, sink) {
+    match write_line(
+        image,
+        objects,
+        origins,
+        time,
+        step,
+        ran,
+        ahead.address,
+        shown,
+        sink,
+    ) {
         Ok(()) => {}
         Err(error) => return Err(error),
     }
@@ -111,13 +173,41 @@ fn write_step<R: Ready, D: Delays, O: Origins, S: Sink>(
         Ok(()) => {}
         Err(error) => return Err(error),
     }
+    match write_inputs(image, objects, origins, lines, Some(time), now, step, sink) {
+        Ok(()) => {}
+        Err(error) => return Err(error),
+    }
+    write_events(image, objects, origins, now, step, since.as_slice(), sink)
+}
+
+// Writes the rows of the start.
+fn write_start<R: Ready, D: Delays, O: Origins, S: Sink>(
+    image: &Image,
+    objects: &[Text],
+    origins: &O,
+    machine: &Machine<'_, R, D>,
+    lines: &[ScheduleLine],
+    sink: &mut S,
+) -> Result<(), SinkError>
+    ensures whole { OnOk result (Appends (S.bytes sink.old) (S.bytes sink.new) (start_text (row_names image.now objects.now (O.origin origins.now)) lines.now
+        (kernel_of machine.now.tasking))) }
+    ensures kept { OnOk result (S.failures sink.new ≡ S.failures sink.old) }
+    ensures failed { OnErr result (S.failures sink.old < S.failures sink.new) }
+    ensures beginning { OnErr result (AppendsBeginning (S.bytes sink.old) (S.bytes sink.new)
+        (start_text (row_names image.now objects.now (O.origin origins.now)) lines.now (kernel_of machine.now.tasking))) }
+{
+    let now = machine.now();
+    match write_inputs(image, objects, origins, lines, None, now, 0, sink) {
+        Ok(()) => {}
+        Err(error) => return Err(error),
+    }
     write_events(
         image,
         objects,
         origins,
-        after.now(),
-        step,
-        since.as_slice(),
+        now,
+        0,
+        starts(machine).as_slice(),
         sink,
     )
 }
@@ -129,35 +219,29 @@ fn trace_on<R: Ready, D: Delays, O: Origins, S: Sink, L: Ledger>(
     origins: &O,
     before: &mut Machine<'_, R, D>,
     after: &mut Machine<'_, R, D>,
+    schedule: &Schedule,
     limit: u64,
     sink: &mut S,
     steps: &mut Steps<L>,
 ) -> Result<Outcome, RunFault>
     requires image { after.old.image ≡ image.now }
     requires image_before { before.old.image ≡ image.now }
-    requires schedule { before.old.schedule ≡ after.old.schedule }
+    requires schedule { after.old.schedule ≡ schedule.now }
+    requires schedule_before { before.old.schedule ≡ schedule.now }
     requires stands { HoldsWorld after.old (code after.old.image after.old.schedule 0) }
     requires stands_before { HoldsWorld before.old (code before.old.image before.old.schedule 0) }
     ensures rows { OnOk result (Appends (S.bytes sink.old) (S.bytes sink.new)
-        (rows_text (row_names image.now objects.now (O.origin origins.now)) (rows image.now after.old.schedule limit))) }
-    ensures ends { IfOk result (λ outcome. EndsBy outcome (code image.now after.old.schedule limit)) }
+        (rows_text (row_names image.now objects.now (O.origin origins.now)) (rows image.now schedule.now limit))) }
+    ensures ends { IfOk result (λ outcome. EndsBy outcome (code image.now schedule.now limit)) }
     ensures kept { OnOk result (S.failures sink.new ≡ S.failures sink.old) }
     ensures fault { IfErr result (λ fault. fault ≡ RunFault.Write) }
     ensures failed { OnErr result (S.failures sink.old < S.failures sink.new) }
     ensures beginning { OnErr result (AppendsBeginning (S.bytes sink.old) (S.bytes sink.new)
-        (rows_text (row_names image.now objects.now (O.origin origins.now)) (rows image.now after.old.schedule limit))) }
+        (rows_text (row_names image.now objects.now (O.origin origins.now)) (rows image.now schedule.now limit))) }
     ensures count { steps.new ≤ steps.old + 2 * limit }
 {
     outcome_stays();
-    match write_events(
-        image,
-        objects,
-        origins,
-        after.now(),
-        0,
-        starts(after).as_slice(),
-        sink,
-    ) {
+    match write_start(image, objects, origins, after, schedule.lines(), sink) {
         Ok(()) => {}
         Err(_) => return Err(RunFault::Write),
     }
@@ -166,11 +250,20 @@ fn trace_on<R: Ready, D: Delays, O: Origins, S: Sink, L: Ledger>(
         if let Some(outcome) = after.outcome() {
             return Ok(outcome);
         }
-        let raising = before.raising_ahead();
-        let told = after.step(steps);
+        let ahead = ahead_of(before);
+        let shown = after.step(steps);
         step += 1;
         match write_step(
-            image, objects, origins, before, after, raising, &told, step, sink,
+            image,
+            objects,
+            origins,
+            before,
+            after,
+            schedule.lines(),
+            ahead,
+            &shown,
+            step,
+            sink,
         ) {
             Ok(()) => {}
             Err(_) => return Err(RunFault::Write),
@@ -181,8 +274,8 @@ fn trace_on<R: Ready, D: Delays, O: Origins, S: Sink, L: Ledger>(
 }
 
 /// Runs an image as `machine::run` does, with the same outcome, and writes its trace: the rows of the start and of each step, and the last line of the run.
-/// Its protected objects have these names, in the order of their numbers; one for which there is none is told by its number. Where an exception is raised,
-/// it is told where its instruction comes from, if the origins know that. Two machines take at most `limit` steps each, which are counted.
+/// Its protected objects have these names, in the order of their numbers; one for which there is none is named by its number. Rows of what
+/// a statement does have its place, if the origins know it. Two machines take at most `limit` steps each, which are counted.
 ///
 /// # Errors
 /// `Memory` where memory was refused, before anything is written; `Write` where a write failed, and what was written then is a beginning of the trace.
@@ -212,6 +305,7 @@ pub fn trace<O: Origins, S: Sink, L: Ledger>(
         origins,
         &mut before,
         &mut after,
+        schedule,
         limit,
         sink,
         steps,

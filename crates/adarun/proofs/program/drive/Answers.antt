@@ -121,7 +121,7 @@ returns-in-Ok-Search-clause-answers g c =
     (wanted_of c.in-Ok-Search.wanted) c.in-Ok-Search.part c.drive_search-status.result (g.O.Sink.bytes c.args.out.now) (g.O.Sink.bytes c.drive_search-status.new.out))
     u c.drive_search-status.ensures.leaves in
     record {
-      work = SearchText c.in-Ok-Search.source.now c.in-Ok-Search.choices.now until c.in-Ok-Search.limit (wanted_of c.in-Ok-Search.wanted) c.in-Ok-Search.part;
+      work = SearchText c.in-Ok-Search.source.now c.in-Ok-Search.choices.now until c.in-Ok-Search.limit (wanted_of c.in-Ok-Search.wanted) c.in-Ok-Search.part c.in-Ok-Search.is_quiet;
       status = c.drive_search-status.result;
       answer_is = search rules;
       asked_for = λ plain. inl (asked_as _ _ _ c.in-Ok-Search.field-0-is (c.in-Ok-Search.ensures plain));

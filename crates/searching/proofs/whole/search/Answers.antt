@@ -89,11 +89,11 @@ loop-is_more-smaller g c =
     subst (λ b. runs_left c.args.choices.now c.advance-is_more.result c.advance-is_more.new.self < runs_left c.args.choices.now b c.loop-is_more.choice)
     (sym c.loop-is_more-test.true)
     (fewer_passed c.args.choices.now c.advance-is_more.result c.loop-is_more.choice c.if-is_of_part.choice c.advance-is_more.new.self
-    (each_lawful c.args.choices.now c.slots.ensures.lawful) (passed g c.before).fewer c.advance-is_more.ensures)
+    (each_lawful c.args.choices.now c.slots.ensures.lawful) (passed g c.before.before.before.before.before.before.before.before).fewer c.advance-is_more.ensures)
 
 pub loop-is_more-preserved : goal.loop-is_more-preserved
 loop-is_more-preserved g c =
-    let p = passed g c.before in
+    let p = passed g c.before.before.before.before.before.before.before.before in
     through_next c.args.image.now c.args.choices.now c.args.part (to_z w64 (of_z w64 c.args.until)) c.args.limit c.args.wanted c.advance-is_more.result
     c.if-is_of_part.choice c.advance-is_more.new.self p.through p.quiet c.advance-is_more.ensures
 

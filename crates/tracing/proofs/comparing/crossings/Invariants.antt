@@ -6,5 +6,5 @@ use Rattle.tracing.proofs.comparing.crossings.Given as goal
 
 abbrev pub invariant-loop-object : goal.invariant-loop-object
 invariant-loop-object g l =
-    (l.events.items ≡ l.fn.events.items ++ each l.object (crossing (kernel_of l.fn.before.tasking) (kernel_of l.fn.after.tasking) l.fn.task))
-    × (array_vec_len l.events ≤ 2 + l.object)
+    (l.events.items ≡ l.fn.events.items ++ each l.object (crossing (kernel_of l.fn.before.tasking) (kernel_of l.fn.after.tasking) l.fn.task l.fn.address))
+    × (array_vec_len l.events ≤ 3 + l.object)

@@ -26,7 +26,8 @@ returns-in-GivesWay-clause-items g c =
 
 pub returns-in-Refused-clause-items : goal.returns-in-Refused-clause-items
 returns-in-Refused-clause-items g c =
-    c.put_cause.ensures.items ∙ ap (λ e. c.args.row.now.items ++ event_text (row_names c.args.image.now c.args.objects.now (g.O.Origins.origin c.args.origins.now)) e) (sym c.in-Refused.is)
+    two c.args.row.now.items _ _ _ _ c.put_cause.ensures.items c.put_place.ensures.items
+    ∙ ap (λ e. c.args.row.now.items ++ event_text (row_names c.args.image.now c.args.objects.now (g.O.Origins.origin c.args.origins.now)) e) (sym c.in-Refused.is)
 
 pub returns-in-Raises-clause-items : goal.returns-in-Raises-clause-items
 returns-in-Raises-clause-items g c =
@@ -50,23 +51,38 @@ pub returns-in-Waits-clause-items : goal.returns-in-Waits-clause-items
 returns-in-Waits-clause-items g c =
     let row = c.args.row.now.items in
     let time : to_z w64 (of_z w64 c.in-Waits.until) ≡ c.in-Waits.until = search rules in
-    c.put_until.ensures.items
-    ∙ ap (λ t. row ++ (codes "waits until " ++ signed_decimal t)) time
+    two row _ _ _ _ (c.put_until.ensures.items ∙ ap (λ t. row ++ (codes "waits until " ++ signed_decimal t)) time) c.put_place-in-Waits.ensures.items
     ∙ ap (λ e. row ++ event_text (row_names c.args.image.now c.args.objects.now (g.O.Origins.origin c.args.origins.now)) e) (sym c.in-Waits.is)
+
+pub returns-in-Late-clause-items : goal.returns-in-Late-clause-items
+returns-in-Late-clause-items g c =
+    let row = c.args.row.now.items in
+    two row _ _ _ _ (two row _ _ _ _ c.put-in-Late.ensures.items c.put_count.ensures.items) c.put_place-in-Late.ensures.items
+    ∙ ap (λ e. row ++ event_text (row_names c.args.image.now c.args.objects.now (g.O.Origins.origin c.args.origins.now)) e) (sym c.in-Late.is)
+
+pub returns-in-Reads-clause-items : goal.returns-in-Reads-clause-items
+returns-in-Reads-clause-items g c =
+    let row = c.args.row.now.items in
+    let value : to_z w64 (of_z w64 c.in-Reads.value) ≡ c.in-Reads.value = search rules in
+    let channel : to_z w64 (of_z w64 c.in-Reads.channel) ≡ c.in-Reads.channel = search rules in
+    let first = c.put_until-in-Reads.ensures.items ∙ ap (λ v. row ++ (codes "reads " ++ signed_decimal v)) value in
+    let last = c.put_until-in-Reads-2.ensures.items ∙ ap (λ v. c.put_until-in-Reads.new.row.items ++ (codes " from " ++ signed_decimal v)) channel in
+    two row _ _ _ _ (two row _ _ _ _ first last) c.put_place-in-Reads.ensures.items
+    ∙ ap (λ e. row ++ event_text (row_names c.args.image.now c.args.objects.now (g.O.Origins.origin c.args.origins.now)) e) (sym c.in-Reads.is)
 
 pub returns-in-Enters-clause-items : goal.returns-in-Enters-clause-items
 returns-in-Enters-clause-items g c =
-    two c.args.row.now.items _ _ _ _ c.put_at.ensures.items c.put_with-in-Enters.ensures.items
+    two c.args.row.now.items _ _ _ _ (two c.args.row.now.items _ _ _ _ c.put_at.ensures.items c.put_with-in-Enters.ensures.items) c.put_place-in-Enters.ensures.items
     ∙ ap (λ e. c.args.row.now.items ++ event_text (row_names c.args.image.now c.args.objects.now (g.O.Origins.origin c.args.origins.now)) e) (sym c.in-Enters.is)
 
 pub returns-in-Leaves-clause-items : goal.returns-in-Leaves-clause-items
 returns-in-Leaves-clause-items g c =
-    two c.args.row.now.items _ _ _ _ c.put_at-in-Leaves.ensures.items c.put_with-in-Leaves.ensures.items
+    two c.args.row.now.items _ _ _ _ (two c.args.row.now.items _ _ _ _ c.put_at-in-Leaves.ensures.items c.put_with-in-Leaves.ensures.items) c.put_place-in-Leaves.ensures.items
     ∙ ap (λ e. c.args.row.now.items ++ event_text (row_names c.args.image.now c.args.objects.now (g.O.Origins.origin c.args.origins.now)) e) (sym c.in-Leaves.is)
 
 pub returns-in-Queues-clause-items : goal.returns-in-Queues-clause-items
 returns-in-Queues-clause-items g c =
-    c.put_at-in-Queues.ensures.items ∙ ap (λ e. c.args.row.now.items ++ event_text (row_names c.args.image.now c.args.objects.now (g.O.Origins.origin c.args.origins.now)) e) (sym c.in-Queues.is)
+    two c.args.row.now.items _ _ _ _ c.put_at-in-Queues.ensures.items c.put_place-in-Queues.ensures.items ∙ ap (λ e. c.args.row.now.items ++ event_text (row_names c.args.image.now c.args.objects.now (g.O.Origins.origin c.args.origins.now)) e) (sym c.in-Queues.is)
 
 pub returns-in-Served-clause-items : goal.returns-in-Served-clause-items
 returns-in-Served-clause-items g c =

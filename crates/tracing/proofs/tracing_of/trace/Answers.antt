@@ -1,4 +1,4 @@
-use Rattle.std.proofs.Common.{◌∙◌}
+use Rattle.std.proofs.Common.{◌∙◌, refl}
 use Rattle.machine.proofs.Runs.{whole_beginning}
 use Rattle.tracing.specs.Traces.{trace_text}
 use Rattle.tracing.proofs.Traced.{part_of_rows, part_of_trace, whole_trace}
@@ -6,11 +6,11 @@ use Rattle.tracing.proofs.tracing_of.trace.Goals as goal
 
 pub returns-in_err-outcome-clause-beginning : goal.returns-in_err-outcome-clause-beginning
 returns-in_err-outcome-clause-beginning g c =
-    part_of_rows c.args.image.now c.args.objects.now (g.O.Origins.origin c.args.origins.now) _ c.args.schedule.now c.args.limit c.in_ok-after.ensures.schedule (g.S.Sink.bytes c.args.sink.now) (g.S.Sink.bytes c.trace_on.new.sink) (g.S.Sink.bytes c.trace_on.new.sink) c.in_err-outcome.ensures.beginning
+    part_of_rows c.args.image.now c.args.objects.now (g.O.Origins.origin c.args.origins.now) c.args.schedule.now c.args.schedule.now c.args.limit refl (g.S.Sink.bytes c.args.sink.now) (g.S.Sink.bytes c.trace_on.new.sink) (g.S.Sink.bytes c.trace_on.new.sink) c.in_err-outcome.ensures.beginning
 
 pub returns-in-Ok-clause-text : goal.returns-in-Ok-clause-text
 returns-in-Ok-clause-text g c =
-    whole_trace c.args.image.now c.args.objects.now (g.O.Origins.origin c.args.origins.now) _ c.args.schedule.now c.args.limit c.in_ok-after.ensures.schedule (g.S.Sink.bytes c.args.sink.now) (g.S.Sink.bytes c.trace_on.new.sink) (g.S.Sink.bytes c.write_all.new.sink) c.in_ok-outcome.outcome c.as_slice.result.now
+    whole_trace c.args.image.now c.args.objects.now (g.O.Origins.origin c.args.origins.now) c.args.schedule.now c.args.schedule.now c.args.limit refl (g.S.Sink.bytes c.args.sink.now) (g.S.Sink.bytes c.trace_on.new.sink) (g.S.Sink.bytes c.write_all.new.sink) c.in_ok-outcome.outcome c.as_slice.result.now
     c.in_ok-outcome.ensures.ends (c.as_slice.ensures.value ∙ c.last_line-text.ensures) c.in_ok-outcome.ensures.rows c.in-Ok.ensures.whole
 
 pub returns-in-Ok-clause-beginning : goal.returns-in-Ok-clause-beginning
@@ -18,5 +18,5 @@ returns-in-Ok-clause-beginning g c = whole_beginning (g.S.Sink.bytes c.args.sink
 
 pub returns-clause-beginning : goal.returns-clause-beginning
 returns-clause-beginning g c =
-    part_of_trace c.args.image.now c.args.objects.now (g.O.Origins.origin c.args.origins.now) _ c.args.schedule.now c.args.limit c.in_ok-after.ensures.schedule (g.S.Sink.bytes c.args.sink.now) (g.S.Sink.bytes c.trace_on.new.sink) (g.S.Sink.bytes c.write_all.new.sink) c.in_ok-outcome.outcome c.as_slice.result.now
+    part_of_trace c.args.image.now c.args.objects.now (g.O.Origins.origin c.args.origins.now) c.args.schedule.now c.args.schedule.now c.args.limit refl (g.S.Sink.bytes c.args.sink.now) (g.S.Sink.bytes c.trace_on.new.sink) (g.S.Sink.bytes c.write_all.new.sink) c.in_ok-outcome.outcome c.as_slice.result.now
     c.in_ok-outcome.ensures.ends (c.as_slice.ensures.value ∙ c.last_line-text.ensures) c.in_ok-outcome.ensures.rows c.write_all.ensures.beginning
