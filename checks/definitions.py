@@ -1,8 +1,8 @@
 #!/usr/bin/env python3
 """Lists the definitions that the headline's clause reaches, by the names in them, with their lines: what a reader of docs/PROOF.md has to believe.
 
-    definitions.py                  the rows, one for each file of definitions, and one for the types of each crate's code
-    definitions.py docs/PROOF.md    compares them with the rows that stand there between the two marks, and says what differs; the status is 1 then
+    definitions.py                        the rows, one for each file of definitions, and one for the types of each crate's code
+    definitions.py docs/DEFINITIONS.md    compares them with the rows that stand there between the two marks, and says what differs; the status is 1 then
 
 A definition is what stands between its head and the next one in a file of specs/, comments aside. A type of the code counts with the lines of its declaration.
 """

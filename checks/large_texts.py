@@ -8,6 +8,8 @@ text has 40 levels open at once, or 41, of which the last is refused at the toke
 import sys
 from pathlib import Path
 
+from shared import place_of
+
 BYTES = 65536
 LEVELS = 40
 PRAGMA = "pragma Profile (Ravenscar);\n"
@@ -64,11 +66,6 @@ def runs(name, frame, first, more, out):
     """A long text that runs, with what it writes, given how often its part is repeated."""
     text, count = filled(frame, first, more)
     return name, text, 0, out(count), ""
-
-
-def place_of(text, at):
-    """The line and the column of a byte, both from 1."""
-    return f"{text.count(chr(10), 0, at) + 1}:{at - (text.rfind(chr(10), 0, at) + 1) + 1}"
 
 
 def fault_at(text, number, part, times=1):

@@ -8,6 +8,8 @@ import os
 import subprocess
 import sys
 
+from shared import place_of
+
 # So many of each may be declared beside the procedure Run: their declaration and their body, where `#` stands for a number and the mark is where one too
 # many is at fault.
 LIMITS = [
@@ -89,11 +91,6 @@ def long(count):
     for number in range(count):
         text += f"procedure P{number} is begin {BLOCK} {BLOCK} Run; Run; end P{number};\n"
     return text + "procedure Run is begin null; end Run;\nend App;\nwith App;\nprocedure Main is begin App.Run; end Main;\n"
-
-
-def place_of(text, mark):
-    """The line and the column of a place."""
-    return f"{text.count(chr(10), 0, mark) + 1}:{mark - (text.rfind(chr(10), 0, mark) + 1) + 1}"
 
 
 def written(scratch, text):

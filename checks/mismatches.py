@@ -11,13 +11,10 @@ import re
 import subprocess
 import sys
 
+from shared import place_of
+
 SPECIFIED = "with Ada.Real_Time; use Ada.Real_Time;\nwith Control_IO; use Control_IO;\npackage App is {} procedure Run; end App;\npackage body App is {} procedure Run is {} end Run; end App;\nwith App;\nprocedure Main is begin App.Run; end Main;"
 OF_NO_NAME = {"any integer": "an integer type", "discrete": "an integer type or BOOLEAN", "universal": "type universal integer, that of a number"}
-
-
-def place_of(text, start):
-    """The line and the column of a byte of the text, both from 1."""
-    return f"{text.count(chr(10), 0, start) + 1}:{start - (text.rfind(chr(10), 0, start) + 1) + 1}"
 
 
 def type_of(name, text):

@@ -10,6 +10,8 @@ import re
 import subprocess
 import sys
 
+from shared import place_of_mark
+
 FRAME = """pragma Profile (Ravenscar);
 with Ada.Real_Time; use Ada.Real_Time;
 with Control_IO; use Control_IO;
@@ -29,10 +31,8 @@ procedure Main is begin App.Run; end Main;
 MARK = re.compile(r"\^\d")
 
 
-def place_of(text, mark):
-    """The line and the column of a mark, in the text without marks."""
-    before = MARK.sub("", text[: text.index(mark)])
-    return f"{before.count(chr(10)) + 1}:{len(before) - (before.rfind(chr(10)) + 1) + 1}"
+def without_marks(text):
+    return MARK.sub("", text)
 
 
 def rows_of(lines):
@@ -44,8 +44,8 @@ def rows_of(lines):
             told = []
             for words in raises.split(", "):
                 words, number = words.rsplit(" ", 1)
-                told.append((words, None if number == "nowhere" else place_of(marked, "^" + number)))
-            yield MARK.sub("", marked), told
+                told.append((words, None if number == "nowhere" else place_of_mark(marked, "^" + number, without_marks)))
+            yield without_marks(marked), told
 
 
 def shown(source, text, told):

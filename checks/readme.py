@@ -69,6 +69,15 @@ class Checker:
         self.is_so("the piece of its trace", "\n".join(trace[1]) + "\n" in told, trace[1])
         return "\n".join(lines[1]) + "\n"
 
+    def refused(self, blocks):
+        """The text that is refused, and what `./run` reports of it."""
+        for (_, text), (before, report) in zip(blocks, blocks[1:]):
+            command = re.search(r"`(\./run (\w+\.adb))` reports", before)
+            if command:
+                self.file(command[2], "\n".join(text) + "\n")
+                ran = subprocess.run([os.path.abspath("run"), command[2]], cwd=self.scratch, capture_output=True, text=True, check=False)
+                self.is_so(command[1], (ran.returncode, ran.stdout, ran.stderr) == (2, "", "\n".join(report) + "\n"), ran.stderr)
+
     def commands(self, lines, written):
         """Each command of the program, with names in the place of the words in capitals; of alternatives in brackets none, and each."""
         image = os.path.join(self.scratch, "tank.img")
@@ -145,6 +154,7 @@ def main():
     blocks = blocks_of(text)
     checker = Checker(program, scratch)
     written = checker.example([block for block in blocks if "->" not in "".join(block[1])])
+    checker.refused(blocks)
     for _, lines in blocks:
         if lines[0].startswith("adarun "):
             checker.commands(lines, written)

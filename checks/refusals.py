@@ -14,6 +14,7 @@ from concurrent.futures import ThreadPoolExecutor
 import limits
 import mnemonics
 from rows import row_of
+from shared import place_of
 
 HERE = os.path.dirname(os.path.abspath(__file__))
 MOST = 10_000
@@ -135,7 +136,7 @@ def calls_of(program, folder):
     ]
     text, mark = limits.large(*limits.LARGE_BODIES[0][:2])
     explained = subprocess.run([program, "explain", "23"], check=True, capture_output=True, text=True).stdout
-    told = explained + limits.frame_line("GO", limits.place_of(text, mark))
+    told = explained + limits.frame_line("GO", place_of(text, mark))
     found.append(Call("explain of code that passes a limit", ["explain", "23", "main.adb"], {"main.adb": text.encode()}, told))
     return found
 

@@ -11,7 +11,8 @@ import os
 import subprocess
 import sys
 
-from others import SPECIFIED, place_of
+from other_places import SPECIFIED, without_marks
+from shared import place_of_mark
 
 
 def rows_of(lines):
@@ -36,9 +37,9 @@ def main():
         rows = list(rows_of(file.read().split("\n")))
     wrong = 0
     for number, marked, expected in rows:
-        place = place_of(marked, "^")
+        place = place_of_mark(marked, "^", without_marks)
         if "~" in marked:
-            expected = [line.replace("~", place_of(marked, "~")) for line in expected]
+            expected = [line.replace("~", place_of_mark(marked, "~", without_marks)) for line in expected]
         expected = [line.replace("^", place) for line in expected]
         with open(source, "w", encoding="utf-8") as file:
             file.write(marked.replace("^", "").replace("~", ""))

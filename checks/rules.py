@@ -10,6 +10,8 @@ import os
 import subprocess
 import sys
 
+from shared import place_of
+
 FRAMED = "    "
 LIMIT_PASSED = 23
 
@@ -37,8 +39,7 @@ def rows_of(lines):
 
 def told(number, text, mark):
     """The line that the program writes of this fault at this place."""
-    line = text.count("\n", 0, mark) + 1
-    return f"fault {number} at {line}:{mark - (text.rfind(chr(10), 0, mark) + 1) + 1}\n"
+    return f"fault {number} at {place_of(text, mark)}\n"
 
 
 def main():

@@ -1,5 +1,6 @@
 #!/usr/bin/env python3
-"""Each clause, function, file and edit that the tables of a crate's README.md name exists, and each file that the tables of docs/PROOF.md name.
+"""Each clause, function, file and edit that the tables of a crate's README.md name exists, and each file and function that the
+tables of docs/PROOF.md and docs/DEFINITIONS.md name by their crate. The version of the program is that of docs/FORMATS.md and CHANGELOG.md.
 
     tables.py
 
@@ -113,18 +114,34 @@ class Tables:
                     self.expect(os.path.isfile(f"{HERE}/crates/{crate}/specs/{name}.antt"), where, f"specs/{name}")
 
     def proof(self, where):
-        """The files that the tables of a document name by their crate."""
+        """The files and the functions that the tables of a document name by their crate."""
         for line in lines_of(f"{HERE}/{where}"):
-            for crate, path in FILE.findall(line) if line.startswith("|") else []:
+            if not line.startswith("|"):
+                continue
+            for crate, path in FILE.findall(line):
                 found = glob.glob(f"{HERE}/crates/{crate}/{path}*")
                 self.expect(crate not in self.crates or found, where, f"{crate}/{path}")
+            for name in NAMED.findall(line):
+                crate = name.split("::")[0]
+                if "::" in name and crate in self.crates:
+                    self.expect(self.holders(name, crate), where, f"`{name}`")
+
+
+    def version(self):
+        """The number of the version, which the program, docs/FORMATS.md and CHANGELOG.md have alike."""
+        number = re.search(r'VERSION: &str = "adarun (\S+)\\n"', "\n".join(lines_of(f"{HERE}/crates/manual/src/lib.rt")))[1]
+        latest = next(line for line in lines_of(f"{HERE}/CHANGELOG.md") if line.startswith("## "))
+        self.expect(re.match(rf"## {re.escape(number)}(?![.\w])", latest), "CHANGELOG.md", f"version {number} at the first heading")
+        self.expect(any(f"of adarun {number}," in line for line in lines_of(f"{HERE}/docs/FORMATS.md")), "docs/FORMATS.md", f"adarun {number}")
 
 
 def main():
     tables = Tables()
     for crate in tables.crates:
         tables.readme(crate)
-    tables.proof("docs/PROOF.md")
+    tables.version()
+    for document in ("docs/PROOF.md", "docs/DEFINITIONS.md"):
+        tables.proof(document)
     for line in tables.missing:
         print(f"tables: {line}", file=sys.stderr)
     print(f"tables: {tables.looked_at} names of clauses, functions, files and edits, {len(tables.missing)} missing")

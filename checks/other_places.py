@@ -1,7 +1,7 @@
 #!/usr/bin/env python3
-"""Gives the texts of others.txt to the program, and compares the other place that it tells of each with the row.
+"""Gives the texts of other_places.txt to the program, and compares the other place that it tells of each with the row.
 
-    others.py PROGRAM OTHERS SCRATCH
+    other_places.py PROGRAM OTHERS SCRATCH
 
 A row's text is refused with the row's number at its mark `^`. Behind the explanation of this number `explain` tells the place of the mark `~`, and nothing where
 there is none.
@@ -10,13 +10,13 @@ import os
 import subprocess
 import sys
 
+from shared import place_of_mark
+
 SPECIFIED = "package App is {} procedure Run; end App;\npackage body App is {} procedure Run is begin null; end Run; end App;\nwith App;\nprocedure Main is begin App.Run; end Main;"
 
 
-def place_of(text, mark):
-    """The line and the column of a mark, in the text without marks."""
-    before = text[: text.index(mark)].replace("^", "").replace("~", "")
-    return f"{before.count(chr(10)) + 1}:{len(before) - (before.rfind(chr(10)) + 1) + 1}"
+def without_marks(text):
+    return text.replace("^", "").replace("~", "")
 
 
 def rows_of(lines):
@@ -25,8 +25,8 @@ def rows_of(lines):
         if line and not line.startswith("#"):
             number, row = line.split(" ", 1)
             marked = "pragma Profile (Ravenscar);\n" + (SPECIFIED.format(*row.split("|")) if "|" in row else row) + "\n"
-            other = place_of(marked, "~") if "~" in marked else None
-            yield number, marked.replace("^", "").replace("~", ""), place_of(marked, "^"), other
+            other = place_of_mark(marked, "~", without_marks) if "~" in marked else None
+            yield number, without_marks(marked), place_of_mark(marked, "^", without_marks), other
 
 
 def main():
@@ -47,8 +47,8 @@ def main():
         expected = [f"the other one is at {other}"] if other else []
         if not told.stdout.startswith(alone.stdout) or (said, told.returncode, run.stderr) != (expected, 0, f"fault {number} at {place}\n"):
             wrong += 1
-            print(f"others: {number} at {place}, and {other} was expected, {run.stderr.strip()}, {told.stdout[len(alone.stdout):].strip()} was told of\n{text}", file=sys.stderr)
-    print(f"others: of {len(rows) - wrong} of {len(rows)} texts the other place is told as it should be")
+            print(f"other_places: {number} at {place}, and {other} was expected, {run.stderr.strip()}, {told.stdout[len(alone.stdout):].strip()} was told of\n{text}", file=sys.stderr)
+    print(f"other_places: of {len(rows) - wrong} of {len(rows)} texts the other place is told as it should be")
     return 1 if wrong or not rows else 0
 
 
