@@ -1,6 +1,6 @@
 #!/usr/bin/env python3
 """Sees that the comments of code, contracts and definitions can be read alone, as rustdoc shows them: none begins as the continuation of the one above it, each
-public item of src has one, and each file begins with what it is for. What is wrong is said on standard error; the status is 1 then.
+public item of src has a `///`, and each file begins with what it is for. What is wrong is said on standard error; the status is 1 then.
 
 usage: checks/comments.py, at the top of the repository"""
 
@@ -9,7 +9,7 @@ import re
 import sys
 
 COMMENT = {"rt": re.compile(r"\s*(///|//!|//)\s*(.*)"), "antt": re.compile(r"\s*(--)\s*(.*)")}
-CONTINUES = re.compile(r"\.\.\.|(?:The same|That of|Those|And|Or|But|Else|Otherwise|Then|Also|Likewise)\b")
+CONTINUES = re.compile(r"\.\.\.|(?:The same|That of|Those|And|Or|But|Else|Otherwise|Then|Also|Likewise|So(?! many)|Adds that of)\b")
 LIST = re.compile(r"pub (?:mod|use) ")
 PUBLIC = re.compile(r"\s*pub (?:const )?(?:unsafe )?(fn|struct|enum|trait|const|type) (\w+)")
 
@@ -26,13 +26,13 @@ def beginnings(lines, form):
 
 
 def without_comment(lines):
-    """The public items of a file of code before whose attributes there is no comment: the number of the line, the kind and the name."""
+    """The public items of a file of code before whose attributes there is no `///`: the number of the line, the kind and the name."""
     documented = False
     for number, line in enumerate(lines, 1):
         item = PUBLIC.match(line)
         if item and not documented:
             yield number, item[1], item[2]
-        documented = line.lstrip().startswith("//") or (documented and line.lstrip().startswith("#["))
+        documented = line.lstrip().startswith("///") or (documented and line.lstrip().startswith("#["))
 
 
 def faults_of(path):
@@ -46,7 +46,7 @@ def faults_of(path):
             yield number, f"a comment that can't be read alone: {text}"
     if form == "rt":
         for number, kind, name in without_comment(lines):
-            yield number, f"the public {kind} {name} has no comment"
+            yield number, f"the public {kind} {name} has no `///`"
 
 
 def main():

@@ -64,7 +64,7 @@ struct Watch<'a> {
 }
 
 impl<'a> Watch<'a> {
-    // One that begins now. Without a clock nobody is told how far a search is.
+    // One that begins now. Without a clock no search reports how far it is.
     fn new(rt: &'a HostRuntime) -> Watch<'a> {
         let start = if rt.stderr().is_terminal() {
             Instant::now(rt).ok()

@@ -127,7 +127,7 @@ module _ (v : Visible) (sound : SoundScope v.scope) (cover : HasWhatExpressionsN
       function_called first.place f p selectors (ap profile_of x.stands) path (subprogram_of v first.name) p.result refl
       (λ t given. (cover.numbered first.name p there, cover.results first.name p t there given))
 
-  -- ... also behind the name of its object
+  -- an operation that is called through the name of its object may be called
   pub behind_called : (first operation : Identifier) (rest : SelectorTrees) (p : Profile) → external_profile s first.name operation.name ≡ Some p
       → IsLegalExpression s (Named first (MoreSelectors (Component operation) rest))
       → MayCall s (external_of v first.name operation.name) p

@@ -179,7 +179,7 @@ module _ (quiet : QuietStays) (i : Sections) where
         (more quiet i schedule k t m calm (placed f from base) fs 1 (suc from - from) (suc from) (on base) (Gives it.0) (omega arith)
         (word_comes schedule k t m calm f fs from (suc from) region address here (omega arith) it.0 base it.2 it.3))
 
-    -- ... of several words
+    -- a name of several words is loaded as one block
     pub computes_block : (from address size : ℕ) (region : Region) (e : ExprTree) → IsStored library sight e region address size → At i from (op.Push (pos address)) → At i (from + 1) (op.LoadBlock region size) → Computes i library sight from (from + 2) e
     computes_block from address size region e stored push load calls left answers schedule k t m f fs p base calm sees is =
         let it = stored calls p (view_of i schedule k t m f fs) answers.sound sees in

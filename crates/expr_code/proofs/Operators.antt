@@ -45,7 +45,7 @@ numbers_word binary.Greater x y = ap (λ b. word_of b ∷ []) (below y x) ∙ tr
 numbers_word binary.GreaterOrEqual x y = truth_word (int_le y x)
 numbers_word o x y = tt
 
--- ... and of two truth values
+-- the word of an operator with two truth values
 pub truths_word : (o : BinaryOperator) (x y : Bool) → (o ≡ binary.AndThen → ⊥) → (o ≡ binary.OrElse → ⊥) → IsWordOf (binary_value o (Truth x) (Truth y)) (binary_words o (word_of x) (word_of y))
 truths_word binary.AndThen true true n m = absurd (n refl)
 truths_word binary.AndThen x y n m = absurd (n refl)

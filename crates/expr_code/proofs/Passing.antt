@@ -147,7 +147,7 @@ module _ (quiet : QuietStays) (i : Sections) where
         (λ vs ev. answers.answers schedule k t m f fs p mid base function named.through named.number vs calm named.shared named.coded named.allowed
         (subst (At i mid) (sym named.way) here) (passed_well calls p view function vs answers.sound sees named.formals ev) is)))
 
-    -- ... that has no formals
+    -- the call of a function without formals
     pub computes_call_alone : (from : ℕ) (operation : Operation) (first : Identifier) (selectors : SelectorTrees)
         → AlwaysNames i library sight first selectors NoSelectors operation []
         → ArePassedWell i library sight [] NoArguments

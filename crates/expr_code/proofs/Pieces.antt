@@ -113,7 +113,7 @@ over_then m d k a c o =
     let to : suc n + length (y ++ z) + 0 ≡ suc n + length y + 1 = let g = length-append y z in omega (arith, g) in
     ap (λ i. make m.before (m.code ++ (record { depth = narrow d; operation = k (narrow i) }) ∷ (y ++ z))) to
 
--- ... and one instruction more
+-- a jump over a piece and one instruction more, once it leads past both
 pub leads_past : (m : Made) (d : ℕ) (j : Operation) (a : Piece) (c : ℕ) (o : Operation) (place : ℕ) (k : ℕ → Operation) (to : ℕ) → place ≡ length m.code
     → to ≡ narrow (end_of (adds (adds (adds m (one d j)) a) (one c o)))
     → patched (adds (adds (adds m (one d j)) a) (one c o)) place (k to) ≡ adds (adds m (over 1 d k a)) (one c o)

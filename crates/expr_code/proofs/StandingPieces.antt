@@ -215,7 +215,7 @@ module _ (i : Sections) (s : Subprogram) (low high place d to : ℕ) where
       target : (a : ℕ) → Some to ≡ Some a → a ≡ to
       target a e = cc
 
--- ... over a piece that leaves the words below
+-- a jump over a piece that leaves the words below the condition as they are
 pub leads_over : (v : Visible) (d : ℕ) (jump : ℕ → Operation) (a : Piece) → IsTest jump → Leads v d d a → Leads v (d + 1) d (over 0 (d + 1) jump a)
 leads_over v d jump a t p = record {
   leads = λ i s from to h suits deep high ends.
@@ -286,7 +286,7 @@ pub record FitsOr (Unfit : Type 0) (v : Visible) (long high before after : ℕ) 
   pub fit : (base : ℕ) → FitOr Unfit (a base)
   pub leads : Leads v before after a
 
--- ... where an object that is visible has not
+-- a piece that fits, or an object that is visible has no words or too many
 abbrev pub Fits : (v : Visible) (long high before after : ℕ) → Piece → Type 0
 Fits v = FitsOr (HasUnfitObject v) v
 

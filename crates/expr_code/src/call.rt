@@ -53,7 +53,7 @@ impl Fragment {
         }
     }
 
-    /// Adds that of a call through the name of a protected object (RM 9.4, 9.5).
+    /// Adds the code of a call through the name of a protected object (RM 9.4, 9.5).
     #[cycle(expression)]
     #[tactic(auto, using(crate::proofs::Pieces::adds_then, crate::proofs::Pieces::adds_nothing))]
     pub(crate) fn external(
@@ -147,7 +147,7 @@ impl Fragment {
         Ok(height)
     }
 
-    // Adds that of the actual parameter for a formal of this subtype.
+    // Adds the code of the actual parameter for a formal of this subtype.
     #[cycle(expression)]
     #[tactic(auto, using(crate::proofs::Pieces::adds_nothing))]
     fn actual(

@@ -86,8 +86,8 @@ impl Fragment {
         }
     }
 
-    // Adds that of `and then` or `or else`: a copy of the left operand's value; where that decides, a jump behind the right operand, which else takes its
-    // place.
+    // Adds the code of `and then` or `or else`: a copy of the left operand's value; where that decides, a jump past the right operand, whose value else takes
+    // its place.
     #[cycle(expression)]
     fn short_circuit(
         &mut self,

@@ -29,7 +29,7 @@ pub(crate) fn fixed_value(standing: Standing) -> Option<Value>
     }
 }
 
-// The word of a value that is known: a number, 0 for False, 1 for True.
+/// The word of a value that is known: a number, 0 for False, 1 for True.
 pub fn scalar_word(value: Value) -> i64
     ensures { result ≡ scalar_word value }
 {
@@ -82,7 +82,7 @@ impl Fragment {
         }
     }
 
-    // Adds that of a name whose value is not known by types and constants alone.
+    // Adds the code of a name whose value is not known by types and constants alone.
     #[cycle(expression)]
     fn named(
         &mut self,
@@ -122,7 +122,7 @@ impl Fragment {
         }
     }
 
-    /// Adds that of an object as a whole, whose words have this place.
+    /// Adds the code of an object as a whole, whose words have this place.
     #[tactic(auto, using(crate::proofs::Pieces::adds_then))]
     pub(crate) fn object(&mut self, depth: usize, slot: Slot, words: u16) -> Result<(), AllocError>
         ensures made { OnOk result (self.new ≡ adds self.old (object_code depth slot words)) }
@@ -138,7 +138,7 @@ impl Fragment {
         self.put(above(depth)?, operation)
     }
 
-    /// Adds that of the first value in the parentheses after a name, checked where a subtype is given.
+    /// Adds the code of the first value in the parentheses after a name, checked where a subtype is given.
     #[cycle(expression)]
     #[tactic(auto, using(crate::proofs::Pieces::adds_nothing))]
     pub(crate) fn argument(

@@ -62,7 +62,7 @@ impl<T: Copy> Entries<T> {
         self.entries.len()
     }
 
-    /// Adds that of one name more.
+    /// Adds the entry of one name more.
     pub fn push(&mut self, entry: Option<T>) -> Result<(), Refusal>
         ensures pushed { OnOk result (self.new ≡ self.old ++ entry ∷ []) }
         ensures refused { IfErr result (λ why. IsRefused 0 0 why) }

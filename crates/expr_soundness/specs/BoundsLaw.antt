@@ -35,7 +35,7 @@ ValuesAreBounded = (s : Scope) (p : Place) → Agrees s p → FunctionsAreSound 
 abbrev pub is_inside : ℤ × ℤ → Subtype → Bool
 is_inside bounds t = int_le t.first bounds.0 && int_le bounds.1 t.last
 
--- So an expression whose bounds lie inside a subtype passes the check against it, whatever its value: the check may be left out (RM 4.6, 5.2, 6.4.1, 6.5).
+-- An expression whose bounds lie inside a subtype passes the check against it, whatever its value: the check may be left out (RM 4.6, 5.2, 6.4.1, 6.5).
 abbrev pub ChecksAreSpared : Type 0
 ChecksAreSpared = (s : Scope) (p : Place) (calls : Calls) → Agrees s p → CallsAnswer calls p → ValuesLie s p calls
     → (e : ExprTree) (w : Wanted) (t : Subtype) → faults_in s w e ≡ [] → is_inside (bounds_of s e) t ≡ true

@@ -53,7 +53,7 @@ fn body_number(accepted: &Accepted, directory: &Directory, name: &Identifier) ->
     }
 }
 
-// Adds that of a declared task, whose subprogram is that of its body.
+// Adds the row of a declared task, whose subprogram is that of its body.
 fn add_task(
     tasks: &mut Vec<Task>,
     accepted: &Accepted,
@@ -70,7 +70,7 @@ fn add_task(
     Ok(())
 }
 
-// Adds that of a task, if the declaration is one.
+// Adds the row of a task, if the declaration is one.
 fn add_item(
     tasks: &mut Vec<Task>,
     accepted: &Accepted,
@@ -110,7 +110,7 @@ fn add_items(
     Ok(())
 }
 
-// Adds that of a task, if a declaration in the body of a package is one; bodies declare none.
+// Adds the row of a task, if a declaration in the body of a package is one; bodies declare none.
 fn add_body_item(
     tasks: &mut Vec<Task>,
     accepted: &Accepted,

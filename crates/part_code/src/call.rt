@@ -184,7 +184,7 @@ fn add_named(
     Ok(destination)
 }
 
-// Adds that of the variable, or of the part of one, that an actual parameter names.
+// Adds the address of the variable, or of the part of one, that an actual parameter names.
 fn add_target(
     code: &mut Code,
     visible: &Visible,

@@ -129,7 +129,7 @@ fn add_initial_words(
     }
 }
 
-/// Adds that of one of one word, and what stores it at an offset of the frame.
+/// Adds the code of an initial value of one word, and what stores it at an offset of the frame.
 fn add_word(
     code: &mut Code,
     visible: &Visible,
@@ -150,7 +150,7 @@ fn add_word(
     code.emit(1, Operation::StoreLocal(offset))
 }
 
-/// Adds that of one of several words, and what stores them from an offset of the frame on.
+/// Adds the code of an initial value of several words, and what stores them from an offset of the frame on.
 fn add_words(
     code: &mut Code,
     visible: &Visible,

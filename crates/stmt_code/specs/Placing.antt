@@ -66,7 +66,7 @@ pub record StandsBetween (from to : ℕ) (q : PlaceRow) : Type 0 where
 abbrev pub IsInnerOrBefore : PlaceRow → PlaceRow → Type 0
 IsInnerOrBefore q r = (q.behind ≤ r.first) ⊎ ((r.first ≤ q.first) × (q.behind ≤ r.behind))
 
--- So the first row that covers an instruction is that of the innermost statement whose code it is.
+-- Rows in an order in which the first that covers an instruction is that of the innermost statement whose code it is.
 abbrev pub AreInnermostFirst : List PlaceRow → Type 0
 AreInnermostFirst [] = ⊤
 AreInnermostFirst (q ∷ rows) = All (IsInnerOrBefore q) rows × AreInnermostFirst rows

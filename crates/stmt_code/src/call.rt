@@ -84,7 +84,7 @@ impl Draft {
         }
     }
 
-    // Adds that of a procedure with this profile, of the package or of the body's own protected object.
+    // Adds the code of a call of a procedure with this profile, of the package or of the body's own protected object.
     fn invoke(
         &mut self,
         visible: &Visible,
@@ -112,7 +112,7 @@ impl Draft {
         add_invocation(&mut self.code, visible, &profile.formals, arguments, call)
     }
 
-    // Adds that of an operation that is named behind its protected object, which opens an action of it (RM 9.5.1).
+    // Adds the code of a call of an operation that is named after its protected object, which opens an action of it (RM 9.5.1).
     fn invoke_external(
         &mut self,
         visible: &Visible,
@@ -145,8 +145,8 @@ impl Draft {
         add_invocation(&mut self.code, visible, &profile.formals, arguments, call)
     }
 
-    // Adds that of the entry that is named behind its protected object: a test that the task is inside no protected action, so that nothing is evaluated where
-    // it is (RM 9.5.1), and the call.
+    // Adds the code of a call of an entry, named after its protected object: a test that the task is inside no protected action, so that nothing is evaluated
+    // where it is (RM 9.5.1), and the call.
     fn invoke_entry(
         &mut self,
         visible: &Visible,
@@ -178,7 +178,8 @@ impl Draft {
         add_invocation(&mut self.code, visible, &profile.formals, arguments, entry)
     }
 
-    // Adds that of an entry of the protected object to which the body belongs, where an action of it is open: the test alone, which raises there (RM 9.5.1).
+    // Adds the code of a call of an entry of the object to which the body belongs, where an action of it is open: the test alone, which raises there (RM
+    // 9.5.1).
     fn test_blocking(&mut self, visible: &Visible, name: &NameExpr) -> Result<(), Refusal>
         requires own { is_own_entry (entity_named visible.now.scope name.now.first.name) ≡ true }
         requires legal { IsLegalStatement visible.now.scope (Call (name_tree name.now)) }

@@ -51,7 +51,7 @@ impl Draft {
         self.code.rejoin(&waiting)
     }
 
-    // Adds that of alternatives, one behind another.
+    // Adds the code of alternatives, one after another.
     #[cycle(statement)]
     fn alternatives(
         &mut self,
@@ -78,7 +78,7 @@ impl Draft {
         Ok(())
     }
 
-    // Adds that of an alternative: its choices, its statements, and a jump whose place waits for the end.
+    // Adds the code of an alternative: its choices, its statements, and a jump whose place waits for the end.
     #[cycle(statement)]
     fn alternative(
         &mut self,

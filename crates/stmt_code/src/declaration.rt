@@ -48,7 +48,7 @@ impl Draft {
         Ok(())
     }
 
-    // Adds that of one.
+    // Adds the code of a declaration.
     fn declaration(
         &mut self,
         visible: &mut Visible,
@@ -72,7 +72,7 @@ impl Draft {
         }
     }
 
-    // Adds that of an object.
+    // Adds the code of an object.
     fn object(&mut self, visible: &mut Visible, object: &ObjectDeclaration) -> Result<(), Refusal>
         requires sound { SoundScope visible.old.scope }
         requires entries { HasEntries visible.old }

@@ -144,8 +144,8 @@ impl Draft {
         Ok(())
     }
 
-    // Adds that of a handler: it keeps the exception in a word of the frame, which is free again behind it; its statements; and a jump whose place waits for
-    // the end.
+    // Adds the code of a handler: it keeps the exception in a word of the frame, which is free again behind it; its statements; and a jump whose place waits
+    // for the end.
     #[cycle(statement)]
     fn handler(
         &mut self,

@@ -137,7 +137,7 @@ impl Draft {
         }
     }
 
-    /// Adds that of statements, one behind another.
+    /// Adds the code of statements, one after another.
     #[cycle(statement)]
     pub fn statements(
         &mut self,

@@ -50,7 +50,7 @@ impl CodeTables {
         add_rows(&mut self.handlers, more)
     }
 
-    /// Adds that of a statement behind the others.
+    /// Adds the place of a statement after the others.
     pub fn mark(&mut self, row: PlaceRow) -> Result<(), Refusal>
         ensures rows { OnOk result (self.new ≡ record self.old { places = self.old.places ++ row ∷ [] }) }
         ensures refused { IfErr result (λ why. IsRefused 0 0 why) }
