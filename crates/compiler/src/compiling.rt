@@ -32,7 +32,7 @@ pub struct Compiled {
 /// The image of an accepted program, which means the same, with the same lines, times and outcome, and the places of its statements.
 ///
 /// # Errors
-/// `Memory` where memory was refused; `Limit` where the code of the program may pass a limit of images, which it tells (docs/LANGUAGE.md, "Limits").
+/// `Memory` where memory was refused; `Limit` where the code of the program may pass a limit of images, which it names (docs/LANGUAGE.md, "Limits").
 pub fn compile_tree(alloc: Global, accepted: &Accepted) -> Result<Compiled, Refusal>
     ensures means { IfOk result (λ made. SameMeaning (program_tree accepted.now) made.image) }
     ensures counted { IfOk result (λ made. KeepsCount (program_tree accepted.now) made.image (most_steps made.image)) }

@@ -48,7 +48,7 @@ pub fn sections_mean_the_same()
     views_on();
 }
 
-/// The rows of places that come with the code of an accepted program tell of the statements of its bodies.
+/// The rows of places that come with the code of an accepted program are those of the statements of its bodies.
 pub fn places_are_told()
     ensures { PlacesAreTold }
 {

@@ -1,4 +1,4 @@
-//! Where in the source stands what an instruction of an image is the code of.
+//! The place in the source of what an instruction of an image is the code of.
 ghost use Rattle.std.specs.Prelude.{◌≡◌};
 ghost use Rattle.stmt_code.specs.Placing.{place_at};
 
@@ -41,7 +41,7 @@ impl Places {
     }
 
     /// The place, in bytes of the source, of the innermost statement whose code has the instruction at this address, where a function's is that of its return;
-    /// none where it is code of no statement, as that of first values in front of a body's statements, of what a body gives back, and of main.
+    /// none where it is code of no statement, as that of first values before a body's statements, of what a body gives back, and of main.
     pub fn place_of(&self, address: usize) -> Option<u32>
         ensures { result ≡ place_at self.now address }
     {

@@ -40,7 +40,7 @@ fn main_task(accepted: &Accepted, number: usize) -> Result<Task, Refusal>
     task_row(accepted.scope(), &main.name, &main.aspect, subprogram)
 }
 
-/// What the declarations of a program tell: the first words of its variables, its exceptions, the rows of its protected objects, and what bodies see of them.
+/// What the declarations of a program give: the first words of its variables, its exceptions, the rows of its protected objects, and what bodies see of them.
 #[derive(Drop)]
 pub(crate) struct DeclaredTables {
     pub(crate) words: Vec<i64>,
@@ -197,8 +197,8 @@ fn within_tables(alloc: Global, accepted: &Accepted) -> Result<Linked, Refusal>
     Ok(linked)
 }
 
-/// The sections of the image of an accepted program (docs/FORMATS.md): the code of its subprograms and tasks one behind another, in the order of their bodies,
-/// with their rows of handlers, that of main behind them, the variables, the protected objects and the tasks in the order of their declarations, and main as
+/// The sections of the image of an accepted program (docs/FORMATS.md): the code of its subprograms and tasks one after another, in the order of their bodies,
+/// with their rows of handlers, that of main after them, the variables, the protected objects and the tasks in the order of their declarations, and main as
 /// the last task (RM 10.2). They make a well-formed image (`sections_are_well_formed`). With them come the places of the statements of its bodies.
 ///
 /// # Errors

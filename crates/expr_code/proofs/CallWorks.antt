@@ -46,7 +46,7 @@ unfolding nothing
 none_work quiet v d = record {
   long = 0;
   few = omega arith;
-  fits = fits_none v (d + 0) d;
+  fits = fits_none (Suits v) (d + 0) d;
   computes = λ i from to h g.
       subst (λ n. ComputesAll i (library_of g) (Sees g v) from n [] NoArguments) (let e : from ≡ to = omega (arith, h.ends) in e)
       (computes_none quiet i (library_of g) (Sees g v) from);
@@ -59,9 +59,9 @@ more_work quiet v d height t ts e rest a b p q =
     record {
       long = p.long + q.long;
       few = omega (arith, p.few, q.few);
-      fits = fits_then v p.long q.long top d (d + 1) height a b
-          (fits_more v p.long p.long (d + max 3 (peak v.scope e)) top d (d + 1) a (omega arith) (omega arith) p.fits)
-          (fits_more v q.long q.long (d + 1 + arguments_peak v.scope rest) top (d + 1) height b (omega arith) (omega arith) q.fits);
+      fits = fits_then (Suits v) p.long q.long top d (d + 1) height a b
+          (fits_more (Suits v) p.long p.long (d + max 3 (peak v.scope e)) top d (d + 1) a (omega arith) (omega arith) p.fits)
+          (fits_more (Suits v) q.long q.long (d + 1 + arguments_peak v.scope rest) top (d + 1) height b (omega arith) (omega arith) q.fits);
       computes = λ i from to h g.
           let both = both_stand i from to a b h in
           computes_more quiet i (library_of g) (Sees g v) from both.mid to t ts e rest both.up both.on_ (p.computes i from both.mid both.first g)
@@ -79,9 +79,9 @@ pub call_works : QuietStays → (v : Visible) (d height : ℕ) (operation : Oper
 call_works quiet v d height operation first selectors all ts a p names passed changes larger low high = record {
   long = p.long + 1;
   few = omega (arith, p.few, larger);
-  fits = fits_then v p.long 1 (d + peak v.scope (tree.Named first selectors)) d height (d + 1) a (one height operation)
-      (fits_more v p.long p.long (d + arguments_peak v.scope all) (d + peak v.scope (tree.Named first selectors)) d height a (omega arith) low p.fits)
-      (fits_one v (d + peak v.scope (tree.Named first selectors)) height (d + 1) operation high changes);
+  fits = fits_then (Suits v) p.long 1 (d + peak v.scope (tree.Named first selectors)) d height (d + 1) a (one height operation)
+      (fits_more (Suits v) p.long p.long (d + arguments_peak v.scope all) (d + peak v.scope (tree.Named first selectors)) d height a (omega arith) low p.fits)
+      (fits_one (Suits v) (d + peak v.scope (tree.Named first selectors)) height (d + 1) operation high changes);
   computes = λ i from to h g.
       let both = both_stand i from to a (one height operation) h in
       let it = one_stands i both.mid to height operation both.second in

@@ -3,24 +3,26 @@ use Rattle.std.proofs.Common.{◌≡◌, ◌≤◌, ℕ, suc, ◌+◌, ◌*◌, 
 use Rattle.std.specs.Prelude.{pos, ◌+ℤ◌, ◌⊎◌}
 use Rattle.ada_tree.specs.ExpressionTree.{ExprTree, SelectorTrees}
 use Rattle.ada_tree.specs.Size.{expr_size, selectors_size}
+use Rattle.image.specs.Sections.{Sections}
 use Rattle.image.specs.declared.instruction.Operation.{Operation}
 use Rattle.image.specs.declared.instruction.Operation.TheVariants as op
 use Rattle.types.specs.Shapes.{shape_of}
 use Rattle.expr_code.specs.ExpressionCode.{address_code, whole_of}
 use Rattle.expr_code.specs.Going.{EmitsAddress}
 use Rattle.expr_code.specs.Locating.{IsPath}
-use Rattle.expr_code.specs.Seeing.{Sees, library_of}
+use Rattle.expr_code.specs.Seeing.{Package, Sees, Suits, library_of}
 use Rattle.expr_code.specs.declared.part.PartAt.{PartAt}
 use Rattle.expr_code.proofs.PartWorks.{PathWorks, all_left}
 use Rattle.types.specs.declared.entity.Subtype.{Subtype}
 use Rattle.types.specs.Scopes.{form_at}
 use Rattle.expr_soundness.specs.Laws.{ExpressionsAreTyped}
 use Rattle.expr_code.specs.Appending.{Appends, Misfits}
-use Rattle.expr_code.specs.Code.{IsShallow, here}
+use Rattle.expr_code.specs.Code.{Holds, IsShallow, here}
 use Rattle.expr_code.specs.Emitting.{EmitsChecked, EmitsExpression, IsFit}
 use Rattle.expr_code.specs.Pieces.{Made, Piece, adds, one, ◌▸◌}
 use Rattle.expr_code.specs.Providing.{is_passable}
 use Rattle.expr_code.specs.Refusing.{HasUnfitObject, IsUnfit, RefusesAddress, RefusesChecked, RefusesExpression, checked_peak, peak, selectors_peak}
+use Rattle.expr_code.specs.Views.{At}
 use Rattle.expr_code.specs.Widths.{width_of}
 use Rattle.expr_code.specs.declared.code.Code.{Code}
 use Rattle.expr_code.specs.declared.refusal.Refusal.{Refusal}
@@ -31,7 +33,7 @@ use Rattle.expr_code.proofs.ExpressionWorks.{Works, appends_extends, emits_added
 use Rattle.expr_code.proofs.NameWorks.{WorksChecked}
 use Rattle.expr_code.proofs.PassedWorks.{is_known, passable_word}
 use Rattle.expr_code.proofs.Pieces.{make}
-use Rattle.expr_code.proofs.StandingPieces.{FitsOr, both_stand, fits_more, fits_one, fits_then, one_stands, pushes}
+use Rattle.expr_code.proofs.StandingPieces.{Between, FitsOr, both_stand, fits_more, fits_one, fits_then, one_stands, pushes}
 
 -- what was put together from nothing
 pub code_is : (old : Code) (m new : Made) (a : Piece) (n : ℕ) → m ≡ make n [] → n ≡ here old → new ≡ adds m a → new.code ≡ a (here old)
@@ -49,8 +51,8 @@ module _ (v : Visible) (old new : Code) (depth : ℕ) (e : ExprTree) (f : Made) 
 
   pub width_refused : (why : Refusal) → Works v depth (width_of v.scope e) e a → Misfits old f.code why → RefusesExpression v old depth e why
   width_refused why w h =
-      refused_added v old (20 * expr_size e) (depth + peak v.scope e) depth _ a why
-      (fits_more v w.long (20 * expr_size e) (depth + peak v.scope e) (depth + peak v.scope e) depth _ a (let few = w.few in omega (arith, few)) (omega arith) w.fits)
+      refused_added (Suits v) old (20 * expr_size e) (depth + peak v.scope e) depth _ a why
+      (fits_more (Suits v) w.long (20 * expr_size e) (depth + peak v.scope e) (depth + peak v.scope e) depth _ a (let few = w.few in omega (arith, few)) (omega arith) w.fits)
       (subst (λ l. Misfits old l why) is h)
 
   module _ (t : Subtype) (w : WorksChecked v depth t e a) where
@@ -80,8 +82,8 @@ module _ (v : Visible) (old new : Code) (depth : ℕ) (e : ExprTree) (f : Made) 
     pub checked_refused : (why : Refusal) → Misfits old f.code why → RefusesChecked v old depth e why
     checked_refused why h =
         let few = w.few in
-        refused_added v old (20 * expr_size e + 3) (depth + checked_peak (peak v.scope e)) depth (depth + 1) a why
-        (fits_more v w.long (20 * expr_size e + 3) _ (depth + checked_peak (peak v.scope e)) depth (depth + 1) a (omega (arith, few)) (omega arith) w.fits)
+        refused_added (Suits v) old (20 * expr_size e + 3) (depth + checked_peak (peak v.scope e)) depth (depth + 1) a why
+        (fits_more (Suits v) w.long (20 * expr_size e + 3) _ (depth + checked_peak (peak v.scope e)) depth (depth + 1) a (omega (arith, few)) (omega arith) w.fits)
         (subst (λ l. Misfits old l why) is h)
 
 -- ---- the address of an object or a part of one
@@ -90,53 +92,73 @@ starts_with_one : (depth offset : ℕ) (last : PartAt) (a : Piece) (m n : ℕ) �
 unfolding one ◌▸◌
 starts_with_one depth offset last a m n e = omega (arith, e)
 
-module _ (v : Visible) (old new : Code) (depth offset : ℕ) (t : Subtype) (all : SelectorTrees) (f : Made) (last : PartAt) (a : Piece)
-    (q : PathWorks (HasUnfitObject v ⊎ IsUnfit v.scope t) v depth (whole_of t) last all a) (is : f.code ≡ address_code depth offset last a (here old)) where
+-- where it stands in an image
+pub record AddressStands (i : Sections) (v : Visible) (from to offset : ℕ) (t : Subtype) (last : PartAt) (all : SelectorTrees) : Type 0 where
+  pub push : At i from (op.Push (pos offset +ℤ last.shift))
+  pub up : suc from ≤ to
+  pub goes : (g : Package)
+      → IsPath i (library_of g) (Sees g v) (suc from) to last.shift t (shape_of v.scope t) all last.subtype (shape_of v.scope last.subtype)
+
+module _ (U : Type 0) (v : Visible) (depth offset : ℕ) (t : Subtype) (all : SelectorTrees) (last : PartAt) (a : Piece)
+    (q : PathWorks U v depth (whole_of t) last all a) where
   abbrev push : Operation
   push = op.Push (pos offset +ℤ last.shift)
 
-  address_fits : FitsOr (HasUnfitObject v ⊎ IsUnfit v.scope t) v (20 * selectors_size all + 1) (depth + selectors_peak v.scope 1 all) depth (depth + 1)
-      (address_code depth offset last a)
+  pub address_fits : FitsOr U (Suits v) (20 * selectors_size all + 1) (depth + selectors_peak v.scope 1 all) depth (depth + 1) (address_code depth offset last a)
   address_fits =
       let few = q.few in
-      fits_more v (1 + q.long) (20 * selectors_size all + 1) (depth + selectors_peak v.scope 1 all) (depth + selectors_peak v.scope 1 all) depth (depth + 1)
+      fits_more (Suits v) (1 + q.long) (20 * selectors_size all + 1) (depth + selectors_peak v.scope 1 all) (depth + selectors_peak v.scope 1 all) depth (depth + 1)
       (address_code depth offset last a) (omega (arith, few)) (omega arith)
-      (fits_then v 1 q.long (depth + selectors_peak v.scope 1 all) depth (depth + 1) (depth + 1) (one depth push) a
-      (fits_one v (depth + selectors_peak v.scope 1 all) depth (depth + 1) push (omega arith) (pushes v depth (pos offset +ℤ last.shift))) q.fits)
+      (fits_then (Suits v) 1 q.long (depth + selectors_peak v.scope 1 all) depth (depth + 1) (depth + 1) (one depth push) a
+      (fits_one (Suits v) (depth + selectors_peak v.scope 1 all) depth (depth + 1) push (omega arith) (pushes (Suits v) depth (pos offset +ℤ last.shift))) q.fits)
+
+  pub address_stands : (i : Sections) (from to : ℕ) → Between i from to (address_code depth offset last a) → AddressStands i v from to offset t last all
+  address_stands i from to h =
+      let both = both_stand i from to (one depth push) a h in
+      let pushed = one_stands i from both.mid depth push both.first in
+      record {
+        push = (depth, pushed.there);
+        up = starts_with_one depth offset last a from to h.ends;
+        goes = λ g.
+            subst (λ n. IsPath i (library_of g) (Sees g v) n to last.shift t (shape_of v.scope t) all last.subtype (shape_of v.scope last.subtype)) pushed.ends
+            (subst (λ z. IsPath i (library_of g) (Sees g v) both.mid to z t (shape_of v.scope t) all last.subtype (shape_of v.scope last.subtype))
+            (all_left last.shift) (q.goes i both.mid to both.second g));
+      }
+
+module _ (v : Visible) (old new : Code) (depth offset : ℕ) (t : Subtype) (all : SelectorTrees) (f : Made) (last : PartAt) (a : Piece)
+    (q : PathWorks (HasUnfitObject v ⊎ IsUnfit v.scope t) v depth (whole_of t) last all a) (is : f.code ≡ address_code depth offset last a (here old)) where
+  abbrev fits : FitsOr (HasUnfitObject v ⊎ IsUnfit v.scope t) (Suits v) (20 * selectors_size all + 1) (depth + selectors_peak v.scope 1 all) depth (depth + 1)
+      (address_code depth offset last a)
+  fits = address_fits (HasUnfitObject v ⊎ IsUnfit v.scope t) v depth offset t all last a q
 
   pub address_emits : Appends old f.code new → EmitsAddress v old depth offset t all last.subtype new
   address_emits p =
       let h = subst (λ l. Appends old l new) is p in
       let at = placed old new (address_code depth offset last a) h in
       let long = at.long in
+      let stands : (i : Sections) → Holds i (here old) new → AddressStands i v (here old) (here new) offset t last all =
+      λ i holds. address_stands (HasUnfitObject v ⊎ IsUnfit v.scope t) v depth offset t all last a q i (here old) (here new) (at.stands i holds) in
       record {
         extends = appends_extends old new (address_code depth offset last a (here old)) h;
         longer = starts_with_one depth offset last a (here old) (here new) long;
-        sized = let few = address_fits.sized (here old) in omega (arith, long, few);
+        sized = let few = fits.sized (here old) in omega (arith, long, few);
         shift = last.shift;
         near = q.near;
-        pushes = λ i holds.
-            let both = both_stand i (here old) (here new) (one depth push) a (at.stands i holds) in
-            (depth, (one_stands i (here old) both.mid depth push both.first).there);
-        goes = λ i holds g.
-            let both = both_stand i (here old) (here new) (one depth push) a (at.stands i holds) in
-            let pushed = one_stands i (here old) both.mid depth push both.first in
-            subst (λ n. IsPath i (library_of g) (Sees g v) n (here new) last.shift t (shape_of v.scope t) all last.subtype (shape_of v.scope last.subtype)) pushed.ends
-            (subst (λ z. IsPath i (library_of g) (Sees g v) both.mid (here new) z t (shape_of v.scope t) all last.subtype (shape_of v.scope last.subtype))
-            (all_left last.shift) (q.goes i both.mid (here new) both.second g));
+        pushes = λ i holds. (stands i holds).push;
+        goes = λ i holds. (stands i holds).goes;
         flows = record {
           flows = λ i s holds suits deep high ends.
               let same = h.deepest in
-              address_fits.leads.leads i s (here old) (here new) (at.stands i holds) suits (omega (arith, same, deep)) high ends;
+              fits.leads.leads i s (here old) (here new) (at.stands i holds) suits (omega (arith, same, deep)) high ends;
         };
       }
 
   pub address_shallow : Appends old f.code new → IsShallow old new (depth + selectors_peak v.scope 1 all)
   address_shallow p =
       let h = subst (λ l. Appends old l new) is p in
-      let low = address_fits.low (here old) in let same = h.deepest in omega (arith, same, low)
+      let low = fits.low (here old) in let same = h.deepest in omega (arith, same, low)
 
   pub address_refused : (why : Refusal) → Misfits old f.code why → RefusesAddress v old depth t all why
   address_refused why h =
-      refused_added v old (20 * selectors_size all + 1) (depth + selectors_peak v.scope 1 all) depth (depth + 1) (address_code depth offset last a) why address_fits
+      refused_added (Suits v) old (20 * selectors_size all + 1) (depth + selectors_peak v.scope 1 all) depth (depth + 1) (address_code depth offset last a) why fits
       (subst (λ l. Misfits old l why) is h)

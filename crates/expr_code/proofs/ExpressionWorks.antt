@@ -41,7 +41,7 @@ use Rattle.expr_code.proofs.Flowing.{Changes}
 use Rattle.expr_code.proofs.Growing.{get_before}
 use Rattle.expr_code.proofs.Legal.{left_truth, legal_left, legal_operand, legal_parts, legal_right}
 use Rattle.expr_code.proofs.Refusals.{both_peak, peak_some}
-use Rattle.expr_code.proofs.StandingPieces.{Between, Fits, FitsOr, IsTest, both_stand, fits_fork, fits_more, fits_one, fits_over, fits_then, one_stands, one_unfit, one_test, narrow_frame, over_end, over_stands, pushes, stands_behind, zero_test}
+use Rattle.expr_code.proofs.StandingPieces.{Between, Fits, FitsOr, IsTest, Suiting, both_stand, fits_fork, fits_more, fits_one, fits_over, fits_then, one_stands, one_unfit, one_test, narrow_frame, over_end, over_stands, pushes, stands_behind, zero_test}
 use Rattle.expr_code.proofs.Widths.{binary_width, conditional_wide, unary_width}
 
 pub appends_extends : (old new : Code) (added : List Instr) → Appends old added new → Extends old new
@@ -55,13 +55,13 @@ appends_extends old new added h =
     }
 
 -- what exceeds the limits of images is told by what the piece needs
-pub refused_added : {Unfit : Type 0} (v : Visible) (old : Code) (long high before after : ℕ) (a : Piece) (why : Refusal) → FitsOr Unfit v long high before after a
+pub refused_added : {Unfit : Type 0} (S : Suiting) (old : Code) (long high before after : ℕ) (a : Piece) (why : Refusal) → FitsOr Unfit S long high before after a
     → Misfits old (a (here old)) why → IsRefusedBeside Unfit (here old + long) high why
-refused_added {Unfit} v old long high before after a refusal.Memory p h = tt
-refused_added {Unfit} v old long high before after a (refusal.Limit limits.Instructions) p h = let few = p.sized (here old) in omega (arith, few, h)
-refused_added {Unfit} v old long high before after a (refusal.Limit limits.Frame) p h = let low = p.low (here old) in omega (arith, low, h)
-refused_added {Unfit} v old long high before after a (refusal.Limit limits.Block) p h = one_unfit Unfit (a (here old)) (p.fit (here old)) h
-refused_added {Unfit} v old long high before after a (refusal.Limit other) p h = absurd h
+refused_added {Unfit} S old long high before after a refusal.Memory p h = tt
+refused_added {Unfit} S old long high before after a (refusal.Limit limits.Instructions) p h = let few = p.sized (here old) in omega (arith, few, h)
+refused_added {Unfit} S old long high before after a (refusal.Limit limits.Frame) p h = let low = p.low (here old) in omega (arith, low, h)
+refused_added {Unfit} S old long high before after a (refusal.Limit limits.Block) p h = one_unfit Unfit (a (here old)) (p.fit (here old)) h
+refused_added {Unfit} S old long high before after a (refusal.Limit other) p h = absurd h
 
 -- ---- what is promised of a piece
 
@@ -122,7 +122,7 @@ pub number_works : QuietStays → (v : Visible) (d place : ℕ) (z : ℤ) → Wo
 number_works quiet v d place z = record {
   long = 1;
   few = omega arith;
-  fits = fits_one v (d + 1) d (d + 1) (op.Push z) (omega arith) (pushes v d z);
+  fits = fits_one (Suits v) (d + 1) d (d + 1) (op.Push z) (omega arith) (pushes (Suits v) d z);
   computes = λ i from to h g.
       let it = one_stands i from to d (op.Push z) h in
       subst (λ n. Computes i (library_of g) (Sees g v) from n (tree.Number z place)) (sym it.ends)
@@ -149,8 +149,8 @@ unary_works quiet v d place o x e a is p =
     record {
       long = p.long + 1;
       few = omega (arith, p.few);
-      fits = fits_then v p.long 1 _ d (d + 1) (d + 1) a (one (d + 1) x) p.fits
-          (fits_one v _ (d + 1) (d + 1) x (omega (arith, some))
+      fits = fits_then (Suits v) p.long 1 _ d (d + 1) (d + 1) a (one (d + 1) x) p.fits
+          (fits_one (Suits v) _ (d + 1) (d + 1) x (omega (arith, some))
           (let more : suc d ≡ d + 1 = omega arith in subst (λ n. Changes (Suits v) x n n) more (unary_changes v o x d is)));
       computes = λ i from to h g.
           let both = both_stand i from to a (one (d + 1) x) h in
@@ -176,11 +176,11 @@ both_work quiet v d o x l r a b is high p q =
     record {
       long = p.long + (q.long + 1);
       few = omega (arith, p.few, q.few);
-      fits = fits_then v p.long (q.long + 1) top d (d + 1) (d + 1) a (b ▸ one (d + 1 + 1) x)
-          (fits_more v p.long p.long (d + peak v.scope l) top d (d + 1) a (omega arith) (omega arith) p.fits)
-          (fits_then v q.long 1 top (d + 1) (d + 1 + 1) (d + 1) b (one (d + 1 + 1) x)
-          (fits_more v q.long q.long (d + 1 + peak v.scope r) top (d + 1) (d + 1 + 1) b (omega arith) (omega (arith, high)) q.fits)
-          (fits_one v top (d + 1 + 1) (d + 1) x (omega (arith, high, some)) (binary_changes v o x d is)));
+      fits = fits_then (Suits v) p.long (q.long + 1) top d (d + 1) (d + 1) a (b ▸ one (d + 1 + 1) x)
+          (fits_more (Suits v) p.long p.long (d + peak v.scope l) top d (d + 1) a (omega arith) (omega arith) p.fits)
+          (fits_then (Suits v) q.long 1 top (d + 1) (d + 1 + 1) (d + 1) b (one (d + 1 + 1) x)
+          (fits_more (Suits v) q.long q.long (d + 1 + peak v.scope r) top (d + 1) (d + 1 + 1) b (omega arith) (omega (arith, high)) q.fits)
+          (fits_one (Suits v) top (d + 1 + 1) (d + 1) x (omega (arith, high, some)) (binary_changes v o x d is)));
       computes = λ i from to h g.
           let left = both_stand i from to a (b ▸ one (d + 1 + 1) x) h in
           let right = both_stand i left.mid to b (one (d + 1 + 1) x) left.second in
@@ -207,17 +207,17 @@ module _ (v : Visible) (d : ℕ) (jump : ℕ → Operation) (o : BinaryOperator)
       record {
         long = p.long + (1 + suc (1 + q.long));
         few = omega (arith, p.few, q.few);
-        fits = fits_then v p.long (1 + suc (1 + q.long)) top d (d + 1) (d + 1) a (short_code d jump b)
-            (fits_more v p.long p.long (d + peak v.scope l) top d (d + 1) a (omega arith) (omega arith) p.fits)
-            (fits_then v 1 (suc (1 + q.long)) top (d + 1) (d + 1 + 1) (d + 1) (one (d + 1) op.Duplicate)
+        fits = fits_then (Suits v) p.long (1 + suc (1 + q.long)) top d (d + 1) (d + 1) a (short_code d jump b)
+            (fits_more (Suits v) p.long p.long (d + peak v.scope l) top d (d + 1) a (omega arith) (omega arith) p.fits)
+            (fits_then (Suits v) 1 (suc (1 + q.long)) top (d + 1) (d + 1 + 1) (d + 1) (one (d + 1) op.Duplicate)
             (over 0 (d + 1 + 1) jump (one (d + 1) op.Drop ▸ b))
-            (fits_one v top (d + 1) (d + 1 + 1) op.Duplicate (omega (arith, high))
+            (fits_one (Suits v) top (d + 1) (d + 1 + 1) op.Duplicate (omega (arith, high))
             (record { operands = refl; names = λ i s h. refl; takes = λ i s h. omega arith; leaves = λ i s h. omega arith; stays = refl; is_none = refl }))
-            (fits_over v (1 + q.long) top (d + 1) jump (one (d + 1) op.Drop ▸ b) t (omega (arith, high))
-            (fits_then v 1 q.long top (d + 1) d (d + 1) (one (d + 1) op.Drop) b
-            (fits_one v top (d + 1) d op.Drop (omega (arith, high))
+            (fits_over (Suits v) (1 + q.long) top (d + 1) jump (one (d + 1) op.Drop ▸ b) t (omega (arith, high))
+            (fits_then (Suits v) 1 q.long top (d + 1) d (d + 1) (one (d + 1) op.Drop) b
+            (fits_one (Suits v) top (d + 1) d op.Drop (omega (arith, high))
             (record { operands = refl; names = λ i s h. refl; takes = λ i s h. omega arith; leaves = λ i s h. omega arith; stays = refl; is_none = refl }))
-            (fits_more v q.long q.long (d + peak v.scope r) top d (d + 1) b (omega arith) (omega (arith, high)) q.fits))));
+            (fits_more (Suits v) q.long q.long (d + peak v.scope r) top d (d + 1) b (omega arith) (omega (arith, high)) q.fits))));
         computes = λ i from to h g.
             let left = both_stand i from to a (short_code d jump b) h in
             let mid = left.mid in
@@ -274,11 +274,11 @@ module _ (v : Visible) (d k w : ℕ) (wide : IsAsWide k w) (condition value last
       record {
         long = p.long + (q.long + s.long + 2);
         few = omega (arith, p.few, q.few, s.few);
-        fits = fits_then v p.long (q.long + s.long + 2) top d (d + 1) (d + w) c (over 1 (d + 1) op.JumpIfZero x ▸ over 0 (d + k) op.Jump r)
-            (fits_more v p.long p.long (d + peak v.scope condition) top d (d + 1) c (omega arith) (omega arith) p.fits)
-            (fits_fork v q.long s.long top d (d + w) (d + k) x r (omega (arith, some)) (let less = wide.less in omega (arith, less)) (jump_same d k w wide)
-            (fits_more v q.long q.long (d + peak v.scope value) top d (d + w) x (omega arith) (omega arith) q.fits)
-            (fits_more v s.long s.long (d + max w (max (elsifs_peak v.scope elsifs) (peak v.scope last))) top d (d + w) r (omega arith)
+        fits = fits_then (Suits v) p.long (q.long + s.long + 2) top d (d + 1) (d + w) c (over 1 (d + 1) op.JumpIfZero x ▸ over 0 (d + k) op.Jump r)
+            (fits_more (Suits v) p.long p.long (d + peak v.scope condition) top d (d + 1) c (omega arith) (omega arith) p.fits)
+            (fits_fork (Suits v) q.long s.long top d (d + w) (d + k) x r (omega (arith, some)) (let less = wide.less in omega (arith, less)) (jump_same d k w wide)
+            (fits_more (Suits v) q.long q.long (d + peak v.scope value) top d (d + w) x (omega arith) (omega arith) q.fits)
+            (fits_more (Suits v) s.long s.long (d + max w (max (elsifs_peak v.scope elsifs) (peak v.scope last))) top d (d + w) r (omega arith)
             (above d w (peak v.scope condition) (peak v.scope value) (elsifs_peak v.scope elsifs) (peak v.scope last)) s.fits));
         computes = λ i from to h g.
             let whole = both_stand i from to c (over 1 (d + 1) op.JumpIfZero x ▸ over 0 (d + k) op.Jump r) h in
@@ -307,7 +307,7 @@ last_works : (v : Visible) (d w : ℕ) (last : ExprTree) (a : Piece) → Works v
 last_works v d w last a p = record {
   long = p.long;
   few = omega (arith, p.few);
-  fits = fits_more v p.long p.long (d + peak v.scope last) (d + max w (max 0 (peak v.scope last))) d (d + w) a (omega arith) (omega arith) p.fits;
+  fits = fits_more (Suits v) p.long p.long (d + peak v.scope last) (d + max w (max 0 (peak v.scope last))) d (d + w) a (omega arith) (omega arith) p.fits;
   computes = λ i from to h g. (omega (arith, h.ends), p.computes i from to h g);
 }
 
@@ -317,7 +317,7 @@ conditional_works : QuietStays → (v : Visible) (d w place : ℕ) (condition va
 conditional_works quiet v d w place condition value last elsifs a wide p = record {
   long = p.long;
   few = omega (arith, p.few);
-  fits = fits_more v p.long p.long (d + max w (max (elsifs_peak v.scope (MoreElsifValues condition value elsifs)) (peak v.scope last)))
+  fits = fits_more (Suits v) p.long p.long (d + max w (max (elsifs_peak v.scope (MoreElsifValues condition value elsifs)) (peak v.scope last)))
       (d + peak v.scope (tree.Conditional place condition value elsifs last)) d (d + w) a (omega arith) (omega (arith, wide)) p.fits;
   computes = λ i from to h g.
       let code = p.computes i from to h g in
@@ -327,11 +327,11 @@ conditional_works quiet v d w place condition value last elsifs a wide p = recor
 
 -- ---- all forms
 
-abbrev branches_of : ElsifValueTrees → List Branch
+abbrev pub branches_of : ElsifValueTrees → List Branch
 branches_of NoElsifValues = []
 branches_of (MoreElsifValues condition value rest) = (record { condition = condition; value = value }) ∷ branches_of rest
 
-branches_same : (elsifs : ElsifValueTrees) → in_front (branches_of elsifs) NoElsifValues ≡ elsifs
+pub branches_same : (elsifs : ElsifValueTrees) → in_front (branches_of elsifs) NoElsifValues ≡ elsifs
 branches_same NoElsifValues = refl
 branches_same (MoreElsifValues condition value rest) = ap (MoreElsifValues condition value) (branches_same rest)
 

@@ -14,7 +14,7 @@ use Rattle.types.specs.Bounds.{bounds_of}
 use Rattle.types.specs.Scopes.{form_at}
 use Rattle.expr_soundness.specs.BoundsLaw.{is_inside}
 use Rattle.expr_code.specs.Emitting.{has_numbers}
-use Rattle.expr_code.specs.ExpressionCode.{branch_code, check_code, deciding, elsifs_code, expr_code, operand_code, operands_code, range_check, sign_code, value_code, value_words, with_check}
+use Rattle.expr_code.specs.ExpressionCode.{branch_code, check_code, deciding, elsifs_code, expr_code, fork_code, operand_code, operands_code, range_check, sign_code, value_code, value_words, with_check}
 use Rattle.expr_code.specs.OperatorCode.{binary_operation}
 use Rattle.expr_code.specs.Pieces as pieces
 use Rattle.expr_code.specs.Pieces.{Made, Opens, Piece, Waits, adds, end_of, narrow, one, ◌▸◌, over, patched, rejoined}
@@ -70,15 +70,15 @@ not_or_else o is other = absurd cc
 abbrev pub jumped_behind : Made → ℕ → Made
 jumped_behind valued height = adds valued (one height (op.Jump 0))
 
-pub branch_added : (m tested jumped valued new : Made) (d w height test : ℕ) (before after : List ℕ) (c x : Piece) → tested ≡ adds m c
+pub branch_added : (m tested jumped valued new : Made) (d k height test : ℕ) (before after : List ℕ) (c x : Piece) → tested ≡ adds m c
     → jumped ≡ adds tested (one (d + 1) (op.JumpIfZero 0)) → valued ≡ adds jumped x → after ≡ before ++ length valued.code ∷ [] → test ≡ length tested.code
-    → height ≡ d + w → new ≡ patched (jumped_behind valued height) test (op.JumpIfZero (narrow (end_of (jumped_behind valued height))))
-    → (start : Made) (front : Piece → Piece) → Waits start front m before → Waits start (λ last. front (branch_code d w c x last)) new after
-branch_added m tested jumped valued new d w height test before after c x p q r after_is test_is high is start front waits =
+    → height ≡ k → new ≡ patched (jumped_behind valued height) test (op.JumpIfZero (narrow (end_of (jumped_behind valued height))))
+    → (start : Made) (front : Piece → Piece) → Waits start front m before → Waits start (λ last. front (fork_code d k c x last)) new after
+branch_added m tested jumped valued new d k height test before after c x p q r after_is test_is high is start front waits =
     let all : valued ≡ adds (adds (adds m c) (one (d + 1) (op.JumpIfZero 0))) x =
     r ∙ ap (λ y. adds y x) (q ∙ ap (λ y. adds y (one (d + 1) (op.JumpIfZero 0))) p) in
-    subst (λ l. Waits start (λ last. front (branch_code d w c x last)) new l) (sym after_is)
-    (branch_waits start front m new before d w height test (length valued.code) (narrow (end_of (jumped_behind valued height))) c x waits high
+    subst (λ l. Waits start (λ last. front (fork_code d k c x last)) new l) (sym after_is)
+    (branch_waits start front m new before d k height test (length valued.code) (narrow (end_of (jumped_behind valued height))) c x waits high
     (test_is ∙ ap (λ y. length y.code) p) (ap (λ y. length y.code) all) (ap (λ y. narrow (end_of (jumped_behind y height))) all)
     (is ∙ ap (λ y. patched (jumped_behind y height) test (op.JumpIfZero (narrow (end_of (jumped_behind valued height))))) all))
 
@@ -140,7 +140,7 @@ module _ (v : Visible) (d : ℕ) where
   conditional_made place e condition value last all is m tested jumped valued first branched ended new width height test none before places wide empty p q r waits
       at high closed opens ends led =
       let w = value_words v value in
-      let branch = branch_added m tested jumped valued first d w height test [] before (expr_code v d condition) (expr_code v d value) p q r
+      let branch = branch_added m tested jumped valued first d (d + w) height test [] before (expr_code v d condition) (expr_code v d value) p q r
       (waits ∙ ap (λ l. l ++ length valued.code ∷ []) empty) at (high ∙ ap (λ n. d + n) wide) closed m (λ rest. rest) (none_waits m) in
       let others = subst (λ n. Opens first before (elsifs_code v d n (elsif_value_trees all)) branched places) wide opens in
       led ∙ ap (λ x. rejoined x places (narrow (end_of ended))) ends
@@ -161,9 +161,8 @@ checked_behind v d m e t value numbers =
     by_bounds true = adds_nothing (adds m value)
     by_bounds false = adds_then m value (range_check (d + 1) t)
 
-pub check_made : (m low high new : Made) (b : Bool) (d one two : ℕ) (x y : ℤ) (t : Subtype) → b ≡ false → one ≡ d + 1 → two ≡ one + 1 → x ≡ t.first → y ≡ t.last
+pub range_made : (m low high new : Made) (d one two : ℕ) (x y : ℤ) (t : Subtype) → one ≡ d + 1 → two ≡ one + 1 → x ≡ t.first → y ≡ t.last
     → low ≡ adds m (pieces.one d (op.Push x)) → high ≡ adds low (pieces.one one (op.Push y)) → new ≡ adds high (pieces.one two op.CheckRange)
-    → new ≡ adds m (check_code b d t)
-check_made m low high new b d one two x y t is p q f l i j k =
+    → new ≡ adds m (range_check d t)
+range_made m low high new d one two x y t p q f l i j k =
     three_added m low high new d one two _ _ _ p q (i ∙ ap (λ z. adds m (pieces.one d (op.Push z))) f) (j ∙ ap (λ z. adds low (pieces.one one (op.Push z))) l) k
-    ∙ ap (λ x. adds m (check_code x d t)) (sym is)

@@ -22,7 +22,7 @@ use Rattle.expr_code.specs.Computing.{Computes, ComputesChecked}
 use Rattle.expr_code.specs.Emitting.{IsLegalExpression}
 use Rattle.expr_code.specs.Pieces.{Piece, one, ◌▸◌}
 use Rattle.expr_code.specs.Refusing.{checked_peak, factors_below, peak, words_below}
-use Rattle.expr_code.specs.Seeing.{NamesOperation, Sees, library_of}
+use Rattle.expr_code.specs.Seeing.{NamesOperation, Sees, Suits, library_of}
 use Rattle.expr_code.specs.declared.visible.Visible.{Visible}
 use Rattle.expr_code.proofs.Checking.{is_a_number}
 use Rattle.expr_code.proofs.ExpressionWorks.{Works}
@@ -45,7 +45,7 @@ module _ (quiet : QuietStays) (v : Visible) (sound : SoundScope v.scope) (first 
   clock_works names all alone legal no_value = record {
     long = 1;
     few = omega arith;
-    fits = fits_one v (d + peak v.scope (tree.Named first all)) d (d + 1) op.Clock (omega arith)
+    fits = fits_one (Suits v) (d + peak v.scope (tree.Named first all)) d (d + 1) op.Clock (omega arith)
         (record { operands = refl; names = λ i s h. refl; takes = λ i s h. omega arith; leaves = λ i s h. omega arith; stays = refl; is_none = refl });
     computes = λ i from to h g.
         let it = one_stands i from to d op.Clock h in
@@ -61,7 +61,7 @@ module _ (quiet : QuietStays) (v : Visible) (sound : SoundScope v.scope) (first 
         record {
           long = p.long;
           few = omega (arith, p.few);
-          fits = fits_more v p.long p.long (d + checked_peak (peak v.scope e)) (d + peak v.scope (applied_to first e)) d (d + 1) a (omega arith)
+          fits = fits_more (Suits v) p.long p.long (d + checked_peak (peak v.scope e)) (d + peak v.scope (applied_to first e)) d (d + 1) a (omega arith)
               (omega (arith, below)) p.fits;
           computes = λ i from to h g.
               computes_microseconds quiet i (library_of g) (Sees g v) from to first e
@@ -77,11 +77,11 @@ module _ (quiet : QuietStays) (v : Visible) (sound : SoundScope v.scope) (first 
         record {
           long = 1 + (p.long + 1);
           few = omega (arith, p.few);
-          fits = fits_then v 1 (p.long + 1) top d (d + 1) (d + 1) (one d (op.Push (pos 1000))) (a ▸ one (d + 1 + 1) op.Multiply)
-              (fits_one v top d (d + 1) (op.Push (pos 1000)) (omega arith) (pushes v d (pos 1000)))
-              (fits_then v p.long 1 top (d + 1) (d + 1 + 1) (d + 1) a (one (d + 1 + 1) op.Multiply)
-              (fits_more v p.long p.long (d + 1 + checked_peak (peak v.scope e)) top (d + 1) (d + 1 + 1) a (omega arith) (omega (arith, below)) p.fits)
-              (fits_one v top (d + 1 + 1) (d + 1) op.Multiply (omega (arith, below))
+          fits = fits_then (Suits v) 1 (p.long + 1) top d (d + 1) (d + 1) (one d (op.Push (pos 1000))) (a ▸ one (d + 1 + 1) op.Multiply)
+              (fits_one (Suits v) top d (d + 1) (op.Push (pos 1000)) (omega arith) (pushes (Suits v) d (pos 1000)))
+              (fits_then (Suits v) p.long 1 top (d + 1) (d + 1 + 1) (d + 1) a (one (d + 1 + 1) op.Multiply)
+              (fits_more (Suits v) p.long p.long (d + 1 + checked_peak (peak v.scope e)) top (d + 1) (d + 1 + 1) a (omega arith) (omega (arith, below)) p.fits)
+              (fits_one (Suits v) top (d + 1 + 1) (d + 1) op.Multiply (omega (arith, below))
               (record { operands = refl; names = λ i s h. refl; takes = λ i s h. omega arith; leaves = λ i s h. omega arith; stays = refl; is_none = refl })));
           computes = λ i from to h g.
               let whole = both_stand i from to (one d (op.Push (pos 1000))) (a ▸ one (d + 1 + 1) op.Multiply) h in
@@ -106,9 +106,9 @@ module _ (quiet : QuietStays) (v : Visible) (sound : SoundScope v.scope) (first 
         record {
           long = p.long + 1;
           few = omega (arith, p.few);
-          fits = fits_then v p.long 1 top d (d + 1) (d + 1) a (one (d + 1) op.ReadInput)
-              (fits_more v p.long p.long (d + peak v.scope e) top d (d + 1) a (omega arith) (omega (arith, below)) p.fits)
-              (fits_one v top (d + 1) (d + 1) op.ReadInput (omega (arith, some))
+          fits = fits_then (Suits v) p.long 1 top d (d + 1) (d + 1) a (one (d + 1) op.ReadInput)
+              (fits_more (Suits v) p.long p.long (d + peak v.scope e) top d (d + 1) a (omega arith) (omega (arith, below)) p.fits)
+              (fits_one (Suits v) top (d + 1) (d + 1) op.ReadInput (omega (arith, some))
               (record { operands = refl; names = λ i s h. refl; takes = λ i s h. omega arith; leaves = λ i s h. omega arith; stays = refl; is_none = refl }));
           computes = λ i from to h g.
               let both = both_stand i from to a (one (d + 1) op.ReadInput) h in

@@ -23,7 +23,7 @@ pub mod Fitting
 pub mod Actuals
 pub mod Widths
 pub mod Refusals
-mod FitShapes
+pub mod FitShapes
 mod LegalNames
 pub mod Externals
 pub mod Language

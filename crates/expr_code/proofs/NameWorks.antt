@@ -30,7 +30,7 @@ use Rattle.expr_code.specs.ExpressionCode.{checked_code, object_code, range_chec
 use Rattle.expr_code.specs.Naming.{IsFixed, load_operation, scalar_word}
 use Rattle.expr_code.specs.Pieces.{Piece, one, ◌▸◌}
 use Rattle.expr_code.specs.Refusing.{HasUnfitObject, checked_peak, peak, words_below}
-use Rattle.expr_code.specs.Seeing.{Package, Sees, library_of, slot_of}
+use Rattle.expr_code.specs.Seeing.{Package, Sees, Suits, library_of, slot_of}
 use Rattle.expr_code.specs.declared.visible.Slot.{Slot}
 use Rattle.expr_code.specs.Views.{At}
 use Rattle.expr_code.specs.declared.visible.Visible.{Visible}
@@ -53,7 +53,7 @@ fixed_works quiet v d first all x legal is =
     record {
       long = 1;
       few = omega arith;
-      fits = fits_one v (d + peak v.scope (tree.Named first all)) d (d + 1) (op.Push (scalar_word x)) (omega arith) (pushes v d (scalar_word x));
+      fits = fits_one (Suits v) (d + peak v.scope (tree.Named first all)) d (d + 1) (op.Push (scalar_word x)) (omega arith) (pushes (Suits v) d (scalar_word x));
       computes = λ i from to h g.
           let it = one_stands i from to d (op.Push (scalar_word x)) h in
           subst (λ n. Computes i (library_of g) (Sees g v) from n (tree.Named first all)) (sym it.ends)
@@ -75,21 +75,21 @@ module _ (quiet : QuietStays) (laws : ExpressionsAreTyped) (v : Visible) (d : �
   unchecked_works passes = record {
     long = p.long;
     few = omega (arith, p.few);
-    fits = fits_more v p.long p.long (d + peak v.scope e) (d + checked_peak (peak v.scope e)) d (d + 1) a (omega arith) (omega arith) p.fits;
+    fits = fits_more (Suits v) p.long p.long (d + peak v.scope e) (d + checked_peak (peak v.scope e)) d (d + 1) a (omega arith) (omega arith) p.fits;
     computes = λ i from to h g. computes_unchecked quiet i (library_of g) (Sees g v) from to t e (p.computes i from to h g) (passes i g);
   }
 
   checked_fits : Fits v (p.long + (1 + (1 + 1))) (d + checked_peak (peak v.scope e)) d (d + 1) (a ▸ range_check (d + 1) t)
   checked_fits =
       let top = d + checked_peak (peak v.scope e) in
-      fits_then v p.long (1 + (1 + 1)) top d (d + 1) (d + 1) a (range_check (d + 1) t)
-      (fits_more v p.long p.long (d + peak v.scope e) top d (d + 1) a (omega arith) (omega arith) p.fits)
-      (fits_then v 1 (1 + 1) top (d + 1) (d + 1 + 1) (d + 1) (one (d + 1) (op.Push t.first))
+      fits_then (Suits v) p.long (1 + (1 + 1)) top d (d + 1) (d + 1) a (range_check (d + 1) t)
+      (fits_more (Suits v) p.long p.long (d + peak v.scope e) top d (d + 1) a (omega arith) (omega arith) p.fits)
+      (fits_then (Suits v) 1 (1 + 1) top (d + 1) (d + 1 + 1) (d + 1) (one (d + 1) (op.Push t.first))
       (one (d + 1 + 1) (op.Push t.last) ▸ one (d + 1 + 1 + 1) op.CheckRange)
-      (fits_one v top (d + 1) (d + 1 + 1) (op.Push t.first) (omega arith) (pushes v (d + 1) t.first))
-      (fits_then v 1 1 top (d + 1 + 1) (d + 1 + 1 + 1) (d + 1) (one (d + 1 + 1) (op.Push t.last)) (one (d + 1 + 1 + 1) op.CheckRange)
-      (fits_one v top (d + 1 + 1) (d + 1 + 1 + 1) (op.Push t.last) (omega arith) (pushes v (d + 1 + 1) t.last))
-      (fits_one v top (d + 1 + 1 + 1) (d + 1) op.CheckRange (omega arith)
+      (fits_one (Suits v) top (d + 1) (d + 1 + 1) (op.Push t.first) (omega arith) (pushes (Suits v) (d + 1) t.first))
+      (fits_then (Suits v) 1 1 top (d + 1 + 1) (d + 1 + 1 + 1) (d + 1) (one (d + 1 + 1) (op.Push t.last)) (one (d + 1 + 1 + 1) op.CheckRange)
+      (fits_one (Suits v) top (d + 1 + 1) (d + 1 + 1 + 1) (op.Push t.last) (omega arith) (pushes (Suits v) (d + 1 + 1) t.last))
+      (fits_one (Suits v) top (d + 1 + 1 + 1) (d + 1) op.CheckRange (omega arith)
       (record { operands = refl; names = λ i s h. refl; takes = λ i s h. omega arith; leaves = λ i s h. omega arith; stays = refl; is_none = refl }))))
 
   checked_works : has_numbers (form_at v.scope t.type_number) ≡ true → WorksChecked v d t e (a ▸ range_check (d + 1) t)
@@ -143,7 +143,7 @@ conversion_works quiet v d first e t a stands legal p =
     record {
       long = p.long;
       few = omega (arith, p.few);
-      fits = fits_more v p.long p.long (d + checked_peak (peak v.scope e)) (d + peak v.scope (tree.Named first (with_argument e))) d (d + 1) a (omega arith)
+      fits = fits_more (Suits v) p.long p.long (d + checked_peak (peak v.scope e)) (d + peak v.scope (tree.Named first (with_argument e))) d (d + 1) a (omega arith)
           (omega (arith, below)) p.fits;
       computes = λ i from to h g.
           computes_conversion quiet i (library_of g) (Sees g v) from to first t e
@@ -168,7 +168,7 @@ module _ (quiet : QuietStays) (v : Visible) (d : ℕ) (first : Identifier) (laws
   word_works single = record {
     long = 1;
     few = omega arith;
-    fits = fits_one v (d + peak v.scope whole) d (d + 1) (load_operation slot.region slot.offset) (omega arith)
+    fits = fits_one (Suits v) (d + peak v.scope whole) d (d + 1) (load_operation slot.region slot.offset) (omega arith)
         (loads v first laws r t slot legal stands there d slot.region refl);
     computes = λ i from to h g.
         let it = one_stands i from to d (load_operation slot.region slot.offset) h in
@@ -196,9 +196,9 @@ module _ (quiet : QuietStays) (v : Visible) (d : ℕ) (first : Identifier) (laws
       record {
         long = 1 + 1;
         few = omega arith;
-        fits = fits_then v 1 1 top d (d + 1) (d + size) (one d (op.Push (pos slot.offset))) (one (d + 1) load)
-            (fits_one v top d (d + 1) (op.Push (pos slot.offset)) (omega arith) (pushes v d (pos slot.offset)))
-            (fits_load v top (d + 1) (d + size) load (omega (arith, some)) (unfit (is_block (capped size)) refl)
+        fits = fits_then (Suits v) 1 1 top d (d + 1) (d + size) (one d (op.Push (pos slot.offset))) (one (d + 1) load)
+            (fits_one (Suits v) top d (d + 1) (op.Push (pos slot.offset)) (omega arith) (pushes (Suits v) d (pos slot.offset)))
+            (fits_load (Suits v) top (d + 1) (d + size) load (omega (arith, some)) (unfit (is_block (capped size)) refl)
             (λ block. let many = block_words (capped size) size refl block in record {
               operands = block;
               names = λ i s h. h.region first.name slot there;

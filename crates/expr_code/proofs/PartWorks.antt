@@ -70,9 +70,9 @@ use Rattle.expr_code.proofs.Widths.{integers_fit_width}
 
 -- ---- what no image may have
 
-pub misfit_fits : {U : Type 0} (v : Visible) (h d : ℕ) (unfit : Bool) → d ≤ h → (unfit ≡ true → U) → FitsOr U v 1 h d d (misfit_code unfit d)
-misfit_fits {U} v h d true up why = fits_load v h d d (op.LoadBlock regions.Locals 0) up (inr (why refl)) (λ e. absurd cc)
-misfit_fits {U} v h d false up why = fits_more v 0 1 h h d d nothing (omega arith) (omega arith) (fits_none v h d)
+pub misfit_fits : {U : Type 0} (v : Visible) (h d : ℕ) (unfit : Bool) → d ≤ h → (unfit ≡ true → U) → FitsOr U (Suits v) 1 h d d (misfit_code unfit d)
+misfit_fits {U} v h d true up why = fits_load (Suits v) h d d (op.LoadBlock regions.Locals 0) up (inr (why refl)) (λ e. absurd cc)
+misfit_fits {U} v h d false up why = fits_more (Suits v) 0 1 h h d d nothing (omega arith) (omega arith) (fits_none (Suits v) h d)
 
 none_stand : (i : Sections) (from to : ℕ) → Between i from to nothing → to ≡ from
 unfolding nothing
@@ -85,9 +85,9 @@ misfit_stands i from to d false h = (refl, sym (none_stand i from to h))
 -- ---- two instructions, or none
 
 pub two_fit : {U : Type 0} (v : Visible) (h d : ℕ) (a b : Operation) → d + 1 ≤ h → Changes (Suits v) a d (d + 1) → Changes (Suits v) b (d + 1) d
-    → FitsOr U v 2 h d d (one d a ▸ one (d + 1) b)
+    → FitsOr U (Suits v) 2 h d d (one d a ▸ one (d + 1) b)
 two_fit {U} v h d a b up p q =
-    fits_then v 1 1 h d (d + 1) d (one d a) (one (d + 1) b) (fits_one v h d (d + 1) a (omega (arith, up)) p) (fits_one v h (d + 1) d b up q)
+    fits_then (Suits v) 1 1 h d (d + 1) d (one d a) (one (d + 1) b) (fits_one (Suits v) h d (d + 1) a (omega (arith, up)) p) (fits_one (Suits v) h (d + 1) d b up q)
 
 pub two_stand : (i : Sections) (from to d : ℕ) (a b : Operation) → Between i from to (one d a ▸ one (d + 1) b) → AreTwo i from to a b
 two_stand i from to d a b h =
@@ -97,8 +97,8 @@ two_stand i from to d a b h =
     let next : both.mid ≡ from + 1 = omega (arith, first.ends) in
     ((d, first.there), subst (λ n. At i n b) next (d + 1, second.there), omega (arith, first.ends, second.ends))
 
-none_fits : {U : Type 0} (v : Visible) (h d : ℕ) → FitsOr U v 2 h d d nothing
-none_fits {U} v h d = fits_more v 0 2 h h d d nothing (omega arith) (omega arith) (fits_none v h d)
+none_fits : {U : Type 0} (v : Visible) (h d : ℕ) → FitsOr U (Suits v) 2 h d d nothing
+none_fits {U} v h d = fits_more (Suits v) 0 2 h h d d nothing (omega arith) (omega arith) (fits_none (Suits v) h d)
 
 near_is : (z : ℤ) → is_near z ≡ true → IsNear z
 near_is z h = search rules
@@ -108,11 +108,11 @@ module _ (U : Type 0) (v : Visible) (h d : ℕ) (shift : ℤ) (offset : ℕ) (up
   abbrev moved : ℤ
   moved = shift +ℤ pos offset
 
-  offset_piece : (b : Bool) → FitsOr U v 2 h (d + 1) (d + 1) (cond b nothing (one (d + 1) (op.Push (pos offset)) ▸ one (d + 1 + 1) op.Add))
+  offset_piece : (b : Bool) → FitsOr U (Suits v) 2 h (d + 1) (d + 1) (cond b nothing (one (d + 1) (op.Push (pos offset)) ▸ one (d + 1 + 1) op.Add))
   offset_piece true = none_fits v h (d + 1)
-  offset_piece false = two_fit v h (d + 1) (op.Push (pos offset)) op.Add up (pushes v (d + 1) (pos offset)) (takes_two v d)
+  offset_piece false = two_fit v h (d + 1) (op.Push (pos offset)) op.Add up (pushes (Suits v) (d + 1) (pos offset)) (takes_two v d)
 
-  pub offset_fits : FitsOr U v 2 h (d + 1) (d + 1) (at_offset_code (d + 1) shift offset)
+  pub offset_fits : FitsOr U (Suits v) 2 h (d + 1) (d + 1) (at_offset_code (d + 1) shift offset)
   offset_fits = offset_piece (is_near moved)
 
 offset_near : (shift : ℤ) (offset : ℕ) → IsNear shift → IsNear (at_offset_shift shift offset)
@@ -133,23 +133,23 @@ offset_goes i from to d shift offset h whole = by_test (is_near (shift +ℤ pos 
 
 -- an index less the first one
 module _ (U : Type 0) (v : Visible) (h d : ℕ) (first : ℤ) (size : ℕ) (shift : ℤ) (up : d + 1 + 1 + 1 ≤ h) where
-  less_piece : (b : Bool) → FitsOr U v 2 h (d + 1 + 1) (d + 1 + 1) (cond b nothing (one (d + 1 + 1) (op.Push first) ▸ one (d + 1 + 1 + 1) op.Subtract))
+  less_piece : (b : Bool) → FitsOr U (Suits v) 2 h (d + 1 + 1) (d + 1 + 1) (cond b nothing (one (d + 1 + 1) (op.Push first) ▸ one (d + 1 + 1 + 1) op.Subtract))
   less_piece true = none_fits v h (d + 1 + 1)
-  less_piece false = two_fit v h (d + 1 + 1) (op.Push first) op.Subtract up (pushes v (d + 1 + 1) first) (subtracts v (d + 1))
+  less_piece false = two_fit v h (d + 1 + 1) (op.Push first) op.Subtract up (pushes (Suits v) (d + 1 + 1) first) (subtracts v (d + 1))
 
-  product_piece : (b : Bool) → FitsOr U v 2 h (d + 1 + 1) (d + 1 + 1) (cond b nothing (one (d + 1 + 1) (op.Push (pos size)) ▸ one (d + 1 + 1 + 1) op.Multiply))
+  product_piece : (b : Bool) → FitsOr U (Suits v) 2 h (d + 1 + 1) (d + 1 + 1) (cond b nothing (one (d + 1 + 1) (op.Push (pos size)) ▸ one (d + 1 + 1 + 1) op.Multiply))
   product_piece true = none_fits v h (d + 1 + 1)
-  product_piece false = two_fit v h (d + 1 + 1) (op.Push (pos size)) op.Multiply up (pushes v (d + 1 + 1) (pos size)) (multiplies v (d + 1))
+  product_piece false = two_fit v h (d + 1 + 1) (op.Push (pos size)) op.Multiply up (pushes (Suits v) (d + 1 + 1) (pos size)) (multiplies v (d + 1))
 
   abbrev pub scaling : Piece
   scaling = less_first_code (d + 1 + 1) first size shift ▸ by_words_code (d + 1 + 1) size ▸ one (d + 1 + 1) op.Add
 
-  pub scaling_fits : FitsOr U v 5 h (d + 1 + 1) (d + 1) scaling
+  pub scaling_fits : FitsOr U (Suits v) 5 h (d + 1 + 1) (d + 1) scaling
   scaling_fits =
-      fits_then v 2 3 h (d + 1 + 1) (d + 1 + 1) (d + 1) (less_first_code (d + 1 + 1) first size shift) (by_words_code (d + 1 + 1) size ▸ one (d + 1 + 1) op.Add)
+      fits_then (Suits v) 2 3 h (d + 1 + 1) (d + 1 + 1) (d + 1) (less_first_code (d + 1 + 1) first size shift) (by_words_code (d + 1 + 1) size ▸ one (d + 1 + 1) op.Add)
       (less_piece (is_near (shift -ℤ first *ℤ pos size)))
-      (fits_then v 2 1 h (d + 1 + 1) (d + 1 + 1) (d + 1) (by_words_code (d + 1 + 1) size) (one (d + 1 + 1) op.Add) (product_piece (nat_eq size 1))
-      (fits_one v h (d + 1 + 1) (d + 1) op.Add (omega (arith, up)) (takes_two v d)))
+      (fits_then (Suits v) 2 1 h (d + 1 + 1) (d + 1 + 1) (d + 1) (by_words_code (d + 1 + 1) size) (one (d + 1 + 1) op.Add) (product_piece (nat_eq size 1))
+      (fits_one (Suits v) h (d + 1 + 1) (d + 1) op.Add (omega (arith, up)) (takes_two v d)))
 
 less_near : (first : ℤ) (size : ℕ) (shift : ℤ) → IsNear shift → IsNear (less_first_shift first size shift)
 less_near first size shift near = by_test (is_near (shift -ℤ first *ℤ pos size)) refl
@@ -199,7 +199,7 @@ module _ (i : Sections) (d : ℕ) (first : ℤ) (size : ℕ) (shift whole : ℤ)
 pub record PathWorks (U : Type 0) (v : Visible) (d : ℕ) (p last : PartAt) (all : SelectorTrees) (a : Piece) : Type 0 where
   pub long : ℕ
   pub few : long ≤ 20 * selectors_size all
-  pub fits : FitsOr U v long (d + selectors_peak v.scope 1 all) (d + 1) (d + 1) a
+  pub fits : FitsOr U (Suits v) long (d + selectors_peak v.scope 1 all) (d + 1) (d + 1) a
   pub near : IsNear last.shift
   pub fit : IsUnfit v.scope last.subtype → U
   pub ends : EndsAt v.scope p.subtype all last.subtype
@@ -216,7 +216,7 @@ end_works : (U : Type 0) (v : Visible) (d : ℕ) (p : PartAt) → IsNear p.shift
 end_works U v d p near unfit = record {
   long = 0;
   few = omega arith;
-  fits = fits_none v (d + 1) (d + 1);
+  fits = fits_none (Suits v) (d + 1) (d + 1);
   near = near;
   fit = unfit;
   ends = λ r. refl;
@@ -275,12 +275,12 @@ module _ (U : Type 0) (v : Visible) (sound : SoundScope v.scope) (d : ℕ) (p : 
         record {
           long = 1 + 2 + q.long;
           few = (let few = q.few in omega (arith, few));
-          fits = fits_then v (1 + 2) q.long top (d + 1) (d + 1) (d + 1) piece b
-              (fits_then v 1 2 top (d + 1) (d + 1) (d + 1) (misfit_code (nat_lt WORDS told) (d + 1)) (at_offset_code (d + 1) p.shift told)
+          fits = fits_then (Suits v) (1 + 2) q.long top (d + 1) (d + 1) (d + 1) piece b
+              (fits_then (Suits v) 1 2 top (d + 1) (d + 1) (d + 1) (misfit_code (nat_lt WORDS told) (d + 1)) (at_offset_code (d + 1) p.shift told)
               (misfit_fits v top (d + 1) (nat_lt WORDS told) (omega arith)
               (λ e. unfit (far_offset s sound p.subtype cs name.name u form found told (ap (option_map capped) is) (past_limit told e))))
               (offset_fits U v top d p.shift told (omega arith)))
-              (fits_more v q.long q.long (d + selectors_peak s 1 rest) top (d + 1) (d + 1) b (omega arith) (omega arith) q.fits);
+              (fits_more (Suits v) q.long q.long (d + selectors_peak s 1 rest) top (d + 1) (d + 1) b (omega arith) (omega arith) q.fits);
           near = q.near;
           fit = q.fit;
           ends = λ r. ap (λ w. select_all v.scope w rest) (selects r) ∙ q.ends r;
@@ -371,14 +371,14 @@ module _ (quiet : QuietStays) (laws : ExpressionsAreTyped) (needless : ChecksAre
         record {
           long = 1 + (w.long + 5) + q.long;
           few = (let few = q.few in let one = w.few in omega (arith, few, one));
-          fits = fits_then v (1 + (w.long + 5)) q.long top (d + 1) (d + 1) (d + 1) indexed b
-              (fits_then v 1 (w.long + 5) top (d + 1) (d + 1) (d + 1) (misfit_code (nat_lt WORDS (max many wide)) (d + 1)) (value ▸ scaled)
+          fits = fits_then (Suits v) (1 + (w.long + 5)) q.long top (d + 1) (d + 1) (d + 1) indexed b
+              (fits_then (Suits v) 1 (w.long + 5) top (d + 1) (d + 1) (d + 1) (misfit_code (nat_lt WORDS (max many wide)) (d + 1)) (value ▸ scaled)
               (misfit_fits v top (d + 1) (nat_lt WORDS (max many wide)) (omega arith) (λ h. unfit (too_many h)))
-              (fits_then v w.long 5 top (d + 1) (d + 1 + 1) (d + 1) value scaled
-              (fits_more v w.long w.long (d + 1 + checked_peak (peak v.scope e)) top (d + 1) (d + 1 + 1) value (omega arith) (omega arith)
+              (fits_then (Suits v) w.long 5 top (d + 1) (d + 1 + 1) (d + 1) value scaled
+              (fits_more (Suits v) w.long w.long (d + 1 + checked_peak (peak v.scope e)) top (d + 1) (d + 1 + 1) value (omega arith) (omega arith)
               (fits_or U v w.long (d + 1 + checked_peak (peak v.scope e)) (d + 1) (d + 1 + 1) value weak w.fits))
               (scaling_fits U v top d index.first wide p.shift (omega arith))))
-              (fits_more v q.long q.long (d + selectors_peak v.scope 1 rest) top (d + 1) (d + 1) b (omega arith) (omega arith) q.fits);
+              (fits_more (Suits v) q.long q.long (d + selectors_peak v.scope 1 rest) top (d + 1) (d + 1) b (omega arith) (omega arith) q.fits);
           near = q.near;
           fit = q.fit;
           ends = λ r. ap (λ w. select_all v.scope w rest) (selects r) ∙ q.ends r;
@@ -654,12 +654,12 @@ module _ (v : Visible) (sound : SoundScope v.scope) (first : Identifier) (all : 
         record {
           long = 1 + q.long + 1;
           few = (let few = q.few in omega (arith, few));
-          fits = fits_then v (1 + q.long) 1 top d (d + 1) (d + size) (one d push ▸ a) (one (d + 1) load)
-              (fits_then v 1 q.long top d (d + 1) (d + 1) (one d push) a
-              (fits_one v top d (d + 1) push (omega arith) (pushes v d (pos slot.offset +ℤ last.shift)))
-              (fits_more v q.long q.long (d + selectors_peak v.scope 1 all) top (d + 1) (d + 1) a (omega arith)
+          fits = fits_then (Suits v) (1 + q.long) 1 top d (d + 1) (d + size) (one d push ▸ a) (one (d + 1) load)
+              (fits_then (Suits v) 1 q.long top d (d + 1) (d + 1) (one d push) a
+              (fits_one (Suits v) top d (d + 1) push (omega arith) (pushes (Suits v) d (pos slot.offset +ℤ last.shift)))
+              (fits_more (Suits v) q.long q.long (d + selectors_peak v.scope 1 all) top (d + 1) (d + 1) a (omega arith)
               (subst (λ k. d + selectors_peak v.scope 1 all ≤ d + max (width_of v.scope whole) (selectors_peak v.scope k all)) (sym below) (omega arith)) q.fits))
-              (fits_load v top (d + 1) (d + size) load
+              (fits_load (Suits v) top (d + 1) (d + size) load
               (subst (λ k. d + 1 ≤ d + max (width_of v.scope whole) (selectors_peak v.scope k all)) (sym below) (omega (arith, some)))
               (load_fits slot.region v.scope last.subtype (HasUnfitObject v) q.fit) (load_changes v first slot there d size));
           computes = λ i from to h g.

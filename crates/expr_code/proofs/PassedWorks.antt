@@ -184,9 +184,9 @@ alone_works quiet laws v d operation first selectors names changes =
     (record {
       long = 0 + 1;
       few = omega arith;
-      fits = fits_then v 0 1 (d + peak v.scope (tree.Named first selectors)) d d (d + 1) nothing (one d operation)
-          (fits_none v (d + peak v.scope (tree.Named first selectors)) d)
-          (fits_one v (d + peak v.scope (tree.Named first selectors)) d (d + 1) operation (omega arith) changes);
+      fits = fits_then (Suits v) 0 1 (d + peak v.scope (tree.Named first selectors)) d d (d + 1) nothing (one d operation)
+          (fits_none (Suits v) (d + peak v.scope (tree.Named first selectors)) d)
+          (fits_one (Suits v) (d + peak v.scope (tree.Named first selectors)) d (d + 1) operation (omega arith) changes);
       computes = λ i from to h g.
           let both = both_stand i from to nothing (one d operation) h in
           let it = one_stands i both.mid to d operation both.second in

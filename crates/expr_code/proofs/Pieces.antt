@@ -5,7 +5,7 @@ use Rattle.std.specs.Prelude.{get_or, slice_get, slice_set}
 use Rattle.image.specs.declared.instruction.Instr.{Instr}
 use Rattle.image.specs.declared.instruction.Operation.{Operation}
 use Rattle.image.specs.declared.instruction.Operation.TheVariants as op
-use Rattle.expr_code.specs.ExpressionCode.{branch_code}
+use Rattle.expr_code.specs.ExpressionCode.{fork_code}
 use Rattle.expr_code.specs.Pieces.{Made, Piece, Waits, adds, deepest_of, end_of, narrow, nothing, one, ◌▸◌, over, patched, rejoined, with_operation}
 
 abbrev pub make : ℕ → List Instr → Made
@@ -179,34 +179,34 @@ ends_alike : (m : Made) (more d : ℕ) (j : Operation) (k : ℕ → Operation) (
 unfolding adds
 ends_alike m more d j k a = ap (λ n. m.before + n) (over_long m more d j k a)
 
--- a branch of an if expression, whose jump to the end waits with those of the branches before it
-module _ (start : Made) (front : Piece → Piece) (m new : Made) (places : List ℕ) (d w height test place to : ℕ) (c x : Piece) (waits : Waits start front m places)
-    (high : height ≡ d + w) (test_is : test ≡ length (adds m c).code) (place_is : place ≡ length (adds (adds (adds m c) (one (d + 1) (op.JumpIfZero 0))) x).code)
+-- A condition and what follows where it holds, whose jump to the end waits with those of the branches before it
+module _ (start : Made) (front : Piece → Piece) (m new : Made) (places : List ℕ) (d k height test place to : ℕ) (c x : Piece) (waits : Waits start front m places)
+    (high : height ≡ k) (test_is : test ≡ length (adds m c).code) (place_is : place ≡ length (adds (adds (adds m c) (one (d + 1) (op.JumpIfZero 0))) x).code)
     (to_is : to ≡ narrow (end_of (adds (adds (adds (adds m c) (one (d + 1) (op.JumpIfZero 0))) x) (one height (op.Jump 0)))))
     (is : new ≡ patched (adds (adds (adds (adds m c) (one (d + 1) (op.JumpIfZero 0))) x) (one height (op.Jump 0))) test (op.JumpIfZero to)) where
   abbrev valued : Made
   valued = adds (adds m c) (over 1 (d + 1) op.JumpIfZero x)
 
-  closed : new ≡ adds valued (one (d + w) (op.Jump 0))
+  closed : new ≡ adds valued (one k (op.Jump 0))
   closed =
       is ∙ leads_past (adds m c) (d + 1) (op.JumpIfZero 0) x height (op.Jump 0) test op.JumpIfZero to test_is to_is
       ∙ ap (λ n. adds valued (one n (op.Jump 0))) high
 
-  together : (last : Piece) → adds valued (over 0 (d + w) op.Jump last) ≡ adds m (branch_code d w c x last)
+  together : (last : Piece) → adds valued (over 0 k op.Jump last) ≡ adds m (fork_code d k c x last)
   together last =
-      adds_then (adds m c) (over 1 (d + 1) op.JumpIfZero x) (over 0 (d + w) op.Jump last)
-      ∙ adds_then m c (over 1 (d + 1) op.JumpIfZero x ▸ over 0 (d + w) op.Jump last)
+      adds_then (adds m c) (over 1 (d + 1) op.JumpIfZero x) (over 0 k op.Jump last)
+      ∙ adds_then m c (over 1 (d + 1) op.JumpIfZero x ▸ over 0 k op.Jump last)
 
-  pub branch_waits : Waits start (λ last. front (branch_code d w c x last)) new (places ++ place ∷ [])
+  pub branch_waits : Waits start (λ last. front (fork_code d k c x last)) new (places ++ place ∷ [])
   branch_waits = record {
     closes = λ last end e.
-        let same : adds new last ≡ adds (adds valued (one (d + w) (op.Jump 0))) last = ap (λ y. adds y last) closed in
-        let ends : end ≡ narrow (end_of (adds (adds valued (one (d + w) (op.Jump 0))) last)) = e ∙ ap (λ y. narrow (end_of y)) same in
-        let led : patched (adds new last) place (op.Jump end) ≡ adds m (branch_code d w c x last) =
+        let same : adds new last ≡ adds (adds valued (one k (op.Jump 0))) last = ap (λ y. adds y last) closed in
+        let ends : end ≡ narrow (end_of (adds (adds valued (one k (op.Jump 0))) last)) = e ∙ ap (λ y. narrow (end_of y)) same in
+        let led : patched (adds new last) place (op.Jump end) ≡ adds m (fork_code d k c x last) =
         ap (λ y. patched y place (op.Jump end)) same
-        ∙ leads valued (d + w) (op.Jump 0) last place op.Jump end (place_is ∙ over_long (adds m c) 1 (d + 1) (op.JumpIfZero 0) op.JumpIfZero x) ends
+        ∙ leads valued k (op.Jump 0) last place op.Jump end (place_is ∙ over_long (adds m c) 1 (d + 1) (op.JumpIfZero 0) op.JumpIfZero x) ends
         ∙ together last in
         rejoined_last (adds new last) places place end ∙ ap (λ y. rejoined y places end) led
-        ∙ waits.closes (branch_code d w c x last) end
-        (ends ∙ ap narrow (ends_alike valued 0 (d + w) (op.Jump 0) op.Jump last ∙ ap end_of (together last)));
+        ∙ waits.closes (fork_code d k c x last) end
+        (ends ∙ ap narrow (ends_alike valued 0 k (op.Jump 0) op.Jump last ∙ ap end_of (together last)));
   }

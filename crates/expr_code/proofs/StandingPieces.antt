@@ -144,15 +144,19 @@ over_end i from to d jump a h = over_stands i from to 0 d jump a (let low = h.lo
 
 -- ---- from one depth to another
 
+-- which subprogram of which image has what a piece names
+abbrev pub Suiting : Type 1
+Suiting = Sections → Subprogram → Type 0
+
 -- The piece finds so many words on the operand stack, and leaves so many, wherever it stands in a subprogram that suits it, and its instructions keep the rules
 -- of images.
-pub record Leads (v : Visible) (before after : ℕ) (a : Piece) : Type 0 where
-  pub leads : (i : Sections) (s : Subprogram) (from to : ℕ) → Between i from to a → Suits v i s → deepest_of (a from) ≤ s.stack → after ≤ s.stack
+pub record Leads (S : Suiting) (before after : ℕ) (a : Piece) : Type 0 where
+  pub leads : (i : Sections) (s : Subprogram) (from to : ℕ) → Between i from to a → S i s → deepest_of (a from) ≤ s.stack → after ≤ s.stack
       → has_depth i to after ≡ true → AreKeptBetween i s from to from to before
 
 -- an instruction that changes so much where its operands are those of an image
-pub leads_one : (v : Visible) (d out : ℕ) (o : Operation) → (has_operands o ≡ true → Changes (Suits v) o d out) → Leads v d out (one d o)
-leads_one v d out o changes = record {
+pub leads_one : (S : Suiting) (d out : ℕ) (o : Operation) → (has_operands o ≡ true → Changes S o d out) → Leads S d out (one d o)
+leads_one S d out o changes = record {
   leads = λ i s from to h suits deep high ends.
       let it = one_stands i from to d o h in
       let c = changes it.operands in
@@ -165,8 +169,8 @@ leads_one v d out o changes = record {
     none_some : (n : ℕ) → None ≡ Some n → ⊥
     none_some n e = cc
 
-pub leads_then : (v : Visible) (x y z : ℕ) (a b : Piece) → Leads v x y a → Leads v y z b → Leads v x z (a ▸ b)
-leads_then v x y z a b p q = record {
+pub leads_then : (S : Suiting) (x y z : ℕ) (a b : Piece) → Leads S x y a → Leads S y z b → Leads S x z (a ▸ b)
+leads_then S x y z a b p q = record {
   leads = λ i s from to h suits deep high ends.
       let it = both_stand i from to a b h in
       let rest = q.leads i s it.mid to it.second suits (omega (arith, it.deep, deep)) high ends in
@@ -176,8 +180,8 @@ leads_then v x y z a b p q = record {
 }
 
 -- a number, pushed
-pub pushes : (v : Visible) (d : ℕ) (z : ℤ) → Changes (Suits v) (op.Push z) d (d + 1)
-pushes v d z = record { operands = refl; names = λ i s h. refl; takes = λ i s h. omega arith; leaves = λ i s h. omega arith; stays = refl; is_none = refl }
+pub pushes : (S : Suiting) (d : ℕ) (z : ℤ) → Changes S (op.Push z) d (d + 1)
+pushes S d z = record { operands = refl; names = λ i s h. refl; takes = λ i s h. omega arith; leaves = λ i s h. omega arith; stays = refl; is_none = refl }
 
 -- ---- jumps
 
@@ -216,8 +220,8 @@ module _ (i : Sections) (s : Subprogram) (low high place d to : ℕ) where
       target a e = cc
 
 -- a jump over a piece that leaves the words below the condition as they are
-pub leads_over : (v : Visible) (d : ℕ) (jump : ℕ → Operation) (a : Piece) → IsTest jump → Leads v d d a → Leads v (d + 1) d (over 0 (d + 1) jump a)
-leads_over v d jump a t p = record {
+pub leads_over : (S : Suiting) (d : ℕ) (jump : ℕ → Operation) (a : Piece) → IsTest jump → Leads S d d a → Leads S (d + 1) d (over 0 (d + 1) jump a)
+leads_over S d jump a t p = record {
   leads = λ i s from to h suits deep high ends.
       let it = over_end i from to (d + 1) jump a h in
       let end : to + 0 ≡ to = omega arith in
@@ -228,9 +232,9 @@ leads_over v d jump a t p = record {
 }
 
 -- one piece, or another one in its place, from which a jump at such a depth leads on, which is that of the end wherever a frame has so many words
-pub leads_fork : (v : Visible) (d e k : ℕ) (x r : Piece) → (narrow k ≤ FRAME_WORDS → k ≡ e) → Leads v d e x → Leads v d e r
-    → Leads v (d + 1) e (over 1 (d + 1) op.JumpIfZero x ▸ over 0 k op.Jump r)
-leads_fork v d e k x r same p q = record {
+pub leads_fork : (S : Suiting) (d e k : ℕ) (x r : Piece) → (narrow k ≤ FRAME_WORDS → k ≡ e) → Leads S d e x → Leads S d e r
+    → Leads S (d + 1) e (over 1 (d + 1) op.JumpIfZero x ▸ over 0 k op.Jump r)
+leads_fork S d e k x r same p q = record {
   leads = λ i s from to h suits deep high ends.
       let both = both_stand i from to (over 1 (d + 1) op.JumpIfZero x) (over 0 k op.Jump r) h in
       let stop = both.mid in
@@ -280,30 +284,43 @@ one_unfit Unfit (x ∷ a) p e =
     by_test true is (inl fit) rest = rest is
     by_test false is (inl fit) rest = (let no : false ≡ true = sym is ∙ fit in absurd cc)
 
-pub record FitsOr (Unfit : Type 0) (v : Visible) (long high before after : ℕ) (a : Piece) : Type 0 where
+pub record FitsOr (Unfit : Type 0) (S : Suiting) (long high before after : ℕ) (a : Piece) : Type 0 where
   pub sized : (base : ℕ) → length (a base) ≤ long
   pub low : (base : ℕ) → deepest_of (a base) ≤ high
   pub fit : (base : ℕ) → FitOr Unfit (a base)
-  pub leads : Leads v before after a
+  pub leads : Leads S before after a
 
 -- a piece that fits, or an object that is visible has no words or too many
 abbrev pub Fits : (v : Visible) (long high before after : ℕ) → Piece → Type 0
-Fits v = FitsOr (HasUnfitObject v) v
+Fits v = FitsOr (HasUnfitObject v) (Suits v)
 
-pub fits_or : (Unfit : Type 0) (v : Visible) (m h x y : ℕ) (a : Piece) → (HasUnfitObject v → Unfit) → Fits v m h x y a → FitsOr Unfit v m h x y a
+pub fits_or : (Unfit : Type 0) (v : Visible) (m h x y : ℕ) (a : Piece) → (HasUnfitObject v → Unfit) → Fits v m h x y a → FitsOr Unfit (Suits v) m h x y a
 fits_or Unfit v m h x y a f p = record { sized = p.sized; low = p.low; fit = λ base. fit_weaker (HasUnfitObject v) Unfit (a base) f (p.fit base); leads = p.leads }
 
-pub fits_more : {Unfit : Type 0} (v : Visible) (m n h k x y : ℕ) (a : Piece) → m ≤ n → h ≤ k → FitsOr Unfit v m h x y a → FitsOr Unfit v n k x y a
-fits_more {Unfit} v m n h k x y a more up p = record {
+-- a piece in subprograms that have more, or with more that is unfit
+pub fits_under : {Unfit : Type 0} (S T : Suiting) (m h x y : ℕ) (a : Piece) → ((i : Sections) (s : Subprogram) → T i s → S i s) → FitsOr Unfit S m h x y a
+    → FitsOr Unfit T m h x y a
+fits_under S T m h x y a f p = record {
+  sized = p.sized;
+  low = p.low;
+  fit = p.fit;
+  leads = record { leads = λ i s from to at suits deep high ends. p.leads.leads i s from to at (f i s suits) deep high ends };
+}
+
+pub fits_unless : (A B : Type 0) (S : Suiting) (m h x y : ℕ) (a : Piece) → (A → B) → FitsOr A S m h x y a → FitsOr B S m h x y a
+fits_unless A B S m h x y a f p = record { sized = p.sized; low = p.low; fit = λ base. fit_weaker A B (a base) f (p.fit base); leads = p.leads }
+
+pub fits_more : {Unfit : Type 0} (S : Suiting) (m n h k x y : ℕ) (a : Piece) → m ≤ n → h ≤ k → FitsOr Unfit S m h x y a → FitsOr Unfit S n k x y a
+fits_more {Unfit} S m n h k x y a more up p = record {
   sized = λ base. (let few = p.sized base in omega (arith, few, more));
   low = λ base. (let low = p.low base in omega (arith, low, up));
   fit = p.fit;
   leads = p.leads;
 }
 
-pub fits_none : {Unfit : Type 0} (v : Visible) (h d : ℕ) → FitsOr Unfit v 0 h d d nothing
+pub fits_none : {Unfit : Type 0} (S : Suiting) (h d : ℕ) → FitsOr Unfit S 0 h d d nothing
 unfolding nothing
-fits_none {Unfit} v h d = record {
+fits_none {Unfit} S h d = record {
   sized = λ base. omega arith;
   low = λ base. omega arith;
   fit = λ base. tt;
@@ -316,25 +333,25 @@ fits_none {Unfit} v h d = record {
   };
 }
 
-pub fits_load : {Unfit : Type 0} (v : Visible) (h d out : ℕ) (o : Operation) → d ≤ h → ((has_operands o ≡ true) ⊎ Unfit)
-    → (has_operands o ≡ true → Changes (Suits v) o d out) → FitsOr Unfit v 1 h d out (one d o)
+pub fits_load : {Unfit : Type 0} (S : Suiting) (h d out : ℕ) (o : Operation) → d ≤ h → ((has_operands o ≡ true) ⊎ Unfit)
+    → (has_operands o ≡ true → Changes S o d out) → FitsOr Unfit S 1 h d out (one d o)
 unfolding one
-fits_load {Unfit} v h d out o up fit c = record {
+fits_load {Unfit} S h d out o up fit c = record {
   sized = λ base. omega arith;
   low = λ base. (let narrow_is = narrow_low d in let low : max (narrow d) 0 ≤ h = omega (arith, up, narrow_is) in low);
   fit = λ base. (fit, tt);
-  leads = leads_one v d out o c;
+  leads = leads_one S d out o c;
 }
 
-pub fits_one : {Unfit : Type 0} (v : Visible) (h d out : ℕ) (o : Operation) → d ≤ h → Changes (Suits v) o d out → FitsOr Unfit v 1 h d out (one d o)
-fits_one {Unfit} v h d out o up c = fits_load v h d out o up (inl c.operands) (λ e. c)
+pub fits_one : {Unfit : Type 0} (S : Suiting) (h d out : ℕ) (o : Operation) → d ≤ h → Changes S o d out → FitsOr Unfit S 1 h d out (one d o)
+fits_one {Unfit} S h d out o up c = fits_load S h d out o up (inl c.operands) (λ e. c)
 
 at_most : (a b n : ℕ) → a ≤ n → b ≤ n → max a b ≤ n
 at_most a b n p q = omega (arith, p, q)
 
-pub fits_then : {Unfit : Type 0} (v : Visible) (m n h x y z : ℕ) (a b : Piece) → FitsOr Unfit v m h x y a → FitsOr Unfit v n h y z b → FitsOr Unfit v (m + n) h x z (a ▸ b)
+pub fits_then : {Unfit : Type 0} (S : Suiting) (m n h x y z : ℕ) (a b : Piece) → FitsOr Unfit S m h x y a → FitsOr Unfit S n h y z b → FitsOr Unfit S (m + n) h x z (a ▸ b)
 unfolding ◌▸◌
-fits_then {Unfit} v m n h x y z a b p q = record {
+fits_then {Unfit} S m n h x y z a b p q = record {
   sized = λ base.
       let long = length-append (a base) (b (base + length (a base))) in
       let first = p.sized base in
@@ -344,26 +361,26 @@ fits_then {Unfit} v m n h x y z a b p q = record {
       subst (λ k. k ≤ h) (sym (deepest_append (a base) (b (base + length (a base)))))
       (at_most (deepest_of (a base)) (deepest_of (b (base + length (a base)))) h (p.low base) (q.low (base + length (a base))));
   fit = λ base. fit_append Unfit (a base) (b (base + length (a base))) (p.fit base) (q.fit (base + length (a base)));
-  leads = leads_then v x y z a b p.leads q.leads;
+  leads = leads_then S x y z a b p.leads q.leads;
 }
 
 narrow_most : (d h : ℕ) → d ≤ h → narrow d ≤ h
 narrow_most d h up = let low = narrow_low d in omega (arith, up, low)
 
-pub fits_over : {Unfit : Type 0} (v : Visible) (n h d : ℕ) (jump : ℕ → Operation) (a : Piece) → IsTest jump → d + 1 ≤ h → FitsOr Unfit v n h d d a
-    → FitsOr Unfit v (suc n) h (d + 1) d (over 0 (d + 1) jump a)
+pub fits_over : {Unfit : Type 0} (S : Suiting) (n h d : ℕ) (jump : ℕ → Operation) (a : Piece) → IsTest jump → d + 1 ≤ h → FitsOr Unfit S n h d d a
+    → FitsOr Unfit S (suc n) h (d + 1) d (over 0 (d + 1) jump a)
 unfolding over
-fits_over {Unfit} v n h d jump a t up p = record {
+fits_over {Unfit} S n h d jump a t up p = record {
   sized = λ base. (let few = p.sized (suc base) in omega (arith, few));
   low = λ base. at_most (narrow (d + 1)) (deepest_of (a (suc base))) h (narrow_most (d + 1) h up) (p.low (suc base));
   fit = λ base. (inl (t.operands _), p.fit (suc base));
-  leads = leads_over v d jump a t p.leads;
+  leads = leads_over S d jump a t p.leads;
 }
 
-pub fits_fork : {Unfit : Type 0} (v : Visible) (m n h d e k : ℕ) (x r : Piece) → d + 1 ≤ h → k ≤ h → (narrow k ≤ FRAME_WORDS → k ≡ e) → FitsOr Unfit v m h d e x → FitsOr Unfit v n h d e r
-    → FitsOr Unfit v (m + n + 2) h (d + 1) e (over 1 (d + 1) op.JumpIfZero x ▸ over 0 k op.Jump r)
+pub fits_fork : {Unfit : Type 0} (S : Suiting) (m n h d e k : ℕ) (x r : Piece) → d + 1 ≤ h → k ≤ h → (narrow k ≤ FRAME_WORDS → k ≡ e) → FitsOr Unfit S m h d e x → FitsOr Unfit S n h d e r
+    → FitsOr Unfit S (m + n + 2) h (d + 1) e (over 1 (d + 1) op.JumpIfZero x ▸ over 0 k op.Jump r)
 unfolding over ◌▸◌
-fits_fork {Unfit} v m n h d e k x r up top same p q = record {
+fits_fork {Unfit} S m n h d e k x r up top same p q = record {
   sized = λ base.
       let stop = base + suc (length (x (suc base))) in
       let jump : Instr = record { depth = narrow k; operation = op.Jump (narrow (suc stop + length (r (suc stop)) + 0)) } in
@@ -382,5 +399,5 @@ fits_fork {Unfit} v m n h d e k x r up top same p q = record {
       let stop = base + suc (length (x (suc base))) in
       let jump : Instr = record { depth = narrow k; operation = op.Jump (narrow (suc stop + length (r (suc stop)) + 0)) } in
       (inl refl, fit_append Unfit (x (suc base)) (jump ∷ r (suc stop)) (p.fit (suc base)) (inl refl, q.fit (suc stop)));
-  leads = leads_fork v d e k x r same p.leads q.leads;
+  leads = leads_fork S d e k x r same p.leads q.leads;
 }

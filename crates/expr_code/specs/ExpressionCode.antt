@@ -53,9 +53,13 @@ operand_code d o None above instead = one (d + 1) op.Duplicate ▸ over 0 (d + 1
 
 -- ---- if expressions
 
+-- a condition, what follows where it holds, and what follows where it doesn't; the jump between these finds so many words
+abbrev pub fork_code : (depth after : ℕ) → (condition holds fails : Piece) → Piece
+fork_code d k condition holds fails = condition ▸ over 1 (d + 1) op.JumpIfZero holds ▸ over 0 k op.Jump fails
+
 -- a condition, its value, of so many words, and what stands behind it where the condition does not hold
 abbrev pub branch_code : (depth width : ℕ) → (condition value rest : Piece) → Piece
-branch_code d w condition value rest = condition ▸ over 1 (d + 1) op.JumpIfZero value ▸ over 0 (d + w) op.Jump rest
+branch_code d w condition value rest = fork_code d (d + w) condition value rest
 
 -- ---- checks
 

@@ -3,7 +3,7 @@ ghost use Rattle.std.specs.Prelude.{◌≡◌, option_map, OnOk};
 ghost use Rattle.ada_tree.specs.ExpressionTree.{expr_tree};
 ghost use Rattle.types.specs.Entities.{form_value};
 ghost use Rattle.expr_code.specs.Emitting.{has_numbers};
-ghost use Rattle.expr_code.specs.ExpressionCode.{check_code, expr_code, value_code};
+ghost use Rattle.expr_code.specs.ExpressionCode.{check_code, expr_code, range_check, value_code};
 ghost use Rattle.expr_code.specs.Pieces.{adds};
 ghost use Rattle.expr_soundness.specs.BoundsLaw.{is_inside};
 
@@ -21,8 +21,8 @@ fn is_inside(bounds: (i64, i64), subtype: Subtype) -> bool
     subtype.first <= bounds.0 && bounds.1 <= subtype.last
 }
 
-/// Whether the values of a type of this form are numbers.
-fn has_numbers(form: Option<&TypeForm>) -> bool
+//// Whether the values of a type of this form are numbers.
+pub fn has_numbers(form: Option<&TypeForm>) -> bool
     ensures { result ≡ has_numbers (option_map (λ f. form_value f.now) form.entry) }
 {
     matches!(
@@ -36,7 +36,7 @@ impl Fragment {
     /// expression don't say that it lies there.
     #[cycle(expression)]
     #[tactic(auto, using(crate::proofs::FormsMade::checked_behind))]
-    pub(crate) fn checked(
+    pub fn checked(
         &mut self,
         visible: &Visible,
         depth: usize,
@@ -57,7 +57,7 @@ impl Fragment {
 
     // Adds the check that the value on top of the operand stack, which has `depth` words, lies in a subtype of numbers (RM 3.5, 4.6). It is left out where
     // these bounds of the value lie inside the subtype.
-    #[tactic(auto, using(crate::proofs::Pieces::adds_then, crate::proofs::Pieces::adds_nothing))]
+    #[tactic(auto, using(crate::proofs::Pieces::adds_nothing))]
     fn check(
         &mut self,
         depth: usize,
@@ -69,6 +69,13 @@ impl Fragment {
         if is_inside(bounds, subtype) {
             return Ok(());
         }
+        self.check_range(depth, subtype)
+    }
+
+    /// Adds the check that the number on top of the operand stack, which has `depth` words, lies in a subtype.
+    pub fn check_range(&mut self, depth: usize, subtype: Subtype) -> Result<(), AllocError>
+        ensures made { OnOk result (self.new ≡ adds self.old (range_check depth subtype)) }
+    {
         let one = above(depth)?;
         self.put(depth, Operation::Push(subtype.first))?;
         self.put(one, Operation::Push(subtype.last))?;

@@ -78,7 +78,7 @@ impl Code {
         Ok(())
     }
 
-    /// The place behind all instructions.
+    /// The place after all instructions.
     pub fn end(&self) -> Result<u16, Refusal>
         ensures end { IfOk result (λ end. end ≡ here self.now) }
         ensures refused { IfErr result (λ why. IsRefused (here self.now) 0 why) }
@@ -86,7 +86,7 @@ impl Code {
         u16::try_from(self.instructions.len()).map_err(|_| Refusal::Limit(ImageLimit::Instructions))
     }
 
-    /// Puts another operation in the place of one that stands there.
+    /// Puts another operation in the place of one that is there.
     pub fn patch(&mut self, place: usize, operation: Operation)
         requires there { place < here self.old }
         ensures patches { Patches self.old place operation self.new }
@@ -95,7 +95,7 @@ impl Code {
         self.instructions[place] = Instr { depth, operation };
     }
 
-    /// Adds a jump where the condition above `depth` words does not hold, and tells its place; where it leads is not known yet.
+    /// Adds a jump where the condition above `depth` words does not hold, and returns its place; where it leads is not known yet.
     pub fn test(&mut self, depth: u16) -> Result<usize, Refusal>
         ensures refused { IfErr result (λ why. IsRefused (here self.old + 1) (depth + 1) why) }
         ensures kept { IfErr result (λ why. Extends self.old self.new) }
@@ -107,8 +107,8 @@ impl Code {
         Ok(place)
     }
 
-    /// Adds a jump behind a value, which finds `height` words on the operand stack with those of the value, and whose place waits for the end; and makes the
-    /// test lead behind it.
+    /// Adds a jump after a value, which finds `height` words on the operand stack with those of the value, and whose target waits for the end; and makes the
+    /// test lead after it.
     pub fn close(
         &mut self,
         height: u16,

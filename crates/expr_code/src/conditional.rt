@@ -13,7 +13,7 @@ use std::alloc::AllocError;
 
 impl Fragment {
     /// Adds a jump where the condition above `depth` words does not hold, and returns its place; where it leads is not known yet.
-    pub(crate) fn test(&mut self, depth: usize) -> Result<usize, AllocError>
+    pub fn test(&mut self, depth: usize) -> Result<usize, AllocError>
         ensures place { IfOk result (λ place. place ≡ length self.old.code) }
         ensures made { OnOk result (self.new ≡ adds self.old (one (depth + 1) (JumpIfZero 0))) }
     {
@@ -22,9 +22,9 @@ impl Fragment {
         Ok(place)
     }
 
-    /// Adds a jump after a value, which finds `height` words on the operand stack with those of the value, and whose place waits for the end; and makes the
+    /// Adds a jump after a value, which finds `height` words on the operand stack with those of the value, and whose target waits for the end; and makes the
     /// test lead to the place after it.
-    pub(crate) fn close(
+    pub fn close(
         &mut self,
         height: usize,
         test: usize,
@@ -64,7 +64,7 @@ impl Fragment {
     }
 
     /// Makes the jumps at these places lead to the end of the code.
-    pub(crate) fn rejoin(&mut self, places: &[usize])
+    pub fn rejoin(&mut self, places: &[usize])
         ensures made { self.new ≡ rejoined self.old places.now (narrow (end_of self.old)) }
     {
         let end = self.end();

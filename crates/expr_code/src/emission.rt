@@ -1,5 +1,5 @@
 //! What is emitted for statements: the code of an expression is put together by itself, and added where it keeps the limits of images (docs/FORMATS.md).
-ghost use Rattle.std.specs.Prelude.{◌≡◌, ◌+◌, true, IfErr, IfOk, OnOk};
+ghost use Rattle.std.specs.Prelude.{◌≡◌, ◌+◌, [], true, IfErr, IfOk, OnOk};
 ghost use Rattle.image.specs.Rules.{is_block};
 ghost use Rattle.ada_tree.specs.ExpressionTree.{expr_tree, selector_trees};
 ghost use Rattle.types.specs.Layouts.{words_of};
@@ -60,7 +60,7 @@ impl Code {
     }
 
     /// Adds the code of an expression whose value is to lie in a subtype of numbers or truth values, and of the check that it does, where that is one of
-    /// numbers and the bounds of the expression don't tell that it lies there.
+    /// numbers and the bounds of the expression don't show that it lies there.
     ///
     /// # Errors
     /// As those of `of_width`.
@@ -185,8 +185,18 @@ impl Code {
         Ok(last.subtype)
     }
 
-    // Adds these instructions, which keep the limits of images, or none.
-    fn append(&mut self, fragment: &Fragment) -> Result<(), Refusal>
+    /// Nothing yet, to be added after all instructions.
+    pub fn fragment(&self) -> Fragment
+        ensures { result ≡ record { before = here self.now; code = [] } }
+    {
+        Fragment::new(self.alloc, self.instructions.len())
+    }
+
+    /// Adds these instructions, which keep the limits of images, or none.
+    ///
+    /// # Errors
+    /// Where memory was refused, or a limit would be passed. The code is as before then.
+    pub fn append(&mut self, fragment: &Fragment) -> Result<(), Refusal>
         ensures appends { OnOk result (Appends self.old fragment.now.code self.new) }
         ensures refused { IfErr result (λ why. Misfits self.old fragment.now.code why) }
         ensures restored { IfErr result (λ why. IsAsBefore self.old self.new) }

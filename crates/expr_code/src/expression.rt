@@ -16,7 +16,7 @@ use std::alloc::AllocError;
 impl Fragment {
     /// Adds the code of an expression, and returns how many words its value takes, as its own type has it.
     #[cycle(expression)]
-    pub(crate) fn expression(
+    pub fn expression(
         &mut self,
         visible: &Visible,
         depth: usize,

@@ -10,7 +10,7 @@ use std::marker::Model;
 ///
 /// # Errors
 /// Where no machine has so much memory.
-pub(crate) fn above(depth: usize) -> Result<usize, AllocError>
+pub fn above(depth: usize) -> Result<usize, AllocError>
     ensures more { IfOk result (λ more. more ≡ depth + 1) }
 {
     raised(depth, 1)
@@ -20,7 +20,7 @@ pub(crate) fn above(depth: usize) -> Result<usize, AllocError>
 ///
 /// # Errors
 /// Where no machine has so much memory.
-pub(crate) fn raised(depth: usize, words: u16) -> Result<usize, AllocError>
+pub fn raised(depth: usize, words: u16) -> Result<usize, AllocError>
     ensures more { IfOk result (λ more. more ≡ depth + words) }
 {
     match depth.checked_add(usize::from(words)) {
@@ -43,10 +43,10 @@ fn narrow(number: usize) -> u16
 
 /// Instructions that are to be added after so many others.
 #[derive(Drop)]
-pub(crate) struct Fragment {
-    pub(crate) alloc: Global,
-    pub(crate) before: usize,
-    pub(crate) instructions: Vec<Instr>,
+pub struct Fragment {
+    pub alloc: Global,
+    pub before: usize,
+    pub instructions: Vec<Instr>,
 }
 
 impl Model for Fragment {
@@ -59,7 +59,7 @@ impl Model for Fragment {
 
 impl Fragment {
     /// None, after so many others.
-    pub(crate) fn new(alloc: Global, before: usize) -> Fragment
+    pub fn new(alloc: Global, before: usize) -> Fragment
         ensures { result ≡ record { before = before; code = [] } }
     {
         Fragment {
@@ -71,7 +71,7 @@ impl Fragment {
 
     /// Adds an instruction that finds `depth` words on the operand stack.
     #[tactic(auto, unfolding(crate::specs::Pieces::adds, crate::specs::Pieces::one))]
-    pub(crate) fn put(&mut self, depth: usize, operation: Operation) -> Result<(), AllocError>
+    pub fn put(&mut self, depth: usize, operation: Operation) -> Result<(), AllocError>
         ensures made { OnOk result (self.new ≡ adds self.old (one depth operation)) }
     {
         let depth = narrow(depth);
@@ -80,14 +80,14 @@ impl Fragment {
     }
 
     /// The place after all instructions, as a jump to it names it.
-    pub(crate) fn end(&self) -> u16
+    pub fn end(&self) -> u16
         ensures { result ≡ narrow (end_of self.now) }
     {
         narrow(self.before.saturating_add(self.instructions.len()))
     }
 
     /// Puts another operation in the place of one of these instructions.
-    pub(crate) fn patch(&mut self, place: usize, operation: Operation)
+    pub fn patch(&mut self, place: usize, operation: Operation)
         ensures made { self.new ≡ patched self.old place operation }
     {
         if place < self.instructions.len() {

@@ -7,7 +7,7 @@ mod code;
 mod conditional;
 mod emission;
 mod expression;
-mod fragment;
+pub mod fragment;
 mod name;
 mod operation;
 mod part;
@@ -15,7 +15,9 @@ mod predefined;
 mod refusal;
 mod visible;
 
+pub use checked::has_numbers;
 pub use code::{Code, above, raised};
 pub use name::{loaded_at, scalar_word};
+pub use part::PartAt;
 pub use refusal::{ImageLimit, Refusal};
 pub use visible::{Entries, OperationNumbers, Slot, Visible};

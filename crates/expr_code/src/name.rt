@@ -124,7 +124,7 @@ impl Fragment {
 
     /// Adds the code of an object as a whole, whose words have this place.
     #[tactic(auto, using(crate::proofs::Pieces::adds_then))]
-    pub(crate) fn object(&mut self, depth: usize, slot: Slot, words: u16) -> Result<(), AllocError>
+    pub fn object(&mut self, depth: usize, slot: Slot, words: u16) -> Result<(), AllocError>
         ensures made { OnOk result (self.new ≡ adds self.old (object_code depth slot words)) }
     {
         if words == 1 {

@@ -21,11 +21,11 @@ use types::{Subtype, TypeForm};
 /// How near to 0 a number is that is added to an address when compiling.
 pub const NEAR: u64 = 1_099_511_627_776;
 
-/// A part of an object: its subtype, and what is told of its address, to be added where the object's is pushed.
+/// A part of an object: its subtype, and what is known of its address, to be added where the object's is pushed.
 #[derive(Clone, Copy, PartialEq, Eq, Debug)]
-pub(crate) struct PartAt {
-    pub(crate) subtype: Subtype,
-    pub(crate) shift: i64,
+pub struct PartAt {
+    pub subtype: Subtype,
+    pub shift: i64,
 }
 
 // What is told with the offset of a component, if it stays near to 0.
@@ -95,7 +95,7 @@ impl Fragment {
     /// Adds the code of the address of an object that has this place and subtype, or of the part of it that these selectors lead to, and returns the part.
     /// What is known of the part's address is added to that of the object when compiling.
     #[cycle(expression)]
-    pub(crate) fn address(
+    pub fn address(
         &mut self,
         visible: &Visible,
         depth: usize,

@@ -1,4 +1,4 @@
-//! What is visible to code: names, where the words of objects stand, and which subprograms functions have.
+//! What is visible to code: names, where the words of objects are, and which subprograms functions have.
 ghost use Rattle.std.specs.Prelude.{◌≡◌, ◌∷◌, ◌++◌, [], length, option_map, take, IfErr, IfSome, OnOk};
 ghost use Rattle.types.specs.Entities.{profile_value, protected_value};
 ghost use Rattle.types.specs.Scopes.{form_at};
@@ -14,7 +14,7 @@ use std::alloc::Global;
 use std::marker::Model;
 use types::{Entity, PredefinedOperation, Profile, ProtectedObject, Scope, Subtype, TypeForm};
 
-/// Where the first word of an object stands: its region, and how many words stand in front of it there.
+/// Where the first word of an object is: its region, and how many words are before it there.
 #[derive(Clone, Copy, PartialEq, Eq, Debug)]
 pub struct Slot {
     pub region: Region,
@@ -124,7 +124,7 @@ impl OperationNumbers {
     }
 }
 
-/// The names that are visible in a part of a program. For each of them, by its number: where its words stand, if it is an object that has words, and the number
+/// The names that are visible in a part of a program. For each of them, by its number: where its words are, if it is an object that has words, and the number
 /// of its subprogram, if it is one that may be called. And for each protected object, by its number among them, the numbers of the subprograms of its
 /// operations in the order of their declarations (RM 9.4).
 #[derive(Drop)]
@@ -136,7 +136,7 @@ pub struct Visible {
 }
 
 impl Visible {
-    /// Where the object of this name stands, if it is one that has words.
+    /// Where the object of this name is, if it is one that has words.
     pub fn slot(&self, name: &Text) -> Option<Slot>
         ensures { result ≡ slot_of self.now name.now }
     {
@@ -184,7 +184,7 @@ impl Visible {
         self.scope.protected(number)
     }
 
-    /// The number of the subprogram of the operation that is named behind its protected object, if it is one that may be called.
+    /// The number of the subprogram of the operation that is named after its protected object, if it is one that may be called.
     pub fn external(&self, object: &Text, operation: &Text) -> Option<u16>
         ensures { result ≡ external_of self.now object.now operation.now }
     {
@@ -193,7 +193,7 @@ impl Visible {
         self.operations.at(protected.number, place)
     }
 
-    /// The profile of the operation that is named behind its protected object, if it is one.
+    /// The profile of the operation that is named after its protected object, if it is one.
     pub fn external_profile(&self, object: &Text, operation: &Text) -> Option<&Profile>
         ensures { option_map (λ p. profile_value p.now) result ≡ external_profile self.now.scope object.now operation.now }
     {

@@ -13,7 +13,7 @@ pub struct ComponentSlot {
     pub slot: Slot,
 }
 
-/// Where the component of this object with this name stands.
+/// Where the component of this object with this name is.
 pub(crate) fn component_slot(
     components: &[ComponentSlot],
     object: usize,

@@ -19,7 +19,7 @@ use lexer::Text;
 use std::alloc::Global;
 use types::{Operation, RecordComponent, Scope};
 
-/// What is told of the names of a package, by their numbers: where variables stand, and which subprogram is that of a body; and of the operations and
+/// What is known of the names of a package, by their numbers: where variables are, and which subprogram is that of a body; and of the operations and
 /// components of its protected objects.
 #[derive(Drop)]
 pub struct Directory {
@@ -138,7 +138,7 @@ fn number_bodies(
     }
 }
 
-/// What is visible in front of all of a package, of which nothing is told but the numbers of operations.
+/// What is visible before all of a package, of which nothing is known but the numbers of operations.
 pub(crate) fn unseen(
     alloc: Global,
     scope: Scope,
@@ -188,7 +188,7 @@ fn tell_next<T: Copy>(
 }
 
 impl Directory {
-    /// What is told of a package whose variables and components stand there, where all its names are visible.
+    /// What is known of a package with these variables and components, where all its names are visible.
     ///
     /// # Errors
     /// `Memory` where memory was refused, `Limit` where there are more bodies than numbers.
@@ -369,7 +369,7 @@ impl Directory {
         Ok(())
     }
 
-    /// The number of the subprogram that is the body with this name, which stands in `whole`, in which all of the package is visible.
+    /// The number of the subprogram that is the body with this name, which is in `whole`, in which all of the package is visible.
     pub(crate) fn number(&self, whole: &Scope, name: &Text) -> Option<u16>
         ensures { result ≡ told_of whole.now self.now.numbers.items name.now }
     {

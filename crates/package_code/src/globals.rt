@@ -1,4 +1,4 @@
-//! What the declarations of a package tell of it: where its variables stand, the words of their initial values, and the names of exceptions.
+//! What the declarations of a package give: where its variables are, the words of their initial values, and the names of exceptions.
 ghost use Rattle.std.specs.Prelude.{◌≡◌, ◌∷◌, ◌++◌, [], None, Some, map, replicate, true, IfErr, IfOk, OnOk};
 ghost use Rattle.ada_tree.specs.StatementTree.{object_tree, optional_tree};
 ghost use Rattle.ada_tree.specs.ProgramTree.{OfObject, body_item_tree, item_tree, package_tree};
@@ -21,12 +21,12 @@ use std::alloc::Global;
 use type_rules::subtype_of;
 use types::Scope;
 
-/// What declarations of a package tell.
+/// What declarations of a package give.
 #[derive(Drop)]
 pub struct Globals {
-    /// Where variables stand, by the numbers of their names.
+    /// Where variables are, by the numbers of their names.
     pub slots: Vec<Option<Slot>>,
-    /// The words of the initial values of variables, one behind another.
+    /// The words of the initial values of variables, one after another.
     pub words: Vec<i64>,
     /// The names of exceptions, the predefined ones first.
     pub exceptions: Vec<Text>,
@@ -214,7 +214,7 @@ impl Globals {
     }
 }
 
-/// What the declarations of a package tell, whose names stand in `scope`.
+/// What the declarations of a package give, whose names are in `scope`.
 pub fn globals_of(
     alloc: Global,
     scope: &Scope,

@@ -64,7 +64,7 @@ fn push_fixed(words: &mut Vec<i64>, value: Value) -> Result<(), Refusal>
     push_word(words, word)
 }
 
-/// Adds the words of the initial value of a variable of a package: of the one that is given, whose text tells it, or that of an object without.
+/// Adds the words of the initial value of a variable of a package: of the one that is given, which its text gives, or that of an object without.
 pub(crate) fn push_initial(
     words: &mut Vec<i64>,
     scope: &Scope,

@@ -1,4 +1,4 @@
-//! What becomes visible around the bodies of operations in the body of a protected object, and what is told of it (RM 9.4, 9.5.1).
+//! What becomes visible around the bodies of operations in the body of a protected object, and what is known of it (RM 9.4, 9.5.1).
 ghost use Rattle.std.specs.Prelude.{◌≡◌, false, IfErr, OnOk};
 ghost use Rattle.ada_tree.specs.ProgramTree.{protected_item_tree};
 ghost use Rattle.ada_tree.specs.StatementTree.{subprogram_tree};
@@ -45,7 +45,7 @@ fn see_own_name(
     directory.tell_inside(whole, object, visible, &subprogram.name.name)
 }
 
-/// What is visible in front of the parameters of an operation or entry of this object, which has these components, becomes so.
+/// What is visible before the parameters of an operation or entry of this object, which has these components, becomes so.
 pub(crate) fn see_operation(
     alloc: Global,
     directory: &Directory,
@@ -70,7 +70,7 @@ pub(crate) fn see_operation(
     }
 }
 
-/// What its body leaves visible behind it becomes so, where so many names were visible in front of it.
+/// What its body leaves visible after it becomes so, where so many names were visible before it.
 pub(crate) fn see_behind(
     alloc: Global,
     directory: &Directory,

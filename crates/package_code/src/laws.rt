@@ -13,7 +13,7 @@ pub fn bodies_are_numbered()
     scopes_are_sound();
 }
 
-/// Each task that is declared in an accepted program has one body, whose number is told of its name.
+/// Each task that is declared in an accepted program has one body, whose number is known by its name.
 pub fn tasks_have_bodies()
     ensures { TasksHaveBodies }
 {

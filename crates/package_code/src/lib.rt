@@ -1,4 +1,4 @@
-//! The code of a package: where its variables stand, what its bodies see of it, the code of each body, and the rows of its protected objects and tasks.
+//! The code of a package: where its variables are, what its bodies see of it, the code of each body, and the rows of its protected objects and tasks.
 #![tactic(auto)]
 
 mod attaching;

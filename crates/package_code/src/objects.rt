@@ -1,4 +1,4 @@
-//! What the declarations of a program's protected objects tell: ceilings and first words, in their order, and the places of components (RM 9.4, D.3).
+//! What the declarations of a program's protected objects give: ceilings and first words, in their order, and the places of components (RM 9.4, D.3).
 ghost use Rattle.std.specs.Prelude.{◌≡◌, ◌∷◌, ◌++◌, [], Some, length, map, true, IfErr, IfOk, OnOk};
 ghost use Rattle.ada_tree.specs.StatementTree.{optional_tree, protected_component_tree, protected_tree};
 ghost use Rattle.ada_tree.specs.ProgramTree.{OfProtected, body_item_tree, item_tree, package_tree};
@@ -19,7 +19,7 @@ use std::marker::Model;
 use type_rules::{named_entity, subtype_of};
 use types::{Entity, Scope};
 
-/// What the declaration of a protected object tells of its row in the table of an image; what its entry runs, its body tells.
+/// What the declaration of a protected object gives of its row in the table of an image; what its entry runs is known by its body.
 #[derive(Drop)]
 pub struct DeclaredObject {
     ceiling: u8,
@@ -57,12 +57,12 @@ impl DeclaredObject {
     }
 }
 
-/// What the declarations of protected objects tell.
+/// What the declarations of protected objects give.
 #[derive(Drop)]
 pub struct ProtectedObjects {
-    /// What each tells of its row, in their order.
+    /// What each gives of its row, in their order.
     pub declared: Vec<DeclaredObject>,
-    /// Where their components stand.
+    /// Where their components are.
     pub components: Vec<ComponentSlot>,
 }
 
@@ -232,8 +232,8 @@ impl ProtectedObjects {
     }
 }
 
-/// What the declarations of the protected objects of a package tell, whose names are visible: of each its ceiling and the words of its components, and these
-/// stand one behind another.
+/// What the declarations of the protected objects of a package give, whose names are visible: of each its ceiling and the words of its components, and these
+/// are one after another.
 ///
 /// # Errors
 /// `Memory` where memory was refused, `Limit` where components have more words than a program, which is so of no legal one.

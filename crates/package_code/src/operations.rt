@@ -108,7 +108,7 @@ fn number_operations_among(
     Ok(operations)
 }
 
-/// The numbers of the bodies of operations and entries: that of a body is how many others stand in front of it.
+/// The numbers of the bodies of operations and entries: that of a body is how many others are before it.
 ///
 /// # Errors
 /// Where memory was refused, or there are more bodies than numbers.

@@ -1,4 +1,4 @@
-//! The rows of a program's protected objects: what their declarations tell, what the entry of each runs, and what opens it (RM 9.5.2).
+//! The rows of a program's protected objects: what their declarations give, what the entry of each runs, and what opens it (RM 9.5.2).
 ghost use Rattle.std.specs.Prelude.{◌≡◌, ◌∷◌, [], Some, false, option_map, map, IfErr, IfOk};
 ghost use Rattle.ada_tree.specs.ExpressionTree.{bare_name, expr_tree};
 ghost use Rattle.ada_tree.specs.ProgramTree.{body_item_tree, program_tree, protected_item_tree};
@@ -214,7 +214,7 @@ fn object_row(
     Ok(Object::new(object.ceiling(), service.entry, service.barrier, words))
 }
 
-/// The rows of the protected objects of an accepted program, whose declarations tell these: each has its ceiling, its words, the number of the body of its
+/// The rows of the protected objects of an accepted program, whose declarations give these: each has its ceiling, its words, the number of the body of its
 /// entry, and what opens it.
 ///
 /// # Errors

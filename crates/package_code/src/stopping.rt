@@ -24,7 +24,7 @@ use unit_rules::inside_scope;
 /// Where a limit of images is passed.
 #[derive(Clone, Copy, PartialEq, Eq, Debug)]
 pub enum Stop {
-    /// The code of the body whose name stands at this place isn't made: with the instructions in front of it, so many, there may be more than an image has.
+    /// The code of the body whose name is at this place isn't made: with the instructions before it, so many, there may be more than an image has.
     Instructions { place: u32, before: usize },
     /// The code of this body isn't made: its frame and its operand stack may need more words together than a frame has.
     Frame { place: u32 },
@@ -85,7 +85,7 @@ fn last_end(subprograms: &[image::Subprogram]) -> usize
     }
 }
 
-/// Why the code of the body isn't made whose name stands at this place, behind so many instructions.
+/// Why the code of the body isn't made whose name is at this place, after so many instructions.
 ///
 /// # Errors
 /// Where memory was refused, or another limit is passed, which is none of the code of a body that has its own.

@@ -45,12 +45,12 @@ use type_rules::{declare_subprogram, subtype_of};
 use types::{RecordComponent, Scope, Subtype};
 use unit_rules::{inside_scope, item_name};
 
-/// How far the walk is: so many declarations and bodies of the package are behind it.
+/// How far the walk is: so many declarations and bodies of the package are done.
 #[derive(Drop)]
 pub struct Walk {
     pub alloc: Global,
     pub place: usize,
-    /// The code of the bodies behind it, one behind another.
+    /// The code of the bodies that are done, one after another.
     pub draft: Draft,
     /// What is visible where it is.
     pub visible: Visible,
@@ -612,7 +612,7 @@ impl Walk {
         Ok(())
     }
 
-    /// Goes on behind declarations.
+    /// Goes on after declarations.
     pub(crate) fn declarations(
         &mut self,
         accepted: &Accepted,
@@ -634,10 +634,10 @@ impl Walk {
         Ok(())
     }
 
-    /// Goes on behind a declaration or a body.
+    /// Goes on after a declaration or a body.
     ///
     /// # Errors
-    /// `Limit` where the code of a body may pass a limit of images: no subprogram is made of that one, and those in front of it have theirs; `Memory` where
+    /// `Limit` where the code of a body may pass a limit of images: no subprogram is made of that one, and those before it have theirs; `Memory` where
     /// memory was refused.
     pub(crate) fn step(
         &mut self,

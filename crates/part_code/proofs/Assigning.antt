@@ -1,6 +1,6 @@
 -- The code of assignments to whole objects stores what they assign: to objects of the running activation, to variables of the package, and to components of the
 -- body's own protected object.
-use Rattle.std.proofs.Common.{◌≡◌, ℕ, suc, ◌+◌, ◌-◌, ◌≤◌, ℤ, List, [], ◌∷◌, Option, Some, None, true, refl, sym, ap, ◌∙◌, subst, arith}
+use Rattle.std.proofs.Common.{◌≡◌, ℕ, suc, ◌-◌, ◌≤◌, ℤ, List, [], Option, Some, None, true, refl, sym, ap, ◌∙◌, subst, arith}
 use Rattle.std.specs.Prelude.{is_some}
 use Rattle.base.specs.declared.schedule.ScheduleLine.{ScheduleLine}
 use Rattle.kernel.specs.State.{Kernel}
@@ -12,18 +12,18 @@ use Rattle.types.specs.declared.entity.Role.{Role}
 use Rattle.types.specs.declared.entity.Subtype.{Subtype}
 use Rattle.types.specs.Entities as entity
 use Rattle.types.specs.Entities.{TypeForm}
-use Rattle.types.specs.Evaluating.{Calls, call, passed, value_with}
+use Rattle.types.specs.Evaluating.{call, passed, value_with}
 use Rattle.types.specs.Evaluations.{Val, Gives, and_then}
 use Rattle.types.specs.Laws.{ValuesHaveWords}
 use Rattle.types.specs.Layouts.{words_of}
 use Rattle.types.specs.Places.{Place, meaning_of}
 use Rattle.types.specs.Scopes.{form_at}
-use Rattle.types.specs.Shapes.{Shape, shape_of}
+use Rattle.types.specs.Shapes.{shape_of}
 use Rattle.expr_soundness.specs.Agreeing.{Agrees, MeansObject}
 use Rattle.expr_soundness.specs.Laws.{AgreementIsKept, CallsAreTyped}
 use Rattle.expr_soundness.specs.meaning.specs.Programs.{Program}
 use Rattle.expr_soundness.specs.meaning.specs.Targets.{activation_with, store_with}
-use Rattle.expr_soundness.specs.meaning.specs.Works.{Activation, Store, Target}
+use Rattle.expr_soundness.specs.meaning.specs.Works.{Activation, Store}
 use Rattle.expr_code.specs.Coming.{Comes, on}
 use Rattle.expr_code.specs.Computing.{ComputesChecked, Everywhere}
 use Rattle.expr_code.specs.Seeing.{Package, Sees, library_of, slot_of}

@@ -1,6 +1,6 @@
 -- The code of choices: a copy of the value's word is compared with the word of each, and the value is dropped where one of them chooses it.
 use Rattle.std.proofs.Common.{◌≡◌, ℕ, suc, ◌-◌, ◌≤◌, ℤ, List, [], ◌∷◌, length, Bool, true, false, refl, sym, ap, ◌∙◌, subst, arith}
-use Rattle.std.specs.Prelude.{int_le, pos, if◌then◌else◌, ◌&&◌, ◌||◌, ⊤}
+use Rattle.std.specs.Prelude.{if◌then◌else◌, int_le, pos, ◌&&◌, ◌||◌, ⊤}
 use Rattle.base.specs.declared.schedule.ScheduleLine.{ScheduleLine}
 use Rattle.kernel.specs.State.{Kernel}
 use Rattle.kernel.specs.Calm.{Calm}
@@ -17,7 +17,7 @@ use Rattle.image.specs.Scalars.{are_equal}
 use Rattle.image.specs.Steps.{behaviour}
 use Rattle.image.specs.declared.instruction.Operation.TheVariants as op
 use Rattle.ada_tree.specs.ExpressionTree.{ExprTree}
-use Rattle.ada_tree.specs.StatementTree.{AlternativeTrees, MoreAlternatives, OtherValues, StmtTrees, Values}
+use Rattle.ada_tree.specs.StatementTree.{OtherValues, Values}
 use Rattle.types.specs.declared.entity.Value.{Value as Scalar}
 use Rattle.types.specs.declared.entity.Value.TheVariants as scalar
 use Rattle.types.specs.Evaluating.{val}
@@ -29,9 +29,8 @@ use Rattle.expr_code.specs.Coming.{most_steps, on}
 use Rattle.expr_code.specs.Naming.{scalar_word}
 use Rattle.expr_code.specs.Seeing.{Package, Sees}
 use Rattle.expr_code.specs.Views.{At, View, in_frame, placed, view_of}
-use Rattle.part_code.specs.Handling.{Handling}
 use Rattle.part_code.specs.Resting.{Framed}
-use Rattle.part_code.specs.Statements.{AreAlternatives, AreStatements, IsChoice, Numbers, Ways}
+use Rattle.part_code.specs.Statements.{IsChoice, Numbers}
 use Rattle.part_code.proofs.Walking.{Walks, duplicates, drops, jumps, jumps_if, then_step, compares, puts, behind}
 
 -- ---- values and choices
@@ -197,40 +196,3 @@ module _ (quiet : QuietStays) (i : Sections) (program : Program) (g : Package) (
           (spends_more (behaviour i schedule) t frames_of (most_steps i) (next - from) (omega (arith, over))
           (then_step quiet i schedule k t m fs calm 0 (placed f from (word x ∷ [])) (placed f (suc from) []) (placed f (suc from) [])
           (drops quiet i schedule k t m f fs from drop (word x) []) Done))
-
-  -- ---- alternatives: choices, statements, and a jump to the end
-
-  pub alternative_of_values : IsScalar → (w : Ways) (handling : Handling) (at from to joint end : ℕ) (all : List ExprTree) (body : StmtTrees) (rest : AlternativeTrees)
-      → AreTested (suc to) from to all → At i to (op.Jump (suc joint)) → At i (suc to) op.Drop
-      → suc (suc to) ≤ joint → suc joint ≤ end
-      → AreStatements i program g numbers v w handling (suc (suc to)) joint body → At i joint (op.Jump end)
-      → AreAlternatives i program g numbers v w handling (suc joint) end e rest
-      → AreAlternatives i program g numbers v w handling from end e (MoreAlternatives at (Values all) body rest)
-  alternative_of_values scalar_value w handling at from to joint end all body rest tested jump drop up over statements ends others = (
-    suc (suc to),
-    joint,
-    (let k = tested_up (suc to) from to all tested in omega (arith, k)),
-    up,
-    over,
-    choice_of_values scalar_value from to (suc joint) all tested jump drop (omega (arith, up)),
-    statements,
-    ends,
-    others,
-  )
-
-  pub alternative_of_others : IsScalar → (w : Ways) (handling : Handling) (at place from joint end : ℕ) (body : StmtTrees) (rest : AlternativeTrees)
-      → At i from op.Drop → suc from ≤ joint → suc joint ≤ end
-      → AreStatements i program g numbers v w handling (suc from) joint body → At i joint (op.Jump end)
-      → AreAlternatives i program g numbers v w handling (suc joint) end e rest
-      → AreAlternatives i program g numbers v w handling from end e (MoreAlternatives at (OtherValues place) body rest)
-  alternative_of_others scalar_value w handling at place from joint end body rest drop up over statements ends others = (
-    suc from,
-    joint,
-    omega arith,
-    up,
-    over,
-    choice_of_others scalar_value place from (suc joint) drop (omega (arith, up)),
-    statements,
-    ends,
-    others,
-  )

@@ -1,5 +1,5 @@
 -- Instructions that copy back: above an address the words of a value are checked, where the target's subtype has a range, and stored there (RM 6.4.1).
-use Rattle.std.proofs.Common.{◌≡◌, ℕ, suc, ◌+◌, ◌-◌, ◌≤◌, ℤ, List, [], ◌∷◌, ◌++◌, Some, None, true, false, refl, sym, ap, ◌∙◌, subst, arith}
+use Rattle.std.proofs.Common.{◌≡◌, ℕ, suc, ◌+◌, ◌-◌, ◌≤◌, ℤ, List, [], ◌∷◌, Some, true, false, refl, sym, ap, ◌∙◌, subst, arith}
 use Rattle.std.specs.Prelude.{pos, ⊤}
 use Rattle.base.specs.declared.schedule.ScheduleLine.{ScheduleLine}
 use Rattle.kernel.specs.State.{Kernel}
@@ -8,7 +8,6 @@ use Rattle.kernel.specs.Counting.{Done}
 use Rattle.kernel.specs.Laws.{QuietStays}
 use Rattle.image.specs.Sections.{Sections}
 use Rattle.image.specs.Frames.{Words, Frame, own_object}
-use Rattle.image.specs.declared.instruction.Operation.TheVariants as op
 use Rattle.types.specs.declared.entity.Subtype.{Subtype}
 use Rattle.types.specs.Entities.{TypeForm, Integers, Booleans, Times, Spans, Arrays, Records}
 use Rattle.types.specs.Evaluating.{passed}
@@ -21,8 +20,7 @@ use Rattle.types.specs.Shapes.{has_shape, shape_of}
 use Rattle.types.specs.Values.{Value, Number, Truth, Array, Record}
 use Rattle.expr_soundness.specs.expr_rules.specs.Laws.{type_shape}
 use Rattle.expr_soundness.specs.expr_rules.specs.declared.own.Own.TheVariants.{Typed}
-use Rattle.expr_soundness.specs.expr_rules.specs.Typing.{is_booleans}
-use Rattle.expr_soundness.specs.expr_rules.proofs.TypeShapes.{boolean_value, has_numbers, numeric_value, shape_by_form}
+use Rattle.expr_soundness.specs.expr_rules.proofs.TypeShapes.{has_numbers, shape_by_form}
 use Rattle.expr_soundness.specs.expr_rules.proofs.TypedLaw.{as_number}
 use Rattle.expr_soundness.specs.Laws.{AgreementIsKept}
 use Rattle.expr_soundness.proofs.Parts.{subtype_values}
@@ -31,8 +29,8 @@ use Rattle.expr_soundness.specs.meaning.specs.Targets.{activation_with, store_wi
 use Rattle.expr_soundness.specs.meaning.specs.Works.{Activation, Store, Target}
 use Rattle.expr_code.specs.Coming.{Comes, on}
 use Rattle.expr_code.specs.Computing.{Checks, Library}
-use Rattle.expr_code.specs.Seeing.{Package, library_of}
-use Rattle.expr_code.specs.Views.{At, placed, view_of}
+use Rattle.expr_code.specs.Seeing.{Package}
+use Rattle.expr_code.specs.Views.{placed, view_of}
 use Rattle.expr_code.proofs.Coming.{more}
 use Rattle.expr_code.proofs.Passing.{checks}
 use Rattle.part_code.specs.Copying.{AreCopies, IsCopy, IsPlacedTarget, address_of}
@@ -40,7 +38,7 @@ use Rattle.part_code.specs.declared.call.Destination.{Destination}
 use Rattle.part_code.specs.Layout.{IsLaidOut}
 use Rattle.part_code.specs.Resting.{Framed, IsAt, Knows, Rests, StandsFor}
 use Rattle.part_code.specs.Storing.{Puts}
-use Rattle.part_code.proofs.StoringCode.{StoresIn, block_in, word_in}
+use Rattle.part_code.proofs.StoringCode.{StoresIn}
 use Rattle.part_code.proofs.StoringParts.{address_is, part_puts, place_of}
 
 -- ---- subtypes with a range, whose values are checked, and those without
@@ -62,18 +60,6 @@ IsUnranged s t = (form : TypeForm) × (form_at s t.type_number ≡ Some form) ×
 
 pub ranged_number : (s : Scope) (t : Subtype) → IsRanged s t → (x : Value) → has_shape (shape_of s t) x ≡ true → (z : ℤ) × (x ≡ Number z)
 ranged_number s t ranged x shaped = as_number s (Typed t.type_number) x ranged (sym (subtype_values s t x) ∙ shaped)
-
--- a number takes one word
-pub ranged_single : ValuesHaveWords → (s : Scope) (t : Subtype) → IsRanged s t → words_of s t ≡ 1
-ranged_single sized s t ranged =
-    let has = subtype_values s t (Number (pos 0)) ∙ numeric_value s (Typed t.type_number) ranged (Number (pos 0)) in
-    sym (sized (shape_of s t) (Number (pos 0)) has).sized
-
--- ... and so does a truth value
-pub truth_single : ValuesHaveWords → (s : Scope) (t : Subtype) → form_at s t.type_number ≡ Some Booleans → words_of s t ≡ 1
-truth_single sized s t form =
-    let has = subtype_values s t (Truth false) ∙ boolean_value s (Typed t.type_number) (ap is_booleans form) (Truth false) in
-    sym (sized (shape_of s t) (Truth false) has).sized
 
 -- every value of a subtype without range passes each check
 pub unranged_passes : (s : Scope) (shown t : Subtype) → IsUnranged s shown → (x : Value) → has_shape (shape_of s shown) x ≡ true → passed t x ≡ Gives x
@@ -140,31 +126,6 @@ module _ (kept : AgreementIsKept) (sized : ValuesHaveWords) (quiet : QuietStays)
           (part_puts kept sized i program g v laid d x place y suited mid base (on (pos at ∷ base)) schedule k t m f fs store a p is_at locals within stands
           rests own knows (stores at base))
 
-  -- a number: PUSH of the first and of the last value, CHK, STX
-  pub copies_number : (from : ℕ) → IsRanged v.names.scope d.subtype → Checks i (library_of g) from d.subtype → At i (from + 3) (op.StoreIndexed d.region)
-      → IsCopy i program g v d from (suc (from + 3))
-  copies_number from ranged code here =
-      copies_by from (from + 3) (omega arith) (value_checked quiet i v.names.scope d.subtype d.subtype (library_of g) from ranged code)
-      (λ offset base. subst (λ n. StoresIn i d.region (from + 3) offset n base (on (pos offset ∷ base)))
-      (sym (ranged_single sized v.names.scope d.subtype ranged)) (word_in quiet i d.region (from + 3) offset base here))
-
-  -- another single word: STX
-  pub copies_word : (from : ℕ) → IsUnranged v.names.scope d.subtype → words_of v.names.scope d.subtype ≡ 1 → At i from (op.StoreIndexed d.region)
-      → IsCopy i program g v d from (suc from)
-  copies_word from unranged single here =
-      copies_by from from (omega arith)
-      (value_unchecked quiet i v.names.scope d.subtype d.subtype from (unranged_passes v.names.scope d.subtype d.subtype unranged))
-      (λ offset base. subst (λ n. StoresIn i d.region from offset n base (on (pos offset ∷ base))) (sym single)
-      (word_in quiet i d.region from offset base here))
-
-  -- several words: STB
-  pub copies_block : (from : ℕ) → IsUnranged v.names.scope d.subtype → At i from (op.StoreBlock d.region (words_of v.names.scope d.subtype))
-      → IsCopy i program g v d from (suc from)
-  copies_block from unranged here =
-      copies_by from from (omega arith)
-      (value_unchecked quiet i v.names.scope d.subtype d.subtype from (unranged_passes v.names.scope d.subtype d.subtype unranged))
-      (λ offset base. block_in quiet i d.region from offset base (words_of v.names.scope d.subtype) here)
-
 -- ---- one behind the other
 
 module _ (i : Sections) (program : Program) (g : Package) (v : Framed) where
@@ -181,9 +142,3 @@ module _ (i : Sections) (program : Program) (g : Package) (v : Framed) where
   pub copies_more : (d : Destination) (ds : List Destination) (from mid to : ℕ) → IsCopy i program g v d from mid → AreCopies i program g v mid to ds
       → AreCopies i program g v from to (d ∷ ds)
   copies_more d ds from mid to h rest = (mid, one_up d from mid h, copies_up ds mid to rest, h, rest)
-
-  -- ... and one more at the end
-  pub copies_behind : (ds : List Destination) (d : Destination) (from mid to : ℕ) → AreCopies i program g v from mid ds → IsCopy i program g v d mid to
-      → AreCopies i program g v from to (ds ++ d ∷ [])
-  copies_behind [] d from mid to h one = copies_more d [] from to to (subst (λ n. IsCopy i program g v d n to) (sym h) one) refl
-  copies_behind (e ∷ ds) d from mid to h one = copies_more e (ds ++ d ∷ []) from h.0 to h.3 (copies_behind ds d h.0 mid to h.4 one)

@@ -6,10 +6,9 @@ use Rattle.ada_tree.specs.declared.expression.Identifier.{Identifier}
 use Rattle.ada_tree.specs.ExpressionTree.{Arguments, Attribute, Component, MoreSelectors, Named, NoSelectors, SelectorTree, SelectorTrees}
 use Rattle.types.specs.declared.entity.Role.{Role}
 use Rattle.types.specs.declared.entity.Subtype.{Subtype}
-use Rattle.types.specs.declared.standing.Callee.{Callee}
 use Rattle.types.specs.declared.standing.Standing.{Standing}
 use Rattle.types.specs.declared.standing.Standing.TheVariants as standing
-use Rattle.types.specs.Entities.{Arrays, Booleans, Doubtful, Integers, Profile, Protected, ProtectedObject, Put, Records, Spans, Task, Times, TypeForm}
+use Rattle.types.specs.Entities.{Arrays, Booleans, Integers, Profile, ProtectedObject, Records, Spans, Times, TypeForm}
 use Rattle.types.specs.Evaluating.{fixed_value}
 use Rattle.types.specs.Scopes.{Scope, form_at, protected_at}
 use Rattle.types.specs.Standings.{call_stands, called_operation, callee_profile, conversion_stands, is_single, operation_stands, result_stands, select, select_all, settle, standing_of}

@@ -1,5 +1,5 @@
 -- What legality tells of `case`: its expression comes to a number or a truth value, and its static choices to the same values wherever they are seen.
-use Rattle.std.proofs.Common.{◌≡◌, ℕ, ℤ, [], Bool, true, Option, Some, None, refl, sym, ap, ◌∙◌, subst, inl, inr}
+use Rattle.std.proofs.Common.{◌≡◌, ℕ, [], Bool, true, Option, Some, None, refl, sym, ap, ◌∙◌, subst, inl, inr}
 use Rattle.image.specs.Sections.{Sections}
 use Rattle.kernel.specs.Laws.{QuietStays}
 use Rattle.ada_tree.specs.ExpressionTree.{ExprTree}
@@ -13,7 +13,7 @@ use Rattle.types.specs.Places.{Place}
 use Rattle.types.specs.Scopes.{Scope, number_of}
 use Rattle.types.specs.Standings.{select_all, stands_first, stands_for}
 use Rattle.types.specs.Statics.{Keeps, StaticIsValue, static_form, static_value}
-use Rattle.types.specs.Values.{Number, Truth, Value}
+use Rattle.types.specs.Values.{Truth, Value}
 use Rattle.expr_soundness.specs.expr_rules.specs.declared.own.Wanted.{Wanted}
 use Rattle.expr_soundness.specs.expr_rules.specs.ExpressionRules.{faults_in}
 use Rattle.expr_soundness.specs.expr_rules.specs.Laws.{is_value_of, suits}
@@ -71,15 +71,6 @@ module _ (calls : CallsAreTyped) (statics : StaticIsValue) (quiet : QuietStays) 
     pub number_scalar : IsScalar quiet i program g numbers v e
     number_scalar p view sees x is =
         let z = as_number s (own_of s e) x (integral_numeric s (own_of s e) integral) (suited p view sees x is) in subst IsSingle (sym z.1) tt
-
-    pub number_static : (c : ExprTree) (z : ℤ) → static_form s c ≡ Static → static_value s c ≡ Gives (Number z)
-        → IsStatic quiet i program g numbers v e c (scalar.Number z)
-    number_static c z form value = record {
-      told = told c (Number z) form value;
-      alike = λ p view sees x is.
-          (let y = as_number s (own_of s e) x (integral_numeric s (own_of s e) integral) (suited p view sees x is) in
-          subst (λ q. AreAlike q (scalar.Number z)) (sym y.1) tt);
-    }
 
   -- Boolean
   module _ (boolean : is_boolean s (own_of s e) ≡ true) where

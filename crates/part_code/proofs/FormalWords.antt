@@ -32,14 +32,14 @@ use Rattle.expr_code.specs.declared.visible.Visible.{Visible}
 use Rattle.expr_code.proofs.Flowing.{flows_same, flows_then, kept_then}
 use Rattle.expr_code.proofs.Growing.{added_at, added_extends, added_here, added_there, extends_self, extends_trans, holds_before, holds_later}
 use Rattle.part_code.specs.Bounds.{words_if_any, words_named}
-use Rattle.part_code.specs.Formals.{AddsLoaded, AddsReturned, AreInitial, AreReturned, HasFormalRoom, HasRoomAt, HaveFormalRoom, Initialises, InitialThen, IsLoadingCode, PlacesFormals, ReturnedThen, Returns, ReturnsOne, StandInTurn, StandsAt, StoresFirstWord, StoresFirstWords, no_subprogram, passed_for, placed_words, returned_more, slot_for, words_returned}
+use Rattle.part_code.specs.Formals.{AddsLoaded, AddsReturned, AreInitial, AreReturned, HasFormalRoom, HasRoomAt, HaveFormalRoom, InitialThen, IsLoadingCode, PlacesFormals, ReturnedThen, Returns, ReturnsOne, StandInTurn, StandsAt, StoresFirstWord, StoresFirstWords, no_subprogram, passed_for, placed_words, returned_more, slot_for, words_returned}
 use Rattle.part_code.specs.declared.frame_words.FrameWords.{FrameWords}
 use Rattle.part_code.specs.declared.formals.PlacedFormal.{PlacedFormal}
 use Rattle.part_code.specs.declared.formals.PlacedFormals.{PlacedFormals}
 use Rattle.part_code.specs.Emitting.{AddsInitial, EmitsObject, HasEntries, Pushes}
 use Rattle.part_code.specs.Storing.{ArePushed}
 use Rattle.part_code.specs.MainCalls.{AddsCalls, AddsMainCall, AreCalls, CallBare}
-use Rattle.part_code.proofs.Lists.{mapped_next, take_all}
+use Rattle.part_code.proofs.Lists.{take_all}
 use Rattle.part_code.proofs.FormalFlows.{address_flows, call_flows, first_block_flows, first_word_flows, flows_under, return_kept, room_at}
 use Rattle.part_code.proofs.Initials.{are_pushed, pushed_extends, pushed_here}
 use Rattle.part_code.proofs.Lists.{append_again, append_none}
@@ -219,14 +219,6 @@ initial_turn sized shaped v old now next xs n x other less is so_far out past fe
     by_mode true e = initial_next v old now next xs n x other less is wide so_far e few (out e)
     by_mode false e = subst (InitialSoFar v.scope old xs (n + 1)) (sym (past e)) (initial_past v old now next xs n x other less is wide so_far e)
 
-pub initial_all : (s : Scope) (old now : Code) (xs : List PlacedFormal) (n : ℕ) → length xs ≤ n → InitialSoFar s old xs n now → Initialises s old xs now
-initial_all s old now xs n up so_far = record {
-  extends = so_far.extends;
-  sized = (let s = so_far.sized in omega (arith, s));
-  stands = λ i h. so_far.stands i (here now) h (subst (AreInitial i s (here now) (here now)) (sym (drop_all n xs up)) refl);
-  flows = so_far.flows;
-}
-
 -- ---- what is returned, from the last one to the first
 
 -- those behind the first n
@@ -384,11 +376,6 @@ returns_some s old new depth address height x there adds high runs = record {
 }
 
 -- ---- places that are shown, one behind the other
-
-pub shown_next : {X : Type 0} (f : PlacedFormal → X) (front now next : List X) (xs : List PlacedFormal) (n : ℕ) (x : PlacedFormal) → n < length xs → x ≡ get_or xs n x
-    → now ≡ front ++ map f (take n xs) → next ≡ now ++ f x ∷ [] → next ≡ front ++ map f (take (n + 1) xs)
-shown_next f front now next xs n x less is before more =
-    more ∙ ap (λ l. l ++ f x ∷ []) before ∙ append_again front (map f (take n xs)) (f x ∷ []) ∙ ap (λ l. front ++ l) (sym (mapped_next f xs n x less is))
 
 pub shown_all : {X : Type 0} (f : PlacedFormal → X) (front now : List X) (xs : List PlacedFormal) (n : ℕ) → length xs ≤ n → now ≡ front ++ map f (take n xs)
     → now ≡ front ++ map f xs

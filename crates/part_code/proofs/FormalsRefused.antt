@@ -61,9 +61,6 @@ pub record PlacesWords (s : Scope) (start : ℕ) (fs : List Formal) (n from out 
   pub passed : from + total (passed_for s) (drop n fs) ≡ total (passed_for s) fs
   pub others : out + total (out_for s) (drop n fs) ≡ start + total (out_for s) fs
 
-pub words_begin : (s : Scope) (start : ℕ) (fs : List Formal) → PlacesWords s start fs 0 0 start
-words_begin s start fs = record { passed = omega arith; others = refl }
-
 module _ (s : Scope) (start : ℕ) (fs : List Formal) (n from out : ℕ) (f : Formal) (t : Subtype) (less : n < length fs) (is : f ≡ get_or fs n f)
     (named : subtype_of s f.subtype ≡ Some t) (p : PlacesWords s start fs n from out) where
   pub words_go_on : (x : PlacedFormal) (next behind : ℕ) → StandsAt f.mode (words_of s t) from out x next behind → PlacesWords s start fs (n + 1) next behind

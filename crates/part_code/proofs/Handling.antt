@@ -1,11 +1,7 @@
 -- Where exceptions go on: at part of the places, and in images that handle nothing.
-use Rattle.std.proofs.Common.{ℕ, ◌≡◌, ◌≤◌, [], ap, arith}
-use Rattle.handlers.specs.Innermost.{handler_of}
+use Rattle.std.proofs.Common.{ℕ, ◌≤◌, arith}
 use Rattle.image.specs.Sections.{Sections}
-use Rattle.part_code.specs.Handling.{GoesBy, Handling, unhandled}
+use Rattle.part_code.specs.Handling.{GoesBy, Handling}
 
 pub goes_within : (i : Sections) (r : Handling) (a b c d : ℕ) → GoesBy i r a d → a ≤ b → c ≤ d → GoesBy i r b c
 goes_within i r a b c d h up over = λ place x low high. h place x (omega (arith, up, low)) (omega (arith, high, over))
-
-pub goes_nowhere : (i : Sections) → i.rows ≡ [] → (from to : ℕ) → GoesBy i unhandled from to
-goes_nowhere i rows from to = λ place x low high. ap (λ l. handler_of l place x) rows

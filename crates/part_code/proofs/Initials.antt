@@ -180,9 +180,6 @@ shape_there s p agrees t known =
 pub one_pushed : (a c : Code) (h k : ℕ) (told w : ℤ) → told ≡ w → k ≡ h + 1 → Adds a h (op.Push told) c → HasPushed a h (w ∷ []) c k
 one_pushed a c h k told w is more adds = record { pushes = (c, pushes_same a c h told w is adds, refl); more = more }
 
-pub nothing_pushed : (c : Code) (h : ℕ) → HasPushed c h [] c h
-nothing_pushed c h = record { pushes = refl; more = omega arith }
-
 pushed_then : (a b c : Code) (h k m : ℕ) (xs ys : List ℤ) → HasPushed a h xs b k → HasPushed b k ys c m → HasPushed a h (xs ++ ys) c m
 pushed_then a b c h k m xs ys p q = record {
   pushes = pushes_then a b c h k xs ys p.more p.pushes q.pushes;

@@ -30,16 +30,25 @@ pub mod PassingWell
 pub mod Initials
 pub mod Selecting
 mod InTurn
-mod ChecksAdded
-pub mod TargetsAdded
 pub mod Lacking
 mod FormalsRefused
 pub mod CallsRefused
 mod BodiesRefused
 mod Choosable
 mod Moves
+mod CodeExamples
+pub mod PieceNeeds
+pub mod MovesMade
+pub mod MoveWorks
+pub mod FittingWorks
+pub mod LegalTargets
+pub mod TargetWorks
+pub mod ActualsMade
+pub mod ActualsWork
+pub mod RangeWorks
+pub mod CopiesMade
+pub mod CopiesWork
 pub mod AssignmentsRefused
-mod TargetsRefused
 mod GivenStays
 pub mod MovesRefused
 pub mod CallsShallow

@@ -1,5 +1,5 @@
 -- Lists of places and of trees.
-use Rattle.std.proofs.Common.{◌≡◌, ℕ, zero, suc, ◌+◌, ◌-◌, ◌<◌, ◌≤◌, ◌++◌, List, [], ◌∷◌, length, map, take, true, false, Some, refl, sym, ap, ◌∙◌, arith, rules, Bool, ◌||◌, ◌⊎◌, inl, inr}
+use Rattle.std.proofs.Common.{◌≡◌, ℕ, zero, suc, ◌+◌, ◌<◌, ◌≤◌, ◌++◌, List, [], ◌∷◌, length, map, take, true, false, Some, refl, sym, ap, ◌∙◌, arith, rules, Bool, ◌||◌, ◌⊎◌, inl, inr}
 use Rattle.std.specs.Prelude.{get_or, nat_eq, slice_get}
 use Rattle.std.proofs.Math.Seq.{take-suc}
 use Rattle.types.specs.Places.{is_among}

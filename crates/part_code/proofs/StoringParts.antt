@@ -1,13 +1,10 @@
 -- A value is stored where a target is placed: the words stand for the store and the activation then, and what is below on the operand stack stays.
 use Rattle.std.proofs.Common.{◌≡◌, ℕ, suc, ◌+◌, ◌≤◌, ℤ, List, ◌∷◌, length, inl, inr, Some, None, true, refl, sym, ap, ◌∙◌, subst, arith}
-use Rattle.std.specs.Prelude.{pos, ⊤}
 use Rattle.base.specs.declared.schedule.ScheduleLine.{ScheduleLine}
 use Rattle.kernel.specs.State.{Kernel, put as with_entry}
-use Rattle.kernel.specs.Effects.{Quiet}
-use Rattle.kernel.specs.Laws.{QuietStays}
 use Rattle.image.specs.Sections.{Sections}
 use Rattle.image.specs.Frames.{Words, Frame, object_words, own_object, region_words, with_object_words}
-use Rattle.image.specs.Steps.{act, does}
+use Rattle.image.specs.Steps.{act}
 use Rattle.image.specs.declared.instruction.Region.{Region}
 use Rattle.image.specs.declared.instruction.Region.TheVariants as regions
 use Rattle.types.specs.declared.entity.Role.{Role}
@@ -27,10 +24,9 @@ use Rattle.expr_soundness.proofs.Goods.{object_known}
 use Rattle.expr_soundness.specs.meaning.specs.Programs.{Program}
 use Rattle.expr_soundness.specs.meaning.specs.Targets.{activation_with, store_with, stored_in, stored_to, with_part}
 use Rattle.expr_soundness.specs.meaning.specs.Works.{Activation, InActivation, InObject, InPackage, Store, Target}
-use Rattle.expr_code.specs.Coming.{on}
 use Rattle.expr_code.specs.Naming.{Lies}
 use Rattle.expr_code.specs.Seeing.{Package, Sees, slot_of}
-use Rattle.expr_code.specs.Views.{At, View, in_frame, placed, view_of}
+use Rattle.expr_code.specs.Views.{View, in_frame, placed, view_of}
 use Rattle.part_code.specs.Copying.{IsHomeOf, IsPlacedTarget, address_of, entity_shape, offset_or_none, shape_named}
 use Rattle.part_code.specs.declared.call.Destination.{Destination}
 use Rattle.part_code.specs.Layout.{AreApart, IsFree, IsLaidOut, NamesObject}

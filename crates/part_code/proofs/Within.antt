@@ -165,9 +165,3 @@ stack_within h b p = over h b.stack b.frame p
   where
     over : (p k l : ℕ) → p ≤ k → p ≤ max k l
     over p k l h = omega (arith, h)
-
-pub frame_within : (h : ℕ) (b : Needs) → h ≤ b.frame → h ≤ max b.stack b.frame
-frame_within h b p = over h b.stack b.frame p
-  where
-    over : (p k l : ℕ) → p ≤ l → p ≤ max k l
-    over p k l h = omega (arith, h)

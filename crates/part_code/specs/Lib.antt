@@ -24,6 +24,7 @@ pub mod Emitting
 pub mod Passing
 pub mod Moving
 pub mod Moves
+pub mod PartCode
 pub mod Formals
 pub mod Turns
 pub mod Labels

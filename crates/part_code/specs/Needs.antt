@@ -8,7 +8,7 @@ use Rattle.ada_tree.specs.declared.program.MainStatement.{MainStatement}
 use Rattle.ada_tree.specs.declared.program.MainStatement.TheVariants as main
 use Rattle.ada_tree.specs.ExpressionTree.{ArgumentTree, ArgumentTrees, Conditional, ElsifValueTrees, ExprTree, MoreArguments, MoreElsifValues, Named, NameTree, NoArguments, NoElsifValues, Parenthesized, SelectorTrees, Text, Value}
 use Rattle.ada_tree.specs.StatementTree.{ChoicesTree, DeclarationTree, LocalObject, OtherValues, Values}
-use Rattle.ada_tree.specs.Size.{elsif_values_size, expr_size, total}
+use Rattle.ada_tree.specs.Size.{expr_size, total}
 use Rattle.image.specs.declared.instruction.Region.TheVariants as regions
 use Rattle.types.specs.declared.entity.FormalParameter.{FormalParameter}
 use Rattle.types.specs.declared.entity.Subtype.{Subtype}
@@ -23,7 +23,6 @@ use Rattle.types.specs.Standings.{standing_of}
 use Rattle.type_rules.specs.SubtypeNames.{subtype_of}
 use Rattle.expr_soundness.specs.declaration_rules.specs.LocalRules.{local_scope}
 use Rattle.step_soundness.specs.Fitting.{entity_named}
-use Rattle.expr_code.specs.Branches.{Branch}
 use Rattle.expr_code.specs.Code.{here}
 use Rattle.expr_code.specs.Emitting.{is_composite}
 use Rattle.expr_code.specs.Refusing.{IsRefused, IsRefusedBeside, IsUnfit, checked_peak, is_fit, peak, selectors_peak}
@@ -39,7 +38,6 @@ use Rattle.part_code.specs.Formals.{passed_for, placed_words, returned_more}
 use Rattle.part_code.specs.Bounds.{local_words, words_named}
 use Rattle.part_code.specs.EntryNames.{is_own_entry}
 use Rattle.part_code.specs.Lines.{LabelledValue, line_of}
-use Rattle.part_code.specs.Moves.{alone}
 use Rattle.part_code.specs.Moving.{moves}
 use Rattle.part_code.specs.Passing.{actuals_behind, copied_width, ExternalName, operation_behind}
 use Rattle.part_code.specs.Suiting.{passed_width, HasPlaceIn}
@@ -343,12 +341,9 @@ HasManyLabels labels why = ⊥
 
 -- ---- code that is added by parts
 
--- what moves a value, or those of branches
+-- what moves a value
 abbrev pub RefusesMove : Visible → (old : Code) → ExprTree → Refusal → Type 0
 RefusesMove v old e why = IsNeeding (here old + 20 * expr_size e) (move_needs v e) why
-
-abbrev pub RefusesMoves : Visible → (old : Code) → List Branch → Refusal → Type 0
-RefusesMoves v old all why = IsNeeding (here old + 20 * elsif_values_size (alone all)) (moves_needs v (alone all)) why
 
 -- the instructions of an object's initial value, and so many more
 abbrev pub initial_bound : Scope → Subtype → Option ExprTree → ℕ

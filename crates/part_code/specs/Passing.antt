@@ -1,42 +1,29 @@
 -- What code promises that passes actual parameters to a procedure and copies back (RM 6.4.1).
-use Rattle.std.specs.Prelude.{◌≡◌, ℕ, suc, ◌+◌, ◌*◌, ◌≤◌, List, ◌++◌, true, cond, length, map, nat_eq, Option, Some, None}
+use Rattle.std.specs.Prelude.{◌≡◌, ℕ, suc, ◌+◌, ◌*◌, ◌≤◌, List, ◌++◌, length, map, Option, Some, None}
 use Rattle.ada_tree.specs.declared.expression.Identifier.{Identifier}
-use Rattle.ada_tree.specs.ExpressionTree.{ArgumentTree, ArgumentTrees, Arguments, ExprTree, MoreSelectors, Named, NoArguments, NoSelectors, SelectorTrees, Component}
+use Rattle.ada_tree.specs.ExpressionTree.{ArgumentTree, ArgumentTrees, Arguments, MoreSelectors, NoArguments, NoSelectors, SelectorTrees, Component}
 use Rattle.ada_tree.specs.Size.{argument_size, total}
 use Rattle.image.specs.Sections.{Sections}
-use Rattle.image.specs.Rules.{is_block}
-use Rattle.image.specs.declared.instruction.Operation.{Operation}
-use Rattle.image.specs.declared.instruction.Operation.TheVariants as op
-use Rattle.image.specs.declared.instruction.Region.{Region}
 use Rattle.types.specs.declared.entity.FormalParameter.{FormalParameter}
-use Rattle.types.specs.declared.entity.Role.{Role}
-use Rattle.types.specs.declared.entity.Subtype.{Subtype}
-use Rattle.types.specs.declared.standing.Standing.TheVariants as standing
-use Rattle.types.specs.Entities.{Arrays, Booleans, Integers, Records, Spans, Times, TypeForm}
 use Rattle.types.specs.Evaluating.{Calls}
 use Rattle.types.specs.Evaluations.{Gives}
 use Rattle.types.specs.Layouts.{words_of}
 use Rattle.types.specs.Places.{Place}
-use Rattle.types.specs.Scopes.{Scope, form_at, number_of}
+use Rattle.types.specs.Scopes.{Scope}
 use Rattle.types.specs.Shapes.{shape_of}
-use Rattle.types.specs.Standings.{stands_first}
 use Rattle.expr_soundness.specs.meaning.specs.Calls.{Actuals, results}
 use Rattle.expr_soundness.specs.meaning.specs.Programs.{Parameter, Program}
 use Rattle.step_soundness.specs.Fitting.{formal_of, taken_types}
 use Rattle.step_soundness.specs.Objects.{AreOf}
 use Rattle.expr_code.specs.Actuals.{arguments_in_front}
-use Rattle.expr_code.specs.Code.{Adds, Extends, Holds, here}
+use Rattle.expr_code.specs.Code.{Extends, Holds, here}
 use Rattle.expr_code.specs.Computing.{ArePassed, Everywhere}
 use Rattle.expr_code.specs.Flows.{Flows}
-use Rattle.expr_code.specs.Going.{EmitsAddress, EndsAt}
-use Rattle.expr_code.specs.Naming.{loaded_at}
-use Rattle.expr_code.specs.Seeing.{Package, Sees, Suits, library_of, slot_of}
+use Rattle.expr_code.specs.Seeing.{Package, Sees, Suits, library_of}
 use Rattle.expr_code.specs.Views.{View}
 use Rattle.expr_code.specs.declared.code.Code.{Code}
-use Rattle.expr_code.specs.declared.visible.Slot.{Slot}
 use Rattle.expr_code.specs.declared.visible.Visible.{Visible}
 use Rattle.part_code.specs.Copying.{AreCopies, ArePlaced, actuals_on, passed_actuals, taken}
-use Rattle.part_code.specs.Emitting.{stored_at}
 use Rattle.part_code.specs.Layout.{IsLaidOut}
 use Rattle.part_code.specs.Resting.{Framed, Knows}
 use Rattle.part_code.specs.Statements.{parameter_subtype}
@@ -107,54 +94,6 @@ pub record AddsActuals (v : Visible) (old : Code) (depth : ℕ) (fs : List Forma
   pub after_is : after ≡ before ++ destinations
   pub emits : EmitsPassedActuals v old depth fs all destinations height new
 
--- ---- targets
-
--- the address of a variable, or of a part of one, was added, to which it is copied back
-pub record EmitsTarget (v : Visible) (old : Code) (depth : ℕ) (e : ExprTree) (d : Destination) (new : Code) : Type 0 where
-  pub first : Identifier
-  pub selectors : SelectorTrees
-  pub is : e ≡ Named first selectors
-  pub slot : Slot
-  pub there : slot_of v first.name ≡ Some slot
-  pub region : slot.region ≡ d.region
-  pub role : Role
-  pub whole : Subtype
-  pub stands : stands_first v.scope (number_of v.scope first.name) ≡ standing.Part role whole
-  pub ends : EndsAt v.scope whole selectors d.subtype
-  pub emits : EmitsAddress v old depth slot.offset whole selectors d.subtype new
-
--- ---- checks
-
--- a check of the number on top of the operand stack, `depth` words high, against a subtype
-pub record AddsRange (old : Code) (depth : ℕ) (t : Subtype) (new : Code) : Type 0 where
-  pub one : Code
-  pub two : Code
-  pub first : Adds old depth (op.Push t.first) one
-  pub last : Adds one (depth + 1) (op.Push t.last) two
-  pub check : Adds two (depth + 2) op.CheckRange new
-
--- the check of a value of this type was added, where it has one
-abbrev pub AddsCheck : Option TypeForm → (old : Code) → (depth : ℕ) → Subtype → (new : Code) → Type 0
-AddsCheck (Some Integers) old depth t new = AddsRange old depth t new
-AddsCheck (Some Times) old depth t new = AddsRange old depth t new
-AddsCheck (Some Spans) old depth t new = AddsRange old depth t new
-AddsCheck (Some Booleans) old depth t new = new ≡ old
-AddsCheck (Some (Arrays index many element)) old depth t new = new ≡ old
-AddsCheck (Some (Records components)) old depth t new = new ≡ old
-AddsCheck form old depth t new = ⊥
-
--- the value of a target was added above its address, and checked against the subtype of a parameter
-pub record AddsValue (v : Visible) (old : Code) (depth : ℕ) (d : Destination) (t : Subtype) (height : ℕ) (new : Code) : Type 0 where
-  pub words : ℕ
-  pub words_are : words ≡ words_of v.scope d.subtype
-  pub block : is_block words ≡ true
-  pub doubled : Code
-  pub loaded : Code
-  pub doubles : Adds old (depth + 1) op.Duplicate doubled
-  pub loads : Adds doubled (depth + 2) (loaded_at d.region words) loaded
-  pub high : height ≡ depth + 1 + words
-  pub checks : AddsCheck (form_at v.scope t.type_number) loaded height t new
-
 -- ---- copies
 
 -- The code of copies was added, from the first one on, whose value and address it finds on top of the others' and of the rest of the operand stack.
@@ -164,13 +103,3 @@ pub record EmitsCopies (v : Visible) (old : Code) (ds : List Destination) (rest 
   pub stands : (i : Sections) → Holds i (here old) new → (program : Program) (g : Package) (f : Framed) → f.names ≡ v → IsLaidOut g f
       → AreCopies i program g f (here old) (here new) ds
   pub flows : Flows (SuitsStatements v) old (rest + total (copied_width v.scope) ds) new rest
-
--- the copy of one was added: its check, and the instruction that stores it above so many words
-pub record AddsCopy (v : Visible) (old : Code) (depth : ℕ) (d : Destination) (rest : ℕ) (new : Code) : Type 0 where
-  pub words : ℕ
-  pub words_are : words ≡ words_of v.scope d.subtype
-  pub block : is_block words ≡ true
-  pub high : depth ≡ rest + suc words
-  pub checked : Code
-  pub checks : AddsCheck (form_at v.scope d.subtype.type_number) old depth d.subtype checked
-  pub stores : Adds checked depth (stored_at d.region words) new

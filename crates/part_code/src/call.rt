@@ -1,33 +1,39 @@
 //! Actual parameters, what they name, and what is copied back (RM 6.4.1).
-ghost use Rattle.std.specs.Prelude.{◌≡◌, ◌∷◌, ◌++◌, ◌+◌, ◌*◌, ◌<◌, [], length, map, option_map, take, true, IfErr, IfOk, OnOk};
+ghost use Rattle.std.specs.Prelude.{◌≡◌, ◌++◌, ◌+◌, ◌-◌, ◌*◌, [], length, map, not, option_map, take, true, IfErr, IfOk, OnOk};
 ghost use Rattle.std.specs.List.{All};
-ghost use Rattle.ada_tree.specs.ExpressionTree.{argument_tree, argument_trees, expr_tree, Named, name_tree};
-ghost use Rattle.ada_tree.specs.Size.{argument_size, expr_size, total};
-ghost use Rattle.expr_code.specs.Actuals.{ArePassedLegally, IsPassedLegally};
+ghost use Rattle.ada_tree.specs.ExpressionTree.{argument_tree, argument_trees, expr_tree, name_tree};
+ghost use Rattle.ada_tree.specs.Size.{argument_size, total};
+ghost use Rattle.expr_code.specs.Actuals.{ArePassedLegally};
 ghost use Rattle.expr_code.specs.Code.{here, IsShallow};
-ghost use Rattle.expr_code.specs.Emitting as expressions;
+ghost use Rattle.expr_code.specs.ExpressionCode.{misfit_code};
+ghost use Rattle.expr_code.specs.Pieces.{adds};
 ghost use Rattle.expr_code.specs.Providing.{HasWhatExpressionsNeed};
 ghost use Rattle.expr_code.specs.Refusing.{IsRefused, IsRefusedBeside, IsUnfit};
 ghost use Rattle.image.specs.Rules.{is_block};
 ghost use Rattle.part_code.specs.EntryNames.{entry_behind, is_own_entry};
-ghost use Rattle.part_code.specs.Passing.{actuals_behind, AddsActuals, AddsCheck, AddsCopy, AddsRange, AddsValue, copied_width, EmitsCopies, EmitsTarget, operation_behind};
-ghost use Rattle.part_code.specs.Needs.{actual_needs, actuals_needs, check_words, copied_needs, copies_needs, copy_needs, destinations_for, destinations_of, IsNeeding, IsPartFit, is_taken, names_object, target_needs};
+ghost use Rattle.part_code.specs.Passing.{actuals_behind, AddsActuals, EmitsCopies, operation_behind};
+ghost use Rattle.part_code.specs.PartCode.{actual_code, actual_height, actual_target, actuals_code, actuals_height, actuals_targets, copied_in, copies_code, copy_code, fitting_code, given_words, moded_code, moded_height, moded_target, object_at, object_named, range_code, target_address, target_at, target_code, target_of, target_words, with_target};
+ghost use Rattle.part_code.specs.Needs.{actuals_needs, copies_needs, destinations_of, IsNeeding, IsPartFit};
 ghost use Rattle.step_soundness.specs.Fitting.{entity_named};
 ghost use Rattle.types.specs.Layouts.{words_of};
-ghost use Rattle.types.specs.Scopes.{form_at};
-ghost use Rattle.expr_soundness.specs.SoundScopes.{AreKnown, IsKnown, SoundScope};
+ghost use Rattle.expr_soundness.specs.SoundScopes.{AreKnown, SoundScope};
 
+use crate::moving::Source;
 use crate::storing::stored_at;
 use ada_tree::laws::{arguments_by_parts, chains_by_parts, conditional_by_parts, names_by_parts};
 use ada_tree::{Argument, Expr, Identifier, Mode, NameExpr, Selector};
-use base::limits::WORDS;
-use expr_code::{Code, ImageLimit, Refusal, Visible, loaded_at, raised};
-use expr_soundness::laws::agreement_is_kept;
+use base::limits::{FRAME_WORDS, WORDS};
+use expr_code::fragment::{Fragment, above, raised};
+use expr_code::{Code, ImageLimit, Refusal, Slot, Visible, has_numbers, loaded_at};
+use expr_soundness::laws::{
+    agreement_is_kept, all_values_lie, checks_are_spared, expressions_are_typed,
+};
 use image::{Operation, Region};
 use kernel::laws::quiet_stays;
 use lexer::Text;
-use types::laws::values_have_words;
-use types::{Entity, FormalParameter, Standing, Subtype, TypeForm};
+use std::alloc::AllocError;
+use types::laws::{parts_have_places, values_have_words};
+use types::{Entity, FormalParameter, Standing, Subtype};
 
 /// Where a parameter is copied back to at the end of a call (RM 6.4.1): the region of the variable, and the subtype of the target.
 #[derive(Clone, Copy, PartialEq, Eq, Debug)]
@@ -36,7 +42,7 @@ pub struct Destination {
     pub subtype: Subtype,
 }
 
-/// The actual parameters behind the name of what is called.
+/// The actual parameters after the name of what is called.
 pub fn actuals_of(name: &NameExpr) -> Option<&[Argument]>
     ensures { option_map (λ all. argument_trees all.now) result ≡ actuals_behind (name_tree name.now).selectors }
 {
@@ -50,7 +56,7 @@ pub fn actuals_of(name: &NameExpr) -> Option<&[Argument]>
     }
 }
 
-/// The operation that is named behind a protected object, and the actual parameters behind that.
+/// The operation that is named after a protected object, and the actual parameters after that.
 pub fn operation_of(name: &NameExpr) -> Option<(&Identifier, &[Argument])>
     ensures { option_map (λ x. record { operation = x.0.now; arguments = argument_trees x.1.now }) result ≡ operation_behind (name_tree name.now).selectors }
 {
@@ -88,7 +94,7 @@ pub fn entry_behind(visible: &Visible, object: &Text, operation: &Text) -> Optio
     }
 }
 
-/// Whether the name stands for an entry of the protected object in whose body it is read.
+/// Whether the name denotes an entry of the protected object in whose body it is read.
 pub fn is_own_entry(visible: &Visible, name: &Text) -> bool
     ensures { result ≡ is_own_entry (entity_named visible.now.scope name.now) }
 {
@@ -114,173 +120,229 @@ pub fn words_of(visible: &Visible, subtype: Subtype) -> Result<u16, Refusal>
     Ok(words)
 }
 
-// Adds the check of the number on top of the operand stack, `depth` words high, against a subtype.
-fn add_range(code: &mut Code, depth: u16, subtype: Subtype) -> Result<(), Refusal>
-    ensures adds { OnOk result (AddsRange code.old depth subtype code.new) }
-    ensures refused { IfErr result (λ why. IsRefused (here code.old + 3) (depth + 2) why) }
+// Adds the value of an expression, which is checked against a subtype; where this has no words, or more than one instruction moves, what no image may have.
+#[tactic(auto, using(expr_code::proofs::Pieces::adds_then))]
+fn fitting(
+    fragment: &mut Fragment,
+    visible: &Visible,
+    depth: usize,
+    subtype: Subtype,
+    e: &Expr,
+) -> Result<(), AllocError>
+    ensures made { OnOk result (fragment.new ≡ adds fragment.old (fitting_code visible.now depth subtype (expr_tree e.now))) }
 {
-    let one = raised(depth, 1)?;
-    code.emit(depth, Operation::Push(subtype.first))?;
-    code.emit(one, Operation::Push(subtype.last))?;
-    code.emit(raised(depth, 2)?, Operation::CheckRange)
+    misfit(fragment, depth, visible.scope.words(subtype))?;
+    fragment.checked(visible, depth, Some(subtype), e)
 }
 
-// Adds the check of a value on top of it, where that is a number.
-fn add_check(
-    code: &mut Code,
-    visible: &Visible,
-    depth: u16,
-    subtype: Subtype,
-) -> Result<(), Refusal>
-    requires taken { is_taken visible.now.scope subtype ≡ true }
-    ensures adds { OnOk result (AddsCheck (form_at visible.now.scope subtype.type_number) code.old depth subtype code.new) }
-    ensures refused { IfErr result (λ why. IsRefused (here code.old + 3) (depth + check_words (form_at visible.now.scope subtype.type_number)) why) }
+// Adds what no image may have, where so many words are none, or more than one instruction moves.
+#[tactic(auto, using(expr_code::proofs::Pieces::adds_nothing))]
+fn misfit(fragment: &mut Fragment, depth: usize, words: u16) -> Result<(), AllocError>
+    ensures made { OnOk result (fragment.new ≡ adds fragment.old (misfit_code (not (is_block words)) depth)) }
 {
-    match visible.scope.form(subtype.type_number) {
-        Some(TypeForm::Integer) => add_range(code, depth, subtype),
-        Some(TypeForm::Boolean) => Ok(()),
-        Some(TypeForm::Array(..)) => Ok(()),
-        Some(TypeForm::Record(_)) => Ok(()),
-        Some(TypeForm::Time) => add_range(code, depth, subtype),
-        Some(TypeForm::TimeSpan) => add_range(code, depth, subtype),
-        None => unreachable!(),
+    let region = Region::Locals;
+    if (Operation::LoadBlock { region, words }).has_operands() {
+        return Ok(());
+    }
+    fragment.put(depth, Operation::LoadBlock { region, words: 0 })
+}
+
+// The object with this standing and place.
+fn object_at(standing: Standing, slot: Option<Slot>) -> Option<Source>
+    ensures { result ≡ object_at standing slot }
+{
+    match (standing, slot) {
+        (Standing::Part(_, whole), Some(slot)) => Some(Source { slot, whole }),
+        _ => None,
     }
 }
 
-// Adds the address of the variable with this name, or of a part of it, and tells where it is copied back to.
-fn add_named(
-    code: &mut Code,
+// Adds the address of the object with this name, or of the part of one, and returns where it is copied back to.
+#[tactic(auto, using(expr_code::proofs::Pieces::adds_nothing))]
+fn target_named(
+    fragment: &mut Fragment,
     visible: &Visible,
-    depth: u16,
+    depth: usize,
     name: &NameExpr,
-    destinations: &mut Vec<Destination>,
-) -> Result<Destination, Refusal>
-    requires sound { SoundScope visible.now.scope }
-    requires covered { HasWhatExpressionsNeed visible.now }
-    requires legal { expressions.IsLegalExpression visible.now.scope (Named (name_tree name.now).first (name_tree name.now).selectors) }
-    requires object { names_object visible.now.scope (Named (name_tree name.now).first (name_tree name.now).selectors) ≡ true }
-    ensures emits { IfOk result (λ destination. EmitsTarget visible.now code.old depth
-        (Named (name_tree name.now).first (name_tree name.now).selectors) destination code.new) }
-    ensures told { IfOk result (λ destination. destinations.new.items ≡ destinations.old.items ++ destination ∷ []) }
-    ensures fits { IfOk result (λ destination. IsPartFit visible.now destination) }
-    ensures refused { IfErr result (λ why. IsNeeding (here code.old + 20 * expr_size
-        (Named (name_tree name.now).first (name_tree name.now).selectors)) (target_needs depth visible.now
-        (Named (name_tree name.now).first (name_tree name.now).selectors)) why) }
-    ensures shallow { OnOk result (IsShallow code.old code.new (target_needs depth visible.now
-        (Named (name_tree name.now).first (name_tree name.now).selectors)).stack) }
+) -> Result<Option<Destination>, AllocError>
+    ensures target { IfOk result (λ target. target ≡ target_at visible.now (object_named visible.now (name_tree name.now).first)
+        (name_tree name.now).selectors) }
+    ensures made { OnOk result (fragment.new ≡ adds fragment.old (target_address visible.now depth (object_named visible.now (name_tree name.now).first)
+        (name_tree name.now).selectors)) }
 {
-    let Standing::Part(_, whole) = visible.scope.stands_first(&name.first) else {
-        unreachable!();
-    };
-    let Some(slot) = visible.slot(&name.first.name) else {
-        unreachable!();
-    };
-    let subtype = code.address(visible, depth, slot, whole, &name.selectors)?;
-    let destination = Destination {
-        region: slot.region,
-        subtype,
-    };
-    destinations.push(destination)?;
-    Ok(destination)
+    let slot = visible.slot(&name.first.name);
+    match object_at(visible.scope.stands_first(&name.first), slot) {
+        Some(source) => {
+            let part = fragment.address(
+                visible,
+                depth,
+                source.slot,
+                source.whole,
+                &name.selectors,
+            )?;
+            Ok(Some(Destination {
+                region: source.slot.region,
+                subtype: part.subtype,
+            }))
+        }
+        None => Ok(None),
+    }
 }
 
-// Adds the address of the variable, or of the part of one, that an actual parameter names.
-fn add_target(
-    code: &mut Code,
+// Adds the address of the object, or of the part of one, that an actual parameter names, and returns where it is copied back to.
+#[tactic(auto, using(expr_code::proofs::Pieces::adds_nothing))]
+fn target(
+    fragment: &mut Fragment,
     visible: &Visible,
-    depth: u16,
+    depth: usize,
     e: &Expr,
-    destinations: &mut Vec<Destination>,
-) -> Result<Destination, Refusal>
-    requires sound { SoundScope visible.now.scope }
-    requires covered { HasWhatExpressionsNeed visible.now }
-    requires legal { expressions.IsLegalExpression visible.now.scope (expr_tree e.now) }
-    requires object { names_object visible.now.scope (expr_tree e.now) ≡ true }
-    ensures emits { IfOk result (λ destination. EmitsTarget visible.now code.old depth (expr_tree e.now) destination code.new) }
-    ensures told { IfOk result (λ destination. destinations.new.items ≡ destinations.old.items ++ destination ∷ []) }
-    ensures fits { IfOk result (λ destination. IsPartFit visible.now destination) }
-    ensures refused { IfErr result (λ why. IsNeeding (here code.old + 20 * expr_size (expr_tree e.now))
-        (target_needs depth visible.now (expr_tree e.now)) why) }
-    ensures shallow { OnOk result (IsShallow code.old code.new (target_needs depth visible.now (expr_tree e.now)).stack) }
+) -> Result<Option<Destination>, AllocError>
+    ensures target { IfOk result (λ target. target ≡ target_of visible.now (expr_tree e.now)) }
+    ensures made { OnOk result (fragment.new ≡ adds fragment.old (target_code visible.now depth (expr_tree e.now))) }
 {
     chains_by_parts();
     conditional_by_parts();
     names_by_parts();
     match e {
-        Expr::Name(name) => add_named(code, visible, depth, name, destinations),
-        Expr::Number(..) => unreachable!(),
-        Expr::Parenthesized(..) => unreachable!(),
-        Expr::Unary(..) => unreachable!(),
-        Expr::Chain(..) => unreachable!(),
-        Expr::Conditional(..) => unreachable!(),
+        Expr::Name(name) => target_named(fragment, visible, depth, name),
+        Expr::Number(..) => Ok(None),
+        Expr::Parenthesized(..) => Ok(None),
+        Expr::Unary(..) => Ok(None),
+        Expr::Chain(..) => Ok(None),
+        Expr::Conditional(..) => Ok(None),
     }
 }
 
-// Adds the value of a target above its address, checked against the subtype of a parameter, and tells how many words stand on the operand stack with it.
-fn add_value(
-    code: &mut Code,
+// Adds the value of a target above its address, checked against the subtype of a parameter, and returns how many words are on the operand stack with it.
+fn target_value(
+    fragment: &mut Fragment,
     visible: &Visible,
-    depth: u16,
-    destination: Destination,
+    depth: usize,
+    target: Option<Destination>,
     subtype: Subtype,
-) -> Result<u16, Refusal>
-    requires fits { IsPartFit visible.now destination }
-    requires taken { is_taken visible.now.scope subtype ≡ true }
-    ensures adds { IfOk result (λ height. AddsValue visible.now code.old depth destination subtype height code.new) }
-    ensures refused { IfErr result (λ why. IsNeeding (here code.old + 5) (copied_needs depth visible.now
-        (words_of visible.now.scope destination.subtype) subtype) why) }
+) -> Result<usize, AllocError>
+    ensures height { IfOk result (λ height. height ≡ depth + 1 + target_words visible.now.scope target) }
+    ensures made { OnOk result (fragment.new ≡ adds fragment.old (copied_in visible.now depth target subtype)) }
 {
-    let words = words_of(visible, destination.subtype)?;
-    let one = raised(depth, 1)?;
-    code.emit(one, Operation::Duplicate)?;
-    code.emit(raised(depth, 2)?, loaded_at(destination.region, words))?;
-    let height = raised(one, words)?;
-    add_check(code, visible, height, subtype)?;
-    Ok(height)
+    let one = above(depth)?;
+    match target {
+        Some(destination) => {
+            let words = visible.scope.words(destination.subtype);
+            let two = above(one)?;
+            let height = raised(one, words)?;
+            fragment.put(one, Operation::Duplicate)?;
+            fragment.put(two, loaded_at(destination.region, words))?;
+            check_value(fragment, visible, height, subtype)?;
+            Ok(height)
+        }
+        None => Ok(one),
+    }
 }
 
-// Adds the code of the actual parameter for a formal, and tells how many words stand on the operand stack with its own.
-fn add_actual(
-    code: &mut Code,
+// Appends a target, if there is one.
+fn note(destinations: &mut Vec<Destination>, target: Option<Destination>) -> Result<(), AllocError>
+    ensures targets { OnOk result (destinations.new.items ≡ destinations.old.items ++ with_target target []) }
+{
+    match target {
+        Some(destination) => {
+            destinations.push(destination)?;
+            Ok(())
+        }
+        None => Ok(()),
+    }
+}
+
+// Adds the code of the expression that is passed for a formal, and returns how many words are on the operand stack with its own.
+#[tactic(auto, using(expr_code::proofs::Pieces::adds_then))]
+fn passed(
+    fragment: &mut Fragment,
     visible: &Visible,
-    depth: u16,
+    depth: usize,
+    formal: &FormalParameter,
+    e: &Expr,
+    destinations: &mut Vec<Destination>,
+) -> Result<usize, AllocError>
+    ensures height { IfOk result (λ height. height ≡ moded_height visible.now depth formal.now (expr_tree e.now)) }
+    ensures made { OnOk result (fragment.new ≡ adds fragment.old (moded_code visible.now depth formal.now (expr_tree e.now))) }
+    ensures targets { OnOk result (destinations.new.items ≡ destinations.old.items
+        ++ with_target (moded_target visible.now formal.now (expr_tree e.now)) []) }
+{
+    match formal.mode {
+        Mode::In => {
+            let height = raised(depth, visible.scope.words(formal.subtype))?;
+            fitting(fragment, visible, depth, formal.subtype, e)?;
+            Ok(height)
+        }
+        Mode::Out => {
+            let height = above(depth)?;
+            let target = target(fragment, visible, depth, e)?;
+            note(destinations, target)?;
+            Ok(height)
+        }
+        Mode::InOut => {
+            let target = target(fragment, visible, depth, e)?;
+            note(destinations, target)?;
+            let height = target_value(fragment, visible, depth, target, formal.subtype)?;
+            Ok(height)
+        }
+    }
+}
+
+// Adds the code of the actual parameter for a formal, and returns how many words are on the operand stack with its own.
+#[tactic(auto, using(expr_code::proofs::Pieces::adds_nothing))]
+fn actual(
+    fragment: &mut Fragment,
+    visible: &Visible,
+    depth: usize,
     formal: &FormalParameter,
     argument: &Argument,
     destinations: &mut Vec<Destination>,
-) -> Result<u16, Refusal>
-    requires sound { SoundScope visible.now.scope }
-    requires covered { HasWhatExpressionsNeed visible.now }
-    requires known { IsKnown visible.now.scope formal.now.subtype }
-    requires legal { IsPassedLegally visible.now.scope formal.now (argument_tree argument.now) }
-    ensures emits { IfOk result (λ height. AddsActuals visible.now code.old depth (formal.now ∷ []) (argument_tree argument.now ∷ [])
-        destinations.old.items destinations.new.items height code.new) }
-    ensures told { OnOk result (destinations.new.items ≡ destinations.old.items ++ destinations_for visible.now formal.now (argument_tree argument.now)) }
-    ensures fits { OnOk result (All (IsPartFit visible.now) (destinations_for visible.now formal.now (argument_tree argument.now))) }
-    ensures refused { IfErr result (λ why. IsNeeding (here code.old + 20 * argument_size (argument_tree argument.now))
-        (actual_needs depth visible.now formal.now (argument_tree argument.now)) why) }
-    ensures shallow { OnOk result (IsShallow code.old code.new (actual_needs depth visible.now formal.now (argument_tree argument.now)).stack) }
+) -> Result<usize, AllocError>
+    ensures height { IfOk result (λ height. height ≡ actual_height visible.now depth formal.now (argument_tree argument.now)) }
+    ensures made { OnOk result (fragment.new ≡ adds fragment.old (actual_code visible.now depth formal.now (argument_tree argument.now))) }
+    ensures targets { OnOk result (destinations.new.items ≡ destinations.old.items
+        ++ with_target (actual_target visible.now formal.now (argument_tree argument.now)) []) }
 {
-    arguments_by_parts();
-    quiet_stays();
-    values_have_words();
-    match (formal.mode, argument) {
-        (Mode::In, Argument::Expr(e)) => {
-            let words = code.of_subtype(visible, depth, formal.subtype, e)?;
-            raised(depth, words)
-        }
-        (Mode::Out, Argument::Expr(e)) => {
-            add_target(code, visible, depth, e, destinations)?;
-            raised(depth, 1)
-        }
-        (Mode::InOut, Argument::Expr(e)) => {
-            let destination = add_target(code, visible, depth, e, destinations)?;
-            add_value(code, visible, depth, destination, formal.subtype)
-        }
-        (_, Argument::Label(..)) => unreachable!(),
+    match argument {
+        Argument::Expr(e) => passed(fragment, visible, depth, formal, e, destinations),
+        Argument::Label(..) => Ok(depth),
     }
 }
 
-/// Adds the code of the actual parameters from left to right, and tells how many words stand on the operand stack with theirs.
+// Adds the code of the actual parameters from left to right, and returns how many words are on the operand stack with theirs.
+fn actuals(
+    fragment: &mut Fragment,
+    visible: &Visible,
+    formals: &[FormalParameter],
+    arguments: &[Argument],
+    destinations: &mut Vec<Destination>,
+) -> Result<usize, AllocError>
+    ensures height { IfOk result (λ height. height ≡ actuals_height visible.now 0 formals.now (argument_trees arguments.now)) }
+    ensures made { OnOk result (fragment.new ≡ adds fragment.old (actuals_code visible.now 0 formals.now (argument_trees arguments.now))) }
+    ensures targets { OnOk result (destinations.new.items ≡ destinations.old.items ++ actuals_targets visible.now formals.now (argument_trees arguments.now)) }
+{
+    let mut height = 0;
+    for (index, argument) in arguments.iter().enumerate() {
+        let Some(formal) = formals.get(index) else {
+            return Ok(height);
+        };
+        height = actual(fragment, visible, height, formal, argument, destinations)?;
+    }
+    Ok(height)
+}
+
+// The number of words, if a frame may have them.
+fn word_count(words: usize) -> Result<u16, Refusal>
+    ensures same { IfOk result (λ count. count ≡ words) }
+    ensures refused { IfErr result (λ why. IsRefused 0 words why) }
+{
+    if FRAME_WORDS < words {
+        return Err(Refusal::Limit(ImageLimit::Frame));
+    }
+    Ok(words as u16)
+}
+
+/// Adds the code of the actual parameters from left to right, and returns how many words are on the operand stack with theirs.
 pub fn add_actuals(
     code: &mut Code,
     visible: &Visible,
@@ -303,50 +365,84 @@ pub fn add_actuals(
         (actuals_needs 0 visible.now formals.now (argument_trees arguments.now)) why) }
     ensures shallow { OnOk result (IsShallow code.old code.new (actuals_needs 0 visible.now formals.now (argument_trees arguments.now)).stack) }
 {
-    let mut height = 0;
-    for (index, argument) in arguments.iter().enumerate() {
-        let Some(formal) = formals.get(index) else {
-            unreachable!();
-        };
-        height = add_actual(code, visible, height, formal, argument, destinations)?;
-    }
-    Ok(height)
+    quiet_stays();
+    expressions_are_typed();
+    checks_are_spared();
+    all_values_lie();
+    values_have_words();
+    parts_have_places();
+    let mut fragment = code.fragment();
+    let height = actuals(&mut fragment, visible, formals, arguments, destinations)?;
+    code.append(&fragment)?;
+    word_count(height)
 }
 
 // How many words come back with what is copied back.
-fn copied_words(visible: &Visible, destinations: &[Destination]) -> Result<u16, Refusal>
-    requires fits { All (IsPartFit visible.now) destinations.now }
-    ensures words { IfOk result (λ words. words ≡ total (copied_width visible.now.scope) destinations.now) }
-    ensures refused { IfErr result (λ why. IsNeeding 0 (copies_needs visible.now destinations.now) why) }
+fn given_words(visible: &Visible, destinations: &[Destination]) -> Result<usize, AllocError>
+    ensures words { IfOk result (λ words. words ≡ total (given_words visible.now.scope) destinations.now) }
 {
-    let mut words = 0;
+    let mut all = 0;
     for destination in destinations {
-        let own = words_of(visible, destination.subtype)?;
-        words = raised(raised(words, own)?, 1)?;
+        let words = visible.scope.words(destination.subtype);
+        let value = raised(all, words)?;
+        all = above(value)?;
     }
-    Ok(words)
+    Ok(all)
 }
 
-// Adds what checks a value and stores it at the address below it, and tells how many words are left on the operand stack.
-fn add_copy(
-    code: &mut Code,
+// Adds the check of a value on top of the operand stack, where that is a number.
+#[tactic(auto, using(expr_code::proofs::Pieces::adds_nothing))]
+fn check_value(
+    fragment: &mut Fragment,
     visible: &Visible,
-    depth: u16,
-    destination: Destination,
-) -> Result<u16, Refusal>
-    requires fits { IsPartFit visible.now destination }
-    requires room { words_of visible.now.scope destination.subtype < depth }
-    ensures adds { IfOk result (λ rest. AddsCopy visible.now code.old depth destination rest code.new) }
-    ensures refused { IfErr result (λ why. IsNeeding (here code.old + 4) (copy_needs visible.now depth destination) why) }
+    depth: usize,
+    subtype: Subtype,
+) -> Result<(), AllocError>
+    ensures made { OnOk result (fragment.new ≡ adds fragment.old (range_code visible.now.scope depth subtype)) }
 {
-    let words = words_of(visible, destination.subtype)?;
-    let store = stored_at(destination.region, words);
-    let Some(rest) = depth.checked_sub(raised(words, 1)?) else {
-        unreachable!();
-    };
-    add_check(code, visible, depth, destination.subtype)?;
-    code.emit(depth, store)?;
-    Ok(rest)
+    if has_numbers(visible.scope.form(subtype.type_number)) {
+        return fragment.check_range(depth, subtype);
+    }
+    Ok(())
+}
+
+// Adds what checks a value and stores it at the address below it, both on top of `height` words.
+#[tactic(auto, using(expr_code::proofs::Pieces::adds_then))]
+fn copy(
+    fragment: &mut Fragment,
+    visible: &Visible,
+    height: usize,
+    destination: Destination,
+) -> Result<(), AllocError>
+    ensures made { OnOk result (fragment.new ≡ adds fragment.old (copy_code visible.now.scope height destination)) }
+{
+    check_value(fragment, visible, height, destination.subtype)?;
+    let words = visible.scope.words(destination.subtype);
+    fragment.put(height, stored_at(destination.region, words))
+}
+
+// How many words are below the address of a target and so many words above it, which end a stack of `height` words.
+fn below(height: usize, words: u16) -> usize
+    ensures { result ≡ height - words - 1 }
+{
+    height.saturating_sub(usize::from(words)).saturating_sub(1)
+}
+
+// Adds the code of all that is copied back.
+fn copies(
+    fragment: &mut Fragment,
+    visible: &Visible,
+    destinations: &[Destination],
+) -> Result<(), AllocError>
+    ensures made { OnOk result (fragment.new ≡ adds fragment.old (copies_code visible.now.scope destinations.now)) }
+{
+    let mut height = given_words(visible, destinations)?;
+    for destination in destinations {
+        let rest = below(height, visible.scope.words(destination.subtype));
+        copy(fragment, visible, height, *destination)?;
+        height = rest;
+    }
+    Ok(())
 }
 
 /// Adds the code of all that is copied back, from the first parameter on (RM 6.4.1).
@@ -363,9 +459,7 @@ pub fn add_copies(
     agreement_is_kept();
     quiet_stays();
     values_have_words();
-    let mut height = copied_words(visible, destinations)?;
-    for destination in destinations {
-        height = add_copy(code, visible, height, *destination)?;
-    }
-    Ok(())
+    let mut fragment = code.fragment();
+    copies(&mut fragment, visible, destinations)?;
+    code.append(&fragment)
 }

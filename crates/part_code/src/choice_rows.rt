@@ -40,7 +40,7 @@ pub fn add_choice_rows(
     Ok(())
 }
 
-/// Adds rows behind others.
+/// Adds rows after others.
 pub fn add_rows(rows: &mut Vec<Row>, more: &[Row]) -> Result<(), Refusal>
     ensures rows { OnOk result (rows.new.items ≡ rows.old.items ++ more.now) }
     ensures refused { IfErr result (λ why. IsRefused 0 0 why) }

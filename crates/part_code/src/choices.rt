@@ -67,7 +67,7 @@ fn add_values(code: &mut Code, scope: &Scope, choices: &[Expr]) -> Result<Vec<us
     Ok(next)
 }
 
-/// Adds the code of the choices of an alternative, which drops the value where one of them chooses it; and tells the places of the jumps to the next
+/// Adds the code of the choices of an alternative, which drops the value where one of them chooses it; and returns the places of the jumps to the next
 /// alternative, which wait for it.
 pub fn add_choices(
     code: &mut Code,

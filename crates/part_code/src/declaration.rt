@@ -96,7 +96,7 @@ fn push_initial(
     }
 }
 
-/// Adds the code of an initial value of several words, above their address, and tells how many they are.
+/// Adds the code of an initial value of several words, above their address, and returns how many they are.
 fn add_initial_words(
     code: &mut Code,
     visible: &Visible,

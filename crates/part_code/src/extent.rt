@@ -1,4 +1,4 @@
-//! How far what is visible reached, and the words of a frame, in front of a part of a body.
+//! How many names were visible, and how many words of the frame were taken, before a part of a body.
 ghost use Rattle.std.specs.Prelude.{◌≡◌, length, take};
 
 use crate::frame_words::FrameWords;

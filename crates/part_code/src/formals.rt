@@ -1,4 +1,4 @@
-//! Where the words of formal parameters stand.
+//! Where the words of formal parameters are.
 ghost use Rattle.std.specs.Prelude.{◌≡◌, ◌≤◌, ◌+◌, ◌++◌, false, map, max, IfErr, IfOk, OnOk};
 ghost use Rattle.std.specs.List.{All};
 ghost use Rattle.base.specs.declared.limits.TheConstants.{FRAME_WORDS};
@@ -15,7 +15,7 @@ use std::alloc::Global;
 use type_rules::subtype_of;
 use types::{Scope, Subtype};
 
-/// Where the words of a formal parameter stand.
+/// Where the words of a formal parameter are.
 #[derive(Clone, Copy)]
 pub struct PlacedFormal {
     pub mode: Mode,
@@ -104,7 +104,7 @@ fn place(
     Ok((placed, next))
 }
 
-/// Places all formal parameters, those that are not copied in behind the words that are taken.
+/// Places all formal parameters, those that are not copied in after the words that are taken.
 pub fn place_all(
     words: &mut FrameWords,
     scope: &Scope,

@@ -6,7 +6,7 @@ ghost use Rattle.part_code.specs.Emitting.{TakesWords};
 use base::limits::FRAME_WORDS;
 use expr_code::{ImageLimit, Refusal};
 
-/// The place behind so many words of a frame, which has at most 512 (docs/FORMATS.md).
+/// The place after so many words of a frame, which has at most 512 (docs/FORMATS.md).
 pub fn behind(first: u16, words: u16) -> Result<u16, Refusal>
     ensures end { IfOk result (λ end. end ≡ first + words) }
     ensures within { IfOk result (λ end. end ≤ FRAME_WORDS) }
@@ -34,7 +34,7 @@ impl FrameWords {
         FrameWords { taken: 0, most: 0 }
     }
 
-    /// Takes so many words behind those that are taken, and tells the first of them. A frame has at most 512 (docs/FORMATS.md).
+    /// Takes so many words after those that are taken, and returns the first of them. A frame has at most 512 (docs/FORMATS.md).
     pub fn take(&mut self, words: u16) -> Result<u16, Refusal>
         ensures first { IfOk result (λ first. first ≡ self.old.taken) }
         ensures takes { OnOk result (TakesWords self.old words self.new) }
@@ -48,7 +48,7 @@ impl FrameWords {
         Ok(first)
     }
 
-    /// Gives back those behind the first ones, where `taken` is how many these are.
+    /// Gives back the words after the first `taken` ones.
     pub fn release(&mut self, taken: u16)
         ensures { self.new ≡ record self.old { taken = taken } }
     {

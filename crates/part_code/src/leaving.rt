@@ -1,9 +1,9 @@
-//! Where statements leave what stands around them.
+//! Where statements leave what is around them.
 ghost use Rattle.std.specs.Prelude.{◌≡◌};
 ghost use Rattle.part_code.specs.Emitting.{ways_of};
 ghost use Rattle.part_code.specs.Statements.{with_exit, within_handler};
 
-/// The ways out of a statement, as places of code: behind the innermost loop (RM 5.7), and to the end of the body (RM 6.5); and the word of the frame that
+/// The ways out of a statement, as places of code: after the innermost loop (RM 5.7), and to the end of the body (RM 6.5); and the word of the frame that
 /// holds the exception of the innermost handler (RM 11.3). Each is None where there is none.
 #[derive(Clone, Copy, PartialEq, Eq, Debug)]
 pub struct Leaving {

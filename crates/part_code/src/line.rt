@@ -21,7 +21,7 @@ fn line_in(arguments: &[Argument]) -> Option<(&Text, &Expr)>
     }
 }
 
-/// The label and the value, where a name has both behind it.
+/// The label and the value, where a name has both after it.
 pub fn line_of(name: &NameExpr) -> Option<(&Text, &Expr)>
     ensures { option_map (λ line. record { label = line.0.now; value = expr_tree line.1.now }) result ≡ line_of (name_tree name.now) }
 {

@@ -14,7 +14,7 @@ pub struct Head {
     pub turn: u16,
 }
 
-/// Adds a jump over a way out, and the way out, whose place isn't known yet; and tells where it stands.
+/// Adds a jump over a way out, and the way out, whose target isn't known yet; and returns its place.
 pub fn begin_way(code: &mut Code) -> Result<u16, Refusal>
     ensures exit { IfOk result (λ exit. exit ≡ here code.old + 1) }
     ensures begins { OnOk result (SkipsWay code.old code.new) }
@@ -51,7 +51,7 @@ pub fn begin_loop(code: &mut Code, leaves: bool) -> Result<Head, Refusal>
     })
 }
 
-/// Adds the jump back to the next turn, and makes the way out, if there is one, lead behind it, whose place is told.
+/// Adds the jump back to the next turn, and makes the way out, if there is one, lead after it: `exit` of the head is its place.
 pub fn end_loop(code: &mut Code, head: Head) -> Result<u16, Refusal>
     requires there { (out : ℕ) → head.exit ≡ Some out → out < here code.old }
     ensures end { IfOk result (λ end. end ≡ here code.new) }

@@ -24,7 +24,7 @@ fn add_call(code: &mut Code, visible: &Visible, procedure: &Identifier) -> Resul
     Ok(())
 }
 
-/// Adds the calls of main, one behind another (RM 10.2).
+/// Adds the calls of main, one after another (RM 10.2).
 pub fn add_calls(
     code: &mut Code,
     visible: &Visible,

@@ -1,30 +1,33 @@
 //! What moves arrays and records from variables or parts of them (RM 5.2).
-ghost use Rattle.std.specs.Prelude.{◌≡◌, ◌∷◌, [], map, true, ℕ, IfErr, OnOk, Some};
-ghost use Rattle.ada_tree.specs.ExpressionTree.{elsif_value_trees, expr_tree, Named, name_tree};
+ghost use Rattle.std.specs.Prelude.{◌≡◌, true, IfErr, OnOk};
+ghost use Rattle.ada_tree.specs.ExpressionTree.{elsif_value_trees, expr_tree, name_tree};
 ghost use Rattle.image.specs.Rules.{is_block};
-ghost use Rattle.types.specs.declared.entity.Role.{Role};
-ghost use Rattle.types.specs.declared.standing.Standing.TheVariants as standing;
 ghost use Rattle.types.specs.Scopes.{form_at};
 ghost use Rattle.types.specs.Standings.{standing_of};
-ghost use Rattle.expr_code.specs.Branches.{AreLegalBranches, branch_of};
 ghost use Rattle.expr_code.specs.Code.{IsShallow};
 ghost use Rattle.expr_code.specs.Emitting.{is_composite};
 ghost use Rattle.expr_code.specs.Emitting as expressions;
+ghost use Rattle.expr_code.specs.Pieces.{Opens, adds};
 ghost use Rattle.expr_code.specs.Providing.{HasWhatExpressionsNeed};
-ghost use Rattle.expr_code.specs.Widths.{AreWide, width_of};
-ghost use Rattle.part_code.specs.Moves.{AddsMoves, alone, EmitsMove};
+ghost use Rattle.part_code.specs.Moves.{EmitsMove};
 ghost use Rattle.part_code.specs.Moving.{are_moved, is_moved, names_composite, source_at, variable_at};
 ghost use Rattle.part_code.specs.Suiting.{HasPlaceIn};
-ghost use Rattle.part_code.specs.Needs.{move_needs, moves_needs, RefusesMove, RefusesMoves};
+ghost use Rattle.part_code.specs.Needs.{move_needs, RefusesMove};
+ghost use Rattle.part_code.specs.PartCode.{move_code, moved_from, moves_code};
 ghost use Rattle.expr_soundness.specs.SoundScopes.{SoundScope};
 
 use ada_tree::laws::{chains_by_parts, conditional_by_parts, names_by_parts};
 use ada_tree::{ElsifValue, Expr, NameExpr};
+use expr_code::fragment::Fragment;
 use expr_code::{Code, Refusal, Slot, Visible};
+use expr_soundness::laws::{all_values_lie, checks_are_spared, expressions_are_typed};
 use image::{Operation, Region};
+use kernel::laws::quiet_stays;
+use std::alloc::AllocError;
+use types::laws::{parts_have_places, values_have_words};
 use types::{Role, Standing, Subtype, TypeForm};
 
-/// The variable from which an array or a record is moved, or a part of which is: where its words stand, and its subtype.
+/// The variable from which an array or a record is moved, or a part of which is: where its words are, and its subtype.
 #[derive(Clone, Copy)]
 pub struct Source {
     pub slot: Slot,
@@ -116,33 +119,7 @@ fn are_moved(visible: &Visible, elsifs: &[ElsifValue]) -> bool
     true
 }
 
-// Adds the address of what is named, above that on the operand stack, and what moves its words from there.
-fn add_named(code: &mut Code, visible: &Visible, to: Moved, name: &NameExpr) -> Result<(), Refusal>
-    requires sound { SoundScope visible.now.scope }
-    requires covered { HasWhatExpressionsNeed visible.now }
-    requires legal { expressions.IsLegalExpression visible.now.scope (Named (name_tree name.now).first (name_tree name.now).selectors) }
-    requires moved { is_moved visible.now (Named (name_tree name.now).first (name_tree name.now).selectors) ≡ true }
-    requires block { is_block to.words ≡ true }
-    requires holds { HasPlaceIn visible.now to.region }
-    ensures emits { OnOk result (EmitsMove visible.now to code.old (Named (name_tree name.now).first (name_tree name.now).selectors) code.new) }
-    ensures refused { IfErr result (λ why. RefusesMove visible.now code.old (Named (name_tree name.now).first (name_tree name.now).selectors) why) }
-    ensures shallow { OnOk result (IsShallow code.old code.new (move_needs visible.now
-        (Named (name_tree name.now).first (name_tree name.now).selectors)).stack) }
-{
-    let Some(source) = source_of(visible, name) else {
-        unreachable!();
-    };
-    code.address(visible, 1, source.slot, source.whole, &name.selectors)?;
-    let copy = Operation::Copy {
-        target: to.region,
-        source: source.slot.region,
-        words: to.words,
-    };
-    code.emit(2, copy)
-}
-
 /// Adds what moves the words of an array or a record to the address on the operand stack, which is taken off.
-#[cycle(add_move)]
 pub fn add_move(code: &mut Code, visible: &Visible, to: Moved, e: &Expr) -> Result<(), Refusal>
     requires sound { SoundScope visible.now.scope }
     requires covered { HasWhatExpressionsNeed visible.now }
@@ -154,78 +131,92 @@ pub fn add_move(code: &mut Code, visible: &Visible, to: Moved, e: &Expr) -> Resu
     ensures refused { IfErr result (λ why. RefusesMove visible.now code.old (expr_tree e.now) why) }
     ensures shallow { OnOk result (IsShallow code.old code.new (move_needs visible.now (expr_tree e.now)).stack) }
 {
+    quiet_stays();
+    expressions_are_typed();
+    checks_are_spared();
+    all_values_lie();
+    values_have_words();
+    parts_have_places();
+    let mut fragment = code.fragment();
+    move_value(&mut fragment, visible, to, e)?;
+    code.append(&fragment)
+}
+
+// Adds what moves the value of an expression.
+#[cycle(move_value)]
+fn move_value(
+    fragment: &mut Fragment,
+    visible: &Visible,
+    to: Moved,
+    e: &Expr,
+) -> Result<(), AllocError>
+    ensures made { OnOk result (fragment.new ≡ adds fragment.old (move_code visible.now to (expr_tree e.now))) }
+{
     chains_by_parts();
     conditional_by_parts();
     names_by_parts();
     match e {
-        Expr::Number(..) => unreachable!(),
-        Expr::Name(name) => add_named(code, visible, to, name),
-        Expr::Parenthesized(_, inner) => add_move(code, visible, to, inner),
-        Expr::Unary(..) => unreachable!(),
-        Expr::Chain(..) => unreachable!(),
+        Expr::Number(..) => Ok(()),
+        Expr::Name(name) => move_named(fragment, visible, to, name),
+        Expr::Parenthesized(_, inner) => move_value(fragment, visible, to, inner),
+        Expr::Unary(..) => Ok(()),
+        Expr::Chain(..) => Ok(()),
         Expr::Conditional(_, condition, value, elsifs, last) => {
-            let mut waiting = Vec::new(code.alloc);
-            add_branch(code, visible, to, value, condition, &mut waiting)?;
-            add_branches(code, visible, to, elsifs, &mut waiting)?;
-            add_move(code, visible, to, last)?;
-            code.rejoin(&waiting)
+            let mut waiting = Vec::new(fragment.alloc);
+            fragment.expression(visible, 1, condition)?;
+            let test = fragment.test(1)?;
+            move_value(fragment, visible, to, value)?;
+            fragment.close(0, test, &mut waiting)?;
+            move_elsifs(fragment, visible, to, elsifs, &mut waiting)?;
+            move_value(fragment, visible, to, last)?;
+            fragment.rejoin(&waiting);
+            Ok(())
         }
     }
 }
 
-// Adds a condition, a jump behind the value for it where it does not hold, what moves that value, and a jump whose place waits for the end (RM 4.5.7).
-#[cycle(add_move)]
-fn add_branch(
-    code: &mut Code,
-    visible: &Visible,
-    to: Moved,
-    value: &Expr,
-    condition: &Expr,
-    waiting: &mut Vec<usize>,
-) -> Result<(), Refusal>
-    requires sound { SoundScope visible.now.scope }
-    requires covered { HasWhatExpressionsNeed visible.now }
-    requires condition { expressions.IsLegalExpression visible.now.scope (expr_tree condition.now) }
-    requires wide { width_of visible.now.scope (expr_tree condition.now) ≡ 1 }
-    requires legal { expressions.IsLegalExpression visible.now.scope (expr_tree value.now) }
-    requires moved { is_moved visible.now (expr_tree value.now) ≡ true }
-    requires block { is_block to.words ≡ true }
-    requires holds { HasPlaceIn visible.now to.region }
-    ensures adds { OnOk result (AddsMoves visible.now to code.old (record { condition = expr_tree condition.now; value = expr_tree value.now } ∷ [])
-        waiting.old.items waiting.new.items code.new) }
-    ensures refused { IfErr result (λ why. RefusesMoves visible.now code.old (record
-        { condition = expr_tree condition.now; value = expr_tree value.now } ∷ []) why) }
-    ensures shallow { OnOk result (IsShallow code.old code.new (moves_needs visible.now
-        (alone (record { condition = expr_tree condition.now; value = expr_tree value.now } ∷ []))).stack) }
-{
-    code.of_width(visible, 1, 1, condition)?;
-    let test = code.test(1)?;
-    add_move(code, visible, to, value)?;
-    code.close(0, test, waiting)
-}
-
-// Adds those of the parts behind the first one.
-#[cycle(add_move)]
-fn add_branches(
-    code: &mut Code,
+// Adds what moves the values in the parts of an if expression after the first one, with jumps after them that wait for the end (RM 4.5.7).
+#[cycle(move_value)]
+fn move_elsifs(
+    fragment: &mut Fragment,
     visible: &Visible,
     to: Moved,
     elsifs: &[ElsifValue],
     waiting: &mut Vec<usize>,
-) -> Result<(), Refusal>
-    requires sound { SoundScope visible.now.scope }
-    requires covered { HasWhatExpressionsNeed visible.now }
-    requires legal { AreLegalBranches visible.now.scope (map branch_of elsifs.now) }
-    requires wide { (n : ℕ) × AreWide visible.now.scope n (map branch_of elsifs.now) }
-    requires moved { are_moved visible.now (alone (map branch_of elsifs.now)) ≡ true }
-    requires block { is_block to.words ≡ true }
-    requires holds { HasPlaceIn visible.now to.region }
-    ensures adds { OnOk result (AddsMoves visible.now to code.old (map branch_of elsifs.now) waiting.old.items waiting.new.items code.new) }
-    ensures refused { IfErr result (λ why. RefusesMoves visible.now code.old (map branch_of elsifs.now) why) }
-    ensures shallow { OnOk result (IsShallow code.old code.new (moves_needs visible.now (alone (map branch_of elsifs.now))).stack) }
+) -> Result<(), AllocError>
+    ensures opens { OnOk result (Opens fragment.old waiting.old.items (moves_code visible.now to (elsif_value_trees elsifs.now))
+        fragment.new waiting.new.items) }
 {
     for elsif in elsifs {
-        add_branch(code, visible, to, &elsif.value, &elsif.condition, waiting)?;
+        fragment.expression(visible, 1, &elsif.condition)?;
+        let test = fragment.test(1)?;
+        move_value(fragment, visible, to, &elsif.value)?;
+        fragment.close(0, test, waiting)?;
     }
     Ok(())
+}
+
+// Adds the address of the variable that is named, or of the part of one, and what moves its words from there.
+#[tactic(auto, using(expr_code::proofs::Pieces::adds_then, expr_code::proofs::Pieces::adds_nothing))]
+fn move_named(
+    fragment: &mut Fragment,
+    visible: &Visible,
+    to: Moved,
+    name: &NameExpr,
+) -> Result<(), AllocError>
+    ensures made { OnOk result (fragment.new ≡ adds fragment.old (moved_from visible.now to (source_at visible.now (name_tree name.now))
+        (name_tree name.now).selectors)) }
+{
+    match source_of(visible, name) {
+        Some(source) => {
+            fragment.address(visible, 1, source.slot, source.whole, &name.selectors)?;
+            let copy = Operation::Copy {
+                target: to.region,
+                source: source.slot.region,
+                words: to.words,
+            };
+            fragment.put(2, copy)
+        }
+        None => Ok(()),
+    }
 }

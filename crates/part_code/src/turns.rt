@@ -49,8 +49,8 @@ impl Turns {
         }
     }
 
-    /// Adds what stores the bounds, the last one on top, and a jump where the range is null, whose place is told and waits for the end; but no jump where the
-    /// range is full, whatever its bounds are worth.
+    /// Adds what stores the bounds, the last one on top, and a jump where the range is null, whose place is returned and whose target waits for the end; but no
+    /// jump where the range is full, whatever its bounds are worth.
     pub fn begin(self, code: &mut Code, full: bool) -> Result<Option<usize>, Refusal>
         ensures begins { IfOk result (λ null. StartsTurns code.old self full null code.new) }
         ensures refused { IfErr result (λ why. IsRefused (here code.old + 6) 2 why) }
@@ -70,7 +70,7 @@ impl Turns {
         Ok(Some(null))
     }
 
-    /// Adds a jump where the parameter has its last value, whose place is told and waits for the end, and what gives it the next one.
+    /// Adds a jump where the parameter has its last value, whose place is returned and whose target waits for the end, and what gives it the next one.
     pub fn end_turn(self, code: &mut Code) -> Result<usize, Refusal>
         ensures ends { IfOk result (λ last. EndsTurn code.old self last code.new) }
         ensures refused { IfErr result (λ why. IsRefused (here code.old + 8) 2 why) }

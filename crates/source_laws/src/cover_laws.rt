@@ -9,7 +9,7 @@ use program_soundness::program_laws::starts_are_sound;
 use program_soundness::scope_laws::{declarations_are_sound, objects_are_sound};
 use types::laws::{shapes_stay, values_have_words};
 
-/// The declarations of an accepted text tell the first words of its variables and of the components of its protected objects.
+/// The declarations of an accepted text give the first words of its variables and of the components of its protected objects.
 pub fn declarations_tell()
     ensures { DeclarationsTell }
 {
@@ -25,7 +25,7 @@ pub fn declarations_tell()
     values_have_words();
 }
 
-/// What is visible in front of the parameters of each body of an accepted text has what its code needs: objects have places, subprograms and operations
+/// What is visible before the parameters of each body of an accepted text has what its code needs: objects have places, subprograms and operations
 /// numbers, functions results of one word, exceptions numbers.
 pub fn names_are_covered()
     ensures { NamesAreCovered }

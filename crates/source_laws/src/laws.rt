@@ -68,7 +68,7 @@ pub fn nothing_is_unfit()
     words_have_room();
 }
 
-/// What can be called in front of each declaration and body of the package of an accepted text has at most 8 formals, and those of functions are scalar.
+/// What can be called before each declaration and body of the package of an accepted text has at most 8 formals, and those of functions are scalar.
 pub fn callees_have_few()
     ensures { CalleesHaveFew }
 {
@@ -87,7 +87,7 @@ pub fn bodies_call_few()
     scopes_are_sound();
 }
 
-/// What is visible in front of the parameters of each body is small in a text whose bodies are: formals of what can be called take at most 64 words.
+/// What is visible before the parameters of each body is small in a text whose bodies are: formals of what can be called take at most 64 words.
 pub fn fronts_are_small()
     ensures { FrontsAreSmall }
 {

@@ -10,8 +10,8 @@ use program_soundness::run_laws::runs_are_sound;
 use program_soundness::scope_laws::declarations_are_sound;
 use types::laws::{shapes_stay, static_is_value, values_have_words};
 
-/// An accepted text tells all that its meaning takes from it: which subtype a name is, the initial values, the priorities and ceilings, one body for each task,
-/// a value for each function, one value for each choice of a `case`. So no value is taken that stands in the meaning for want of one (docs/LANGUAGE.md).
+/// An accepted text gives all that its meaning takes from it: which subtype a name is, the initial values, the priorities and ceilings, one body for each task,
+/// a value for each function, one value for each choice of a `case`. So no value is taken that the meaning has for want of one (docs/LANGUAGE.md).
 pub fn meaning_is_told()
     ensures { MeaningIsTold }
 {

@@ -1,10 +1,10 @@
-//! The laws of code that stands for work, each as what a function without work ensures.
+//! The laws of code that does the work of statements, each as what a function without work ensures.
 ghost use Rattle.step_simulation.specs.Laws.{EffectsAreMet, StepsAreMet};
 
 use kernel::laws::quiet_stays;
 use step_soundness::laws::steps_are_sound;
 
-/// Each step of a task is met by the code that stands for its work.
+/// Each step of a task is met by the code that does its work.
 pub fn steps_are_met()
     ensures { StepsAreMet }
 {
@@ -12,7 +12,7 @@ pub fn steps_are_met()
     steps_are_sound();
 }
 
-/// Behind the effect of each step all tasks stand for their work again.
+/// After the effect of each step the code of all tasks does their work again.
 pub fn effects_are_met()
     ensures { EffectsAreMet }
 {}

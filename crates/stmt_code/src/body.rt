@@ -17,7 +17,7 @@ use image::Operation;
 use part_code::{Extent, Leaving, begin_way};
 
 impl Draft {
-    /// Adds the code of a body up to its end: its declarations, a jump over the way out and the way out, if a return stands in it, and its statements with
+    /// Adds the code of a body up to its end: its declarations, a jump over the way out and the way out, if a return is in it, and its statements with
     /// their handlers. A return leads to the way out, and so to the end.
     pub fn run(
         &mut self,

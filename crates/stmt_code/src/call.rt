@@ -53,7 +53,7 @@ fn add_invocation(
 }
 
 impl Draft {
-    /// Adds the code of a call of a procedure or an entry, which may be named behind its protected object, or of a line.
+    /// Adds the code of a call of a procedure or an entry, which may be named after its protected object, or of a line.
     pub(crate) fn call(&mut self, visible: &Visible, name: &NameExpr) -> Result<(), Refusal>
         requires sound { SoundScope visible.now.scope }
         requires covered { HasWhatCodeNeeds self.old.exceptions.items visible.now }

@@ -22,7 +22,7 @@ use part_code::{Leaving, add_choices};
 use types::laws::static_is_value;
 
 impl Draft {
-    /// Adds the code of a case statement: its value, its alternatives one behind another, and what drops a value that is left, which legal choices never leave.
+    /// Adds the code of a case statement: its value, its alternatives one after another, and what drops a value that is left, which legal choices never leave.
     #[cycle(statement)]
     pub(crate) fn case(
         &mut self,

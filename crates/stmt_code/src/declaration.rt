@@ -24,7 +24,7 @@ use type_rules::{declare_local_object, subtype_of};
 use types::laws::{initial_values_have_shape, shapes_stay, values_have_words};
 
 impl Draft {
-    /// Adds the code of declarations, one behind another, and makes their names visible, each behind its own.
+    /// Adds the code of declarations, one after another, and makes their names visible, each after its own.
     pub(crate) fn declarations(
         &mut self,
         visible: &mut Visible,

@@ -1,4 +1,4 @@
-//! Where the words of formal parameters stand in the frame of their body (RM 6.4.1).
+//! Where the words of formal parameters are in the frame of their body (RM 6.4.1).
 ghost use Rattle.std.specs.Prelude.{◌≡◌, IfErr, IfOk, OnOk};
 ghost use Rattle.expr_soundness.specs.SoundScopes.{SoundScope};
 ghost use Rattle.part_code.specs.Emitting.{HasEntries};

@@ -89,7 +89,7 @@ impl Draft {
         Ok(Cover { region, jump })
     }
 
-    /// Adds the handlers of statements that were covered: one behind another, each with a jump to the end; and their rows, behind those of all that they cover.
+    /// Adds the handlers of statements that were covered: one after another, each with a jump to the end; and their rows, after those of all that they cover.
     #[cycle(statement)]
     pub(crate) fn handlers(
         &mut self,

@@ -1,4 +1,4 @@
-//! Which statements leave the loop around them (RM 5.7), or return from the body in which they stand (RM 6.5).
+//! Which statements leave the loop around them (RM 5.7), or return from the body in which they are (RM 6.5).
 ghost use Rattle.std.specs.Prelude.{◌≡◌, ◌||◌, ◌&&◌};
 ghost use Rattle.ada_tree.specs.StatementTree.{alternative_trees, elsif_trees, handler_trees, stmt_tree, stmt_trees};
 ghost use Rattle.stmt_code.specs.Leaves.{alternatives_leave, any_leave, elsifs_leave, handlers_leave, is_return, leaves};
@@ -7,7 +7,7 @@ ghost use Rattle.stmt_code.specs.declared.leaves.WayOut.TheVariants as way;
 use ada_tree::laws::statements_by_parts;
 use ada_tree::{Alternative, ElsifPart, Handler, Stmt};
 
-/// A way out of statements: behind the loop around them, or to the end of the body.
+/// A way out of statements: after the loop around them, or to the end of the body.
 #[derive(Clone, Copy, PartialEq, Eq, Debug)]
 pub enum WayOut {
     Exit,

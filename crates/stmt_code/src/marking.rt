@@ -1,4 +1,4 @@
-//! Where the code of statements stands, for what is told of the instruction that raised an exception.
+//! Where the code of statements is, for what is reported of the instruction that raised an exception.
 ghost use Rattle.std.specs.Prelude.{◌≡◌, ◌∷◌, ◌++◌, [], IfErr, OnOk};
 ghost use Rattle.ada_tree.specs.StatementTree.{stmt_tree};
 ghost use Rattle.expr_code.specs.Code.{here};

@@ -49,7 +49,7 @@ impl SubprogramWords {
 }
 
 impl Draft {
-    /// Adds the code of a procedure, where the names in front of its parameters are visible.
+    /// Adds the code of a procedure, where the names before its parameters are visible.
     pub fn procedure(
         &mut self,
         visible: &mut Visible,
@@ -94,7 +94,7 @@ impl Draft {
         Ok(words)
     }
 
-    /// Adds the code of a function that returns the value of an expression, which is checked against the subtype of its result, where the names in front of its
+    /// Adds the code of a function that returns the value of an expression, which is checked against the subtype of its result, where the names before its
     /// parameters are visible.
     pub fn function(
         &mut self,

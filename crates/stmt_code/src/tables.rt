@@ -1,4 +1,4 @@
-//! The tables that go with code: its rows of handlers, and where the code of its statements stands.
+//! The tables that go with code: its rows of handlers, and where the code of its statements is.
 ghost use Rattle.std.specs.Prelude.{◌≡◌, ◌∷◌, ◌++◌, [], length, IfErr, OnOk};
 ghost use Rattle.expr_code.specs.Refusing.{IsRefused};
 
@@ -8,7 +8,7 @@ use part_code::add_rows;
 use std::alloc::Global;
 use std::marker::Model;
 
-/// Where the code of a statement stands: the place of its first instruction, the one behind its last, and the statement's place in the source.
+/// Where the code of a statement is: the place of its first instruction, the one after its last, and the statement's place in the source.
 #[derive(Clone, Copy, PartialEq, Eq, Debug)]
 pub struct PlaceRow {
     pub first: usize,
@@ -42,7 +42,7 @@ impl CodeTables {
         }
     }
 
-    /// Adds rows of handlers behind the others.
+    /// Adds rows of handlers after the others.
     pub fn handle(&mut self, more: &[Row]) -> Result<(), Refusal>
         ensures rows { OnOk result (self.new ≡ record self.old { items = self.old.items ++ more.now }) }
         ensures refused { IfErr result (λ why. IsRefused 0 0 why) }

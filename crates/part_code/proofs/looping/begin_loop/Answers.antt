@@ -1,4 +1,4 @@
-use Rattle.std.proofs.Common.{◌+◌, arith, refl, rules}
+use Rattle.std.proofs.Common.{rules}
 use Rattle.part_code.proofs.Jumps.{way_here}
 use Rattle.part_code.proofs.looping.begin_loop.Goals as goal
 

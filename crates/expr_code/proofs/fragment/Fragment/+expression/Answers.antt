@@ -85,7 +85,7 @@ pub elsifs-loop-elsif-preserved : goal.elsifs-loop-elsif-preserved
 elsifs-loop-elsif-preserved t c = λ final places rest. c.loop-elsif.invariant final places
     (opens_step c.args.visible.now c.args.depth c.args.width _ _ final _ _ places c.args.elsifs.now _ c.elsif-item.result c.loop-elsif-test.true
     c.elsif-item.is
-    (branch_added c.loop-elsif.self c.expression.new.self c.test.new.self c.expression-in-loop-elsif.new.self c.close.new.self c.args.depth c.args.width _ _ _ _ _ _
+    (branch_added c.loop-elsif.self c.expression.new.self c.test.new.self c.expression-in-loop-elsif.new.self c.close.new.self c.args.depth (c.args.depth + c.args.width) _ _ _ _ _ _
     c.in_ok-expression.ensures.made c.in_ok-test.ensures.made c.in_ok-expression-2.ensures.made c.in_ok-close.ensures.waits c.in_ok-test.ensures.place
     c.in_ok-raised.ensures.more c.in_ok-close.ensures.made) rest)
 
