@@ -93,6 +93,13 @@ impl Choice {
         remainder_in(parts, front.slots, slots, &self.places) == u64::from(part.before)
     }
 
+    /// Whether another choice has the same alternatives of the first `front` slots. `false` doesn't say that it hasn't.
+    pub fn begins_like(&self, other: &Choice, front: usize) -> bool
+        ensures { result ≡ true → take front self.now ≡ take front other.now }
+    {
+        are_alike_before(&self.places, &other.places, front)
+    }
+
     /// Whether another choice is later than this one by the first `front` slots alone, and has the same alternatives of the others.
     pub fn is_earlier_in_front(&self, later: &Choice, front: usize) -> bool
         ensures { result ≡ true → IsEarlierInFront front self.now later.now }
@@ -186,6 +193,19 @@ fn are_within(slots: &[Slot], places: &[usize]) -> bool
         }
     }
     true
+}
+
+// Whether the first `front` places are the same.
+fn are_alike_before(places: &[usize], others: &[usize], front: usize) -> bool
+    ensures { result ≡ true → take front places.now ≡ take front others.now }
+{
+    if places.len() < front {
+        return false;
+    }
+    if others.len() < front {
+        return false;
+    }
+    places[..front] == others[..front]
 }
 
 // Whether the places after the first `front` ones are the same.

@@ -44,7 +44,7 @@ pub(crate) struct Fields<'a> {
     pub(crate) alternatives: &'a [u8],
 }
 
-/// What follows two dots, if they stand at the front.
+/// What follows two dots, if they are at the front.
 pub(crate) fn behind_dots(text: &[u8]) -> Option<&[u8]>
     ensures { option_map (λ rest. rest.now) result ≡ behind_dots text.now }
 {

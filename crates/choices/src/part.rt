@@ -14,7 +14,7 @@ pub struct Part {
     pub after: u32,
 }
 
-/// The first slots, which tell the parts apart, and how many combinations they have.
+/// The first slots, by which the parts differ, and how many combinations they have.
 #[derive(Clone, Copy, PartialEq, Eq, Debug)]
 pub(crate) struct Front {
     pub(crate) slots: usize,
@@ -33,7 +33,7 @@ impl Part {
         }
     }
 
-    /// How many of the first slots tell the parts of a set apart: the least number of them that has as many combinations as there are parts, or more, or all.
+    /// How many of the first slots distinguish the parts of a set: the least number of them that has as many combinations as there are parts, or more, or all.
     pub fn front(self, choices: &Choices) -> usize
         ensures { result ≡ front_of self choices.now }
     {

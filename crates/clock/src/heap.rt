@@ -29,7 +29,7 @@ impl Entry {
     }
 }
 
-/// Entries, the one that is to be taken first at the front, and each other one behind its parent.
+/// Entries, the one that is to be taken first at the front, and each other one at a later place than its parent.
 #[derive(Drop)]
 pub struct Heap {
     entries: ArrayVec<Entry, TASKS>,

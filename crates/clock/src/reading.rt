@@ -63,7 +63,7 @@ fn capped_value(digits: &[u8]) -> u64
     value
 }
 
-/// The number at the front of a text, and what stands behind it: 0, or digits without a leading zero. One that is too large is the greatest of 64 bits.
+/// The number at the front of a text, and what is after it: 0, or digits without a leading zero. One that is too large is the greatest of 64 bits.
 #[tactic(auto, unfolding(crate::specs::Texts::number_at))]
 pub fn number(text: &[u8]) -> Option<(u64, &[u8])>
     ensures { option_map (λ read. (read.0, read.1.now)) result ≡ capped_number (number_at text.now) }
@@ -93,7 +93,7 @@ fn negative(magnitude: u64) -> Option<i64>
     Some(-1 - (magnitude - 1).cast_signed())
 }
 
-/// The value at the front, if it has 64 bits, and what stands behind it: a number, or `-` before one that isn't 0.
+/// The value at the front, if it has 64 bits, and what is after it: a number, or `-` before one that isn't 0.
 #[tactic(auto, unfolding(crate::specs::Texts::value_at))]
 pub fn value(text: &[u8]) -> Option<(i64, &[u8])>
     ensures { option_map (λ read. (read.0, read.1.now)) result ≡ ranged_value (value_at text.now) }
@@ -110,7 +110,7 @@ pub fn value(text: &[u8]) -> Option<(i64, &[u8])>
     }
 }
 
-/// What stands behind this byte, if it stands at the front.
+/// What is after this byte, if it is at the front.
 pub fn behind(byte: u8, text: &[u8]) -> Option<&[u8]>
     ensures { option_map (λ rest. rest.now) result ≡ behind_byte byte text.now }
 {
@@ -132,7 +132,7 @@ pub fn channel(number: u64) -> Option<u8>
     }
 }
 
-/// The line at the front of a text, and what stands behind it.
+/// The line at the front of a text, and what is after it.
 #[tactic(auto, unfolding(crate::specs::Texts::line_at))]
 pub(crate) fn front_line(text: &[u8]) -> Option<(Line, &[u8])>
     ensures read { option_map (λ read. (read.0, read.1.now)) result ≡ read_line (line_at text.now) }

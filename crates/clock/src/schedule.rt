@@ -57,7 +57,7 @@ impl Schedule {
     /// Reads a schedule (docs/FORMATS.md, "Schedule").
     ///
     /// # Errors
-    /// The first faulty line, with the first of these that it breaks: 53 where 4,096 lines stand before it, 50 where it isn't a time, a
+    /// The first faulty line, with the first of these that it breaks: 53 where 4,096 lines are before it, 50 where it isn't a time, a
     /// channel and a value with single spaces and a line feed, or the time or the value has more than 64 bits, 52 where the channel is
     /// none of 1 to 8, 51 where the time is before that of the line before. 60, at line 0, where memory was refused.
     pub fn read(alloc: Global, text: &[u8]) -> Result<Schedule, ScheduleFault>
@@ -91,7 +91,7 @@ impl Schedule {
         &self.lines
     }
 
-    /// The time (microseconds since the start) and the channel of line `number`, counted from 0, or None behind the last one.
+    /// The time (microseconds since the start) and the channel of line `number`, counted from 0, or None after the last one.
     pub fn line(&self, number: usize) -> Option<(i64, u8)>
         ensures { result ≡ heard_line self.now number }
     {

@@ -42,14 +42,14 @@ impl Default for Ring {
 }
 
 impl Ring {
-    /// Whether some task stands in it.
+    /// Whether some task is in it.
     pub fn is_occupied(&self) -> bool
         ensures { result ≡ is_occupied self.now }
     {
         0 < self.count
     }
 
-    /// Adds a task behind the others.
+    /// Adds a task after the others.
     pub fn push_back(&mut self, task: u8)
         requires { length self.old < TASKS }
         ensures { self.new ≡ self.old ++ task ∷ [] }

@@ -1,5 +1,5 @@
 -- Rows that hold the same tasks, one after the other.
-use Rattle.std.proofs.Common.{◌≡◌, ℕ, zero, suc, ◌+◌, ◌<◌, List, [], ◌∷◌, ◌||◌, Option, Some, None, Bool, true, false, cond, get_or, length, take, refl, sym, ap, subst, ◌∙◌, arith, rules}
+use Rattle.std.proofs.Common.{◌≡◌, ℕ, zero, suc, ◌+◌, ◌<◌, List, [], ◌∷◌, ◌||◌, None, Bool, true, false, cond, get_or, length, take, refl, sym, ap, subst, ◌∙◌, arith, rules}
 use Rattle.std.specs.Prelude.{nat_lt}
 use Rattle.image.specs.Code.{initial_state}
 use Rattle.image.specs.Frames.{TaskState}

@@ -14,7 +14,7 @@ use Rattle.image.specs.ObjectTable.{ObjectRow}
 use Rattle.image.specs.Operations.{called, called_if}
 use Rattle.image.specs.RuleFacts.{facts}
 use Rattle.image.specs.RuleLaws.{some_and-true}
-use Rattle.image.specs.Rules.{IsWellFormed, are_attached, is_attached, is_handling_kind, may_handle, some_and}
+use Rattle.image.specs.Rules.{IsWellFormed, are_attached, is_attached, is_handling_kind, may_handle}
 use Rattle.image.specs.Sections.{Sections, first_place, object_of}
 use Rattle.image.specs.Starting.{handler_state, handler_state_of, lowest_frame, role_within}
 use Rattle.image.specs.declared.attachments.Attachment.{Attachment}

@@ -1,6 +1,6 @@
-mod Advancing
+pub mod Advancing
 mod Ahead
-mod Alike
+pub mod Alike
 pub mod Apart
 mod Begun
 mod Ending
@@ -9,6 +9,7 @@ mod Going
 pub mod Handlers
 mod Leading
 mod Pushing
+mod Restoring
 mod RowsOf
 mod ServedFrame
 mod Settle

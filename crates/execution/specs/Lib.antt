@@ -1,3 +1,4 @@
 pub mod Held
 pub mod Settling
 pub mod Ahead
+pub mod Saving

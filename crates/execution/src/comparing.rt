@@ -1,18 +1,21 @@
-//! Comparing the frames of the tasks of two runs.
-ghost use Rattle.std.specs.Prelude.{◌≡◌, true};
+//! Comparing copies of the frames of tasks.
+ghost use Rattle.std.specs.Prelude.{◌≡◌, take, true};
 ghost use Rattle.execution.specs.Held.{tasks_in};
 
-use processor::TaskState;
+use processor::SavedTask;
 
-/// Whether two rows hold the same tasks. `false` doesn't say that they differ.
-pub(crate) fn are_alike(rows: &[TaskState], others: &[TaskState]) -> bool
-    ensures { result ≡ true → tasks_in rows.now ≡ tasks_in others.now }
+/// Whether copies in two rows of them have the same tasks in so many first ones. `false` doesn't say that they differ.
+pub(crate) fn begin_alike(rows: &[SavedTask], others: &[SavedTask], count: usize) -> bool
+    ensures { result ≡ true → tasks_in (take count rows.now) ≡ tasks_in (take count others.now) }
 {
-    if rows.len() != others.len() {
+    if rows.len() < count {
+        return false;
+    }
+    if others.len() < count {
         return false;
     }
     let mut at = 0;
-    while at < rows.len() {
+    while at < count {
         if !rows[at].is_like(&others[at]) {
             return false;
         }

@@ -1,4 +1,4 @@
-//! Runs of images, up to what their steps tell.
+//! Runs of images, up to what their steps report.
 ghost use Rattle.std.specs.Prelude.{◌≡◌, ◌⊎◌, ◌<◌, ◌≤◌, ◌+◌, ◌-◌, [], IfOk, IfSome, List, None, Some, true, ℕ};
 ghost use Rattle.image.specs.Code.{start};
 ghost use Rattle.image_laws.specs.Whole.{IsWhole};
@@ -6,9 +6,12 @@ ghost use Rattle.kernel.specs.Calm.{IsRunner};
 ghost use Rattle.kernel.specs.State.{Line as KernelLine, Outcome as KernelOutcome};
 ghost use Rattle.tasking.specs.Held.{kernel_of};
 ghost use Rattle.execution.specs.Ahead.{next_address, next_asking, next_raising};
+ghost use Rattle.execution.specs.Saving.{AreContentsOf};
 ghost use Rattle.execution.specs.Held.{Leads, lines_of, tasks_of, world_of, world_with};
 
+use crate::contents::Contents;
 use crate::line::Line;
+use crate::rooms::Rooms;
 use crate::state::State;
 use clock::{Delays, Schedule};
 use dispatch::Ready;
@@ -25,11 +28,11 @@ use tasking::laws::{kept_with_lines, lines_apart};
 
 /// A run of an image, between two steps. Memory is taken by `start` alone.
 #[derive(Drop)]
-pub struct Execution<'a, R: Ready, D: Delays> {
-    state: State<'a, R, D>,
+pub struct Execution<'a, 's, R: Ready, D: Delays> {
+    pub(crate) state: State<'a, 's, R, D>,
 }
 
-impl<'a, R: Ready, D: Delays> Model for Execution<'a, R, D> {
+impl<'a, 's, R: Ready, D: Delays> Model for Execution<'a, 's, R, D> {
     ghost use Rattle.image_laws.specs.Whole.{IsWhole};
     ghost use Rattle.execution.specs.Held.{HeldWorld, world_of};
 
@@ -49,7 +52,7 @@ pub struct Advance {
     pub line: Option<Line>,
 }
 
-impl<'a, R: Ready, D: Delays> Execution<'a, R, D> {
+impl<'a, 's, R: Ready, D: Delays> Execution<'a, 's, R, D> {
     /// The start of a run: the world of code after 0 steps.
     ///
     /// # Errors
@@ -57,7 +60,7 @@ impl<'a, R: Ready, D: Delays> Execution<'a, R, D> {
     pub fn start(
         alloc: Global,
         image: &'a Image,
-        schedule: &'a Schedule,
+        schedule: &'s Schedule,
     ) -> Result<Self, AllocError>
         ensures image { IfOk result (λ e. e.image ≡ image.now) }
         ensures schedule { IfOk result (λ e. e.schedule ≡ schedule.now) }
@@ -92,7 +95,7 @@ impl<'a, R: Ready, D: Delays> Execution<'a, R, D> {
         Advance { left, line: None }
     }
 
-    /// Does one step, which is counted, and tells the line that it wrote, if any. Nothing is done once there is an outcome.
+    /// Does one step, which is counted, and returns the line that it wrote, if any. Nothing is done once there is an outcome.
     pub fn step<L: Ledger>(&mut self, steps: &mut Steps<L>) -> Option<Line>
         ensures leads { (kernel_of self.old.tasking).outcome ≡ None → Leads 1 self.old self.new (lines_of self.old.image result) }
         ensures going { IfSome result (λ line. (kernel_of self.new.tasking).outcome ≡ None) }
@@ -167,17 +170,14 @@ impl<'a, R: Ready, D: Delays> Execution<'a, R, D> {
         Some(self.state.address(task))
     }
 
-    /// Whether another run of the image has the same frames, of its tasks and of the handler that runs. `false` doesn't say that they differ.
-    pub fn has_frames_of(&self, other: &Execution<'a, R, D>) -> bool
-        requires { self.now.image ≡ other.now.image }
-        ensures { result ≡ true → (t : ℕ) → tasks_of self.now t ≡ tasks_of other.now t }
+    /// A copy of the words and the frames.
+    ///
+    /// # Errors
+    /// Where memory was refused.
+    pub fn contents(&self, alloc: Global) -> Result<Contents, AllocError>
+        ensures { IfOk result (λ contents. AreContentsOf self.now contents) }
     {
-        self.state.has_frames_of(&other.state)
-    }
-
-    /// A digest of the frames of the tasks, with the given first number: where two digests with the same one differ, so do the frames.
-    pub fn digest(&self, first: u64) -> u64 {
-        self.state.digest(first)
+        self.state.contents(alloc)
     }
 
     /// The image that runs.
@@ -188,7 +188,7 @@ impl<'a, R: Ready, D: Delays> Execution<'a, R, D> {
     }
 
     /// Its tasks and protected objects, and virtual time.
-    pub fn tasking(&self) -> &Tasking<'a, R, D>
+    pub fn tasking(&self) -> &Tasking<'s, R, D>
         ensures same { result.now ≡ self.now.tasking }
         ensures whole { IsWhole self.now.image (world_of self.now) }
     {
@@ -200,5 +200,14 @@ impl<'a, R: Ready, D: Delays> Execution<'a, R, D> {
         ensures { result.now ≡ self.now.memory }
     {
         &self.state.memory
+    }
+}
+
+impl<'a, 's, R: Ready + Drop, D: Delays + Drop> Execution<'a, 's, R, D> {
+    /// Its memory, for another run.
+    pub fn into_rooms(self) -> Rooms<'a>
+        ensures { result ≡ self.entry.image }
+    {
+        self.state.into_rooms()
     }
 }

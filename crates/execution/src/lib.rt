@@ -2,13 +2,17 @@
 #![tactic(auto)]
 
 mod comparing;
+mod contents;
 mod execution_of;
 mod line;
 mod parameters;
+mod rooms;
 mod serving;
 mod settling;
 mod state;
 
+pub use contents::Contents;
 pub use execution_of::{Advance, Execution};
 pub use line::Line;
+pub use rooms::Rooms;
 pub use task_steps::{Asking, Cause, Raising};

@@ -11,7 +11,7 @@ use image_laws::code_leads_on;
 use processor::{Role, TaskState};
 use task_steps::{Given, called, entry, first_place};
 
-impl<'a, R: Ready, D: Delays> State<'a, R, D> {
+impl<'a, 's, R: Ready, D: Delays> State<'a, 's, R, D> {
     /// The task runs the entry body of an object for a caller, whose parameters leave its operand stack.
     pub(crate) fn serves(&mut self, task: u8, object: u8, caller: u8)
         requires { CanServe self.old.image self.old.tasks task object caller }
@@ -42,7 +42,7 @@ impl<'a, R: Ready, D: Delays> State<'a, R, D> {
         server.serve(number, place, &subprogram, role, self.parameters.words());
     }
 
-    /// The caller that was served goes on behind its entry call with the results, or raises the exception there in its next step.
+    /// The caller that was served goes on after its entry call with the results, or raises the exception there in its next step.
     pub(crate) fn hands_back(&mut self, caller: u8, given: Option<Given>)
         requires { CanReceive self.old.image self.old.tasks caller (given_of self.old.memory.passed given) }
         ensures { self.new ≡ record self.old { tasks = given_tasks self.old.image self.old.tasks caller (given_of self.old.memory.passed given) } }

@@ -21,8 +21,8 @@ struct Settlement {
     is_over: bool,
 }
 
-impl<'a, R: Ready, D: Delays> State<'a, R, D> {
-    /// Does what the step of the running task asks of the kernel, and tells the line that it writes, if any.
+impl<'a, 's, R: Ready, D: Delays> State<'a, 's, R, D> {
+    /// Does what the step of the running task asks of the kernel, and returns the line that it writes, if any.
     pub(crate) fn settle(&mut self, task: u8, act: Act) -> Option<Line>
         requires owes { Owes self.old task act }
         requires passed { HasPassed (length self.old.image.objects) (kernel_of self.old.tasking) task act.effect }

@@ -14,6 +14,7 @@ ghost use Rattle.task_steps.specs.Asked.{asking_ahead};
 ghost use Rattle.task_steps.specs.Raised.{raising_ahead};
 ghost use Rattle.kernel.specs.Interrupts.{actor_if};
 ghost use Rattle.tasking.specs.Held.{is_handler, kernel_of, partition_of};
+ghost use Rattle.execution.specs.Saving.{AreContentsOf};
 ghost use Rattle.execution.specs.Held.{begun, body_state, prepared, rest_of, row_of, tasks_of, world_of};
 ghost use Rattle.execution.specs.Settling.{RunsThere};
 ghost use Rattle.image.specs.Attachments.{attached_to, handling_object};
@@ -22,8 +23,9 @@ ghost use Rattle.image.specs.Sections.{object_of};
 ghost use Rattle.image.specs.Starting.{handler_state, role_within};
 ghost use Rattle.processor.specs.Layout.{role_of};
 
-use crate::comparing::are_alike;
+use crate::contents::{Contents, copied_words, save_rows};
 use crate::parameters::Parameters;
+use crate::rooms::Rooms;
 use clock::{Delays, Schedule};
 use dispatch::Ready;
 use image::{Attachment, Image, Kind, Subprogram};
@@ -40,17 +42,17 @@ use tasking::{Attached, Tasking};
 
 /// What a run holds: between steps a world of code, and within one what its parts have made of it so far.
 #[derive(Drop)]
-pub(crate) struct State<'a, R: Ready, D: Delays> {
+pub(crate) struct State<'a, 's, R: Ready, D: Delays> {
     pub(crate) program: Program<'a>,
-    pub(crate) schedule: &'a Schedule,
+    pub(crate) schedule: &'s Schedule,
     pub(crate) memory: Memory,
     // The tasks, and in a last row the handler that runs.
     pub(crate) tasks: Vec<TaskState>,
     pub(crate) parameters: Parameters,
-    pub(crate) tasking: Tasking<'a, R, D>,
+    pub(crate) tasking: Tasking<'s, R, D>,
 }
 
-impl<'a, R: Ready, D: Delays> Model for State<'a, R, D> {
+impl<'a, 's, R: Ready, D: Delays> Model for State<'a, 's, R, D> {
     ghost use Rattle.std.specs.Prelude.{◌≡◌, ◌+◌, length};
     ghost use Rattle.image.specs.Rules.{IsWellFormed};
     ghost use Rattle.image_laws.specs.Room.{widest};
@@ -64,7 +66,7 @@ impl<'a, R: Ready, D: Delays> Model for State<'a, R, D> {
         × RowsAreWide (widest s.program) s.tasks.items };
 }
 
-impl<'a, R: Ready, D: Delays> State<'a, R, D> {
+impl<'a, 's, R: Ready, D: Delays> State<'a, 's, R, D> {
     /// The start: all tasks at the first instruction of their bodies.
     ///
     /// # Errors
@@ -72,7 +74,7 @@ impl<'a, R: Ready, D: Delays> State<'a, R, D> {
     pub(crate) fn new(
         alloc: Global,
         image: &'a Image,
-        schedule: &'a Schedule,
+        schedule: &'s Schedule,
     ) -> Result<Self, AllocError>
         ensures image { IfOk result (λ s. s.image ≡ image.now) }
         ensures schedule { IfOk result (λ s. s.schedule ≡ schedule.now) }
@@ -208,36 +210,16 @@ impl<'a, R: Ready, D: Delays> State<'a, R, D> {
         asking_ahead(&self.program, self.schedule, &self.tasking, task, state)
     }
 
-    /// Whether another run of the image has the same frames, of its tasks and of the handler that runs. `false` doesn't say that they differ.
-    pub(crate) fn has_frames_of(&self, other: &State<'a, R, D>) -> bool
-        requires { self.now.image ≡ other.now.image }
-        ensures { result ≡ true → (t : ℕ) → tasks_of self.now t ≡ tasks_of other.now t }
+    /// A copy of the words and the frames.
+    ///
+    /// # Errors
+    /// Where memory was refused.
+    pub(crate) fn contents(&self, alloc: Global) -> Result<Contents, AllocError>
+        ensures { IfOk result (λ contents. AreContentsOf self.now contents) }
     {
-        if self.tasking.handler() != other.tasking.handler() {
-            return false;
-        }
-        if self.tasking.handler().is_some() {
-            return are_alike(&self.tasks, &other.tasks);
-        }
-        self.has_tasks_of(other)
-    }
-
-    // Whether the frames of the tasks are the same.
-    fn has_tasks_of(&self, other: &State<'a, R, D>) -> bool
-        ensures { result ≡ true → take (length self.now.image.tasks) self.now.tasks ≡ take (length other.now.image.tasks) other.now.tasks }
-    {
-        let count = self.tasks.len() - 1;
-        let others = other.tasks.len() - 1;
-        are_alike(&self.tasks[..count], &other.tasks[..others])
-    }
-
-    /// A digest of the frames of the tasks, with the given first number.
-    pub(crate) fn digest(&self, first: u64) -> u64 {
-        let mut digest = first;
-        for task in &self.tasks[..self.tasks.len() - 1] {
-            digest = task.digest(digest);
-        }
-        digest
+        let words = copied_words(alloc, self.memory.used_words(self.program.image()))?;
+        let tasks = save_rows(alloc, self.tasks.as_slice())?;
+        Ok(Contents { words, tasks })
     }
 
     /// The address of the running frame's instruction, of the task that runs.
@@ -252,6 +234,28 @@ impl<'a, R: Ready, D: Delays> State<'a, R, D> {
             unreachable!()
         };
         state.place()
+    }
+}
+
+impl<'a, 's, R: Ready + Drop, D: Delays + Drop> State<'a, 's, R, D> {
+    /// Its memory, for another run.
+    pub(crate) fn into_rooms(self) -> Rooms<'a>
+        ensures { result ≡ self.entry.image }
+    {
+        let State {
+            program,
+            schedule: _,
+            memory,
+            tasks,
+            parameters,
+            tasking: _,
+        } = self;
+        Rooms {
+            program,
+            memory,
+            tasks,
+            parameters,
+        }
     }
 }
 
@@ -285,11 +289,11 @@ fn initial_task(alloc: Global, program: &Program, number: u16) -> Result<TaskSta
 }
 
 // The tasks and objects with their priorities at time 0.
-fn initial_tasking<'a, R: Ready, D: Delays>(
+fn initial_tasking<'s, R: Ready, D: Delays>(
     alloc: Global,
     image: &Image,
-    schedule: &'a Schedule,
-) -> Result<Tasking<'a, R, D>, AllocError>
+    schedule: &'s Schedule,
+) -> Result<Tasking<'s, R, D>, AllocError>
     ensures { IfOk result (λ tasking. kernel_of tasking ≡ (start image.now schedule.now).kernel) }
 {
     steps_whole();
@@ -303,7 +307,7 @@ fn initial_tasking<'a, R: Ready, D: Delays>(
 }
 
 // For each channel the object whose procedure is its handler; there is no channel 0.
-fn handling_objects(image: &Image) -> Attached
+pub(crate) fn handling_objects(image: &Image) -> Attached
     ensures objects { (channel : ℕ) → get_or result channel None ≡ handling_object image.now channel }
     ensures channels { length result ≡ CHANNELS + 1 }
 {

@@ -21,6 +21,7 @@ pub mod RowMoves
 pub mod RowWrites
 pub mod Rows
 pub mod SafeCode
+pub mod SharedParts
 pub mod Stacking
 pub mod StillSound
 pub mod Stopping

@@ -1,7 +1,8 @@
 //! What frames have beside their words.
-ghost use Rattle.std.specs.Prelude.{◌≡◌, ◌<◌, ◌≤◌, ◌+◌, ◌∷◌, [], IfOk, length, true};
+ghost use Rattle.std.specs.Prelude.{◌≡◌, ◌<◌, ◌≤◌, ◌+◌, ◌∷◌, [], IfOk, length, true, vec_capacity};
 ghost use Rattle.base.specs.declared.limits.TheConstants.{FRAMES, INSTRUCTIONS};
 
+use crate::digest::digest_with;
 use crate::role::Role;
 use base::limits::FRAMES;
 use std::alloc::{AllocError, Global};
@@ -16,6 +17,54 @@ pub(crate) struct Header {
     pub(crate) locals: u16,
     pub(crate) base: usize,
     pub(crate) role: Role,
+}
+
+/// A copy of the headers of a task.
+#[derive(Drop)]
+pub(crate) struct SavedHeaders {
+    items: Vec<Header>,
+}
+
+impl Model for SavedHeaders {
+    ghost use Rattle.std.specs.Prelude.{◌<◌, ◌≤◌, ◌+◌, length, reverse};
+    ghost use Rattle.base.specs.declared.limits.TheConstants.{FRAMES};
+    ghost use Rattle.processor.specs.Layout.{HeaderStack, stack_of};
+
+    ghost Value = { HeaderStack };
+
+    ghost view = { λ h. stack_of (reverse h.items.items) };
+
+    ghost invariant = { λ h. (0 < length h.items.items) × (length h.items.items ≤ FRAMES + 1) };
+}
+
+impl SavedHeaders {
+    /// Another copy.
+    ///
+    /// # Errors
+    /// Where memory was refused.
+    pub(crate) fn copy(&self) -> Result<SavedHeaders, AllocError>
+        ensures { IfOk result (λ saved. saved ≡ self.now) }
+    {
+        Ok(SavedHeaders {
+            items: self.items.clone()?,
+        })
+    }
+
+    /// A digest of the places of the frames, with the given first number.
+    pub(crate) fn digest(&self, first: u64) -> u64 {
+        let mut digest = first;
+        for header in &self.items {
+            digest = digest_with(digest, u64::from(header.place));
+        }
+        digest
+    }
+
+    /// Whether other headers are the same. `false` doesn't say that they differ.
+    pub(crate) fn is_like(&self, other: &SavedHeaders) -> bool
+        ensures { result ≡ true → self.now ≡ other.now }
+    {
+        self.items == other.items
+    }
 }
 
 /// The headers of the frames of a task, that of the running one last, in memory that stays where it is. There is always one.
@@ -66,13 +115,6 @@ impl Headers {
         self.items.len() - 1
     }
 
-    /// Whether other headers are the same. `false` doesn't say that they differ.
-    pub(crate) fn is_like(&self, other: &Headers) -> bool
-        ensures { result ≡ true → self.now ≡ other.now }
-    {
-        self.items == other.items
-    }
-
     /// The running frame goes on at a place.
     #[inline(always)]
     pub(crate) fn set_place(&mut self, place: u16)
@@ -119,6 +161,25 @@ impl Headers {
         self.items[last] = first;
     }
 
+    /// A copy of them.
+    ///
+    /// # Errors
+    /// Where memory was refused.
+    pub(crate) fn save(&self, alloc: Global) -> Result<SavedHeaders, AllocError>
+        ensures { IfOk result (λ saved. saved ≡ self.now) }
+    {
+        let mut items = Vec::new(alloc);
+        items.extend_from_slice(&self.items)?;
+        Ok(SavedHeaders { items })
+    }
+
+    /// Becomes the headers of which there is a copy.
+    pub(crate) fn restore(&mut self, saved: &SavedHeaders)
+        ensures { self.new ≡ saved.now }
+    {
+        copy(&saved.items, &mut self.items);
+    }
+
     /// The frame below runs again.
     #[inline(always)]
     pub(crate) fn pop(&mut self)
@@ -126,5 +187,18 @@ impl Headers {
         ensures { self.old.waiting ≡ self.new.running ∷ self.new.waiting }
     {
         let _ = self.items.pop();
+    }
+}
+
+// Copies headers in place of others, in memory that is there.
+fn copy(headers: &[Header], kept: &mut Vec<Header>)
+    requires few { length headers.now ≤ FRAMES + 1 }
+    requires room { FRAMES + 1 ≤ vec_capacity kept.old }
+    ensures items { kept.new.items ≡ headers.now }
+    ensures room { FRAMES + 1 ≤ vec_capacity kept.new }
+{
+    kept.clear();
+    for header in headers {
+        kept.push_reserved(*header);
     }
 }

@@ -14,6 +14,7 @@ mod program;
 mod role;
 mod row;
 mod running;
+mod saved;
 mod shared;
 mod task_state;
 mod turning;
@@ -25,6 +26,10 @@ pub use operation::{Operation, Reckoning, Test};
 pub use program::Program;
 pub use role::Role;
 pub use running::{Within, run_within};
-pub use shared::{initial_row, object_words, plain_words, store_object_words, store_plain_words};
+pub use saved::SavedTask;
+pub use shared::{
+    initial_row, object_words, plain_words, restore_words, store_object_words, store_plain_words,
+    used_words,
+};
 pub use task_state::{CALLERS, TaskState};
 pub use turning::Stop;

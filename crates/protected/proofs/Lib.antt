@@ -1,2 +1,3 @@
+pub mod Copying
 mod Examples
 mod Lists

@@ -1,5 +1,5 @@
 //! The protected actions that tasks have open, and the calls that wait.
-ghost use Rattle.std.specs.Prelude.{◌≡◌, ◌+◌, ◌<◌, ◌≤◌, ◌++◌, ◌∷◌, [], IfSome, length, replicate, None, Some, Ok, OnOk, OnErr, if◌then◌else◌};
+ghost use Rattle.std.specs.Prelude.{◌≡◌, ◌+◌, ◌<◌, ◌≤◌, ◌++◌, ◌∷◌, [], IfSome, length, map, replicate, set, None, Some, Ok, OnOk, OnErr, if◌then◌else◌};
 ghost use Rattle.protected.specs.Actions.{Actions, IsInnermost, IsTaskOrHandler, base_of, row_of, active_of, calling, ceiling_of, has_any, innermost_of, is_among, opened_by, opening, queued_at, served, with_opened, with_queued, without_last};
 ghost use Rattle.protected.specs.Kept.{AllAreBelow};
 ghost use Rattle.base.specs.declared.limits.TheConstants.{OBJECTS, TASKS};
@@ -54,6 +54,18 @@ impl Objects {
             ceilings: copied(ceilings),
             opened: Default::default(),
             queued: [None; OBJECTS],
+        }
+    }
+
+    /// A copy.
+    pub fn copy(&self) -> Objects
+        ensures { result ≡ self.now }
+    {
+        Objects {
+            bases: copied(self.bases.as_slice()),
+            ceilings: copied(self.ceilings.as_slice()),
+            opened: copied_rows(&self.opened),
+            queued: self.queued,
         }
     }
 
@@ -211,7 +223,27 @@ impl Objects {
     }
 }
 
-// Priorities in a fixed list.
+// Copies of lists of objects.
+fn copied_rows(rows: &[ArrayVec<u8, OBJECTS>; TASKS + 1]) -> [ArrayVec<u8, OBJECTS>; TASKS + 1]
+    ensures { map (λ l. l.items) result ≡ map (λ l. l.items) rows.now }
+{
+    let mut copies: [ArrayVec<u8, OBJECTS>; TASKS + 1] = Default::default();
+    for row in 0..TASKS + 1 {
+        put_row(&mut copies, row, rows[row].as_slice());
+    }
+    copies
+}
+
+// A row becomes this list.
+fn put_row(rows: &mut [ArrayVec<u8, OBJECTS>; TASKS + 1], row: usize, list: &[u8])
+    requires row { row ≤ TASKS }
+    requires few { length list.now ≤ OBJECTS }
+    ensures { map (λ l. l.items) rows.new ≡ set (map (λ l. l.items) rows.old) row list.now }
+{
+    rows[row] = copied(list);
+}
+
+// Priorities, or the numbers of objects, in a fixed list.
 fn copied<const N: usize>(priorities: &[u8]) -> ArrayVec<u8, N>
     requires { length priorities.now ≤ N }
     ensures { result.items ≡ priorities.now }

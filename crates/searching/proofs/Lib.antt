@@ -4,4 +4,8 @@ mod Seeing
 mod Standing
 mod Quiet
 mod Merging
+mod Kept
+mod Crossed
+mod Along
+mod Resuming
 mod Through

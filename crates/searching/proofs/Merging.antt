@@ -22,8 +22,9 @@ use Rattle.likeness.specs.Schedules.{AgreeAt, AreBefore, AreFrom}
 use Rattle.likeness.specs.Worlds.{IsEarly, IsSure, NoneSooner, ReadsNothing}
 use Rattle.likeness.proofs.Inputs.{front_input}
 use Rattle.likeness.proofs.Meeting.{HaveOneFuture, LinesBehind, have_one_end, have_one_future}
+use Rattle.searching.specs.Following.{NoneWanted}
 use Rattle.searching.specs.Meeting.{AreEachBefore, AreEachFrom, AreLike, EndsBefore, HaveMet, schedule_of}
-use Rattle.searching.specs.Searches.{AnswersRun}
+use Rattle.searching.specs.Searches.{AnswersRun, kernels}
 use Rattle.searching.specs.Sights.{HasLine, IsWanted, Written}
 use Rattle.searching.specs.declared.one.Answer.TheVariants as answers
 use Rattle.searching.specs.declared.sight.Wanted.{Wanted}
@@ -77,7 +78,7 @@ one_before : (time : ℤ) (s : Slot) (a : Option ℤ) (rest : List ScheduleLine)
 one_before time s None rest here more = more
 one_before time s (Some value) rest here more = (here, more)
 
-before_lines : (time : ℤ) (slots : List Slot) (ps : List ℕ) → AreEachBefore time slots → AreBefore time (schedule_of slots ps)
+pub before_lines : (time : ℤ) (slots : List Slot) (ps : List ℕ) → AreEachBefore time slots → AreBefore time (schedule_of slots ps)
 before_lines time [] ps b = tt
 before_lines time (s ∷ slots) [] b = tt
 before_lines time (s ∷ slots) (p ∷ ps) b =
@@ -87,13 +88,13 @@ one_from : (time : ℤ) (s : Slot) (a : Option ℤ) (rest : List ScheduleLine) �
 one_from time s None rest here more = more
 one_from time s (Some value) rest here more = (here, more)
 
-from_lines : (time : ℤ) (slots : List Slot) (ps : List ℕ) → AreEachFrom time slots → AreFrom time (schedule_of slots ps)
+pub from_lines : (time : ℤ) (slots : List Slot) (ps : List ℕ) → AreEachFrom time slots → AreFrom time (schedule_of slots ps)
 from_lines time [] ps b = tt
 from_lines time (s ∷ slots) [] b = tt
 from_lines time (s ∷ slots) (p ∷ ps) b =
     one_from time s (flat (slice_get s.alternatives p)) (schedule_of slots ps) b.0 (from_lines time slots ps b.1)
 
-schedule_lawful : (slots : List Slot) (ps : List ℕ) → are_slots slots ≡ true → AreWithin slots ps → is_schedule (schedule_of slots ps) ≡ true
+pub schedule_lawful : (slots : List Slot) (ps : List ℕ) → are_slots slots ≡ true → AreWithin slots ps → is_schedule (schedule_of slots ps) ≡ true
 schedule_lawful slots ps ok w = schedule_of_choice slots (taken slots ps) ok (taken_is_choice slots ps w)
 
 module _ (unmoved : LeftUnmoved) (stays : OutcomeStays) (i : Sections) (behind : LinesBehind i) (slots : List Slot) (lawful : are_slots slots ≡ true) (until : ℤ)
@@ -102,7 +103,7 @@ module _ (unmoved : LeftUnmoved) (stays : OutcomeStays) (i : Sections) (behind :
   IsQuietOn ps = AnswersRun i (schedule_of slots ps) until limit wanted answers.Nothing
 
   module _ (front : ℕ) (time last : ℤ) (earlier places : List ℕ) (m n : ℕ) (met : HaveMet i slots front time last earlier places m n) (within : AreWithin slots places)
-      (quiet : IsQuietOn places) where
+      (none : NoneWanted until wanted (kernels i (schedule_of slots places) n).lines) where
     abbrev c : List ScheduleLine
     c = schedule_of (take front slots) (take front places)
 
@@ -187,8 +188,7 @@ module _ (unmoved : LeftUnmoved) (stays : OutcomeStays) (i : Sections) (behind :
 
       -- before the meeting nothing was found
       none_so_far : (line : Line) → HasLine (code i (c ++ first) n).kernel.lines line → IsWanted wanted (Written line) → line.time ≤ℤ until → ⊥
-      none_so_far line has wants le =
-          quiet.0 (Written line) wants (record { steps = n; shows = (subst (λ s. HasLine (code i s n).kernel.lines line) (sym here_is) has, le) })
+      none_so_far line has wants le = none line (subst (λ s. HasLine (code i s n).kernel.lines line) (sym here_is) has) wants le
 
       pub quiet_behind : IsQuietOn mixed → IsQuietOn others
       quiet_behind q =

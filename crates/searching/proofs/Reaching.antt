@@ -1,5 +1,5 @@
 -- Runs that take so many steps, each of which leads on in the code.
-use Rattle.std.proofs.Common.{◌≤◌, ◌≡◌, ℕ, zero, suc, ◌+◌, ◌<◌, ℤ, List, [], ◌∷◌, ◌++◌, true, refl, sym, ap, subst, ◌∙◌, arith, get_or, length, take}
+use Rattle.std.proofs.Common.{◌≡◌, ℕ, zero, suc, ◌+◌, ◌<◌, ℤ, List, [], ◌∷◌, ◌++◌, true, refl, sym, ap, subst, ◌∙◌, arith, get_or, length, take}
 use Rattle.std.specs.Prelude.{int_le, int_lt, ◌≤ℤ◌, ◌<ℤ◌}
 use Rattle.std.proofs.lemmas.Int.{ints}
 use Rattle.base.specs.declared.schedule.ScheduleLine.{ScheduleLine}
@@ -11,14 +11,12 @@ use Rattle.image.specs.Code.{CodeWorld, code, start}
 use Rattle.image.specs.Sections.{Sections}
 use Rattle.image.specs.Steps.{behaviour}
 use Rattle.execution.specs.Held.{HeldWorld, Leads, world_of, world_with}
-use Rattle.choices.specs.Parts.{front_of, is_of_part}
-use Rattle.choices.specs.declared.part.Part.{Part}
 use Rattle.choices.specs.Places.{AreWithin}
 use Rattle.choices.specs.Slots.{Slot}
 use Rattle.choices.specs.Stepping.{IsEarlierInFront}
 use Rattle.likeness.specs.Schedules.{AgreeAt}
 use Rattle.likeness.specs.Worlds.{IsEarly, IsLastBefore, NoneSooner, ReadsNothing}
-use Rattle.searching.specs.Meeting.{AreEachBefore, AreEachFrom, AreLike, ArePartedAt, EndsBefore, HasMet, IsAtEnd, MeetThere, StandsAfter, schedule_of}
+use Rattle.searching.specs.Meeting.{AreEachBefore, AreEachFrom, AreLike, ArePartedAt, EndsBefore, HaveMet, IsAtEnd, MeetThere, StandsAfter, schedule_of}
 use Rattle.searching.proofs.Standing.{begins_without}
 
 pub stands_first : LeftUnmoved → (h : HeldWorld) → world_of h ≡ start h.image h.schedule → StandsAfter 0 h.image h.schedule h
@@ -86,45 +84,23 @@ module _ (time : ℤ) (one other after : HeldWorld) (met : MeetThere time one ot
 pub has_met : (i : Sections) (slots : List Slot) (front : ℕ) (time last : ℤ) (earlier places : List ℕ) (m n : ℕ) (one other after : HeldWorld) → ArePartedAt time front slots
     → IsLastBefore last time → AreWithin slots earlier → IsEarlierInFront front earlier places → AgreeAt (schedule_of slots places) (schedule_of slots earlier) last
     → StandsAfter n i (schedule_of slots places) one → StandsAfter m i (schedule_of slots earlier) other → MeetThere time one other after
-    → (part : Part) → is_of_part part slots earlier ≡ true → front_of part slots ≤ front → HasMet i slots part places front
-has_met i slots front time last earlier places m n one other after parted is_last within order agree here there met part is_of no_less =
+    → HaveMet i slots front time last earlier places m n
+has_met i slots front time last earlier places m n one other after parted is_last within order agree here there met =
     let r = schedule_of slots places in
-    let s = schedule_of slots earlier in (
-      earlier,
-      time,
-      last,
-      m,
-      n,
-      record {
-        parted = parted;
-        last_is = is_last;
-        within = within;
-        order = order;
-        before = early time one other after met i r s n m here there;
-        alike = alike time one other after met i r s n m here there;
-        none = none time one other after met i r s n m here there;
-        none_earlier = none_there time one other after met i r s n m here there;
-        blind = blind time one other after met i r s n m here there;
-        crossed = crossed time one other after met i r s n m here there;
-        agree = agree;
-      },
-      is_of,
-      no_less,
-    )
-
--- the same by the equations that the code has
-pub has_met_by : (i : Sections) (slots : List Slot) (front : ℕ) (time last : ℤ) (earlier places : List ℕ) (m n : ℕ) (one other after : HeldWorld) (j k : Sections)
-    (r s here there : List ScheduleLine) → j ≡ i → k ≡ i → r ≡ here → s ≡ there → here ≡ schedule_of slots places → there ≡ schedule_of slots earlier
-    → ArePartedAt time front slots → IsLastBefore last time → AreWithin slots earlier → IsEarlierInFront front earlier places → AgreeAt here there last
-    → StandsAfter n j r one → StandsAfter m k s other → MeetThere time one other after
-    → (part : Part) → is_of_part part slots earlier ≡ true → front_of part slots ≤ front → HasMet i slots part places front
-has_met_by i slots front time last earlier places m n one other after j k r s here there ji ki rh st h t parted is_last within order agree stands stands_other met part is_of
-    no_less =
-    has_met i slots front time last earlier places m n one other after parted is_last within order
-    (subst (λ a. AgreeAt a (schedule_of slots earlier) last) h (subst (λ b. AgreeAt here b last) t agree))
-    (subst (λ x. StandsAfter n x (schedule_of slots places) one) ji (subst (λ a. StandsAfter n j a one) (rh ∙ h) stands))
-    (subst (λ x. StandsAfter m x (schedule_of slots earlier) other) ki (subst (λ a. StandsAfter m k a other) (st ∙ t) stands_other))
-    met part is_of no_less
+    let s = schedule_of slots earlier in
+    record {
+      parted = parted;
+      last_is = is_last;
+      within = within;
+      order = order;
+      before = early time one other after met i r s n m here there;
+      alike = alike time one other after met i r s n m here there;
+      none = none time one other after met i r s n m here there;
+      none_earlier = none_there time one other after met i r s n m here there;
+      blind = blind time one other after met i r s n m here there;
+      crossed = crossed time one other after met i r s n m here there;
+      agree = agree;
+    }
 
 -- slots before a time, and from it on, one after the other
 before_suc : (time : ℤ) (n : ℕ) (slots : List Slot) (s : Slot) → AreEachBefore time (take n slots) → int_lt s.time time ≡ true → s ≡ get_or slots n s → n < length slots

@@ -1,5 +1,5 @@
 -- What is seen of a run, as what it is of the world of code.
-use Rattle.std.proofs.Common.{◌≡◌, ℕ, ◌<◌, ◌≤◌, ℤ, pos, List, Option, Some, None, true, ap, subst, ◌∙◌, arith, rules}
+use Rattle.std.proofs.Common.{◌≡◌, ℕ, zero, suc, ◌<◌, ◌≤◌, ℤ, pos, List, [], ◌∷◌, get_or, Option, Some, None, false, true, ap, subst, ◌∙◌, arith, rules}
 use Rattle.std.specs.Prelude.{int_le, int_lt, nat_le, slice_get, ◌≤ℤ◌, ◌<ℤ◌, ◌-ℤ◌}
 use Rattle.std.proofs.lemmas.Bool.{and_parts}
 use Rattle.std.proofs.lemmas.Int.{ints}
@@ -12,7 +12,7 @@ use Rattle.image.specs.Sections.{Sections}
 use Rattle.image.specs.declared.instruction.Instr.{Instr}
 use Rattle.tasking.specs.Orderly.{time_ahead}
 use Rattle.execution.specs.Ahead.{address_by, next_address}
-use Rattle.likeness.specs.Schedules.{AgreeAt}
+use Rattle.likeness.specs.Schedules.{AgreeAt, reads_input}
 use Rattle.likeness.specs.Worlds.{IsBlind, IsEarly, IsLastBefore, NoneSooner, ReadsNothing}
 
 some_same : {X : Type 0} (x y : X) → Some x ≡ Some y → x ≡ y
@@ -33,6 +33,11 @@ reads_nothing i w a e blind t runs =
 pub blind_none : (o : Option Instr) → o ≡ None → IsBlind o
 blind_none None e = tt
 blind_none (Some x) e = absurd cc
+
+pub blind_at : (xs : List Instr) (n : ℕ) (x : Instr) → x ≡ get_or xs n x → reads_input x.operation ≡ false → IsBlind (slice_get xs n)
+blind_at [] n x is blind = tt
+blind_at (y ∷ xs) zero x is blind = subst (λ z. reads_input z.operation ≡ false) is blind
+blind_at (y ∷ xs) (suc n) x is blind = blind_at xs n x is blind
 
 -- no interrupt before the time
 pub none_ahead : (time : ℤ) (w : CodeWorld) → None ≡ time_ahead w.kernel.pending → NoneSooner time w

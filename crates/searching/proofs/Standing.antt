@@ -21,6 +21,7 @@ use Rattle.tasking.specs.Held.{kernel_of, outcome_of, some_outcome}
 use Rattle.tasking.specs.declared.reports.Outcome.{Outcome as End}
 use Rattle.execution.specs.Held.{HeldWorld, Leads, line_of, lines_of, world_of, world_with}
 use Rattle.execution.specs.declared.line.Line.{Line as HeldLine}
+use Rattle.searching.specs.Following.{Since, Standing}
 use Rattle.searching.specs.Judging.{AreSame, FoundLine, JudgedOutcome, ShownBy}
 use Rattle.searching.specs.Searches.{AnswersRun, ComesTo, IsFollowedOn, NeverComes, kernels}
 use Rattle.searching.specs.Sights.{HasLine, IsWanted, ShowsSight, Sighting, Stopped, Waiting, Written, sight_of}
@@ -180,23 +181,6 @@ module _ (unmoved : LeftUnmoved) (stays : OutcomeStays) (i : Sections) (schedule
       judged_answer limit end (answers.TooLong at) e le j = absurd j
 
 -- ---- the loop
-
--- since some number of steps the time has been this, and as many steps of the limit were taken as are missing
-pub record Since (i : Sections) (schedule : List ScheduleLine) (limit n : ℕ) (now : ℤ) (left : ℕ) : Type 0 where
-  pub first : ℕ
-  pub at : first + (limit - left) ≡ n
-  pub few : left ≤ limit
-  pub same : (kernels i schedule first).now ≡ now
-
--- after n steps: what is held is the world of code, it is this time, and no line was written that is wanted
-pub record Standing (i : Sections) (schedule : List ScheduleLine) (until : ℤ) (limit : ℕ) (wanted : Wanted) (h : HeldWorld) (now : ℤ) (left : ℕ) : Type 0 where
-  pub n : ℕ
-  pub image : h.image ≡ i
-  pub schedule_is : h.schedule ≡ schedule
-  pub stands : code i schedule n ≡ world_with (kernels i schedule n).lines h
-  pub now_is : now ≡ (kernel_of h.tasking).now
-  pub none : (line : Line) → HasLine (kernels i schedule n).lines line → IsWanted wanted (Written line) → line.time ≤ℤ until → ⊥
-  pub since : Since i schedule limit n now left
 
 activated_lines : (n : ℕ) (k : Kernel) → (activated n k).lines ≡ k.lines
 activated_lines zero k = refl

@@ -2,4 +2,6 @@ pub mod Sights
 pub mod Searches
 pub mod Judging
 pub mod Meeting
+pub mod Following
+pub mod Passing
 pub mod Reports

@@ -1,11 +1,9 @@
 -- What the search compares of two runs that may have met; nobody has to believe this.
-use Rattle.std.specs.Prelude.{◌≡◌, ◌≢◌, ◌⊎◌, ℕ, ◌+◌, ◌≤◌, ℤ, ◌<ℤ◌, pos, List, [], ◌∷◌, Option, Some, None, drop, take, true, int_le, int_lt}
+use Rattle.std.specs.Prelude.{◌≡◌, ◌≢◌, ℕ, ◌+◌, ℤ, ◌<ℤ◌, pos, List, [], ◌∷◌, Option, Some, None, drop, take, true, int_le, int_lt}
 use Rattle.base.specs.declared.schedule.ScheduleLine.{ScheduleLine}
-use Rattle.choices.specs.Parts.{front_of, is_of_part}
 use Rattle.choices.specs.Places.{AreWithin, taken}
 use Rattle.choices.specs.Slots.{Slot, lines_of}
-use Rattle.choices.specs.Stepping.{IsEarlierInFront, IsFurther}
-use Rattle.choices.specs.declared.part.Part.{Part}
+use Rattle.choices.specs.Stepping.{IsEarlierInFront}
 use Rattle.image.specs.Code.{CodeWorld, code}
 use Rattle.image.specs.Sections.{Sections}
 use Rattle.kernel.specs.State.{IsReady, Kernel, Line, Outcome}
@@ -77,12 +75,6 @@ pub record HaveMet (i : Sections) (slots : List Slot) (front : ℕ) (time last :
   pub crossed : IsEarly time (code i (schedule_of slots places) (n + 1)).kernel → ⊥
   pub agree : AgreeAt (schedule_of slots places) (schedule_of slots earlier) last
 
--- that of some earlier choice of the part, after some numbers of steps, where the slots at the front are no fewer than those that tell the parts apart
-abbrev pub HasMet : Sections → List Slot → Part → (places : List ℕ) → (front : ℕ) → Type 0
-HasMet i slots part places front =
-    (earlier : List ℕ) × (time last : ℤ) × (m n : ℕ) × HaveMet i slots front time last earlier places m n × (is_of_part part slots earlier ≡ true)
-    × (front_of part slots ≤ front)
-
 -- before the time of the slots behind the front, the run on this choice has come to its end, which no later interrupt changes
 pub record EndsBefore (i : Sections) (slots : List Slot) (front : ℕ) (time : ℤ) (places : List ℕ) (n : ℕ) : Type 0 where
   pub parted : ArePartedAt time front slots
@@ -92,11 +84,3 @@ pub record EndsBefore (i : Sections) (slots : List Slot) (front : ℕ) (time : �
 
 abbrev pub IsAtEnd : (time : ℤ) → Kernel → Type 0
 IsAtEnd time k = IsSure time k × ((o : Outcome) × (k.outcome ≡ Some o))
-
--- so other alternatives of the slots behind the front change nothing that is wanted
-abbrev pub MaySkip : Sections → List Slot → Part → (places : List ℕ) → (front : ℕ) → Type 0
-MaySkip i slots part places front = HasMet i slots part places front ⊎ ((time : ℤ) × (n : ℕ) × EndsBefore i slots front time places n)
-
--- the choice stays, or goes on to a later one with its front, behind which nothing is changed
-abbrev pub SkipsMet : Sections → List Slot → Part → (before after : List ℕ) → Type 0
-SkipsMet i slots part before after = (after ≡ before) ⊎ ((front : ℕ) × MaySkip i slots part before front × IsFurther slots front before after)

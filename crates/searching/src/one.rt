@@ -1,23 +1,15 @@
-//! The run of an image on one schedule, up to what is wanted.
-ghost use Rattle.std.specs.Prelude.{◌≡◌, ◌<◌, ◌-◌, IfOk, IsTrue};
-ghost use Rattle.base.specs.Schedule.{is_schedule};
-ghost use Rattle.image.specs.Code.{start};
-ghost use Rattle.execution.specs.Held.{line_of, world_of};
+//! What is found in the lines and in the outcome of a run.
+ghost use Rattle.std.specs.Prelude.{◌≡◌, ◌<◌, ◌-◌};
+ghost use Rattle.execution.specs.Held.{line_of};
 ghost use Rattle.image.specs.Texts.{text_at};
 ghost use Rattle.tasking.specs.Held.{kernel_of, some_outcome};
 ghost use Rattle.searching.specs.Judging.{AreSame, FoundIn, FoundLine, JudgedOutcome};
-ghost use Rattle.searching.specs.Searches.{AnswersRun};
 
 use crate::sight::{Finding, Wanted};
-use clock::{Delays, HeapDelays, Schedule};
-use dispatch::{Ready, RingReady};
+use clock::Delays;
+use dispatch::Ready;
 use execution::{Execution, Line};
 use image::Image;
-use image_laws::{lines_grow_on, outcome_stays};
-use kernel::laws::left_unmoved;
-use processor::Steps;
-use std::alloc::{AllocError, Global};
-use std::sync::ledger::Ledger;
 use tasking::Outcome;
 
 /// What the run on one schedule comes to.
@@ -62,7 +54,12 @@ fn is_wanted(image: &Image, wanted: Wanted<'_>, until: i64, line: &Line) -> bool
 }
 
 // The line of a step, if it is wanted.
-fn wanted_line(image: &Image, wanted: Wanted<'_>, until: i64, line: Option<Line>) -> Option<Line>
+pub(crate) fn wanted_line(
+    image: &Image,
+    wanted: Wanted<'_>,
+    until: i64,
+    line: Option<Line>,
+) -> Option<Line>
     ensures { FoundIn image.now wanted.entry until line result }
 {
     let line = line?;
@@ -74,14 +71,14 @@ fn wanted_line(image: &Image, wanted: Wanted<'_>, until: i64, line: Option<Line>
 }
 
 // Virtual time, in microseconds since the start.
-fn time_of<R: Ready, D: Delays>(execution: &Execution<'_, R, D>) -> i64
+pub(crate) fn time_of<R: Ready, D: Delays>(execution: &Execution<'_, '_, R, D>) -> i64
     ensures { result ≡ (kernel_of execution.now.tasking).now }
 {
     execution.tasking().now()
 }
 
 // How the run has come to its end, if it has.
-fn ending_of<R: Ready, D: Delays>(execution: &Execution<'_, R, D>) -> Option<Outcome>
+pub(crate) fn ending_of<R: Ready, D: Delays>(execution: &Execution<'_, '_, R, D>) -> Option<Outcome>
     ensures { some_outcome result ≡ (kernel_of execution.now.tasking).outcome }
 {
     execution.tasking().outcome()
@@ -114,7 +111,7 @@ fn waiting_found(wanted: Wanted<'_>, time: i64) -> Answer
 }
 
 // What is found where a run has come to an outcome at this time.
-fn outcome_found(wanted: Wanted<'_>, outcome: Outcome, time: i64) -> Answer
+pub(crate) fn outcome_found(wanted: Wanted<'_>, outcome: Outcome, time: i64) -> Answer
     ensures { JudgedOutcome wanted.entry outcome time result }
 {
     match outcome {
@@ -125,69 +122,10 @@ fn outcome_found(wanted: Wanted<'_>, outcome: Outcome, time: i64) -> Answer
 }
 
 // How many steps may be taken at this time after a step: one less where the clock has not moved.
-fn left_behind(left: u64, limit: u64, now: i64, later: i64) -> u64
+pub(crate) fn left_behind(left: u64, limit: u64, now: i64, later: i64) -> u64
     requires { 0 < left }
     ensures same { later ≡ now → result ≡ left - 1 }
     ensures moved { (later ≡ now → ⊥) → result ≡ limit }
 {
     if later == now { left - 1 } else { limit }
-}
-
-// Goes on up to what is wanted, another outcome or the end of the search, with `limit` steps at one time at most.
-fn search_on<R: Ready, D: Delays, L: Ledger>(
-    execution: &mut Execution<'_, R, D>,
-    until: i64,
-    limit: u64,
-    wanted: Wanted<'_>,
-    steps: &mut Steps<L>,
-) -> Answer
-    requires start { world_of execution.old ≡ start execution.old.image execution.old.schedule }
-    requires schedule { IsTrue (is_schedule execution.old.schedule) }
-    ensures { AnswersRun execution.old.image execution.old.schedule until limit wanted.entry result }
-{
-    outcome_stays();
-    left_unmoved();
-    let mut now = time_of(execution);
-    let mut left = limit;
-    while now <= until {
-        match ending_of(execution) {
-            Some(outcome) => return outcome_found(wanted, outcome, now),
-            None => {}
-        }
-        if left == 0 {
-            return Answer::TooLong(now);
-        }
-        let told = execution.step(steps);
-        match wanted_line(execution.image(), wanted, until, told) {
-            Some(line) => return Answer::Found(Finding::Line(line)),
-            None => {}
-        }
-        let later = time_of(execution);
-        left = left_behind(left, limit, now, later);
-        now = later;
-    }
-    Answer::Nothing
-}
-
-/// Runs an image on a schedule up to `until` (microseconds since the start), with `limit` steps at one time at most, each of which is counted, and answers
-/// whether it comes to what is wanted.
-///
-/// # Errors
-/// Where memory was refused.
-pub fn search_run<L: Ledger>(
-    alloc: Global,
-    image: &Image,
-    schedule: &Schedule,
-    until: i64,
-    limit: u64,
-    wanted: Wanted<'_>,
-    steps: &mut Steps<L>,
-) -> Result<Answer, AllocError>
-    requires { IsTrue (is_schedule schedule.now) }
-    ensures { IfOk result (AnswersRun image.now schedule.now until limit wanted.entry) }
-{
-    let mut execution: Execution<'_, RingReady, HeapDelays> = Execution::start(
-        alloc, image, schedule,
-    )?;
-    Ok(search_on(&mut execution, until, limit, wanted, steps))
 }

@@ -1,14 +1,18 @@
 //! The search through all schedules of a part of a set.
-ghost use Rattle.std.specs.Prelude.{◌≡◌, IfOk};
+ghost use Rattle.std.specs.Prelude.{◌≡◌, IfOk, IfSome, None, OnOk, true};
+ghost use Rattle.searching.specs.Following.{AreCheckpoints, AreKeptRows};
+ghost use Rattle.searching.specs.Passing.{ComesOut, MayGoOn, Through};
 ghost use Rattle.searching.specs.Searches.{FindsFirst, Searches};
 
-use crate::finding::skip_met;
-use crate::one::{Answer, search_run};
+use crate::beginning::begin;
+use crate::following::{Followed, follow};
+use crate::path::Path;
 use crate::progress::Progress;
 use crate::sight::{Finding, Wanted};
 use crate::table::Table;
 use choices::{Choice, Choices, Part};
 use clock::Schedule;
+use execution::Rooms;
 use image::Image;
 use image_laws::{lines_unread, outcome_stays};
 use kernel::laws::left_unmoved;
@@ -29,9 +33,10 @@ pub enum Searched {
 }
 
 /// Runs an image on the schedules of a part of a set, in the order of alternatives, where the first slot counts most, up to `until` (microseconds since the
-/// start) and with `limit` steps at one time at most, each of which is counted, until one reaches what is wanted. Where a run is, just before the time of some
-/// slot, in a world in which an earlier one was, schedules that differ from its own from that time on are passed over: the earlier one, continued so, has the
-/// same result. After each run it reports how far it is.
+/// start) and with `limit` steps at one time at most, each of which is counted, until one reaches what is wanted. A run goes on from the last world on the way
+/// of the run before it, before whose time both schedules have the same lines. Where a run is, just before the time of some slot, in a world in which an
+/// earlier one was, schedules that differ from its own from that time on are passed over: the earlier one, continued so, has the same result. After each run
+/// it reports how far it is.
 ///
 /// # Errors
 /// Where memory was refused.
@@ -49,38 +54,115 @@ pub fn search<P: Progress, L: Ledger>(
     ensures answer { IfOk result (Searches image.now choices.now part until limit wanted.entry) }
     ensures first { IfOk result (FindsFirst image.now choices.now part until limit wanted.entry) }
 {
-    left_unmoved();
-    outcome_stays();
-    lines_apart();
-    lines_unread();
     let mut table = Table::new(alloc, choices.slots().len())?;
+    let mut path = Path::new(alloc);
+    let mut rooms = None;
     let mut choice = Choice::first(alloc, choices)?;
     let mut runs: u64 = 0;
     let mut is_more = true;
     while is_more {
-        if choice.is_of_part(choices, part) {
-            let schedule = choice.schedule(alloc, choices)?;
-            runs = runs.saturating_add(1);
-            match search_run(alloc, image, &schedule, until, limit, wanted, steps)? {
-                Answer::Found(finding) => return Ok(Searched::Found(schedule, finding)),
-                Answer::TooLong(time) => return Ok(Searched::TooLong(schedule, time)),
-                Answer::Nothing => {}
-            }
-            skip_met(
-                alloc,
-                image,
-                choices,
-                part,
-                &mut choice,
-                until,
-                &mut table,
-                steps,
-            )?;
-        } else {
-            choice.go_to_last(choices, part.front(choices));
+        let found = pass(
+            alloc,
+            image,
+            choices,
+            part,
+            &mut choice,
+            until,
+            limit,
+            wanted,
+            &mut path,
+            &mut table,
+            &mut rooms,
+            &mut runs,
+            steps,
+        )?;
+        match found {
+            Some(searched) => return Ok(searched),
+            None => {}
         }
         is_more = choice.advance(choices);
         progress.report(choice.millionths(choices), runs, table.count());
     }
     Ok(Searched::Nothing)
+}
+
+// Runs the image on the schedule of a choice, if it is of the part. If nothing is found, the choice becomes the last one under whose schedule nothing is, by
+// this run.
+fn pass<'a, L: Ledger>(
+    alloc: Global,
+    image: &'a Image,
+    choices: &Choices,
+    part: Part,
+    choice: &mut Choice,
+    until: i64,
+    limit: u64,
+    wanted: Wanted<'_>,
+    path: &mut Path,
+    table: &mut Table,
+    rooms: &mut Option<Rooms<'a>>,
+    runs: &mut u64,
+    steps: &mut Steps<L>,
+) -> Result<Option<Searched>, AllocError>
+    requires through { Through image.now choices.now part until limit wanted true choice.old }
+    requires checkpoints { AreCheckpoints image.now choices.now until limit wanted path.old }
+    requires rows { AreKeptRows image.now choices.now part table.old }
+    requires rooms { IfSome rooms.old (λ r. r ≡ image.now) }
+    ensures found { IfOk result (λ found. IfSome found (ComesOut image.now choices.now part until limit wanted.entry)) }
+    ensures passed { IfOk result (λ found. found ≡ None → MayGoOn image.now choices.now part until limit wanted.entry choice.old choice.new) }
+    ensures checkpoints { OnOk result (AreCheckpoints image.now choices.now until limit wanted.entry path.new) }
+    ensures rows { OnOk result (AreKeptRows image.now choices.now part table.new) }
+    ensures rooms { OnOk result (IfSome rooms.new (λ r. r ≡ image.now)) }
+{
+    left_unmoved();
+    outcome_stays();
+    lines_apart();
+    lines_unread();
+    let _slots = choices.slots();
+    if !choice.is_of_part(choices, part) {
+        choice.go_to_last(choices, part.front(choices));
+        return Ok(None);
+    }
+    *runs = runs.saturating_add(1);
+    let schedule = choice.schedule(alloc, choices)?;
+    path.keep_those_of(choice);
+    let begun = begin(
+        alloc,
+        image,
+        choices,
+        choice,
+        &schedule,
+        limit,
+        path,
+        rooms.take(),
+    )?;
+    let (mut execution, midst) = begun;
+    let followed = follow(
+        alloc,
+        &mut execution,
+        choices,
+        part,
+        choice,
+        &schedule,
+        midst,
+        until,
+        limit,
+        wanted,
+        path,
+        table,
+        steps,
+    )?;
+    *rooms = Some(execution.into_rooms());
+    match followed {
+        Followed::Found(finding) => Ok(Some(Searched::Found(schedule, finding))),
+        Followed::TooLong(time) => Ok(Some(Searched::TooLong(schedule, time))),
+        Followed::Nothing => Ok(None),
+        Followed::Met(front) => {
+            choice.go_to_last(choices, front);
+            Ok(None)
+        }
+        Followed::Over(front) => {
+            choice.go_to_last(choices, front);
+            Ok(None)
+        }
+    }
 }

@@ -21,7 +21,7 @@ pub enum Effect {
     Views { object: u8 },
     /// An entry call with a closed barrier waits in the queue of the object (RM 9.5.3).
     Queues { object: u8 },
-    /// The body that the innermost action runs is left, and tells whether the barrier is open (RM 9.5.3).
+    /// The body that the innermost action runs is left, which reports whether the barrier is open (RM 9.5.3).
     Ends { is_open: bool },
     /// An exception left the task's body (RM 11.4.1).
     Dies { exception: u16 },

@@ -1,4 +1,4 @@
-//! Steps that ask the kernel, or tell it something: what may block, `delay until`, lines, input and the clock.
+//! Steps that ask the kernel, or report to it: what may block, `delay until`, lines, input and the clock.
 ghost use Rattle.std.specs.Prelude.{◌≡◌, ◌<◌, ◌≤◌, ◌+◌, ◌∷◌, ℕ, IfSome, List, None, drop, is_some, length};
 ghost use Rattle.base.specs.Exceptions.{number_of};
 ghost use Rattle.base.specs.declared.exceptions.PredefinedException.TheVariants.{ProgramError};

@@ -1,27 +1,26 @@
 -- Interrupts: which one is the next, when it comes, and what its handler is at its start and at its end (RM C.3, C.3.1).
 use Rattle.std.proofs.Common.{◌≡◌, ◌≢◌, ◌⊎◌, inl, inr, ℕ, zero, suc, ◌+◌, ◌-◌, ◌<◌, ◌≤◌, ℤ, List, [], ◌∷◌, ◌++◌, Option, Some, None, IfSome, Bool, true, false, cond, get_or, length, refl, sym, ap, ◌∙◌, subst, ⊎_elim, arith}
-use Rattle.std.proofs.Common.{append-nil, get_or-set_other, get_or-set_same, length-append, length-set, nat_lt, set, Result, Ok, Err}
+use Rattle.std.proofs.Common.{append-nil, get_or-set_other, get_or-set_same, length-append, length-set, nat_lt, set, Ok, Err}
 use Rattle.std.specs.Prelude.{slice_get, int_lt}
 use Rattle.std.proofs.lemmas.Bool.{true≢false, cases_lt, le-ltb, lt-ltb}
 use Rattle.std.proofs.lemmas.Int.{ints}
 use Rattle.std.proofs.lemmas.List.{get_or_past}
-use Rattle.base.specs.declared.limits.TheConstants.{ACTOR, CEILING, CHANNELS, OBJECTS, PRIORITIES, TASKS}
+use Rattle.base.specs.declared.limits.TheConstants.{ACTOR, CEILING, CHANNELS, PRIORITIES, TASKS}
 use Rattle.base.specs.declared.schedule.ScheduleLine.{ScheduleLine}
-use Rattle.protected.specs.Actions.{Actions, active_of, has_any, is_among, opened_by, opening, raised, with_opened}
-use Rattle.protected.specs.declared.refusal.Refusal.{Refusal as Refused}
+use Rattle.protected.specs.Actions.{Actions, has_any, is_among, opened_by, opening, raised, with_opened}
 use Rattle.protected.specs.declared.refusal.Refusal.TheVariants as refused
 use Rattle.kernel.specs.State.{raised as raised_over}
-use Rattle.kernel.specs.State.{Action, Interrupt, IsFinished, IsRunning, Kernel, Sleeper, Writes, active, actor, inside, inside_among, is_object_open, is_task, put}
+use Rattle.kernel.specs.State.{Action, Interrupt, IsFinished, IsRunning, Kernel, Sleeper, Writes, active, inside, inside_among, is_object_open, is_task, put}
 use Rattle.kernel.specs.Clock.{least, next, next_time, released, some_queued, time_moves, wakes_due, wakes_if_due}
 use Rattle.kernel.specs.Dispatching.{becomes_ready, dispatch, leaves}
 use Rattle.kernel.specs.Invariant.{AreAttached}
-use Rattle.kernel.specs.Effects.{goes_if, is_inside_any}
+use Rattle.kernel.specs.Effects.{is_inside_any}
 use Rattle.kernel.specs.Interrupts.{actor_if, delivers, interrupt_if, starts}
 use Rattle.kernel.specs.PutLaws.{eqb_other, eqb_same, put_other, put_same, same_or_not}
 use Rattle.tasking.specs.declared.reports.Kind.{Kind}
 use Rattle.tasking.specs.declared.reports.Kind.TheVariants as kinds
-use Rattle.tasking.specs.Held.{Held, actions_at, actions_of, is_handler, kernel_of, kinds_at, partition_of, pending_of, place_at, row_actions, stands_at}
-use Rattle.tasking.specs.Orderly.{AreRows, BeginsAttached, HandlesAlone, IsKeptOrderly, IsOrderly, IsTask, StandsThere, inside_of, least_of, time_ahead}
+use Rattle.tasking.specs.Held.{Held, actions_at, actions_of, is_handler, kernel_of, kinds_at, partition_of, pending_of, row_actions, stands_at}
+use Rattle.tasking.specs.Orderly.{BeginsAttached, HandlesAlone, IsKeptOrderly, IsOrderly, StandsThere, inside_of, least_of, time_ahead}
 use Rattle.tasking.proofs.Actions.{any_is, opened_is}
 use Rattle.tasking.proofs.Moved.{no_handler, rows_same, stand_beyond, stand_task}
 use Rattle.tasking.proofs.Objects.{index_beyond, none_at, paired_put, seen_at, short_put}

@@ -6,6 +6,7 @@ mod Lines
 mod Moved
 mod Moves
 mod Objects
+mod Pausing
 mod Places
 mod Standing
 mod Starting

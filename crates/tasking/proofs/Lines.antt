@@ -6,8 +6,8 @@ use Rattle.kernel.specs.State.{Interrupt, Kernel, Line, Sleeper, Action, Reads, 
 use Rattle.kernel.specs.Dispatching.{becomes_ready, dispatch, dispatch_from, highest, leaves, preempted, preempts, runs_from, runs_head}
 use Rattle.kernel.specs.Clock.{clock, clock_from, falls_asleep, next, released, time_moves, wakes_due, wakes_if_due}
 use Rattle.kernel.specs.Interrupts.{delivers, starts}
-use Rattle.kernel.specs.Effects.{Effect, Quiet, Finishes, Breaks, Says, Delays, Opens, Views, Queues, Ends, Dies, effect, ending_of, ends, goes_if, is_over, outer_of, service}
-use Rattle.kernel.specs.Invariant.{Kept, Settled, Sound}
+use Rattle.kernel.specs.Effects.{Quiet, Finishes, Breaks, Says, Delays, Opens, Views, Queues, Ends, Dies, effect, ending_of, ends, goes_if, is_over, outer_of, service}
+use Rattle.kernel.specs.Invariant.{Sound}
 use Rattle.tasking.specs.Laws.{KeptWithLines, LinesApart}
 
 abbrev with : List Line → Kernel → Kernel

@@ -1,5 +1,5 @@
 -- The tasks due: the walk over all sleepers, against those that wake and those that sleep on.
-use Rattle.std.proofs.Common.{◌≡◌, ℕ, ◌+◌, ◌<◌, ◌≤◌, ℤ, List, [], ◌∷◌, ◌++◌, Some, None, Bool, true, false, not, cond, drop, filter, get_or, length, map}
+use Rattle.std.proofs.Common.{◌≡◌, ℕ, ◌+◌, ◌<◌, ◌≤◌, ℤ, List, [], ◌∷◌, ◌++◌, Some, Bool, true, false, not, cond, drop, filter, get_or, length, map}
 use Rattle.std.proofs.Common.{refl, sym, ap, ◌∙◌, subst, arith, append-nil, append_assoc, drop-cons, add-one}
 use Rattle.std.specs.Prelude.{int_le, int_lt, nat_eq}
 use Rattle.std.proofs.lemmas.Int.{ints}
@@ -7,10 +7,10 @@ use Rattle.base.specs.declared.limits.TheConstants.{PRIORITIES}
 use Rattle.clock.specs.declared.delays.Sleeper.{Sleeper as Row}
 use Rattle.clock.specs.Sleepers.{due as due_rows, is_due, least as least_of_rows, least_wake, number_of, waiting as waiting_rows, wake_of}
 use Rattle.kernel.specs.State.{Kernel, IsFinished, IsReady, Sleeper, active}
-use Rattle.kernel.specs.Dispatching.{becomes_ready, dispatch, leaves}
+use Rattle.kernel.specs.Dispatching.{becomes_ready, leaves}
 use Rattle.kernel.specs.Effects.{Delays as DelaysUntil, effect}
 use Rattle.std.proofs.lemmas.List.{drop_all}
-use Rattle.kernel.specs.Clock.{falls_asleep, least, released, time_moves, wakes_due}
+use Rattle.kernel.specs.Clock.{falls_asleep, least, released, wakes_due}
 use Rattle.kernel.specs.Invariant.{count, naps}
 use Rattle.kernel.specs.PutLaws.{eqb_same, put_put}
 use Rattle.tasking.specs.Held.{Held, kernel_of, sleeper_of, sleepers_of}

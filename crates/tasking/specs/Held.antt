@@ -1,6 +1,6 @@
 -- What the kernel's code holds, seen as the kernel. Beyond the tasks stand the actors of handlers, of which one at most is there, in a row of its own behind
 -- those of tasks; beyond the objects ceilings are 0.
-use Rattle.std.specs.Prelude.{ℕ, zero, suc, ◌+◌, ℤ, List, [], ◌∷◌, ◌++◌, length, map, get_or, Bool, false, nat_eq, nat_lt, Option, Some, None, if◌then◌else◌}
+use Rattle.std.specs.Prelude.{ℕ, zero, suc, ℤ, List, [], ◌∷◌, ◌++◌, length, map, get_or, Bool, false, nat_eq, nat_lt, Option, Some, None, if◌then◌else◌}
 use Rattle.base.specs.declared.limits.TheConstants.{CEILING, PRIORITIES, TASKS}
 use Rattle.base.specs.declared.schedule.ScheduleLine.{ScheduleLine}
 use Rattle.clock.specs.declared.delays.Sleeper.{Sleeper as Row}

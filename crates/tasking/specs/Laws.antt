@@ -1,7 +1,7 @@
 -- What a caller needs who keeps the lines: they matter to nothing, as statements for contracts.
 use Rattle.std.specs.Prelude.{◌≡◌, ℕ, ℤ, List, [], ◌∷◌, ◌++◌, Bool}
 use Rattle.kernel.specs.State.{Kernel, Line}
-use Rattle.kernel.specs.Effects.{Effect, Quiet, Finishes, Breaks, Says, Delays, Opens, Views, Queues, Ends, Dies, after}
+use Rattle.kernel.specs.Effects.{Effect, Says, after}
 use Rattle.kernel.specs.Invariant.{Kept}
 
 -- the lines that an effect of task t adds at a time

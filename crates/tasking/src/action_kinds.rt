@@ -51,3 +51,37 @@ pub(crate) fn innermost_kind(
 {
     kinds[row].last().copied()
 }
+
+// Copies of the kinds of all rows.
+pub(crate) fn copied_kinds(
+    kinds: &[ArrayVec<Kind, OBJECTS>; TASKS + 1],
+) -> [ArrayVec<Kind, OBJECTS>; TASKS + 1]
+    ensures { map (λ l. l.items) result ≡ map (λ l. l.items) kinds.now }
+{
+    let mut copies: [ArrayVec<Kind, OBJECTS>; TASKS + 1] = Default::default();
+    for row in 0..TASKS + 1 {
+        put_kinds(&mut copies, row, kinds[row].as_slice());
+    }
+    copies
+}
+
+// The kinds of a row become these.
+fn put_kinds(kinds: &mut [ArrayVec<Kind, OBJECTS>; TASKS + 1], row: usize, list: &[Kind])
+    requires row { row ≤ TASKS }
+    requires few { length list.now ≤ OBJECTS }
+    ensures { map (λ l. l.items) kinds.new ≡ set (map (λ l. l.items) kinds.old) row list.now }
+{
+    kinds[row] = copied(list);
+}
+
+// Kinds in a fixed list.
+fn copied(kinds: &[Kind]) -> ArrayVec<Kind, OBJECTS>
+    requires { length kinds.now ≤ OBJECTS }
+    ensures { result.items ≡ kinds.now }
+{
+    let mut list = ArrayVec::new();
+    for kind in kinds {
+        list.push(*kind);
+    }
+    list
+}

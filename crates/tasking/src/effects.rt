@@ -59,7 +59,7 @@ impl<'a, R: Ready, D: Delays> Tasking<'a, R, D> {
         self.settle();
     }
 
-    /// The body that the running task's innermost action runs is left, and tells whether the barrier is open then. The action is closed;
+    /// The body that the running task's innermost action runs is left, which reports whether the barrier is open then. The action is closed;
     /// or it goes on with the entry body for the queued call; or it is closed and the caller that it has served is ready (RM 9.5.3).
     pub fn end_action(&mut self, task: u8, is_open: bool) -> Ended
         requires running { self.old.running ≡ Some task }

@@ -4,9 +4,11 @@
 mod action_kinds;
 mod effects;
 pub mod laws;
+mod pause;
 mod reports;
 mod tasking;
 
+pub use pause::Pause;
 pub use protected::Refusal;
 pub use reports::{Ended, Ending, Outcome, Place};
 pub use tasking::{ACTORS, Attached, Tasking};

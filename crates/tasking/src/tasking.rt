@@ -9,11 +9,12 @@ ghost use Rattle.kernel.specs.Effects.{begin, blank, call_refusal, is_above_ceil
 ghost use Rattle.kernel.specs.Effects.{Delays as DelaysUntil, effect, ending_of, ends, goes_if, outer_of, queues, takes_over, with_actions};
 ghost use Rattle.kernel.specs.Invariant.{AreAttached, Fits};
 ghost use Rattle.protected.specs.Actions.{IsTaskOrHandler};
-ghost use Rattle.tasking.specs.Held.{action_of, ending_as, index_in, innermost, kernel_of, outcome_of, partition_of, pending_of, place_of, refused_as, sleepers_of, some_action, some_outcome};
+ghost use Rattle.tasking.specs.Held.{action_of, ending_as, index_in, innermost, kernel_of, lists_below, outcome_of, partition_of, pending_of, place_of, refused_as, sleepers_of, some_action, some_outcome};
 ghost use Rattle.tasking.specs.Waits.{wake_time};
 ghost use Rattle.tasking.specs.Orderly.{AreAwoken, BeginsAttached, IsNowhere, IsOfObject, IsOrderly, IsTask, StandsThere, MayEnd, due, inside_of, is_above, is_gone, least_of, time_ahead, waiting};
 
-use crate::action_kinds::{close_kind, innermost_kind, open_kind, serve_kind};
+use crate::action_kinds::{close_kind, copied_kinds, innermost_kind, open_kind, serve_kind};
+use crate::pause::Pause;
 use crate::reports::{Ending, Kind, Outcome, Place};
 use arrayvec::ArrayVec;
 use base::ScheduleLine;
@@ -98,6 +99,18 @@ fn attached_count(attached: &Attached, lines: &[ScheduleLine]) -> usize
     count
 }
 
+// These tasks sleep.
+fn sleeping<D: Delays>(sleepers: &[Sleeper]) -> D
+    requires { length sleepers.now ≤ TASKS }
+    ensures { D.sleepers result ≡ sleepers.now }
+{
+    let mut delays = D::new();
+    for sleeper in sleepers {
+        delays.add(sleeper.task, sleeper.wake);
+    }
+    delays
+}
+
 impl<'a, R: Ready, D: Delays> Tasking<'a, R, D> {
     /// The tasks and objects with these base and ceiling priorities at time 0: all tasks are ready in order of declaration, and dispatched (RM 9.2, H.6). The
     /// lines of a schedule are interrupts where their channel has a handler (RM C.3).
@@ -146,6 +159,69 @@ impl<'a, R: Ready, D: Delays> Tasking<'a, R, D> {
         }
     }
 
+    /// A copy without the interrupts that are pending, if no task is ready and there is no outcome.
+    pub fn pause(&self) -> Option<Pause>
+        ensures kernel { IfSome result (λ pause. kernel_of pause ≡ record (kernel_of self.now) { pending = [] }) }
+        ensures handler { IfSome result (λ pause. pause.handler ≡ self.now.handler) }
+    {
+        if self.is_idle() {
+            Some(self.copied())
+        } else {
+            None
+        }
+    }
+
+    // Whether no task is ready and there is no outcome.
+    fn is_idle(&self) -> bool
+        ensures outcome { result ≡ true → self.now.outcome ≡ None }
+        ensures ready { result ≡ true → self.now.ready ≡ lists_below PRIORITIES (λ p. []) }
+    {
+        match self.outcome {
+            Some(_) => false,
+            None => self.ready.highest().is_none(),
+        }
+    }
+
+    // A copy without the interrupts that are pending.
+    fn copied(&self) -> Pause
+        requires outcome { self.now.outcome ≡ None }
+        requires ready { self.now.ready ≡ lists_below PRIORITIES (λ p. []) }
+        ensures kernel { kernel_of result ≡ record (kernel_of self.now) { pending = [] } }
+        ensures handler { result.handler ≡ self.now.handler }
+    {
+        Pause {
+            running: self.running,
+            handler: self.handler,
+            sleepers: self.delays.in_order(),
+            objects: self.objects.copy(),
+            kinds: copied_kinds(&self.kinds),
+            places: self.places,
+            time: self.time,
+        }
+    }
+
+    /// What there is a copy of, with these lines of a schedule as pending interrupts where their channel has a handler (RM C.3).
+    pub fn resume(pause: &Pause, attached: Attached, lines: &'a [ScheduleLine]) -> Self
+        requires channels { length attached ≤ CHANNELS + 1 }
+        requires attached { AreAttached (kernel_of pause.now).partition (pending_of attached lines.now) }
+        ensures kernel { kernel_of result ≡ record (kernel_of pause.now) { pending = pending_of attached lines.now } }
+        ensures handler { result.handler ≡ pause.now.handler }
+    {
+        Tasking {
+            running: pause.running,
+            handler: pause.handler,
+            ready: R::new(),
+            delays: sleeping(pause.sleepers.as_slice()),
+            objects: pause.objects.copy(),
+            kinds: copied_kinds(&pause.kinds),
+            places: pause.places,
+            time: pause.time,
+            outcome: None,
+            attached,
+            ahead: lines,
+        }
+    }
+
     /// Whether a number is a task's.
     pub fn is_task(&self, task: u8) -> bool
         ensures { result ≡ is_task (kernel_of self.now).partition task }
@@ -176,7 +252,7 @@ impl<'a, R: Ready, D: Delays> Tasking<'a, R, D> {
         }
     }
 
-    /// The number by which a task, or the handler that runs, is told: that of the handler is 255 (RM C.3.1).
+    /// The number by which a task, or the handler that runs, is reported: that of the handler is 255 (RM C.3.1).
     pub fn told(&self, task: u8) -> u8
         ensures told { result ≡ told (kernel_of self.now).partition task }
         ensures one { IsTaskOrHandler self.now.objects result }
@@ -184,7 +260,7 @@ impl<'a, R: Ready, D: Delays> Tasking<'a, R, D> {
         if self.is_task(task) { task } else { ACTOR }
     }
 
-    /// Who is told by a number, if there is one: a task, or by 255 the handler that runs.
+    /// Who is reported by a number, if there is one: a task, or by 255 the handler that runs.
     pub fn asked(&self, number: u8) -> Option<u8>
         ensures same { result ≡ asked (kernel_of self.now) number }
         ensures there { IfSome result (λ t. StandsThere (kernel_of self.now) t) }

@@ -1,4 +1,4 @@
-use Rattle.std.proofs.Common.{◌≡◌, ◌∙◌, None, Some, ap, length, rules, sym}
+use Rattle.std.proofs.Common.{◌≡◌, ◌∙◌, None, Some, ap, rules, sym}
 use Rattle.processor.specs.Decoding.{words_in}
 use Rattle.task_steps.specs.Acting.{solo_in}
 use Rattle.task_steps.specs.Foreseen.{foreseen}

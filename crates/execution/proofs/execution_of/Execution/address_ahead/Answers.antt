@@ -1,4 +1,4 @@
-use Rattle.std.proofs.Common.{◌≡◌, None, Some, sym, ap, ◌∙◌}
+use Rattle.std.proofs.Common.{None, Some, sym, ap, ◌∙◌}
 use Rattle.image.specs.Code.{CodeWorld}
 use Rattle.execution.specs.Ahead.{address_by}
 use Rattle.execution.specs.Held.{HeldWorld, tasks_of, world_of}

@@ -1,4 +1,4 @@
-use Rattle.std.proofs.Common.{◌≡◌, None, Some, sym, ap, ◌∙◌}
+use Rattle.std.proofs.Common.{None, sym, ap, ◌∙◌}
 use Rattle.image.specs.Code.{CodeWorld}
 use Rattle.kernel.specs.Worlds.{solo_of}
 use Rattle.task_steps.specs.Raised.{raising_ahead}

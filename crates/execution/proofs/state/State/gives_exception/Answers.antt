@@ -1,4 +1,4 @@
-use Rattle.std.proofs.Common.{◌≡◌, Some, get_or, length, length-set, sym, ap, ◌∙◌}
+use Rattle.std.proofs.Common.{◌≡◌, Some, get_or, length-set, sym, ap, ◌∙◌}
 use Rattle.std.specs.Prelude.{slice_set}
 use Rattle.image.specs.Code.{initial_state}
 use Rattle.image.specs.Frames.{TaskState}

@@ -1,4 +1,4 @@
-use Rattle.std.proofs.Common.{◌+◌, ◌-◌, ◌<◌, ◌≤◌, [], ◌∷◌, ◌++◌, length, take, drop, replicate, pos, sym, ap, subst, ◌∙◌, arith}
+use Rattle.std.proofs.Common.{◌-◌, ◌<◌, ◌≤◌, [], ◌∷◌, ◌++◌, length, take, drop, replicate, pos, sym, ap, subst, ◌∙◌, arith}
 use Rattle.image.specs.Frames.{arguments}
 use Rattle.processor.specs.Layout.{AreStacked, HeaderStack, RowWords, TaskRow, frame_in, frames_in, role_of}
 use Rattle.processor.specs.declared.header.Header.{Header}

@@ -1,4 +1,4 @@
-use Rattle.std.proofs.Common.{◌+◌, ◌-◌, ◌<◌, ◌≤◌, ◌∷◌, ◌++◌, pos, replicate, length, length-append, take, sym, ap, subst, ◌∙◌, arith}
+use Rattle.std.proofs.Common.{◌-◌, ◌<◌, ◌≤◌, ◌∷◌, ◌++◌, pos, replicate, length, length-append, take, sym, ap, subst, ◌∙◌, arith}
 use Rattle.processor.specs.Layout.{AreStacked, HeaderStack, RowWords}
 use Rattle.processor.specs.declared.header.Header.{Header}
 use Rattle.processor.specs.declared.task_state.TheConstants.{CALLERS}

@@ -1,4 +1,4 @@
-use Rattle.std.proofs.Common.{IfSome, None, Some, cond, nat_eq, ap, sym, ◌∙◌}
+use Rattle.std.proofs.Common.{None, Some, cond, nat_eq, ap, sym, ◌∙◌}
 use Rattle.std.proofs.lemmas.Bool.{eq-eqb}
 use Rattle.base.specs.declared.limits.TheConstants.{ACTOR}
 use Rattle.kernel.specs.Interrupts.{actor_if}

@@ -1,4 +1,4 @@
-use Rattle.std.proofs.Common.{◌≡◌, ◌+◌, ◌∷◌, Some, None, arith, ap, get_or, length, map, subst, sym, ◌∙◌}
+use Rattle.std.proofs.Common.{◌+◌, Some, None, arith, ap, get_or, length, map, subst, sym, ◌∙◌}
 use Rattle.std.specs.Prelude.{int_lt}
 use Rattle.tasking.specs.Held.{kernel_of}
 use Rattle.tasking.specs.Orderly.{IsKeptOrderly}

@@ -3,7 +3,6 @@ use Rattle.std.specs.Prelude.{int_lt}
 use Rattle.std.specs.List.{IsFirstAndRest}
 use Rattle.std.specs.Option.{MatchOption}
 use Rattle.kernel.specs.Interrupts.{delivers}
-use Rattle.tasking.specs.Held.{kernel_of}
 use Rattle.tasking.proofs.Delivering.{early_is, first_line, none_pending, none_there}
 use Rattle.tasking.proofs.tasking.Tasking.deliver.Goals as goal
 

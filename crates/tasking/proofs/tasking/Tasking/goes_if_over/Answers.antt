@@ -2,7 +2,6 @@ use Rattle.std.proofs.Common.{inr, not, ap, sym, ◌∙◌}
 use Rattle.std.specs.Prelude.{◌&&◌}
 use Rattle.kernel.specs.Effects.{goes_if, is_inside_any}
 use Rattle.kernel.specs.Interrupts.{delivers}
-use Rattle.kernel.specs.State.{is_task}
 use Rattle.tasking.specs.Held.{kernel_of}
 use Rattle.tasking.proofs.Delivering.{nothing_inside, runs_as_handler}
 use Rattle.tasking.proofs.Moves.{seen}

@@ -1,4 +1,4 @@
-use Rattle.std.proofs.Common.{IfSome, Some, subst}
+use Rattle.std.proofs.Common.{IfSome, subst}
 use Rattle.tasking.specs.Held.{kernel_of}
 use Rattle.tasking.specs.Orderly.{StandsThere}
 use Rattle.tasking.proofs.Delivering.{handler_there}

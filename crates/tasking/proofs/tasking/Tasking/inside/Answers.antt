@@ -1,5 +1,5 @@
 use Rattle.std.proofs.Common.{◌++◌, ◌∷◌, [], ap, sym, ◌∙◌}
-use Rattle.kernel.specs.State.{inside_among, is_object_open}
+use Rattle.kernel.specs.State.{inside_among}
 use Rattle.tasking.specs.Held.{kernel_of}
 use Rattle.tasking.proofs.Delivering.{inside_is, one_more}
 use Rattle.tasking.proofs.Moves.{seen}

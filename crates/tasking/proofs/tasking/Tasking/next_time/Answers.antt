@@ -1,7 +1,6 @@
 use Rattle.std.proofs.Common.{ap, sym, ◌∙◌}
 use Rattle.std.specs.Option.{option_copied}
 use Rattle.kernel.specs.Clock.{next}
-use Rattle.tasking.specs.Held.{kernel_of}
 use Rattle.tasking.proofs.Delivering.{first_line, first_slice, none_first}
 use Rattle.tasking.proofs.tasking.Tasking.next_time.Goals as goal
 

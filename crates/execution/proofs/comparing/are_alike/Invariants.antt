@@ -1,9 +1,0 @@
-use Rattle.std.proofs.Common.{◌≡◌, ◌-◌, ◌≤◌, length, take}
-use Rattle.execution.specs.Held.{tasks_in}
-use Rattle.execution.proofs.comparing.are_alike.Given as goal
-
-abbrev pub invariant-loop-at : goal.invariant-loop-at
-invariant-loop-at l = (tasks_in (take l.at l.rows) ≡ tasks_in (take l.at l.others)) × (length l.rows ≡ length l.others)
-
-abbrev pub decreases-loop-at : goal.decreases-loop-at
-decreases-loop-at l = length l.rows - l.at

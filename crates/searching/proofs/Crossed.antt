@@ -1,0 +1,179 @@
+-- Where the step of a run passes the time of slots from a world that a row has, the run has met that of the row.
+use Rattle.std.proofs.Common.{◌≡◌, ℕ, zero, suc, ◌+◌, ◌-◌, ◌<◌, ◌≤◌, ℤ, List, [], ◌∷◌, ◌++◌, Option, Some, None, true, drop, get_or, length, set, take, refl, sym, ap, subst, ◌∙◌, arith, rules}
+use Rattle.std.proofs.lemmas.Int.{ints}
+use Rattle.std.specs.Prelude.{IfSome, ◌<ℤ◌, int_le, int_lt, nat_le}
+use Rattle.std.proofs.lemmas.Bool.{and_parts}
+use Rattle.base.specs.Schedule.{input}
+use Rattle.base.specs.declared.limits.TheConstants.{CHANNELS}
+use Rattle.base.specs.declared.schedule.ScheduleLine.{ScheduleLine}
+use Rattle.choices.specs.Parts.{front_of, is_of_part}
+use Rattle.choices.specs.Places.{AreWithin}
+use Rattle.choices.specs.Slots.{Slot}
+use Rattle.choices.specs.declared.part.Part.{Part}
+use Rattle.image.specs.Sections.{Sections}
+use Rattle.tasking.specs.Held.{kernel_of}
+use Rattle.tasking.specs.Orderly.{time_ahead}
+use Rattle.execution.specs.Held.{HeldWorld, world_of}
+use Rattle.likeness.specs.Schedules.{AgreeAt}
+use Rattle.likeness.specs.Worlds.{IsEarly, IsLastBefore, NoneSooner}
+use Rattle.searching.specs.Following.{AreCheckpoints, AreKeptRows, AreValues, CrossesAt, CrossesFrom, HasMetAfter, HasMetQuietly, IsCheckpoint, IsMomentOf, IsRow, IsSeenIn, IsSomeRow, KeptCheckpoint, KeptMoment, KeptRow, MeetsRow, NoneBefore, Standing, StepsOn}
+use Rattle.searching.specs.Meeting.{MeetThere, StandsAfter, schedule_of}
+use Rattle.searching.specs.declared.sight.Wanted.{Wanted}
+use Rattle.searching.proofs.Alike.{worlds_like}
+use Rattle.searching.proofs.Reaching.{has_met}
+
+some_same : {X : Type 0} (x y : X) → Some x ≡ Some y → x ≡ y
+some_same x y e = search (rules, e)
+
+pub is_lt : (a b : ℤ) → a <ℤ b → int_lt a b ≡ true
+is_lt a b h = grind (arith, ints)
+
+-- the next interrupt isn't sooner
+none_sooner : (time : ℤ) (h : HeldWorld) (next : Option ℤ) → next ≡ time_ahead (kernel_of h.tasking).pending → NoneBefore time next → NoneSooner time (world_of h)
+none_sooner time h None e n x xs is = absurd (let bad = e ∙ ap time_ahead is in cc)
+none_sooner time h (Some next) e n x xs is = subst (λ z. int_le time z ≡ true) (some_same next x.time (e ∙ ap time_ahead is)) n
+
+-- equal values of the channels are equal inputs
+agree_by : (r s : List ScheduleLine) (now : ℤ) (values others : List ℤ) → AreValues r now values → AreValues s now others → others ≡ values → AgreeAt r s now
+agree_by r s now values others a b same channel known =
+    let both = and_parts (nat_le 1 channel) (nat_le channel CHANNELS) known in
+    let low : 1 ≤ channel = search (rules, both.0) in
+    let high : channel ≤ CHANNELS = search (rules, both.1) in
+    let place = channel - 1 in
+    let lt : place < CHANNELS = omega (arith, low, high) in
+    let is : place + 1 ≡ channel = omega (arith, low) in
+    subst (λ c. input r c now ≡ input s c now) is
+    (sym (a.each place now lt) ∙ (ap (λ l. get_or l place now) (sym same) ∙ b.each place now lt))
+
+module _ (slots : List Slot) (part : Part) (places : List ℕ) (h : HeldWorld) (n : ℕ) (next : HeldWorld) (m : KeptMoment)
+    (from : CrossesFrom slots part places h n next m) (front : ℕ) (time : ℤ) (at : CrossesAt slots m next front time) where
+  pub early_there : IsEarly time (world_of h).kernel
+  early_there = record {
+    now = subst (λ z. int_lt z time ≡ true) from.moment.seen.time at.early;
+    on = from.moment.seen.on;
+  }
+
+  pub none_there : NoneSooner time (world_of h)
+  none_there = none_sooner time h m.next from.moment.next at.none
+
+  pub meets : (r : KeptRow) (last : ℤ) (values : List ℤ) → IsRow h.image slots part r → IsLastBefore last time
+      → AreValues (schedule_of slots places) last values → MeetsRow r places front time values m.world → front_of part slots ≤ front
+      → HasMetAfter h.image slots part places n front
+  meets r last values row is_last own met no_less =
+      let there = subst (λ z. IsLastBefore last z) (sym met.time_is) is_last in
+      let meeting : MeetThere time h row.held next = record {
+        before = early_there;
+        alike = worlds_like h row.held m.world r.world (sym row.stands.image) from.moment.seen row.seen met.like;
+        none = none_there;
+        none_other = subst (λ z. NoneSooner z (world_of row.held)) met.time_is row.none;
+        blind = from.moment.blind;
+        lines = from.lines;
+        leads = from.leads;
+        crossed = at.crossed;
+      } in
+      let all =
+      has_met h.image slots front time last r.choice places row.steps n h row.held next at.parted is_last row.within met.order
+      (agree_by (schedule_of slots places) (schedule_of slots r.choice) last values r.values own (row.values last there) met.values_are) from.stands row.stands
+      meeting in
+      record { earlier = r.choice; time = time; last = last; steps = row.steps; met = all; is_of = row.is_of; no_less = no_less }
+
+  -- the world is kept as a row
+  pub row_of_it : (digested : KeptRow) (last : ℤ) (values : List ℤ) → digested.time ≡ time → digested.choice ≡ places → digested.values ≡ values
+      → digested.world ≡ m.world → IsLastBefore last time → AreValues (schedule_of slots places) last values → IsRow h.image slots part digested
+  row_of_it r last values time_is choice_is values_are world_is is_last own = record {
+    held = h;
+    steps = n;
+    within = subst (AreWithin slots) (sym choice_is) from.within;
+    is_of = subst (λ c. is_of_part part slots c ≡ true) (sym choice_is) from.is_of;
+    stands = subst (λ c. StandsAfter n h.image (schedule_of slots c) h) (sym choice_is) from.stands;
+    seen = subst (IsSeenIn h) (sym world_is) from.moment.seen;
+    none = subst (λ z. NoneSooner z (world_of h)) (sym time_is) none_there;
+    values =
+        λ other before.
+        subst (λ c. AreValues (schedule_of slots c) other r.values) (sym choice_is)
+        (subst (AreValues (schedule_of slots places) other) (sym values_are)
+        (subst (λ z. AreValues (schedule_of slots places) z values) (one_last last other is_last (subst (IsLastBefore other) time_is before)) own));
+  }
+    where
+      -- there is one last time before another
+      one_last : (a b : ℤ) → IsLastBefore a time → IsLastBefore b time → a ≡ b
+      one_last a b x y = both a b (y.all a x.early) (x.all b y.early)
+        where
+          both : (a b : ℤ) → int_le a b ≡ true → int_le b a ≡ true → a ≡ b
+          both a b h i = grind (arith, ints)
+
+-- ---- the step of a run on the way of a search
+
+module _ (slots : List Slot) (part : Part) (places : List ℕ) (until : ℤ) (limit : ℕ) (wanted : Wanted) (h : HeldWorld) (now : ℤ) (left : ℕ) (next : HeldWorld) where
+  pub crosses_from : (m : KeptMoment) (s : StepsOn slots part places until limit wanted h now left next) → IsMomentOf h m
+      → CrossesFrom slots part places h s.stands.n next m
+  crosses_from m s moment = record {
+    within = s.within;
+    is_of = s.is_of;
+    stands = record { image = refl; schedule_is = s.stands.schedule_is; stands = s.stands.stands };
+    moment = moment;
+    lines = s.lines;
+    leads = s.leads;
+  }
+
+  -- so far nothing was found
+  pub met_quietly : (s : StepsOn slots part places until limit wanted h now left next) (met : Option ℕ)
+      → IfSome met (HasMetAfter h.image slots part places s.stands.n) → IfSome met (HasMetQuietly h.image slots part until wanted places)
+  met_quietly s None is = tt
+  met_quietly s (Some front) is = record { n = s.stands.n; met = is; none = s.stands.none }
+
+-- the world of a moment is kept as a checkpoint
+pub checkpoint_of : (slots : List Slot) (until : ℤ) (limit : ℕ) (wanted : Wanted) (places : List ℕ) (h : HeldWorld) (m : KeptMoment) (now : ℤ) (left : ℕ)
+    (next : HeldWorld) (front : ℕ) (time : ℤ) → IsMomentOf h m → AreWithin slots places → Standing h.image (schedule_of slots places) until limit wanted h now left
+    → CrossesAt slots m next front time
+    → IsCheckpoint h.image slots until limit wanted (record { choice = places; front = front; time = time; left = left; world = m.world; pause = m.pause })
+checkpoint_of slots until limit wanted places h m now left next front time is within stands at = record {
+  held = h;
+  stands = subst (λ z. Standing h.image (schedule_of slots places) until limit wanted h z left) (stands.now_is ∙ sym is.seen.time) stands;
+  seen = is.seen;
+  pause = is.pause;
+  within = within;
+  parted = at.parted;
+  early = record { now = subst (λ z. int_lt z time ≡ true) is.seen.time at.early; on = is.seen.on };
+  none = none_sooner time h m.next is.next at.none;
+}
+
+-- ---- rows and checkpoints among others
+
+pub row_at : (i : Sections) (slots : List Slot) (part : Part) (rows : List (Option KeptRow)) (place : ℕ) → AreKeptRows i slots part rows
+    → IsSomeRow i slots part (get_or rows place None)
+row_at i slots part [] place all = tt
+row_at i slots part (r ∷ rows) zero all = all.0
+row_at i slots part (r ∷ rows) (suc place) all = row_at i slots part rows place all.1
+
+pub row_set : (i : Sections) (slots : List Slot) (part : Part) (rows : List (Option KeptRow)) (place : ℕ) (r : KeptRow) → AreKeptRows i slots part rows
+    → IsRow i slots part r → AreKeptRows i slots part (set rows place (Some r))
+row_set i slots part [] place r all is = tt
+row_set i slots part (x ∷ rows) zero r all is = (is, all.1)
+row_set i slots part (x ∷ rows) (suc place) r all is = (all.0, row_set i slots part rows place r all.1 is)
+
+pub rows_with : (i : Sections) (slots : List Slot) (part : Part) (rows : List (Option KeptRow)) → AreKeptRows i slots part rows
+    → AreKeptRows i slots part (rows ++ None ∷ [])
+rows_with i slots part [] all = (tt, tt)
+rows_with i slots part (r ∷ rows) all = (all.0, rows_with i slots part rows all.1)
+
+module _ (i : Sections) (slots : List Slot) (until : ℤ) (limit : ℕ) (wanted : Wanted) where
+  pub checkpoint_at : (cs : List KeptCheckpoint) (place : ℕ) (d : KeptCheckpoint) → place < length cs → AreCheckpoints i slots until limit wanted cs
+      → IsCheckpoint i slots until limit wanted (get_or cs place d)
+  checkpoint_at [] place d lt all = absurd (omega (arith, lt))
+  checkpoint_at (c ∷ cs) zero d lt all = all.0
+  checkpoint_at (c ∷ cs) (suc place) d lt all = checkpoint_at cs place d (omega (arith, lt)) all.1
+
+  pub checkpoints_taken : (count : ℕ) (cs : List KeptCheckpoint) → AreCheckpoints i slots until limit wanted cs → AreCheckpoints i slots until limit wanted (take count cs)
+  checkpoints_taken zero cs all = tt
+  checkpoints_taken (suc count) [] all = tt
+  checkpoints_taken (suc count) (c ∷ cs) all = (all.0, checkpoints_taken count cs all.1)
+
+  pub checkpoints_behind : (cs : List KeptCheckpoint) → AreCheckpoints i slots until limit wanted cs → AreCheckpoints i slots until limit wanted (drop 1 cs)
+  checkpoints_behind [] all = tt
+  checkpoints_behind (c ∷ cs) all = all.1
+
+  pub checkpoints_both : (cs ds : List KeptCheckpoint) → AreCheckpoints i slots until limit wanted cs → AreCheckpoints i slots until limit wanted ds
+      → AreCheckpoints i slots until limit wanted (cs ++ ds)
+  checkpoints_both [] ds all more = more
+  checkpoints_both (c ∷ cs) ds all more = (all.0, checkpoints_both cs ds all.1 more)

@@ -1,0 +1,31 @@
+use Rattle.std.proofs.Common.{◌≡◌, subst, sym}
+use Rattle.std.specs.Prelude.{IfSome}
+use Rattle.tasking.specs.Held.{kernel_of}
+use Rattle.searching.specs.Following.{Standing}
+use Rattle.searching.proofs.beginning.begin.Goals as goal
+
+pub returns-in_default-clause-stands : goal.returns-in_default-clause-stands
+returns-in_default-clause-stands c = λ until wanted all. c.in_ok-begun.ensures.stands until wanted
+
+pub returns-in_default-last_for-clause-stands : goal.returns-in_default-last_for-clause-stands
+returns-in_default-last_for-clause-stands c = λ until wanted all. c.in_ok-begun-2.ensures.stands until wanted
+
+pub resume-execution-requires-clause-rooms : goal.resume-execution-requires-clause-rooms
+resume-execution-requires-clause-rooms c = subst (λ o. IfSome o (λ r. r ≡ c.args.image.now)) c.in-Some.is c.requires.rooms
+
+pub resume-execution-requires-clause-on_way : goal.resume-execution-requires-clause-on_way
+resume-execution-requires-clause-on_way c = c.in-Some-last_for.ensures.on_way
+
+pub resume-execution-requires-clause-checkpoint : goal.resume-execution-requires-clause-checkpoint
+resume-execution-requires-clause-checkpoint c =
+    let x = c.requires.checkpoints in (
+      x.0,
+      x.1,
+      c.in-Some-last_for.ensures.kept c.args.image.now c.args.choices.now x.0 c.args.limit x.1 x.2,
+    )
+
+pub returns-clause-stands : goal.returns-clause-stands
+returns-clause-stands c = λ until wanted all.
+    let h = c.resume-execution.result in
+    subst (λ n. Standing c.args.image.now c.args.schedule.now until c.args.limit wanted h (kernel_of h.tasking).now n) (sym c.left-left.ensures)
+    (c.resume-execution.ensures.stands until wanted (c.in-Some-last_for.ensures.kept c.args.image.now c.args.choices.now until c.args.limit wanted all))

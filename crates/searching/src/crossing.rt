@@ -1,0 +1,229 @@
+//! Passing the times of slots: whether the run on a choice has met an earlier one.
+ghost use Rattle.std.specs.Prelude.{◌≡◌, ◌<◌, ℕ, ℤ, IfOk, IfSome, OnOk, length, true};
+ghost use Rattle.choices.specs.Places.{AreWithin};
+ghost use Rattle.execution.specs.Held.{HeldWorld};
+ghost use Rattle.searching.specs.Following.{AreCheckpoints, AreKeptRows, AreValues, CrossesAt, CrossesFrom, HasMetAfter, HasMetQuietly, IsMomentOf, Standing, StepsOn};
+ghost use Rattle.searching.specs.Meeting.{schedule_of};
+ghost use Rattle.searching.specs.declared.sight.Wanted.{Wanted as Asked};
+
+use crate::moment::Moment;
+use crate::parting::{has_come_to, last_before, parting_time};
+use crate::path::{Checkpoint, Path};
+use crate::table::{Row, Table};
+use base::limits::CHANNELS;
+use choices::{Choice, Choices, Part, Slot};
+use clock::{Delays, Schedule};
+use dispatch::Ready;
+use execution::Execution;
+use processor::digest_with;
+use std::alloc::{AllocError, Global};
+
+/// The number of first slots with which the run on a choice has met an earlier one, where its last step may have passed the times of the slots from `front` to
+/// `passed`. If it has met none, the world before the step is kept for later runs, to be met and to go on from.
+///
+/// # Errors
+/// Where memory was refused.
+pub(crate) fn cross<R: Ready, D: Delays>(
+    alloc: Global,
+    execution: &Execution<'_, '_, R, D>,
+    choices: &Choices,
+    part: Part,
+    choice: &Choice,
+    schedule: &Schedule,
+    moment: Option<Moment>,
+    front: usize,
+    passed: usize,
+    left: u64,
+    path: &mut Path,
+    table: &mut Table,
+) -> Result<Option<usize>, AllocError>
+    requires schedule { schedule.now ≡ schedule_of choices.now choice.now }
+    ensures met { (h : HeldWorld) (until : ℤ) (limit : ℕ) (wanted : Asked) (now : ℤ)
+        → StepsOn choices.now part choice.now until limit wanted h now left execution.now → IfSome moment (IsMomentOf h)
+        → AreKeptRows h.image choices.now part table.old → IfOk result (λ met. IfSome met (HasMetQuietly h.image choices.now part until wanted choice.now)) }
+    ensures checkpoints { (h : HeldWorld) (until : ℤ) (limit : ℕ) (wanted : Asked) (now : ℤ)
+        → StepsOn choices.now part choice.now until limit wanted h now left execution.now → IfSome moment (IsMomentOf h)
+        → AreCheckpoints h.image choices.now until limit wanted path.old → OnOk result (AreCheckpoints h.image choices.now until limit wanted path.new) }
+    ensures rows { (h : HeldWorld) (until : ℤ) (limit : ℕ) (wanted : Asked) (now : ℤ)
+        → StepsOn choices.now part choice.now until limit wanted h now left execution.now → IfSome moment (IsMomentOf h)
+        → AreKeptRows h.image choices.now part table.old → OnOk result (AreKeptRows h.image choices.now part table.new) }
+{
+    let Some(moment) = moment else {
+        return Ok(None);
+    };
+    if passed <= front {
+        return Ok(None);
+    }
+    let met = meet_among(
+        alloc, execution, choices, part, choice, schedule, &moment, front, passed, table,
+    )?;
+    if met.is_some() {
+        return Ok(met);
+    }
+    keep_checkpoint(alloc, execution, choices, choice, moment, front, left, path)?;
+    Ok(None)
+}
+
+// The number of first slots with which the run has met one that the table has; if it has met none, the table keeps its world.
+fn meet_among<R: Ready, D: Delays>(
+    alloc: Global,
+    execution: &Execution<'_, '_, R, D>,
+    choices: &Choices,
+    part: Part,
+    choice: &Choice,
+    schedule: &Schedule,
+    moment: &Moment,
+    front: usize,
+    passed: usize,
+    table: &mut Table,
+) -> Result<Option<usize>, AllocError>
+    requires schedule { schedule.now ≡ schedule_of choices.now choice.now }
+    ensures met { (h : HeldWorld) (n : ℕ) → CrossesFrom choices.now part choice.now h n execution.now moment.now
+        → AreKeptRows h.image choices.now part table.old
+        → IfOk result (λ met. IfSome met (HasMetAfter h.image choices.now part choice.now n)) }
+    ensures rows { (h : HeldWorld) (n : ℕ) → CrossesFrom choices.now part choice.now h n execution.now moment.now
+        → AreKeptRows h.image choices.now part table.old
+        → OnOk result (AreKeptRows h.image choices.now part table.new) }
+{
+    let slots = choices.slots();
+    let last = passed.min(slots.len());
+    let digest = moment.world().digest();
+    let mut at = front;
+    while at < last {
+        let met = is_met(
+            alloc, execution, choices, part, choice, schedule, moment, at, digest, table,
+        )?;
+        if met {
+            return Ok(Some(at));
+        }
+        at = next_time(slots, at);
+    }
+    Ok(None)
+}
+
+// Whether the run has met one that the table has with the same first slots; if not, the table keeps its world.
+fn is_met<R: Ready, D: Delays>(
+    alloc: Global,
+    execution: &Execution<'_, '_, R, D>,
+    choices: &Choices,
+    part: Part,
+    choice: &Choice,
+    schedule: &Schedule,
+    moment: &Moment,
+    front: usize,
+    digest: u64,
+    table: &mut Table,
+) -> Result<bool, AllocError>
+    requires schedule { schedule.now ≡ schedule_of choices.now choice.now }
+    ensures met { (h : HeldWorld) (n : ℕ) → CrossesFrom choices.now part choice.now h n execution.now moment.now
+        → AreKeptRows h.image choices.now part table.old
+        → IfOk result (λ met. met ≡ true → HasMetAfter h.image choices.now part choice.now n front) }
+    ensures rows { (h : HeldWorld) (n : ℕ) → CrossesFrom choices.now part choice.now h n execution.now moment.now
+        → AreKeptRows h.image choices.now part table.old
+        → OnOk result (AreKeptRows h.image choices.now part table.new) }
+{
+    if front < part.front(choices) {
+        return Ok(false);
+    }
+    if !choice.is_first_after(front) {
+        return Ok(false);
+    }
+    let Some(time) = crossed_time(execution, choices, moment, front) else {
+        return Ok(false);
+    };
+    let last = last_before(time);
+    let values = values_at(alloc, schedule, last)?;
+    let own = digest_with(digest_of_values(digest, &values), front as u64);
+    if table.has_met(own, choice, front, time, &values, moment.world()) {
+        return Ok(true);
+    }
+    let row = Row::new(alloc, own, front, time, choice, values, moment.world())?;
+    table.keep(row);
+    Ok(false)
+}
+
+// The time of the slot after the first `front` ones, if the step has led from a world before it, with no interrupt sooner, to it or past it.
+fn crossed_time<R: Ready, D: Delays>(
+    execution: &Execution<'_, '_, R, D>,
+    choices: &Choices,
+    moment: &Moment,
+    front: usize,
+) -> Option<i64>
+    ensures { IfSome result (CrossesAt choices.now moment.now execution.now front) }
+{
+    let time = parting_time(choices.slots(), front)?;
+    if time <= moment.world().time() {
+        return None;
+    }
+    if moment.is_interrupted_before(time) {
+        return None;
+    }
+    if !has_come_to(execution, time) {
+        return None;
+    }
+    Some(time)
+}
+
+// Keeps the world of a moment for runs on later choices to go on from, if it stands before the times of the slots after the first `front` ones.
+fn keep_checkpoint<R: Ready, D: Delays>(
+    alloc: Global,
+    execution: &Execution<'_, '_, R, D>,
+    choices: &Choices,
+    choice: &Choice,
+    moment: Moment,
+    front: usize,
+    left: u64,
+    path: &mut Path,
+) -> Result<(), AllocError>
+    ensures { (h : HeldWorld) (until : ℤ) (limit : ℕ) (wanted : Asked) (now : ℤ)
+        → IsMomentOf h moment → AreWithin choices.now choice.now → Standing h.image (schedule_of choices.now choice.now) until limit wanted h now left
+        → AreCheckpoints h.image choices.now until limit wanted path.old → OnOk result (AreCheckpoints h.image choices.now until limit wanted path.new) }
+{
+    if !choice.is_first_after(front) {
+        return Ok(());
+    }
+    if path.front() == Some(front) {
+        return Ok(());
+    }
+    let Some(time) = crossed_time(execution, choices, &moment, front) else {
+        return Ok(());
+    };
+    let checkpoint = Checkpoint::new(alloc, choice, front, time, left, moment)?;
+    path.push(checkpoint)?;
+    Ok(())
+}
+
+// The values of all channels at a time.
+fn values_at(alloc: Global, schedule: &Schedule, now: i64) -> Result<Vec<i64>, AllocError>
+    ensures { IfOk result (λ values. AreValues schedule.now now values.items) }
+{
+    let mut values = Vec::new(alloc);
+    let mut channel = 0;
+    while channel < CHANNELS {
+        channel += 1;
+        values.push(schedule.value(channel, now))?;
+    }
+    Ok(values)
+}
+
+// A digest with these values.
+fn digest_of_values(first: u64, values: &[i64]) -> u64 {
+    let mut digest = first;
+    for value in values {
+        digest = digest_with(digest, value.cast_unsigned());
+    }
+    digest
+}
+
+// The first slot after this one that has another time.
+fn next_time(slots: &[Slot], front: usize) -> usize
+    requires { front < length slots.now }
+    ensures { front < result }
+{
+    let time = slots[front].time();
+    let mut at = front + 1;
+    while at < slots.len() && slots[at].time() == time {
+        at += 1;
+    }
+    at
+}

@@ -1,0 +1,133 @@
+//! Worlds just before a step that may be the last one before the clock moves on.
+ghost use Rattle.std.specs.Prelude.{◌≡◌, IfOk, IfSome, false, true};
+ghost use Rattle.execution.specs.Held.{world_of};
+ghost use Rattle.likeness.specs.Schedules.{reads_input};
+ghost use Rattle.likeness.specs.Worlds.{ReadsNothing};
+ghost use Rattle.searching.specs.Following.{IsMomentOf, NoneBefore};
+
+use crate::world::World;
+use clock::Delays;
+use dispatch::Ready;
+use execution::Execution;
+use image::Operation;
+use std::alloc::{AllocError, Global};
+use std::marker::Model;
+use tasking::Pause;
+
+/// A world in which a run is, a copy of its tasks and objects, and the time of its next interrupt, before a step that reads no input.
+#[derive(Drop)]
+pub(crate) struct Moment {
+    world: World,
+    pause: Pause,
+    next: Option<i64>,
+}
+
+impl Model for Moment {
+    ghost use Rattle.searching.specs.Following.{KeptMoment};
+
+    ghost Value = { KeptMoment };
+
+    ghost view = { λ m. record { world = m.world; pause = m.pause; next = m.next } };
+
+    ghost invariant = { λ m. Unit {0} };
+}
+
+impl Moment {
+    /// The world in which a run is, if its next step may be the last one before the clock moves on: no task is ready, and the step may leave the processor.
+    ///
+    /// # Errors
+    /// Where memory was refused.
+    pub(crate) fn of<R: Ready, D: Delays>(
+        alloc: Global,
+        execution: &Execution<'_, '_, R, D>,
+    ) -> Result<Option<Moment>, AllocError>
+        ensures { IfOk result (λ moment. IfSome moment (IsMomentOf execution.now)) }
+    {
+        if !may_leave(execution) {
+            return Ok(None);
+        }
+        let world = World::of(alloc, execution)?;
+        let Some(world) = world else {
+            return Ok(None);
+        };
+        let tasking = execution.tasking();
+        let Some(pause) = tasking.pause() else {
+            return Ok(None);
+        };
+        let next = tasking.next_interrupt();
+        Ok(Some(Moment { world, pause, next }))
+    }
+
+    /// The world.
+    pub(crate) fn world(&self) -> &World
+        ensures { result.now ≡ self.now.world }
+    {
+        &self.world
+    }
+
+    /// The world, and the copy of its tasks and objects.
+    pub(crate) fn into_parts(self) -> (World, Pause)
+        ensures world { result.0 ≡ self.world }
+        ensures pause { result.1 ≡ self.pause }
+    {
+        let Moment {
+            world,
+            pause,
+            next: _,
+        } = self;
+        (world, pause)
+    }
+
+    /// Whether an interrupt is pending that comes before a time.
+    pub(crate) fn is_interrupted_before(&self, time: i64) -> bool
+        ensures { result ≡ false → NoneBefore time self.now.next }
+    {
+        match self.next {
+            None => false,
+            Some(next) => next < time,
+        }
+    }
+}
+
+// Whether the next step is one by which a task or a handler may leave the processor. Such a step reads no input.
+fn may_leave<R: Ready, D: Delays>(execution: &Execution<'_, '_, R, D>) -> bool
+    ensures { result ≡ true → ReadsNothing execution.now.image (world_of execution.now) }
+{
+    let Some(address) = execution.address_ahead() else {
+        return false;
+    };
+    match execution.image().instructions().get(usize::from(address)) {
+        None => true,
+        Some(instruction) => {
+            if is_input(instruction.operation) {
+                false
+            } else {
+                leaves(
+                    instruction.operation,
+                    execution.tasking().handler().is_some(),
+                )
+            }
+        }
+    }
+}
+
+// Whether an operation reads an input.
+fn is_input(operation: Operation) -> bool
+    ensures { result ≡ reads_input operation }
+{
+    match operation {
+        Operation::ReadInput => true,
+        _ => false,
+    }
+}
+
+// Whether a task or a handler may leave the processor by an operation: it delays, its call waits, or the handler ends. Where a task ends, the next delay or
+// call of another one serves as well.
+fn leaves(operation: Operation, is_handler_there: bool) -> bool {
+    match operation {
+        Operation::DelayUntil => true,
+        Operation::EntryCall(_) => true,
+        Operation::Return => is_handler_there,
+        _ => false,
+    }
+}
