@@ -6,6 +6,8 @@ _adarun() {
         mapfile -t COMPREPLY < <(compgen -W "simulate check go trace search compile list run explain manual version" -- "$word")
     elif [ "${COMP_WORDS[1]}" = trace ] && [ "$COMP_CWORD" = 2 ] && [[ $word == -* ]]; then
         COMPREPLY=(--vcd)
+    elif [[ ${COMP_WORDS[1]} = simulate || ${COMP_WORDS[1]} = trace ]] && [ "$COMP_CWORD" -gt 2 ] && [[ $word == -* ]]; then
+        COMPREPLY=(--until)
     elif [ "${COMP_WORDS[1]}" = search ] && [ "$COMP_CWORD" = 6 ]; then
         mapfile -t COMPREPLY < <(compgen -W "unhandled waits line --part" -- "$word")
     elif [ "${COMP_WORDS[1]}" = search ] && [ "$COMP_CWORD" -gt 6 ] && [[ $word == -* ]]; then

@@ -1,5 +1,5 @@
 -- What the work over files leaves.
-use Rattle.std.proofs.Common.{◌≡◌, ◌<◌, ℕ, arith, List, length, Option, Bool, true, false, cond, inr, refl, sym, ap, subst, Ok, Err}
+use Rattle.std.proofs.Common.{◌≡◌, ◌<◌, ℕ, ℤ, arith, List, length, Option, Bool, true, false, cond, inr, refl, sym, ap, subst, Ok, Err}
 use Rattle.std.specs.Prelude.{◌⊎◌, nat_eq}
 use denote.Enum.Declared.{tag_of}
 use Rattle.compiler.specs.stmt_code.specs.declared.tables.PlaceRow.{PlaceRow}
@@ -7,6 +7,8 @@ use Rattle.base.specs.declared.faults.TheConstants.{MEMORY_REFUSED}
 use Rattle.base.specs.declared.schedule.ScheduleLine.{ScheduleLine}
 use Rattle.image.specs.Sections.{Sections}
 use Rattle.lexer.specs.declared.fault.Fault.{Fault}
+use Rattle.machine.specs.declared.bound.Bound.{Bound}
+use Rattle.machine.specs.declared.bound.Cut.{Cut}
 use Rattle.machine.specs.declared.reports.Outcome.{Outcome}
 use Rattle.machine.specs.declared.reports.Outcome.TheVariants as outcomes
 use Rattle.file_limits.specs.declared.TheConstants.{IMAGE_BYTES, SCHEDULE_BYTES, SOURCE_BYTES}
@@ -21,9 +23,10 @@ use Rattle.command_line.specs.declared.WordsError.TheVariants.{Usage}
 use Rattle.adarun.specs.Accepted.{RefusesText}
 use Rattle.adarun.specs.Headline.{Runs}
 use Rattle.adarun.specs.Stopping.{RefusesRunning}
-use Rattle.adarun.specs.Driving.{HasLoaded, HasRun, HasRunImage, HasTraced, KeepsSink, LeavesGo, LeavesRun, LeavesTrace, status_of, text_of}
+use Rattle.adarun.specs.Driving.{HasLoaded, HasRun, HasRunImage, HasRunUntil, HasTraced, KeepsSink, LeavesGo, LeavesRun, LeavesTrace, LeavesUntil, number_of, status_of, text_of}
 use Rattle.adarun.specs.Origins.{origin_in}
 use Rattle.adarun.specs.Reading.{Contents, IsBeginningRead}
+use Rattle.adarun.specs.Timed.{WritesItsMeaningUntil}
 use Rattle.adarun.specs.declared.going.GoFault.{GoFault}
 use Rattle.adarun.specs.declared.going.GoFault.TheVariants as faults
 use Rattle.adarun.specs.contracts.program.Status as status_type
@@ -156,29 +159,76 @@ asked_nothing command error is answers = sym (subst (λ e. AnswersWords command 
 
 -- ---- `trace`: what is told of equal names and texts is the same
 
-pub told_alike : (form : TraceForm) (W : List ℕ → Type 0) (image : Sections) (places : List PlaceRow) (lines : List ScheduleLine) (limit : ℕ)
+pub told_alike : (form : TraceForm) (W : List ℕ → Type 0) (image : Sections) (places : List PlaceRow) (lines : List ScheduleLine) (bound : Bound)
     → (lent names : List (List ℕ)) (shown text : List ℕ) → lent ≡ names → shown ≡ text
-    → W (text_of form image lent (origin_in shown places) lines limit) → W (text_of form image names (origin_in text places) lines limit)
-told_alike form W image places lines limit lent names shown text same_names same_text told =
-    subst (λ n. W (text_of form image n (origin_in text places) lines limit)) same_names
-    (subst (λ t. W (text_of form image lent (origin_in t places) lines limit)) same_text told)
+    → W (text_of form image lent (origin_in shown places) lines bound) → W (text_of form image names (origin_in text places) lines bound)
+told_alike form W image places lines bound lent names shown text same_names same_text told =
+    subst (λ n. W (text_of form image n (origin_in text places) lines bound)) same_names
+    (subst (λ t. W (text_of form image lent (origin_in t places) lines bound)) same_text told)
 
 -- a schedule that is refused leaves what it leaves to `go`
 
-module _ (form : TraceForm) (contents : Contents) (source schedule : List ℕ) (limit : ℕ) (old new : Option (List ℕ)) where
-  pub unscheduled_trace : (b : Bool) (status : Status) → status ≡ cond b NoMemory ScheduleRefused → LeavesGo contents source (contents schedule) limit status old new → LeavesTrace form contents source schedule limit status old new
-  unscheduled_trace true status e h = subst (λ s. LeavesTrace form contents source schedule limit s old new) (sym e) (subst (λ s. LeavesGo contents source (contents schedule) limit s old new) e h)
-  unscheduled_trace false status e h = subst (λ s. LeavesTrace form contents source schedule limit s old new) (sym e) (subst (λ s. LeavesGo contents source (contents schedule) limit s old new) e h)
+module _ (form : TraceForm) (contents : Contents) (source schedule : List ℕ) (until : Option ℤ) (limit : ℕ) (old new : Option (List ℕ)) where
+  pub unscheduled_trace : (b : Bool) (status : Status) → status ≡ cond b NoMemory ScheduleRefused → LeavesGo contents source (contents schedule) limit status old new → LeavesTrace form contents source schedule until limit status old new
+  unscheduled_trace true status e h = subst (λ s. LeavesTrace form contents source schedule until limit s old new) (sym e) (subst (λ s. LeavesGo contents source (contents schedule) limit s old new) e h)
+  unscheduled_trace false status e h = subst (λ s. LeavesTrace form contents source schedule until limit s old new) (sym e) (subst (λ s. LeavesGo contents source (contents schedule) limit s old new) e h)
 
-  has_traced : (outcome : Outcome) → HasTraced form contents source schedule limit (status_of outcome) old new → LeavesTrace form contents source schedule limit (status_of outcome) old new
+  has_traced : (outcome : Outcome) → HasTraced form contents source schedule until limit (status_of outcome) old new → LeavesTrace form contents source schedule until limit (status_of outcome) old new
   has_traced (outcomes.Ended time) h = h
   has_traced (outcomes.Unhandled exception task time) h = h
   has_traced (outcomes.WaitsForever time) h = h
   has_traced (outcomes.StepLimit time) h = h
   has_traced (outcomes.ImageFault time) h = h
 
-  pub trace_leaves : (status : Status) (outcome : Outcome) → status ≡ status_of outcome → HasTraced form contents source schedule limit (status_of outcome) old new → LeavesTrace form contents source schedule limit status old new
-  trace_leaves status outcome e h = subst (λ s. LeavesTrace form contents source schedule limit s old new) (sym e) (has_traced outcome h)
+  pub trace_leaves : (status : Status) (outcome : Outcome) → status ≡ status_of outcome → HasTraced form contents source schedule until limit (status_of outcome) old new → LeavesTrace form contents source schedule until limit status old new
+  trace_leaves status outcome e h = subst (λ s. LeavesTrace form contents source schedule until limit s old new) (sym e) (has_traced outcome h)
+
+-- ---- `simulate` up to a time: a text or a schedule that is refused leaves what it leaves to `go`
+
+module _ (contents : Contents) (source : List ℕ) (known : Option (List ℕ)) (until : ℤ) (limit : ℕ) (old new : Option (List ℕ)) where
+  pub refused_until : (b : Bool) (status : Status) → status ≡ cond b NoMemory SourceRefused → LeavesGo contents source known limit status old new → LeavesUntil contents source known until limit status old new
+  refused_until true status e h = subst (λ s. LeavesUntil contents source known until limit s old new) (sym e) (subst (λ s. LeavesGo contents source known limit s old new) e h)
+  refused_until false status e h = subst (λ s. LeavesUntil contents source known until limit s old new) (sym e) (subst (λ s. LeavesGo contents source known limit s old new) e h)
+
+  pub unscheduled_until : (b : Bool) (status : Status) → status ≡ cond b NoMemory ScheduleRefused → LeavesGo contents source known limit status old new → LeavesUntil contents source known until limit status old new
+  unscheduled_until true status e h = subst (λ s. LeavesUntil contents source known until limit s old new) (sym e) (subst (λ s. LeavesGo contents source known limit s old new) e h)
+  unscheduled_until false status e h = subst (λ s. LeavesUntil contents source known until limit s old new) (sym e) (subst (λ s. LeavesGo contents source known limit s old new) e h)
+
+  has_run_until : (outcome : Outcome) → HasRunUntil contents source known until limit (status_of outcome) old new → LeavesUntil contents source known until limit (status_of outcome) old new
+  has_run_until (outcomes.Ended time) h = h
+  has_run_until (outcomes.Unhandled exception task time) h = h
+  has_run_until (outcomes.WaitsForever time) h = h
+  has_run_until (outcomes.StepLimit time) h = h
+  has_run_until (outcomes.ImageFault time) h = h
+
+  pub until_leaves : (status : Status) (cut : Cut) (outcome : Outcome) (text lent given input : List ℕ)
+      → status ≡ status_of outcome → IsBeginningRead (contents source) SOURCE_BYTES text → lent ≡ text → IsBeginningRead known SCHEDULE_BYTES given → input ≡ given
+      → WritesItsMeaningUntil lent input until limit cut outcome old new → LeavesUntil contents source known until limit status old new
+  until_leaves status cut outcome text lent given input e read same read_too same_too means =
+      subst (λ s. LeavesUntil contents source known until limit s old new) (sym e)
+      (has_run_until outcome (record {
+        text = lent;
+        source_read = source_whole (contents source) text lent same means.tree read means.accepted.is_tree;
+        input = input;
+        input_read = schedule_whole known given input same_too means.schedule read_too means.is_schedule;
+        cut = cut;
+        outcome = outcome;
+        status_is = refl;
+        meaning = means;
+      }))
+
+-- the tag of a status is its number
+pub numbered_as : (status : Status) → tag_of status_type.the_type status ≡ number_of status
+numbered_as statuses.Done = refl
+numbered_as statuses.Failed = refl
+numbered_as statuses.SourceRefused = refl
+numbered_as statuses.Unhandled = refl
+numbered_as statuses.WaitsForever = refl
+numbered_as statuses.StepLimit = refl
+numbered_as statuses.ImageFault = refl
+numbered_as statuses.ScheduleRefused = refl
+numbered_as statuses.NoMemory = refl
+numbered_as statuses.LineFound = refl
 
 -- where the status has the number 1, the sink is as it was, or a write failed
 pub failed : (status : Status) (Same : Type 0) (before after : ℕ) → KeepsSink status Same before after → tag_of status_type.the_type status ≡ 1

@@ -7,6 +7,7 @@ mod CodeTold
 mod Named
 mod Reported
 mod Running
+mod WithinTime
 mod Searching
 mod FirstFound
 mod Driving

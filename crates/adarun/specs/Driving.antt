@@ -22,8 +22,11 @@ use Rattle.image_loading.specs.Loaded.{IsLoaded}
 use Rattle.image_loading.specs.Loading.{image_fault}
 use Rattle.image.specs.Sections.{Sections}
 use Rattle.image.specs.declared.fault.ImageFault as refused
+use Rattle.machine.specs.Bounds.{IsBound}
 use Rattle.machine.specs.Stands.{EndsBy}
 use Rattle.machine.specs.Written.{AppendsBeginning}
+use Rattle.machine.specs.declared.bound.Bound.{Bound}
+use Rattle.machine.specs.declared.bound.Cut.{Cut}
 use Rattle.machine.specs.declared.reports.Outcome.{Outcome}
 use Rattle.machine.specs.declared.reports.Outcome.TheVariants as outcomes
 use Rattle.searching.specs.declared.sight.Wanted.{Wanted}
@@ -31,7 +34,7 @@ use Rattle.searching.specs.declared.sight.Wanted.TheVariants as sights
 use Rattle.tracing.specs.Traces.{trace_text}
 use Rattle.tracing.specs.declared.origin.Origin.{Origin}
 use Rattle.waveforms.specs.Waves.{waves_text}
-use Rattle.command_line.specs.Words.{CheckText, Command, CompileText, DumpText, ExplainFault, ExplainText, GoText, ListImage, Nothing, RunImage, ShowManual, ShowVersion, SearchText, SimulateText, TraceText, asked, is_told}
+use Rattle.command_line.specs.Words.{CheckText, Command, CompileText, DumpText, DumpUntil, ExplainFault, ExplainText, GoText, ListImage, Nothing, RunImage, ShowManual, ShowVersion, SearchText, SimulateText, SimulateUntil, TraceText, TraceUntil, asked, is_told}
 use Rattle.command_line.specs.Words as words_of
 use Rattle.adarun.specs.Accepted.{Compiles, RefusesText}
 use Rattle.adarun.specs.CodeTold.{IsCodeTold}
@@ -42,6 +45,7 @@ use Rattle.adarun.specs.Reading.{Contents, IsBeginningRead, IsContentRead, with_
 use Rattle.adarun.specs.Searching.{BeginsReport, WritesReport}
 use Rattle.adarun.specs.Stopping.{HasImage}
 use Rattle.adarun.specs.TextFaults.{AreTextFaults}
+use Rattle.adarun.specs.Timed.{WritesBeginningUntil, WritesItsMeaningUntil}
 use Rattle.adarun.specs.Reporting.{IsFaultReport}
 use Rattle.compiler.specs.expr_rules.specs.Faults.{Faults}
 use Rattle.adarun.specs.declared.exploring.SearchOutcome.{SearchOutcome}
@@ -124,6 +128,36 @@ LeavesGo contents source given limit NoMemory old new = new ≡ old
 LeavesGo contents source given limit Failed old new = (new ≡ old) ⊎ HasBegun contents source given limit old new
 LeavesGo contents source given limit status old new = HasRun contents source given limit status old new
 
+-- ---- `simulate` up to a time
+
+-- both texts were read, and the run of the source under the schedule has written what the source means up to the time, with an outcome of this status
+pub record HasRunUntil (contents : Contents) (source : List ℕ) (given : Option (List ℕ)) (until : ℤ) (limit : ℕ) (status : Status)
+    (old new : Option (List ℕ)) : Type 0 where
+  pub text : List ℕ
+  pub source_read : IsContentRead (contents source) text
+  pub input : List ℕ
+  pub input_read : IsContentRead given input
+  pub cut : Cut
+  pub outcome : Outcome
+  pub status_is : status ≡ status_of outcome
+  pub meaning : WritesItsMeaningUntil text input until limit cut outcome old new
+
+-- both files were read, and the source's run up to the time was begun, of which a beginning was written
+pub record HasBegunUntil (contents : Contents) (source : List ℕ) (given : Option (List ℕ)) (until : ℤ) (limit : ℕ) (old new : Option (List ℕ)) : Type 0 where
+  pub text : List ℕ
+  pub source_read : IsContentRead (contents source) text
+  pub input : List ℕ
+  pub input_read : IsContentRead given input
+  pub begins : WritesBeginningUntil text input until limit old new
+
+-- what it wrote to standard output, by the exit status
+abbrev pub LeavesUntil : Contents → List ℕ → (given : Option (List ℕ)) → (until : ℤ) → ℕ → Status → Option (List ℕ) → Option (List ℕ) → Type 0
+LeavesUntil contents source given until limit SourceRefused old new = HasRefusedSource contents source old new
+LeavesUntil contents source given until limit ScheduleRefused old new = HasRefusedSchedule contents source given old new
+LeavesUntil contents source given until limit NoMemory old new = new ≡ old
+LeavesUntil contents source given until limit Failed old new = (new ≡ old) ⊎ HasBegunUntil contents source given until limit old new
+LeavesUntil contents source given until limit status old new = HasRunUntil contents source given until limit status old new
+
 -- what the file of a schedule has, as far as it is known; without one the schedule is empty
 abbrev pub input_of : Contents → Option (List ℕ) → Option (List ℕ)
 input_of contents None = Some []
@@ -131,9 +165,9 @@ input_of contents (Some name) = contents name
 
 -- ---- `trace`
 
--- in which form a run is told, by its image, the names of its objects, where its instructions come from, its schedule and its limit: rows, or a value change
+-- in which form a run is told, by its image, the names of its objects, where its instructions come from, its schedule and its bound: rows, or a value change
 -- dump
-abbrev pub text_of : TraceForm → Sections → List (List ℕ) → (origin : ℕ → Option Origin) → List ScheduleLine → ℕ → List ℕ
+abbrev pub text_of : TraceForm → Sections → List (List ℕ) → (origin : ℕ → Option Origin) → List ScheduleLine → Bound → List ℕ
 text_of forms.Rows = trace_text
 text_of forms.Dump = λ i objects origin. waves_text i objects
 
@@ -144,9 +178,10 @@ pub record HasSchedule (contents : Contents) (name : List ℕ) : Type 0 where
   pub lines : List ScheduleLine
   pub is_schedule : schedules.IsScheduleText input lines
 
--- The source was read and compiled, the second file is a schedule, and the trace of the image's run was written in this form, with an outcome of this status.
+-- The source was read and compiled, the second file is a schedule, and the trace of the image's run, up to a time if one is given, was written in this form,
+-- with an outcome of this status.
 -- Objects have their names in the source, and an instruction comes from the line and the column of the innermost statement whose code it is.
-pub record HasTraced (form : TraceForm) (contents : Contents) (source schedule : List ℕ) (limit : ℕ) (status : Status)
+pub record HasTraced (form : TraceForm) (contents : Contents) (source schedule : List ℕ) (until : Option ℤ) (limit : ℕ) (status : Status)
     (old new : Option (List ℕ)) : Type 0 where
   pub text : List ℕ
   pub source_read : IsContentRead (contents source) text
@@ -155,13 +190,16 @@ pub record HasTraced (form : TraceForm) (contents : Contents) (source schedule :
   pub given : HasSchedule contents schedule
   pub places : List PlaceRow
   pub placed : PlacesTell compiles.tree image places
+  pub bound : Bound
+  pub bounded : IsBound image given.lines until limit bound
   pub outcome : Outcome
   pub status_is : status ≡ status_of outcome
-  pub written : Appends old new (text_of form image (object_names compiles.tree) (origin_in text places) given.lines limit)
-  pub ends : EndsBy outcome (code image given.lines limit)
+  pub written : Appends old new (text_of form image (object_names compiles.tree) (origin_in text places) given.lines bound)
+  pub ends : EndsBy outcome (code image given.lines bound.steps)
 
 -- a beginning of that trace was written
-pub record HasBegunTrace (form : TraceForm) (contents : Contents) (source schedule : List ℕ) (limit : ℕ) (old new : Option (List ℕ)) : Type 0 where
+pub record HasBegunTrace (form : TraceForm) (contents : Contents) (source schedule : List ℕ) (until : Option ℤ) (limit : ℕ)
+    (old new : Option (List ℕ)) : Type 0 where
   pub text : List ℕ
   pub source_read : IsContentRead (contents source) text
   pub image : Sections
@@ -169,15 +207,18 @@ pub record HasBegunTrace (form : TraceForm) (contents : Contents) (source schedu
   pub given : HasSchedule contents schedule
   pub places : List PlaceRow
   pub placed : PlacesTell compiles.tree image places
-  pub begins : AppendsBeginning old new (text_of form image (object_names compiles.tree) (origin_in text places) given.lines limit)
+  pub bound : Bound
+  pub bounded : IsBound image given.lines until limit bound
+  pub begins : AppendsBeginning old new (text_of form image (object_names compiles.tree) (origin_in text places) given.lines bound)
 
 -- what `trace` wrote to standard output, by the exit status
-abbrev pub LeavesTrace : TraceForm → Contents → List ℕ → List ℕ → ℕ → Status → Option (List ℕ) → Option (List ℕ) → Type 0
-LeavesTrace form contents source schedule limit SourceRefused old new = HasRefusedSource contents source old new
-LeavesTrace form contents source schedule limit ScheduleRefused old new = HasRefusedSchedule contents source (contents schedule) old new
-LeavesTrace form contents source schedule limit NoMemory old new = new ≡ old
-LeavesTrace form contents source schedule limit Failed old new = (new ≡ old) ⊎ HasBegunTrace form contents source schedule limit old new
-LeavesTrace form contents source schedule limit status old new = HasTraced form contents source schedule limit status old new
+abbrev pub LeavesTrace : TraceForm → Contents → (source schedule : List ℕ) → (until : Option ℤ) → (limit : ℕ) → Status → Option (List ℕ) → Option (List ℕ)
+    → Type 0
+LeavesTrace form contents source schedule until limit SourceRefused old new = HasRefusedSource contents source old new
+LeavesTrace form contents source schedule until limit ScheduleRefused old new = HasRefusedSchedule contents source (contents schedule) old new
+LeavesTrace form contents source schedule until limit NoMemory old new = new ≡ old
+LeavesTrace form contents source schedule until limit Failed old new = (new ≡ old) ⊎ HasBegunTrace form contents source schedule until limit old new
+LeavesTrace form contents source schedule until limit status old new = HasTraced form contents source schedule until limit status old new
 
 -- ---- images
 
@@ -479,15 +520,21 @@ LeavesWritten (RunImage image schedule limit) standard_input before after status
 LeavesWritten (GoText source schedule limit) standard_input before after status old new = AreFilesKept before after
     × LeavesGo before source (before schedule) limit status old new
 LeavesWritten (TraceText source schedule limit) standard_input before after status old new = AreFilesKept before after
-    × LeavesTrace forms.Rows before source schedule limit status old new
+    × LeavesTrace forms.Rows before source schedule None limit status old new
 LeavesWritten (DumpText source schedule limit) standard_input before after status old new = AreFilesKept before after
-    × LeavesTrace forms.Dump before source schedule limit status old new
+    × LeavesTrace forms.Dump before source schedule None limit status old new
+LeavesWritten (TraceUntil source schedule limit until) standard_input before after status old new = AreFilesKept before after
+    × LeavesTrace forms.Rows before source schedule (Some until) limit status old new
+LeavesWritten (DumpUntil source schedule limit until) standard_input before after status old new = AreFilesKept before after
+    × LeavesTrace forms.Dump before source schedule (Some until) limit status old new
 LeavesWritten (ExplainFault number) standard_input before after status old new = AreFilesKept before after × LeavesExplain number status old new
 LeavesWritten (ExplainText number source) standard_input before after status old new = AreFilesKept before after
     × LeavesExplainText before source number status old new
 LeavesWritten (CheckText source) standard_input before after status old new = AreFilesKept before after × (new ≡ old)
 LeavesWritten (SimulateText source schedule limit) standard_input before after status old new = AreFilesKept before after
     × LeavesGo (with_input standard_input before) source (input_of before schedule) limit status old new
+LeavesWritten (SimulateUntil source schedule limit until) standard_input before after status old new = AreFilesKept before after
+    × LeavesUntil (with_input standard_input before) source (input_of before schedule) until limit status old new
 LeavesWritten (SearchText source choices until limit sought part is_quiet) standard_input before after status old new = AreFilesKept before after
     × LeavesSearch (with_input standard_input before) source (before choices) until limit sought part status old new
 LeavesWritten ShowManual standard_input before after status old new = AreFilesKept before after × LeavesShown MANUAL.now status old new
@@ -513,7 +560,7 @@ number_of NoMemory = 8
 number_of LineFound = 9
 
 -- Words behind `search` and `trace --vcd`, and words of which none begins with `-`, ask for what the table of commands says, or memory was refused as they were
--- read. What other words ask for is tested.
+-- read; so do these with `--until` and its word at their end, of `simulate` and `trace`. What other words ask for is tested.
 abbrev pub IsAskedFor : List (List ℕ) → Command → Status → Type 0
 IsAskedFor words work status = is_told words ≡ true → (work ≡ asked words) ⊎ ((work ≡ Nothing) × (status ≡ NoMemory))
 

@@ -4,6 +4,7 @@ pub mod Origins
 pub mod Progress
 pub mod Headline
 pub mod Stopping
+pub mod Timed
 pub mod TextFaults
 pub mod Joined
 pub mod CodeTold

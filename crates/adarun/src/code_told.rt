@@ -1,4 +1,4 @@
-//! What is told of a text whose code passes a limit of images.
+//! What is reported of a text whose code passes a limit of images.
 ghost use Rattle.std.specs.Prelude.{◌≡◌, ◌≢◌, ◌⊎◌, [], IfErr, IfOk};
 ghost use Rattle.base.specs.declared.faults.TheConstants.{MEMORY_REFUSED};
 ghost use Rattle.compiler.specs.ada_tree.specs.Parsed.{IsParsed};
@@ -71,7 +71,7 @@ fn accepted_of(alloc: Global, program: Program) -> Result<Accepted, Fault>
     restrict(alloc, checked)
 }
 
-/// What is told of the code of a text: where it passes a limit of images, of an accepted one; nothing of another one.
+/// What is reported of the code of a text: where it passes a limit of images, of an accepted one; nothing of another one.
 ///
 /// # Errors
 /// Where memory was refused.
@@ -92,8 +92,8 @@ pub(crate) fn told_of_code(alloc: Global, text: &[u8]) -> Result<Vec<u8>, AllocE
     }
 }
 
-/// What is told of the code of a text that is refused by this number at this place: of 23 where the code passes a limit of images. Without a place the text has
-/// another fault, or none.
+/// What is reported of the code of a text that is refused by this number at this place: of 23 where the code passes a limit of images. Without a place the
+/// text has another fault, or none.
 ///
 /// # Errors
 /// Where memory was refused.

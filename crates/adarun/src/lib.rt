@@ -16,6 +16,7 @@ mod progress;
 mod reporting;
 mod rules;
 mod search_command;
+mod timed;
 
 pub use compilation::compile;
 pub use exploring::{SearchFault, SearchOutcome, search};
@@ -25,3 +26,4 @@ pub use program::{Status, drive};
 pub use progress::Stopwatch;
 pub use rules::text_faults;
 pub use searching::{Progress, Wanted};
+pub use timed::{Ending, go_until};

@@ -2,7 +2,7 @@
 ghost use Rattle.std.specs.Prelude.{◌≡◌, ◌≢◌, ◌<◌, ◌⊎◌, ℕ, Err, IfOk, List, OnOk, Option, map, nat_eq, option_map, if◌then◌else◌};
 ghost use Rattle.base.specs.declared.faults.TheConstants.{MEMORY_REFUSED};
 ghost use Rattle.adarun.specs.Driving as driving;
-ghost use Rattle.adarun.specs.Driving.{AnswersStatus, IsFaultPlace, IsWholeTold, KeepsSink, LeavesCheck, LeavesCompile, LeavesExplain, LeavesExplainText, LeavesGo, LeavesList, LeavesRun, LeavesShown, LeavesTrace, input_of, text_of};
+ghost use Rattle.adarun.specs.Driving.{AnswersStatus, IsFaultPlace, IsWholeTold, KeepsSink, LeavesCheck, LeavesCompile, LeavesExplain, LeavesExplainText, LeavesGo, LeavesList, LeavesRun, LeavesShown, LeavesTrace, LeavesUntil, input_of, text_of};
 ghost use Rattle.adarun.specs.Naming.{names_alone};
 ghost use Rattle.adarun.specs.Reading.{IsBeginningRead, with_input};
 ghost use Rattle.file_limits.specs.declared.TheConstants.{SCHEDULE_BYTES};
@@ -21,6 +21,7 @@ use crate::progress::Stopwatch;
 use crate::reporting::{fault_report, outcome_report, schedule_refusal, source_refusal};
 use crate::rules::text_faults;
 use crate::search_command::drive_search;
+use crate::timed::{Ending, go_until};
 use base::faults::MEMORY_REFUSED;
 use clock::{Schedule, ScheduleFault};
 use command_line::{Request, WordsError, request_of};
@@ -31,7 +32,7 @@ use image_format::{encode, list};
 use image_loading::load;
 use itoa::Buffer;
 use lexer::Fault;
-use machine::{Outcome, RunFault, Sink, Steps, run, write_all};
+use machine::{Bound, Cut, Outcome, RunFault, Sink, Steps, bound_of, run, write_all};
 use manual::{MANUAL, VERSION};
 use std::alloc::{AllocError, Global};
 use std::sync::ledger::Ledger;
@@ -53,7 +54,7 @@ pub enum Status {
     LineFound = 9,
 }
 
-/// The form in which a run is told.
+/// The form in which a run is reported.
 #[derive(Clone, Copy, PartialEq, Eq, Debug)]
 pub(crate) enum TraceForm {
     /// Row by row (docs/FORMATS.md, "Traces").
@@ -117,6 +118,7 @@ pub fn drive<F: FileStore, W: Stopwatch, O: Sink, E: Sink, L: Ledger>(
             TraceForm::Rows,
             source,
             schedule,
+            None,
             limit,
             out,
             err,
@@ -134,6 +136,45 @@ pub fn drive<F: FileStore, W: Stopwatch, O: Sink, E: Sink, L: Ledger>(
             TraceForm::Dump,
             source,
             schedule,
+            None,
+            limit,
+            out,
+            err,
+            steps,
+        ),
+        Ok(
+            Request::TraceUntil {
+                source,
+                schedule,
+                limit,
+                until,
+            },
+        ) => drive_trace(
+            alloc,
+            files,
+            TraceForm::Rows,
+            source,
+            schedule,
+            Some(until),
+            limit,
+            out,
+            err,
+            steps,
+        ),
+        Ok(
+            Request::DumpUntil {
+                source,
+                schedule,
+                limit,
+                until,
+            },
+        ) => drive_trace(
+            alloc,
+            files,
+            TraceForm::Dump,
+            source,
+            schedule,
+            Some(until),
             limit,
             out,
             err,
@@ -151,6 +192,16 @@ pub fn drive<F: FileStore, W: Stopwatch, O: Sink, E: Sink, L: Ledger>(
                 limit,
             },
         ) => drive_simulate(alloc, files, source, schedule, limit, out, err, steps),
+        Ok(
+            Request::SimulateUntil {
+                source,
+                schedule,
+                limit,
+                until,
+            },
+        ) => drive_simulate_until(
+            alloc, files, source, schedule, until, limit, out, err, steps,
+        ),
         Ok(
             Request::Search {
                 source,
@@ -390,18 +441,56 @@ fn drive_simulate<F: FileStore, O: Sink, E: Sink, L: Ledger>(
     }
 }
 
+// As `drive_simulate`, up to a time.
+fn drive_simulate_until<F: FileStore, O: Sink, E: Sink, L: Ledger>(
+    alloc: Global,
+    files: &F,
+    source: &str,
+    schedule: Option<&str>,
+    until: i64,
+    limit: u64,
+    out: &mut O,
+    err: &mut E,
+    steps: &mut Steps<L>,
+) -> Status
+    ensures leaves { LeavesUntil (with_input (F.standard_input files.now) (F.contents files.now)) source.now
+        (input_of (F.contents files.now) (option_map (λ name. name.now) schedule.entry)) until limit result (O.bytes out.old) (O.bytes out.new) }
+    ensures sink { KeepsSink result (out.new ≡ out.old) (O.failures out.old) (O.failures out.new) }
+{
+    let named = schedule.unwrap_or("");
+    let text = match read_source(alloc, files, source) {
+        Ok(text) => text,
+        Err(error) => return unread(err, error, source),
+    };
+    let lines = match read_schedule(alloc, files, schedule) {
+        Ok(lines) => lines,
+        Err(error) => return unread(err, error, named),
+    };
+    match go_until(alloc, &text, &lines, until, limit, out, steps) {
+        Ok(ending) => {
+            report_ending(alloc, err, source, &text, &lines, limit, &ending, steps);
+            status_of(&ending.outcome)
+        }
+        Err(GoFault::Source(fault)) => report_source(alloc, err, source, &text, &fault),
+        Err(GoFault::Schedule(fault)) => report_schedule(alloc, err, named, &lines, &fault),
+        Err(GoFault::Run(RunFault::Memory)) => no_memory(err),
+        Err(GoFault::Run(RunFault::Write)) => Status::Failed,
+    }
+}
+
 fn drive_trace<F: FileStore, O: Sink, E: Sink, L: Ledger>(
     alloc: Global,
     files: &F,
     form: TraceForm,
     source: &str,
     schedule: &str,
+    until: Option<i64>,
     limit: u64,
     out: &mut O,
     err: &mut E,
     steps: &mut Steps<L>,
 ) -> Status
-    ensures leaves { LeavesTrace form (F.contents files.now) source.now schedule.now limit result (O.bytes out.old) (O.bytes out.new) }
+    ensures leaves { LeavesTrace form (F.contents files.now) source.now schedule.now until limit result (O.bytes out.old) (O.bytes out.new) }
     ensures sink { KeepsSink result (out.new ≡ out.old) (O.failures out.old) (O.failures out.new) }
 {
     let text = match files.read(alloc, source, SOURCE_BYTES) {
@@ -420,11 +509,15 @@ fn drive_trace<F: FileStore, O: Sink, E: Sink, L: Ledger>(
         Ok(schedule) => schedule,
         Err(fault) => return refuse_schedule(err, &fault),
     };
+    let bound = match bound_of(alloc, &named.image, &schedule, until, limit, steps) {
+        Ok(bound) => bound,
+        Err(_) => return no_memory(err),
+    };
     let origins = Statements {
         text: &text,
         places: &named.places,
     };
-    match write_trace(alloc, form, &named, &origins, &schedule, limit, out, steps) {
+    match write_trace(alloc, form, &named, &origins, &schedule, bound, out, steps) {
         Ok(outcome) => status_of(&outcome),
         Err(RunFault::Memory) => no_memory(err),
         Err(RunFault::Write) => cannot_write(err),
@@ -438,18 +531,18 @@ fn write_trace<P: Origins, O: Sink, L: Ledger>(
     named: &Named,
     origins: &P,
     schedule: &Schedule,
-    limit: u64,
+    bound: Bound,
     out: &mut O,
     steps: &mut Steps<L>,
 ) -> Result<Outcome, RunFault>
     ensures text { OnOk result (Appends (O.bytes out.old) (O.bytes out.new) (text_of form named.now.image (names_alone named.now.objects.items)
-        (P.origin origins.now) schedule.now limit)) }
-    ensures ends { IfOk result (λ outcome. EndsBy outcome (code named.now.image schedule.now limit)) }
+        (P.origin origins.now) schedule.now bound)) }
+    ensures ends { IfOk result (λ outcome. EndsBy outcome (code named.now.image schedule.now bound.steps)) }
     ensures kept { OnOk result (O.failures out.new ≡ O.failures out.old) }
     ensures memory { result ≡ Err RunFault.Memory → out.new ≡ out.old }
     ensures failed { result ≡ Err RunFault.Write → O.failures out.old < O.failures out.new }
     ensures beginning { AppendsBeginning (O.bytes out.old) (O.bytes out.new) (text_of form named.now.image (names_alone named.now.objects.items)
-        (P.origin origins.now) schedule.now limit) }
+        (P.origin origins.now) schedule.now bound) }
 {
     let Ok(objects) = names_alone(alloc, &named.objects) else {
         return Err(RunFault::Memory);
@@ -461,11 +554,11 @@ fn write_trace<P: Origins, O: Sink, L: Ledger>(
             &objects,
             origins,
             schedule,
-            limit,
+            bound,
             out,
             steps,
         ),
-        TraceForm::Dump => waves(alloc, &named.image, &objects, schedule, limit, out, steps),
+        TraceForm::Dump => waves(alloc, &named.image, &objects, schedule, bound, out, steps),
     }
 }
 
@@ -667,6 +760,23 @@ fn report_outcome<E: Sink, L: Ledger>(
 ) {
     if let Ok(Some(report)) = outcome_report(alloc, file, text, lines, limit, outcome, steps) {
         let _ = write_all(err, &report);
+    }
+}
+
+// Writes what is said of how a run up to a time came to its end: of one that the time has cut nothing.
+fn report_ending<E: Sink, L: Ledger>(
+    alloc: Global,
+    err: &mut E,
+    file: &str,
+    text: &[u8],
+    lines: &[u8],
+    limit: u64,
+    ending: &Ending,
+    steps: &mut Steps<L>,
+) {
+    match ending.cut {
+        Cut::Steps => report_outcome(alloc, err, file, text, lines, limit, &ending.outcome, steps),
+        Cut::Time => {}
     }
 }
 

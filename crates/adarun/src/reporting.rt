@@ -61,8 +61,8 @@ fn refusal_of(
     Ok(Some(report))
 }
 
-/// What is said of a source that is refused: the place, the rule and the line, what to write instead, and what is told of the text and of its code beside; None
-/// where the number is that of no fault.
+/// What is said of a source that is refused: the place, the rule and the line, what to write instead, and what is reported of the text and of its code beside;
+/// None where the number is that of no fault.
 ///
 /// # Errors
 /// Where memory was refused.

@@ -1,5 +1,5 @@
 -- Which words ask for what (docs/FORMATS.md, "Commands").
-use Rattle.std.specs.Prelude.{◌≡◌, ◌&&◌, ◌||◌, ◌^◌, ℕ, ◌-◌, ℤ, pos, Bool, true, false, not, List, [], ◌∷◌, length, Option, Some, None, Result, Ok, Err, if◌then◌else◌, bytes_eq, codes, is_some, nat_eq, nat_le, nat_lt, option_map, ⊤}
+use Rattle.std.specs.Prelude.{◌≡◌, ◌&&◌, ◌||◌, ◌^◌, ℕ, ◌-◌, ℤ, pos, Bool, true, false, not, List, [], ◌∷◌, length, Option, Some, None, Result, Ok, Err, if◌then◌else◌, bytes_eq, codes, drop, is_some, nat_eq, nat_le, nat_lt, option_map, take, ⊤}
 use Rattle.std.specs.List.{after_first, before_first, list_all, list_any}
 use Rattle.choices.specs.declared.part.Part.{Part}
 use Rattle.std.specs.Str.Parse.{digits_value}
@@ -27,6 +27,9 @@ pub data Command : Type 0 where
   CheckText : (source : List ℕ) → Command
   -- the schedule is empty where none is named
   SimulateText : (source : List ℕ) (schedule : Option (List ℕ)) (limit : ℕ) → Command
+  -- up to a time in microseconds, which the clock doesn't pass
+  SimulateUntil : (source : List ℕ) (schedule : Option (List ℕ)) (limit : ℕ) (until : ℤ) → Command
+  TraceUntil DumpUntil : (source schedule : List ℕ) (limit : ℕ) (until : ℤ) → Command
   -- a time in microseconds up to which a part of a set is searched, and a limit on the steps at one time; whether nothing is reported meanwhile
   SearchText : (source choices : List ℕ) (until : ℤ) (limit : ℕ) → Wanted → Part → (is_quiet : Bool) → Command
   ShowManual ShowVersion Nothing : Command
@@ -189,15 +192,58 @@ quiet_in (mark ∷ rest) = if bytes_eq mark (codes "--quiet") then (true, rest) 
 abbrev pub search_asked : List (List ℕ) → Command
 search_asked words = search_among (quiet_in words).0 (unmarked (quiet_in words).1)
 
+-- ---- `--until`
+
+-- a word that lets the names after it begin with `-`
+abbrev pub is_escape : List ℕ → Bool
+is_escape word = bytes_eq word (codes "--")
+
+-- the words of a command that takes a time, of which none makes names of all that follow
+abbrev pub takes_until : List (List ℕ) → Bool
+takes_until [] = false
+takes_until (name ∷ rest) = (bytes_eq name (codes "simulate") || bytes_eq name (codes "trace")) && not (list_any is_escape rest)
+
+abbrev pub last_two : List (List ℕ) → List (List ℕ)
+last_two words = drop (length words - 2) words
+
+abbrev pub before_until : List (List ℕ) → List (List ℕ)
+before_until words = take (length words - 2) words
+
+-- the word after `--until`
+abbrev pub time_word : List (List ℕ) → Option (List ℕ)
+time_word (mark ∷ time ∷ []) = if bytes_eq mark (codes "--until") then Some time else None
+time_word words = None
+
+-- where these are the last two words of a command that takes a time
+abbrev pub until_word : List (List ℕ) → Option (List ℕ)
+until_word words = if takes_until words then time_word (last_two words) else None
+
+-- what is asked for, with a time that the clock doesn't pass
+abbrev pub until_of : ℤ → Command → Command
+until_of until (SimulateText source schedule limit) = SimulateUntil source schedule limit until
+until_of until (TraceText source schedule limit) = TraceUntil source schedule limit until
+until_of until (DumpText source schedule limit) = DumpUntil source schedule limit until
+until_of until command = Nothing
+
+-- a time that is none asks for nothing
+abbrev pub timed : Option ℤ → Command → Command
+timed None command = Nothing
+timed (Some until) command = until_of until command
+
 -- ---- all
 
--- what words without `search` in front ask for
+-- what words without `search` in front and without `--until` ask for
 abbrev pub asked_besides : List (List ℕ) → Command
 asked_besides words = asked_among words (behind_option words)
 
+-- by the word after `--until`, if it is there
+abbrev pub asked_up_to : List (List ℕ) → Option (List ℕ) → Command
+asked_up_to words None = asked_besides words
+asked_up_to words (Some time) = timed (time_of time) (asked_besides (before_until words))
+
 abbrev pub asked_by_search : List (List ℕ) → Option (List (List ℕ)) → Command
 asked_by_search words (Some rest) = search_asked rest
-asked_by_search words None = asked_besides words
+asked_by_search words None = asked_up_to words (until_word words)
 
 abbrev pub asked : List (List ℕ) → Command
 asked words = asked_by_search words (behind_search words)
@@ -205,9 +251,13 @@ asked words = asked_by_search words (behind_search words)
 abbrev pub is_told_besides : List (List ℕ) → Bool
 is_told_besides words = is_some (behind_option words) || list_all is_plain words
 
+abbrev pub is_told_up_to : List (List ℕ) → Option (List ℕ) → Bool
+is_told_up_to words None = is_told_besides words
+is_told_up_to words (Some time) = is_told_besides (before_until words)
+
 -- words of which `asked` tells what they ask for
 abbrev pub is_told : List (List ℕ) → Bool
-is_told words = is_some (behind_search words) || is_told_besides words
+is_told words = is_some (behind_search words) || is_told_up_to words (until_word words)
 
 abbrev pub wanted_of : Sought → Wanted
 wanted_of sought.UnhandledOrWaits = UnhandledOrWaits
@@ -226,6 +276,9 @@ command_of (requests.Explain number) = ExplainFault number
 command_of (requests.ExplainText number source) = ExplainText number source.now
 command_of (requests.Check source) = CheckText source.now
 command_of (requests.Simulate source schedule limit) = SimulateText source.now (option_map (λ name. name.now) schedule) limit
+command_of (requests.SimulateUntil source schedule limit until) = SimulateUntil source.now (option_map (λ name. name.now) schedule) limit until
+command_of (requests.TraceUntil source schedule limit until) = TraceUntil source.now schedule.now limit until
+command_of (requests.DumpUntil source schedule limit until) = DumpUntil source.now schedule.now limit until
 command_of (requests.Search source choices until limit wanted part is_quiet) = SearchText source.now choices.now until limit (wanted_of wanted) part is_quiet
 command_of requests.Manual = ShowManual
 command_of requests.Version = ShowVersion

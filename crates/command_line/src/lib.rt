@@ -10,8 +10,10 @@ ghost use Rattle.command_line.specs.Finding.{asked_by, asked_in, bare_app, comma
 ghost use Rattle.command_line.specs.Words as words_of;
 
 mod search;
+mod until;
 
 use crate::search::{behind_search, search_request};
+use crate::until::request_up_to;
 use choices::Part;
 use clap::error::ErrorKind;
 use clap::{Arg, ArgMatches, Command, Error};
@@ -60,7 +62,7 @@ pub enum Request<'a> {
     Explain {
         number: u64,
     },
-    /// Explain the fault of this number, which may be that of none, and what a source that has it tells of it.
+    /// Explain the fault of this number, which may be that of none, and what it means in a source that has it.
     ExplainText {
         number: u64,
         source: &'a str,
@@ -74,6 +76,27 @@ pub enum Request<'a> {
         source: &'a str,
         schedule: Option<&'a str>,
         limit: u64,
+    },
+    /// Compile a source and run it up to a time in microseconds, which the clock doesn't pass, and say in words what goes wrong, and where.
+    SimulateUntil {
+        source: &'a str,
+        schedule: Option<&'a str>,
+        limit: u64,
+        until: i64,
+    },
+    /// Write the trace up to a time in microseconds, which the clock doesn't pass.
+    TraceUntil {
+        source: &'a str,
+        schedule: &'a str,
+        limit: u64,
+        until: i64,
+    },
+    /// Write the value change dump up to a time in microseconds, which the clock doesn't pass.
+    DumpUntil {
+        source: &'a str,
+        schedule: &'a str,
+        limit: u64,
+        until: i64,
     },
     /// Compile a source and search the schedules of a part of a set up to a time (microseconds since the start), with at most so many steps at one time; a
     /// quiet search doesn't report how far it is.
@@ -118,18 +141,19 @@ pub enum WordsError {
 ///
 /// # Errors
 /// Usage for other words than a request's, those that ask for help among them, and for a limit or a number that isn't one or more decimal
-/// digits of a value below 2**64; Memory where memory was refused.
+/// digits of a value below 2**64, or a time below 2**63; Memory where memory was refused.
 pub fn request_of<'a>(alloc: Global, words: &'a [&'a str]) -> Result<Request<'a>, WordsError>
-    // Words after `search` and `trace --vcd`, and words of which none but `-` begins with `-`, ask for just what the table of commands says.
+    // Words after `search` and `trace --vcd`, and words of which none but `-` begins with `-`, ask for just what the table of commands says, `--until TIME` at
+    // their end being left out.
     ensures { is_told (map (λ w. w.now) words.now) ≡ true → AnswersWords (asked (map (λ w. w.now) words.now)) result }
 {
     match behind_search(words) {
         Some(rest) => search_request(rest),
-        None => request_besides(alloc, words),
+        None => request_up_to(alloc, words),
     }
 }
 
-// What words without `search` in front ask for.
+// What words without `search` in front and without `--until` ask for.
 fn request_besides<'a>(alloc: Global, words: &'a [&'a str]) -> Result<Request<'a>, WordsError>
     ensures { is_told_besides (map (λ w. w.now) words.now) ≡ true → AnswersWords (asked_besides (map (λ w. w.now) words.now)) result }
 {

@@ -55,8 +55,8 @@ fn unmarked<'a>(words: &'a [&'a str]) -> Option<&'a [&'a str]>
     }
 }
 
-// A time in microseconds: one or more decimal digits of a value below 2**63.
-fn time_of(digits: &str) -> Option<i64>
+/// A time in microseconds: one or more decimal digits of a value below 2**63.
+pub(crate) fn time_of(digits: &str) -> Option<i64>
     ensures { result ≡ words_of.time_of digits.now }
 {
     i64::try_from(numeral_of(digits)?).ok()

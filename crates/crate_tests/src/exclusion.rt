@@ -17,7 +17,7 @@ pub fn may_be_ready<R: Ready, D: Delays>(machine: &Machine<'_, R, D>, priority: 
     }
 }
 
-/// Whether a task stands where exclusion lets it stand. Within actions it runs or is ready, at a priority of its own (RM D.3, H.5);
+/// Whether a task is where exclusion lets it be. Within actions it runs or is ready, at a priority of its own (RM D.3, H.5);
 /// where its call waits the barrier is closed or somebody is inside (RM 9.5.3).
 pub fn stands<R: Ready, D: Delays>(machine: &Machine<'_, R, D>, task: u8) -> bool {
     let state = machine.state(task);
@@ -39,7 +39,7 @@ pub fn stands<R: Ready, D: Delays>(machine: &Machine<'_, R, D>, task: u8) -> boo
     }
 }
 
-/// Whether exclusion holds: one task inside an object at most (RM 9.5.1), and each stands where it may, the handler of an interrupt among them.
+/// Whether exclusion holds: one task inside an object at most (RM 9.5.1), and each is where it may be, the handler of an interrupt among them.
 pub fn excludes<R: Ready, D: Delays>(machine: &Machine<'_, R, D>) -> bool {
     for object in 0..machine.objects() {
         if 1 < machine.inside(object).len() {

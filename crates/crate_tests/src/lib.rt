@@ -1,5 +1,5 @@
 //! Tests of what the machine and its keepers do beyond what the program runs: lists as well as rings and a heap, and each step by itself; and whether
-//! exclusion holds behind a step.
+//! exclusion holds after a step.
 #![tactic(auto)]
 
 ghost use Rattle.std.specs.Prelude.{◌≡◌};

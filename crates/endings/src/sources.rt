@@ -13,7 +13,7 @@ use machine::{Machine, Place, Raising, Steps};
 use std::alloc::{AllocError, Global};
 use std::sync::ledger::Ledger;
 
-/// Actors are told by numbers of 8 bits.
+/// Actors are reported by numbers of 8 bits.
 pub const ACTORS: usize = 256;
 
 // No actor has had an exception.

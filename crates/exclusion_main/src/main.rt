@@ -16,7 +16,7 @@ use std::process::ExitCode;
 use std::sync::ledger::{Blank, Ledger};
 use std::{env, fs};
 
-/// What is told of a run by the exit status.
+/// What the exit status reports of a run.
 #[derive(Clone, Copy)]
 enum Status {
     /// Exclusion held at the start and after each step.

@@ -1,5 +1,5 @@
 -- Lines that are written from a kernel on are not before its time.
-use Rattle.std.proofs.Common.{◌≡◌, ℕ, zero, suc, ℤ, List, [], ◌∷◌, ◌++◌, Option, Some, None, Bool, true, false, refl, sym, ap, ◌∙◌, arith, subst, append_assoc}
+use Rattle.std.proofs.Common.{◌≡◌, ◌⊎◌, inl, inr, ℕ, zero, suc, ℤ, List, [], ◌∷◌, ◌++◌, Option, Some, None, Bool, true, false, refl, sym, ap, ◌∙◌, arith, append_assoc}
 use Rattle.std.specs.Prelude.{int_le, int_lt}
 use Rattle.std.proofs.lemmas.Bool.{cond_both}
 use Rattle.std.proofs.lemmas.Int.{ints}
@@ -7,11 +7,13 @@ use Rattle.std.proofs.lemmas.List.{append-nil}
 use Rattle.kernel.specs.State.{Action, Interrupt, Kernel, Line, Outcome, Reads, Serves, Writes}
 use Rattle.kernel.specs.Dispatching.{becomes_ready, dispatch, leaves}
 use Rattle.kernel.specs.Interrupts.{delivers, starts}
+use Rattle.kernel.specs.Calm.{Calm, IsRunner}
 use Rattle.kernel.specs.Clock.{clock, falls_asleep}
 use Rattle.kernel.specs.Effects.{Breaks, Delays, Dies, Effect, Ends, Finishes, Opens, Queues, Quiet, Says, Views, after, effect, ending_of, ends, goes_if, is_over, outer_of, service}
 use Rattle.kernel.specs.Laws.{LeftUnmoved}
 use Rattle.kernel.specs.Worlds.{Local, World, run, step, step_of}
-use Rattle.likeness.proofs.Onward.{IsAhead, Onward, after_onward, le_through, run_onward, step_onward}
+use Rattle.kernel.proofs.Calm.{says_on}
+use Rattle.likeness.proofs.Onward.{IsAhead, Onward, le_through, step_onward}
 
 -- none of these is before the time
 abbrev pub AreFrom : ℤ → List Line → Type 0
@@ -22,6 +24,10 @@ pub record Late (k l : Kernel) : Type 0 where
   pub more : List Line
   pub grown : l.lines ≡ k.lines ++ more
   pub from : AreFrom k.now more
+
+-- from one kernel to another nothing is written, or one line, at the time of both
+abbrev pub WritesAtOnce : Kernel → Kernel → Type 0
+WritesAtOnce k l = (l.lines ≡ k.lines) ⊎ ((line : Line) × (l.lines ≡ k.lines ++ line ∷ []) × (line.time ≡ k.now) × (l.now ≡ k.now))
 
 no_line : (k l : Kernel) → l.lines ≡ k.lines → Late k l
 no_line k l e = record { more = []; grown = e ∙ sym (append-nil k.lines); from = tt }
@@ -73,6 +79,38 @@ module _ (unmoved : LeftUnmoved) where
   after_late t Finishes k = settled k (effect t Finishes k) refl
   after_late t (Dies x) k = no_line k (effect t (Dies x) k) refl
   after_late t Breaks k = no_line k (effect t Breaks k) refl
+
+  silent : (k l : Kernel) → l.lines ≡ k.lines → WritesAtOnce k (clock (dispatch l))
+  silent k l e = inl ((unmoved l).lines ∙ e)
+
+  after_at_once : (t : ℕ) (e : Effect) (k : Kernel) → Calm k t → WritesAtOnce k (after t e k)
+  after_at_once t Quiet k calm = silent k k refl
+  after_at_once t (Says label value) k calm = inr (
+    record { time = k.now; task = t; label = label; value = value },
+    (unmoved (effect t (Says label value) k)).lines,
+    refl,
+    ap (λ l. l.now) (says_on k t label value calm).0,
+  )
+  after_at_once t (Delays until) k calm =
+      silent k (effect t (Delays until) k)
+      (cond_both (int_lt k.now until) (falls_asleep t until (leaves t k)) (becomes_ready t (leaves t k)) (λ l. l.lines ≡ k.lines) (λ later. refl) (λ due. refl))
+  after_at_once t (Opens o) k calm = silent k (effect t (Opens o) k) refl
+  after_at_once t (Views o) k calm = silent k (effect t (Views o) k) refl
+  after_at_once t (Queues o) k calm = silent k (effect t (Queues o) k) refl
+  after_at_once t (Ends is_open) k calm =
+      let e = ending_of is_open (k.actions t) k.queued in
+      let l = ends t e (outer_of (k.actions t)) k in
+      silent k (effect t (Ends is_open) k) (goes_lines t (is_over k.partition t (k.actions t) e) l ∙ ends_lines t is_open (k.actions t) k)
+  after_at_once t Finishes k calm = silent k (effect t Finishes k) refl
+  after_at_once t (Dies x) k calm = inl refl
+  after_at_once t Breaks k calm = inl refl
+
+  -- whoever runs is not to be preempted
+  pub step_at_once : {D : Type 0} (f : Local D) (k : Kernel) (d : D) (o : Option Outcome) (r : Option ℕ) → k.outcome ≡ o → k.running ≡ r
+      → ((t : ℕ) → IsRunner k t → Calm k t) → WritesAtOnce k (step_of f k d o r).kernel
+  step_at_once f k d (Some o) r on running calm = inl refl
+  step_at_once f k d None None on running calm = inl refl
+  step_at_once f k d None (Some t) on running calm = after_at_once t (f k t d).effect k (calm t (record { on = on; running = running }))
 
   step_late : {D : Type 0} (f : Local D) (k : Kernel) (d : D) (o : Option Outcome) (r : Option ℕ) → Late k (step_of f k d o r).kernel
   step_late f k d (Some o) r = no_line k k refl

@@ -1,3 +1,4 @@
+mod Bounding
 mod Exclusion
 mod Inside
 mod Pieces

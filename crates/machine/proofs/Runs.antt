@@ -5,10 +5,10 @@ use Rattle.std.proofs.lemmas.List.{take-append-le}
 use Rattle.std.specs.Io.KnownBytes.{Appends}
 use Rattle.base.specs.declared.schedule.ScheduleLine.{ScheduleLine}
 use Rattle.kernel.specs.State as kernel
-use Rattle.kernel.specs.Text.{Names, last_line, line_text, lines_text}
+use Rattle.kernel.specs.Text.{Names, line_text, lines_text}
 use Rattle.image.specs.Attachments.{interrupts}
 use Rattle.image.specs.Sections.{Sections}
-use Rattle.image.specs.Code.{CodeWorld, code, code_text, partition_of, start}
+use Rattle.image.specs.Code.{CodeWorld, code, partition_of, start}
 use Rattle.image_laws.specs.Laws.{LinesGrowOn, OutcomeStays}
 use Rattle.image.specs.Texts.{names_of}
 use Rattle.kernel.specs.Effects.{activated, blank}
@@ -17,10 +17,12 @@ use Rattle.kernel.specs.RunLaws.{run_plus}
 use Rattle.kernel.specs.Worlds.{among, run}
 use Rattle.image.specs.Steps.{behaviour}
 use Rattle.execution.specs.Held.{HeldWorld, Leads, line_of, world_of, world_with}
+use Rattle.machine.specs.Bounds.{bounded_text, cut_line}
 use Rattle.machine.specs.Outcomes.{ending_of, time_of}
 use Rattle.machine.specs.Stands.{EndsBy, HoldsWorld}
 use Rattle.machine.specs.Written.{AppendsBeginning}
 use Rattle.execution.specs.declared.line.Line.{Line}
+use Rattle.machine.specs.declared.bound.Bound.{Bound}
 use Rattle.machine.specs.declared.reports.Outcome.{Outcome}
 
 -- known bytes grow by one piece and then by another
@@ -171,31 +173,31 @@ ran_over stays i schedule n limit h old new before after r le why o ends =
     }
 
 -- the whole text: the lines, and then the last line
-module _ (j i : Sections) (given schedule : List ScheduleLine) (limit : ℕ) (old middle new : Option (List ℕ)) (same : j ≡ i) (same_schedule : given ≡ schedule) where
+module _ (j i : Sections) (given schedule : List ScheduleLine) (bound : Bound) (old middle new : Option (List ℕ)) (same : j ≡ i) (same_schedule : given ≡ schedule) where
   -- what holds of the code as it is held holds of that which was given
-  of_code : (P : Sections → CodeWorld → Type 0) → P j (code j given limit) → P i (code i schedule limit)
-  of_code P p = subst (λ k. P k (code k schedule limit)) same (subst (λ s. P j (code j s limit)) same_schedule p)
+  of_code : (P : Sections → CodeWorld → Type 0) → P j (code j given bound.steps) → P i (code i schedule bound.steps)
+  of_code P p = subst (λ k. P k (code k schedule bound.steps)) same (subst (λ s. P j (code j s bound.steps)) same_schedule p)
 
-  pub part_of_lines : AppendsBeginning old new (lines_text (names_of j) (code j given limit).kernel.lines) → AppendsBeginning old new (code_text i schedule limit)
+  pub part_of_lines : AppendsBeginning old new (lines_text (names_of j) (code j given bound.steps).kernel.lines) → AppendsBeginning old new (bounded_text i schedule bound)
   part_of_lines part =
-      beginning_of_more old new (lines_text (names_of i) (code i schedule limit).kernel.lines) (last_line (names_of i) (code i schedule limit).kernel.outcome (code i schedule limit).kernel.now)
+      beginning_of_more old new (lines_text (names_of i) (code i schedule bound.steps).kernel.lines) (cut_line bound.cut (names_of i) (code i schedule bound.steps).kernel.outcome (code i schedule bound.steps).kernel.now)
       (of_code (λ k w. AppendsBeginning old new (lines_text (names_of k) w.kernel.lines)) part)
 
-  module _ (o : Outcome) (last : List ℕ) (ends : EndsBy o (code j given limit)) (is : last ≡ last_line (names_of i) (ending_of o) (time_of o)) (lines : Appends old middle (lines_text (names_of j) (code j given limit).kernel.lines)) where
-    last_is : last ≡ last_line (names_of i) (code i schedule limit).kernel.outcome (code i schedule limit).kernel.now
+  module _ (o : Outcome) (last : List ℕ) (ends : EndsBy o (code j given bound.steps)) (is : last ≡ cut_line bound.cut (names_of i) (ending_of o) (time_of o)) (lines : Appends old middle (lines_text (names_of j) (code j given bound.steps).kernel.lines)) where
+    last_is : last ≡ cut_line bound.cut (names_of i) (code i schedule bound.steps).kernel.outcome (code i schedule bound.steps).kernel.now
     last_is =
-        let here : EndsBy o (code i schedule limit) = of_code (λ k w. EndsBy o w) ends in
-        is ∙ ap (λ q. last_line (names_of i) q (time_of o)) (sym here.outcome) ∙ ap (λ q. last_line (names_of i) (code i schedule limit).kernel.outcome q) (sym here.time)
+        let here : EndsBy o (code i schedule bound.steps) = of_code (λ k w. EndsBy o w) ends in
+        is ∙ ap (λ q. cut_line bound.cut (names_of i) q (time_of o)) (sym here.outcome) ∙ ap (λ q. cut_line bound.cut (names_of i) (code i schedule bound.steps).kernel.outcome q) (sym here.time)
 
-    lines_are : Appends old middle (lines_text (names_of i) (code i schedule limit).kernel.lines)
+    lines_are : Appends old middle (lines_text (names_of i) (code i schedule bound.steps).kernel.lines)
     lines_are = of_code (λ k w. Appends old middle (lines_text (names_of k) w.kernel.lines)) lines
 
-    pub whole_text : Appends middle new last → Appends old new (code_text i schedule limit)
+    pub whole_text : Appends middle new last → Appends old new (bounded_text i schedule bound)
     whole_text app =
-        appends_two old middle new (lines_text (names_of i) (code i schedule limit).kernel.lines) (last_line (names_of i) (code i schedule limit).kernel.outcome (code i schedule limit).kernel.now) lines_are
+        appends_two old middle new (lines_text (names_of i) (code i schedule bound.steps).kernel.lines) (cut_line bound.cut (names_of i) (code i schedule bound.steps).kernel.outcome (code i schedule bound.steps).kernel.now) lines_are
         (subst (Appends middle new) last_is app)
 
-    pub part_of_text : AppendsBeginning middle new last → AppendsBeginning old new (code_text i schedule limit)
+    pub part_of_text : AppendsBeginning middle new last → AppendsBeginning old new (bounded_text i schedule bound)
     part_of_text part =
-        beginning_after old middle new (lines_text (names_of i) (code i schedule limit).kernel.lines) (last_line (names_of i) (code i schedule limit).kernel.outcome (code i schedule limit).kernel.now) lines_are
+        beginning_after old middle new (lines_text (names_of i) (code i schedule bound.steps).kernel.lines) (cut_line bound.cut (names_of i) (code i schedule bound.steps).kernel.outcome (code i schedule bound.steps).kernel.now) lines_are
         (subst (AppendsBeginning middle new) last_is part)

@@ -1,3 +1,4 @@
+pub mod Bounds
 pub mod Exclusion
 pub mod Memory
 pub mod Outcomes

@@ -1,4 +1,4 @@
-//! How runs end, and what their steps tell.
+//! How runs end, and what their steps report.
 use arrayvec::ArrayVec;
 
 /// The most bytes that a line has, its end included.
@@ -22,7 +22,7 @@ pub enum Outcome {
     StepLimit { time: i64 },
 }
 
-/// What a step tells.
+/// What a step reports.
 #[derive(Drop)]
 pub enum Event {
     /// Nothing that can be seen.

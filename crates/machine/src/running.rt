@@ -10,6 +10,7 @@ ghost use Rattle.image.specs.Steps.{is_open};
 ghost use Rattle.image.specs.Texts.{names_of};
 ghost use Rattle.execution.specs.Ahead.{next_address, next_asking, next_raising};
 ghost use Rattle.execution.specs.Held.{line_of, world_of, world_with};
+ghost use Rattle.machine.specs.Bounds.{IsTimeBound, bounded_text};
 ghost use Rattle.machine.specs.Exclusion.{Excludes, observed};
 ghost use Rattle.machine.specs.Stands.{EndsBy, IsLast, ShowsText, HoldsWorld, kernel_outcome};
 ghost use Rattle.machine.specs.TaskStates.{place_asked};
@@ -17,10 +18,11 @@ ghost use Rattle.machine.specs.Written.{AppendsBeginning};
 ghost use Rattle.tasking.specs.Held.{kernel_of, place_of};
 ghost use Rattle.tasking.specs.Waits.{wake_time};
 
+use crate::bound::{Bound, Cut};
 use crate::fault::RunFault;
 use crate::reports::{Event, LineText, Outcome};
 use crate::task_state::TaskState;
-use crate::text::{last_line, line_text};
+use crate::text::{cut_line, line_text};
 use crate::writing::{Sink, write_all};
 use arrayvec::ArrayVec;
 use base::limits::{CEILING, TASKS};
@@ -39,7 +41,7 @@ use tasking::{Place, Refusal};
 /// A machine that runs an image, over keepers of ready and of sleeping tasks. Memory is taken by `start` alone.
 #[derive(Drop)]
 pub struct Machine<'a, R: Ready, D: Delays> {
-    execution: Execution<'a, R, D>,
+    execution: Execution<'a, 'a, R, D>,
 }
 
 impl<'a, R: Ready, D: Delays> Model for Machine<'a, R, D> {
@@ -53,7 +55,7 @@ impl<'a, R: Ready, D: Delays> Model for Machine<'a, R, D> {
 }
 
 impl<'a, R: Ready, D: Delays> Machine<'a, R, D> {
-    /// The machine at time 0, before its first step: it stands for the world of code at its start.
+    /// The machine at time 0, before its first step: it represents the world of code at its start.
     ///
     /// # Errors
     /// `Memory` where memory was refused.
@@ -68,8 +70,8 @@ impl<'a, R: Ready, D: Delays> Machine<'a, R, D> {
         Ok(Machine { execution })
     }
 
-    /// Does one step, which is counted, and tells what it has shown. It leads from the world of code after m steps to the one after m + 1. After the last
-    /// step it tells the outcome again, changes nothing and counts nothing.
+    /// Does one step, which is counted, and returns what it has shown. It leads from the world of code after m steps to the one after m + 1. After the last
+    /// step it returns the outcome again, changes nothing and counts nothing.
     pub fn step<L: Ledger>(&mut self, steps: &mut Steps<L>) -> Event
         ensures world { (m : ℕ) → HoldsWorld self.old (code self.old.image self.old.schedule m) → HoldsWorld self.new
             (code self.old.image self.old.schedule (m + 1)) × ShowsText self.old.image (code self.old.image self.old.schedule m).kernel
@@ -362,6 +364,36 @@ impl<'a, R: Ready, D: Delays> Machine<'a, R, D> {
         Ok(self.outcome_or_limit())
     }
 
+    // After how many steps of at most `limit` the next one would lead the clock past the time, or that none would.
+    pub(crate) fn bound_by_time<L: Ledger>(
+        &mut self,
+        until: i64,
+        limit: u64,
+        steps: &mut Steps<L>,
+    ) -> Bound
+        requires stands { HoldsWorld self.old (code self.old.image self.old.schedule 0) }
+        ensures bound { IsTimeBound self.old.image self.old.schedule until limit result.steps result.cut }
+        ensures count { steps.new ≤ steps.old + limit }
+    {
+        outcome_stays();
+        let mut taken = 0;
+        while taken < limit {
+            match self.outcome() {
+                Some(_) => return Bound::at_most(limit),
+                None => {}
+            }
+            self.step(steps);
+            if until < self.now() {
+                return Bound {
+                    steps: taken,
+                    cut: Cut::Time,
+                };
+            }
+            taken += 1;
+        }
+        Bound::at_most(limit)
+    }
+
     /// The outcome, or that the limit on steps was reached.
     pub fn outcome_or_limit(&self) -> Outcome
         ensures { EndsBy result (world_of self.now) }
@@ -370,6 +402,32 @@ impl<'a, R: Ready, D: Delays> Machine<'a, R, D> {
             Some(outcome) => outcome,
             None => Outcome::StepLimit { time: self.now() },
         }
+    }
+}
+
+// Runs an image up to this bound over these keepers, and writes its lines and the last line.
+fn run_bounded<R: Ready + Drop, D: Delays + Drop, S: Sink, L: Ledger>(
+    alloc: Global,
+    image: &Image,
+    schedule: &Schedule,
+    bound: Bound,
+    sink: &mut S,
+    steps: &mut Steps<L>,
+) -> Result<Outcome, RunFault>
+    ensures text { OnOk result (Appends (S.bytes sink.old) (S.bytes sink.new) (bounded_text image.now schedule.now bound)) }
+    ensures ends { IfOk result (λ outcome. EndsBy outcome (code image.now schedule.now bound.steps)) }
+    ensures kept { OnOk result (S.failures sink.new ≡ S.failures sink.old) }
+    ensures memory { result ≡ Err RunFault.Memory → sink.new ≡ sink.old }
+    ensures failed { result ≡ Err RunFault.Write → S.failures sink.old < S.failures sink.new }
+    ensures beginning { AppendsBeginning (S.bytes sink.old) (S.bytes sink.new) (bounded_text image.now schedule.now bound) }
+    ensures count { steps.new ≤ steps.old + bound.steps }
+{
+    let mut machine: Machine<'_, R, D> = Machine::start(alloc, image, schedule)?;
+    let outcome = machine.run_on(bound.steps, sink, steps)?;
+    let text = cut_line(image, &outcome, bound.cut);
+    match write_all(sink, text.as_slice()) {
+        Ok(()) => Ok(outcome),
+        Err(_) => Err(RunFault::Write),
     }
 }
 
@@ -396,13 +454,31 @@ pub fn run_over<R: Ready + Drop, D: Delays + Drop, S: Sink, L: Ledger>(
     ensures beginning { AppendsBeginning (S.bytes sink.old) (S.bytes sink.new) (code_text image.now schedule.now limit) }
     ensures count { steps.new ≤ steps.old + limit }
 {
-    let mut machine: Machine<'_, R, D> = Machine::start(alloc, image, schedule)?;
-    let outcome = machine.run_on(limit, sink, steps)?;
-    let text = last_line(image, &outcome);
-    match write_all(sink, text.as_slice()) {
-        Ok(()) => Ok(outcome),
-        Err(_) => Err(RunFault::Write),
-    }
+    run_bounded::<R, D, S, L>(alloc, image, schedule, Bound::at_most(limit), sink, steps)
+}
+
+/// Runs an image up to this bound over rings of ready tasks and a list of sleeping ones, and writes its lines and a last line that says how it ended, or what
+/// has cut it. It takes at most as many steps as the bound has, each of which is counted.
+///
+/// # Errors
+/// As `run_over`.
+pub fn run_within<S: Sink, L: Ledger>(
+    alloc: Global,
+    image: &Image,
+    schedule: &Schedule,
+    bound: Bound,
+    sink: &mut S,
+    steps: &mut Steps<L>,
+) -> Result<Outcome, RunFault>
+    ensures text { OnOk result (Appends (S.bytes sink.old) (S.bytes sink.new) (bounded_text image.now schedule.now bound)) }
+    ensures ends { IfOk result (λ outcome. EndsBy outcome (code image.now schedule.now bound.steps)) }
+    ensures kept { OnOk result (S.failures sink.new ≡ S.failures sink.old) }
+    ensures memory { result ≡ Err RunFault.Memory → sink.new ≡ sink.old }
+    ensures failed { result ≡ Err RunFault.Write → S.failures sink.old < S.failures sink.new }
+    ensures beginning { AppendsBeginning (S.bytes sink.old) (S.bytes sink.new) (bounded_text image.now schedule.now bound) }
+    ensures count { steps.new ≤ steps.old + bound.steps }
+{
+    run_bounded::<RingReady, ListDelays, S, L>(alloc, image, schedule, bound, sink, steps)
 }
 
 /// Runs an image as `run_over` does, over rings of ready tasks and a list of sleeping ones.

@@ -1,14 +1,16 @@
 //! The text of lines and outcomes (docs/FORMATS.md, "Output").
-ghost use Rattle.std.specs.Prelude.{◌≡◌, ◌+◌, ◌-◌, ◌≤◌, ◌++◌, length, slice_get};
+ghost use Rattle.std.specs.Prelude.{◌≡◌, ◌+◌, ◌-◌, ◌≤◌, ◌++◌, codes, length, slice_get};
 ghost use Rattle.std.specs.Fmt.{signed_decimal};
 ghost use Rattle.arrayvec.specs.ArrayVec.{array_vec_len};
 ghost use Rattle.base.specs.declared.limits.TheConstants.{NAME_LIMIT};
 ghost use Rattle.image.specs.Texts.{name_of, names_of, text_at, text_from_one};
 ghost use Rattle.kernel.specs.Text.{last_line, line_text, outcome_text};
 ghost use Rattle.execution.specs.Held.{line_of};
+ghost use Rattle.machine.specs.Bounds.{cut_line};
 ghost use Rattle.machine.specs.Outcomes.{ending_of, time_of};
 ghost use Rattle.machine.specs.declared.reports.TheConstants.{LINE_BYTES};
 
+use crate::bound::Cut;
 use crate::reports::{LineText, Outcome};
 use arrayvec::ArrayVec;
 use base::limits::NAME_LIMIT;
@@ -152,4 +154,32 @@ pub fn last_line(image: &Image, outcome: &Outcome) -> LineText
     put_number(&mut text, *time);
     put(&mut text, b"\n");
     text
+}
+
+// The last line of a run that a time has cut.
+fn time_line(time: i64) -> LineText
+    ensures { result.items ≡ codes "time limit" ++ codes " at " ++ signed_decimal time ++ codes "\n" }
+{
+    let mut text = ArrayVec::new();
+    put(&mut text, b"time limit");
+    put(&mut text, b" at ");
+    put_number(&mut text, time);
+    put(&mut text, b"\n");
+    text
+}
+
+/// The text of the last line of a run of the image, where this cuts it if it has come to no outcome.
+pub fn cut_line(image: &Image, outcome: &Outcome, cut: Cut) -> LineText
+    ensures { result.items ≡ cut_line cut (names_of image.now) (ending_of outcome.now) (time_of outcome.now) }
+{
+    match cut {
+        Cut::Steps => last_line(image, outcome),
+        Cut::Time => match outcome {
+            Outcome::StepLimit { time } => time_line(*time),
+            Outcome::Ended { .. }
+            | Outcome::WaitsForever { .. }
+            | Outcome::Unhandled { .. }
+            | Outcome::ImageFault { .. } => last_line(image, outcome),
+        },
+    }
 }

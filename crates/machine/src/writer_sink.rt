@@ -7,7 +7,7 @@ use crate::writing::{Sink, SinkError};
 use std::io;
 use std::sync::ledger::{Blank, Book, Ledger, Share};
 
-/// Any writer of std. Its bytes are known where the writer tells them: not for a file or a terminal.
+/// Any writer of std. Its bytes are known where the writer reports them: not for a file or a terminal.
 #[derive(Drop)]
 pub struct WriterSink<W: io::Write + Drop, L: Ledger> {
     writer: W,

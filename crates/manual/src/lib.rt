@@ -12,16 +12,16 @@ NAME
 
 COMMANDS
 
-    adarun simulate SRC [SCHED [LIMIT]]
+    adarun simulate SRC [SCHED [LIMIT]] [--until TIME]
         compiles a source and runs it; what is wrong is reported with its line, its rule and a hint
     adarun go SRC SCHED LIMIT
         the same, and what is wrong is reported by its number and its place alone
     adarun check SRC
         reports every rule that a source breaks, with its line, its rule and a hint
-    adarun trace SRC SCHED LIMIT
+    adarun trace SRC SCHED LIMIT [--until TIME]
         reports the run row by row: who runs, waits, is preempted, enters and leaves objects,
         queues and is served, what is raised and where, and what is refused
-    adarun trace --vcd SRC SCHED LIMIT
+    adarun trace --vcd SRC SCHED LIMIT [--until TIME]
         writes the run as a value change dump, for viewers of waveforms
     adarun compile SRC IMG
         compiles a source to the file of an image
@@ -52,11 +52,13 @@ WORDS
     CHOICES the file of a set of schedules
     UNTIL   the microsecond up to which is searched: 0 to 9223372036854775807; the LIMIT of a
             search is the most steps at one time
+    TIME    the microsecond up to which the run goes: 0 to 9223372036854775807; --until and
+            its word come last
     NUMBER  the number of a fault
 
     A longer name that begins with a hyphen comes after the word --, as in
     adarun go -- -main.adb /dev/null 1000000. There are no options but --vcd,
-    --part and --quiet.
+    --part, --quiet and --until, which doesn't come after that word.
 
 FORMATS
 
@@ -68,7 +70,7 @@ FORMATS
     A search writes a schedule and a last line `found: ..`, or `none of N schedules`.
     A run writes a line `TIME TASK LABEL VALUE` for each call of Put, with the virtual time in
     microseconds, and last how it came to its end: `ended at T`, `waits forever at T`,
-    `unhandled NAME in TASK at T`, `step limit at T` or `image fault at T`.
+    `unhandled NAME in TASK at T`, `step limit at T`, `time limit at T` or `image fault at T`.
         20000 WATCH alarm 91
     A place is LINE:COLUMN, both counted from 1, columns in bytes.
 

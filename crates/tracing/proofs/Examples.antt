@@ -14,6 +14,7 @@ use Rattle.image.specs.declared.subprograms.Kind.{Kind}
 use Rattle.image.specs.declared.subprograms.Kind.TheVariants.{EntryBody, ProtectedProcedure, TaskBody}
 use Rattle.image.specs.declared.subprograms.Subprogram.{Subprogram}
 use Rattle.image.specs.declared.tasks.Task.{Task}
+use Rattle.machine.specs.Bounds.{at_most}
 use Rattle.tracing.specs.Traces.{trace_text}
 use Rattle.tracing.specs.declared.origin.Origin.{Origin}
 
@@ -50,7 +51,7 @@ served =
     ∷ at 0 (op.EntryCall 0) ∷ at 0 (op.Push (pos 7)) ∷ at 1 (op.PutLine 0) ∷ at 0 op.Return
     ∷ at 0 (op.ProtectedCall 0) ∷ at 0 op.Return ∷ [])
 
-served_trace : trace_text served (codes "DOOR" ∷ []) nowhere [] 100
+served_trace : trace_text served (codes "DOOR" ∷ []) nowhere [] (at_most 100)
     ≡ codes "0 0 CONS is ready\n0 0 MAIN is ready\n0 0 CONS runs at 10\n"
     ++ codes "0 1 CONS queues at DOOR\n0 1 MAIN runs at 5\n"
     ++ codes "0 2 MAIN enters DOOR at 10\n"
@@ -75,11 +76,11 @@ until_both_sleep =
     ++ codes "0 2 T waits until 1000\n0 2 MAIN runs at 5\n"
     ++ codes "0 4 MAIN waits until 1000\n1000 4 - the clock moves\n1000 4 T wakes\n1000 4 MAIN wakes\n1000 4 T runs at 9\n"
 
-sleepers_trace : trace_text sleepers [] nowhere [] 100 ≡ until_both_sleep ++ codes "1000 5 T ends\n1000 5 MAIN runs at 5\n1000 6 MAIN ends\nended at 1000\n"
+sleepers_trace : trace_text sleepers [] nowhere [] (at_most 100) ≡ until_both_sleep ++ codes "1000 5 T ends\n1000 5 MAIN runs at 5\n1000 6 MAIN ends\nended at 1000\n"
 unfolding digits
 sleepers_trace = refl
 
-sleepers_cut : trace_text sleepers [] nowhere [] 4 ≡ until_both_sleep ++ codes "step limit at 1000\n"
+sleepers_cut : trace_text sleepers [] nowhere [] (at_most 4) ≡ until_both_sleep ++ codes "step limit at 1000\n"
 unfolding digits
 sleepers_cut = refl
 
@@ -90,7 +91,7 @@ alone =
     image_of [] (sub TaskBody 6 2 ∷ []) (task (codes "MAIN") 5 0 ∷ [])
     (delay_until 500 ++ at 0 (op.Push (pos 1)) ∷ at 1 (op.Push (pos 0)) ∷ at 2 op.Divide ∷ at 1 op.Return ∷ [])
 
-alone_trace : trace_text alone [] nowhere [] 100
+alone_trace : trace_text alone [] nowhere [] (at_most 100)
     ≡ codes "0 0 MAIN is ready\n0 0 MAIN runs at 5\n"
     ++ codes "0 2 MAIN waits until 500\n500 2 - the clock moves\n500 2 MAIN wakes\n500 2 MAIN runs at 5\n"
     ++ codes "500 5 MAIN raises CONSTRAINT_ERROR\n500 5 MAIN is left by CONSTRAINT_ERROR\nunhandled CONSTRAINT_ERROR in MAIN at 500\n"
@@ -104,7 +105,7 @@ due =
     image_of [] (sub TaskBody 3 1 ∷ sub TaskBody 4 0 ∷ []) (task (codes "T") 5 0 ∷ task (codes "MAIN") 5 1 ∷ [])
     (delay_until 0 ++ at 0 op.Return ∷ at 0 op.Return ∷ [])
 
-due_trace : trace_text due [] nowhere [] 100
+due_trace : trace_text due [] nowhere [] (at_most 100)
     ≡ codes "0 0 T is ready\n0 0 MAIN is ready\n0 0 T runs at 5\n"
     ++ codes "0 2 T gives way to MAIN\n0 2 MAIN runs at 5\n0 3 MAIN ends\n0 3 T runs at 5\n0 4 T ends\nended at 0\n"
 unfolding digits
@@ -124,7 +125,7 @@ interrupted = record
 abbrev line_at : ℕ → ScheduleLine
 line_at time = record { time = pos time; channel = 1; value = pos 0 }
 
-interrupted_trace : trace_text interrupted (codes "LATCH" ∷ []) nowhere (line_at 3 ∷ line_at 3 ∷ line_at 5 ∷ []) 100
+interrupted_trace : trace_text interrupted (codes "LATCH" ∷ []) nowhere (line_at 3 ∷ line_at 3 ∷ line_at 5 ∷ []) (at_most 100)
     ≡ codes "0 0 MAIN is ready\n0 0 MAIN runs at 5\n"
     ++ codes "0 2 MAIN waits until 6\n3 2 - line 1 0\n3 2 - line 1 0\n3 2 - the clock moves\n3 2 INTERRUPT_1 runs at 31\n"
     ++ codes "3 4 INTERRUPT_1 writes 3 INTERRUPT_1 got 7\n3 5 INTERRUPT_1 leaves LATCH at 31\n3 5 INTERRUPT_1 ends\n3 5 INTERRUPT_1 runs at 31\n"
@@ -149,7 +150,7 @@ divides =
     image_of (door ∷ []) (sub (ProtectedProcedure 0) 4 2 ∷ sub TaskBody 6 0 ∷ []) (task (codes "MAIN") 5 1 ∷ [])
     (at 0 (op.Push (pos 1)) ∷ at 1 (op.Push (pos 0)) ∷ at 2 op.Divide ∷ at 1 op.Return ∷ at 0 (op.ProtectedCall 0) ∷ at 0 op.Return ∷ [])
 
-divides_trace : trace_text divides (codes "DOOR" ∷ []) marked [] 100
+divides_trace : trace_text divides (codes "DOOR" ∷ []) marked [] (at_most 100)
     ≡ codes "0 0 MAIN is ready\n0 0 MAIN runs at 5\n0 1 MAIN enters DOOR at 10 at 12:10\n"
     ++ codes "0 4 MAIN raises CONSTRAINT_ERROR at 3:7\n0 4 MAIN leaves DOOR at 5 at 3:7\n"
     ++ codes "0 5 MAIN raises CONSTRAINT_ERROR at its call at 12:10\n0 5 MAIN is left by CONSTRAINT_ERROR\nunhandled CONSTRAINT_ERROR in MAIN at 0\n"
@@ -167,7 +168,7 @@ fails = record
     ∷ at 0 (op.ProtectedCall 0) ∷ at 0 op.Return ∷ []))
     { rows = record { start = 5; end_ = 6; exception = 0; target = 7 } ∷ [] }
 
-fails_trace : trace_text fails (codes "DOOR" ∷ []) nowhere [] 100
+fails_trace : trace_text fails (codes "DOOR" ∷ []) nowhere [] (at_most 100)
     ≡ codes "0 0 CONS is ready\n0 0 MAIN is ready\n0 0 CONS runs at 10\n"
     ++ codes "0 1 CONS queues at DOOR\n0 1 MAIN runs at 5\n"
     ++ codes "0 2 MAIN enters DOOR at 10\n0 5 CONS is served at DOOR by MAIN\n"
@@ -182,7 +183,7 @@ fails_trace = refl
 abbrev high : Sections
 high = image_of (door ∷ []) (sub (ProtectedProcedure 0) 1 0 ∷ sub TaskBody 3 0 ∷ []) (task (codes "MAIN") 12 1 ∷ []) (at 0 op.Return ∷ at 0 (op.ProtectedCall 0) ∷ at 0 op.Return ∷ [])
 
-high_trace : trace_text high (codes "DOOR" ∷ []) nowhere [] 100
+high_trace : trace_text high (codes "DOOR" ∷ []) nowhere [] (at_most 100)
     ≡ codes "0 0 MAIN is ready\n0 0 MAIN runs at 12\n"
     ++ codes "0 1 MAIN is refused at DOOR: its priority is above the ceiling\n0 1 MAIN raises PROGRAM_ERROR\n"
     ++ codes "0 1 MAIN is left by PROGRAM_ERROR\nunhandled PROGRAM_ERROR in MAIN at 0\n"
@@ -192,7 +193,7 @@ high_trace = refl
 abbrev waits : Sections
 waits = image_of (door ∷ []) (sub (ProtectedProcedure 0) 3 1 ∷ sub TaskBody 5 0 ∷ []) (task (codes "MAIN") 5 1 ∷ []) (delay_until 0 ++ at 0 op.Return ∷ at 0 (op.ProtectedCall 0) ∷ at 0 op.Return ∷ [])
 
-waits_trace : trace_text waits [] nowhere [] 100
+waits_trace : trace_text waits [] nowhere [] (at_most 100)
     ≡ codes "0 0 MAIN is ready\n0 0 MAIN runs at 5\n0 1 MAIN enters object 0 at 10\n"
     ++ codes "0 3 MAIN is refused: it is inside an action\n0 3 MAIN raises PROGRAM_ERROR\n0 3 MAIN leaves object 0 at 5\n"
     ++ codes "0 4 MAIN raises PROGRAM_ERROR at its call\n0 4 MAIN is left by PROGRAM_ERROR\nunhandled PROGRAM_ERROR in MAIN at 0\n"

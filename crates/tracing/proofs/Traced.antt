@@ -5,16 +5,18 @@ use Rattle.std.specs.Io.KnownBytes.{Appends}
 use Rattle.base.specs.declared.schedule.ScheduleLine.{ScheduleLine}
 use Rattle.kernel.specs.State as kernel
 use Rattle.kernel.specs.State.{Kernel, Line}
-use Rattle.kernel.specs.Text.{last_line, line_text}
+use Rattle.kernel.specs.Text.{line_text}
 use Rattle.image.specs.Code.{CodeWorld, code}
 use Rattle.image.specs.Sections.{Sections}
 use Rattle.image.specs.Texts.{names_of}
 use Rattle.image_laws.specs.Laws.{OutcomeStays}
 use Rattle.tasking.specs.Held.{kernel_of}
 use Rattle.execution.specs.Held.{HeldWorld, world_of, world_with}
+use Rattle.machine.specs.Bounds.{cut_line}
 use Rattle.machine.specs.Outcomes.{ending_of, time_of}
 use Rattle.machine.specs.Stands.{EndsBy, HoldsWorld, ShowsText}
 use Rattle.machine.specs.Written.{AppendsBeginning}
+use Rattle.machine.specs.declared.bound.Bound.{Bound}
 use Rattle.machine.specs.declared.reports.Event.{Event}
 use Rattle.machine.specs.declared.reports.Event.TheVariants as events
 use Rattle.machine.specs.declared.reports.Outcome.{Outcome}
@@ -240,25 +242,25 @@ traced_over stays i objects origin schedule n limit g h old new before after r l
     }
 
 -- the whole text: the rows, and then the last line
-module _ (i : Sections) (objects : List (List ℕ)) (origin : ℕ → Option Origin) (given schedule : List ScheduleLine) (limit : ℕ) (same : given ≡ schedule) (old middle new : Option (List ℕ)) where
-  pub part_of_rows : AppendsBeginning old new (rows_text (row_names i objects origin) (rows i given limit)) → AppendsBeginning old new (trace_text i objects origin schedule limit)
+module _ (i : Sections) (objects : List (List ℕ)) (origin : ℕ → Option Origin) (given schedule : List ScheduleLine) (bound : Bound) (same : given ≡ schedule) (old middle new : Option (List ℕ)) where
+  pub part_of_rows : AppendsBeginning old new (rows_text (row_names i objects origin) (rows i given bound.steps)) → AppendsBeginning old new (trace_text i objects origin schedule bound)
   part_of_rows part =
-      let k = (code i given limit).kernel in
-      subst (λ s. AppendsBeginning old new (trace_text i objects origin s limit)) same
-      (beginning_of_more old new (rows_text (row_names i objects origin) (rows i given limit)) (last_line (names_of i) k.outcome k.now) part)
+      let k = (code i given bound.steps).kernel in
+      subst (λ s. AppendsBeginning old new (trace_text i objects origin s bound)) same
+      (beginning_of_more old new (rows_text (row_names i objects origin) (rows i given bound.steps)) (cut_line bound.cut (names_of i) k.outcome k.now) part)
 
-  module _ (o : Outcome) (last : List ℕ) (ends : EndsBy o (code i given limit)) (is : last ≡ last_line (names_of i) (ending_of o) (time_of o)) (written : Appends old middle (rows_text (row_names i objects origin) (rows i given limit))) where
-    last_is : last ≡ last_line (names_of i) (code i given limit).kernel.outcome (code i given limit).kernel.now
-    last_is = is ∙ sym (λ j. last_line (names_of i) (ends.outcome j) (ends.time j))
+  module _ (o : Outcome) (last : List ℕ) (ends : EndsBy o (code i given bound.steps)) (is : last ≡ cut_line bound.cut (names_of i) (ending_of o) (time_of o)) (written : Appends old middle (rows_text (row_names i objects origin) (rows i given bound.steps))) where
+    last_is : last ≡ cut_line bound.cut (names_of i) (code i given bound.steps).kernel.outcome (code i given bound.steps).kernel.now
+    last_is = is ∙ sym (λ j. cut_line bound.cut (names_of i) (ends.outcome j) (ends.time j))
 
-    pub whole_trace : Appends middle new last → Appends old new (trace_text i objects origin schedule limit)
+    pub whole_trace : Appends middle new last → Appends old new (trace_text i objects origin schedule bound)
     whole_trace app =
-        let k = (code i given limit).kernel in
-        subst (λ s. Appends old new (trace_text i objects origin s limit)) same
-        (appends_two old middle new (rows_text (row_names i objects origin) (rows i given limit)) (last_line (names_of i) k.outcome k.now) written (subst (Appends middle new) last_is app))
+        let k = (code i given bound.steps).kernel in
+        subst (λ s. Appends old new (trace_text i objects origin s bound)) same
+        (appends_two old middle new (rows_text (row_names i objects origin) (rows i given bound.steps)) (cut_line bound.cut (names_of i) k.outcome k.now) written (subst (Appends middle new) last_is app))
 
-    pub part_of_trace : AppendsBeginning middle new last → AppendsBeginning old new (trace_text i objects origin schedule limit)
+    pub part_of_trace : AppendsBeginning middle new last → AppendsBeginning old new (trace_text i objects origin schedule bound)
     part_of_trace begun =
-        let k = (code i given limit).kernel in
-        subst (λ s. AppendsBeginning old new (trace_text i objects origin s limit)) same
-        (beginning_after old middle new (rows_text (row_names i objects origin) (rows i given limit)) (last_line (names_of i) k.outcome k.now) written (subst (AppendsBeginning middle new) last_is begun))
+        let k = (code i given bound.steps).kernel in
+        subst (λ s. AppendsBeginning old new (trace_text i objects origin s bound)) same
+        (beginning_after old middle new (rows_text (row_names i objects origin) (rows i given bound.steps)) (cut_line bound.cut (names_of i) k.outcome k.now) written (subst (AppendsBeginning middle new) last_is begun))

@@ -3,10 +3,12 @@ use Rattle.std.specs.Prelude.{ℕ, zero, suc, ◌-◌, List, [], ◌∷◌, ◌+
 use Rattle.std.specs.Fmt.{signed_decimal}
 use Rattle.base.specs.declared.schedule.ScheduleLine.{ScheduleLine}
 use Rattle.kernel.specs.State.{Kernel, Line, Outcome}
-use Rattle.kernel.specs.Text.{Names, last_line, line_text}
+use Rattle.kernel.specs.Text.{Names, line_text}
 use Rattle.image.specs.Code.{code}
 use Rattle.image.specs.Sections.{Sections}
 use Rattle.image.specs.Texts.{names_of}
+use Rattle.machine.specs.Bounds.{cut_line}
+use Rattle.machine.specs.declared.bound.Bound.{Bound}
 use Rattle.task_steps.specs.declared.foreseeing.Cause.{Cause}
 use Rattle.task_steps.specs.declared.foreseeing.Cause.TheVariants as causes
 use Rattle.tracing.specs.Changes.{next_ahead, since_clock, starts, until_clock}
@@ -172,12 +174,11 @@ abbrev pub rows_text : RowNames → List TraceRow → List ℕ
 rows_text names [] = []
 rows_text names (r ∷ rs) = row_text names r ++ rows_text names rs
 
--- all that the trace of a run of at most `limit` steps writes: its rows, where objects have these names and instructions come from there, and the last line
--- of the run
-abbrev pub trace_text : Sections → (objects : List (List ℕ)) → (origin : ℕ → Option Origin) → List ScheduleLine → ℕ → List ℕ
-trace_text i objects origin schedule limit =
-    let k = (code i schedule limit).kernel in
-    rows_text (row_names i objects origin) (rows i schedule limit) ++ last_line (names_of i) k.outcome k.now
+-- all that the trace of a run within a bound writes: its rows, where objects have these names and instructions come from there, and the last line of the run
+abbrev pub trace_text : Sections → (objects : List (List ℕ)) → (origin : ℕ → Option Origin) → List ScheduleLine → Bound → List ℕ
+trace_text i objects origin schedule bound =
+    let k = (code i schedule bound.steps).kernel in
+    rows_text (row_names i objects origin) (rows i schedule bound.steps) ++ cut_line bound.cut (names_of i) k.outcome k.now
 
 -- Lines
 

@@ -20,7 +20,7 @@ pub enum Event {
         task: u8,
         by: u8,
     },
-    /// Its `delay until` is due already, which puts it behind those of its priority: this one runs (RM D.2.3).
+    /// Its `delay until` is due already, which puts it after those of its priority: this one runs (RM D.2.3).
     GivesWay {
         task: u8,
         to: u8,

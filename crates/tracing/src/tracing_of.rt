@@ -19,7 +19,7 @@ use clock::{Delays, HeapDelays, Schedule};
 use dispatch::{Ready, RingReady};
 use image::{Image, Text};
 use image_laws::outcome_stays;
-use machine::{Machine, Outcome, RunFault, Sink, SinkError, Steps, last_line, write_all};
+use machine::{Bound, Machine, Outcome, RunFault, Sink, SinkError, Steps, cut_line, write_all};
 use std::alloc::Global;
 use std::sync::ledger::Ledger;
 
@@ -273,9 +273,11 @@ fn trace_on<R: Ready, D: Delays, O: Origins, S: Sink, L: Ledger>(
     Ok(after.outcome_or_limit())
 }
 
-/// Runs an image as `machine::run` does, with the same outcome, and writes its trace: the rows of the start and of each step, and the last line of the run.
+/// Runs an image as `machine::run_within` does, with the same outcome, and writes its trace: the rows of the start and of each step, and the last line of the
+/// run.
 /// Its protected objects have these names, in the order of their numbers; one for which there is none is named by its number. Rows of what
-/// a statement does have its place, if the origins know it. Two machines take at most `limit` steps each, which are counted.
+/// a statement does have its place, if the origins know it. Two machines take at most as many steps each as the bound
+/// has, which are counted.
 ///
 /// # Errors
 /// `Memory` where memory was refused, before anything is written; `Write` where a write failed, and what was written then is a beginning of the trace.
@@ -285,17 +287,17 @@ pub fn trace<O: Origins, S: Sink, L: Ledger>(
     objects: &[Text],
     origins: &O,
     schedule: &Schedule,
-    limit: u64,
+    bound: Bound,
     sink: &mut S,
     steps: &mut Steps<L>,
 ) -> Result<Outcome, RunFault>
-    ensures text { OnOk result (Appends (S.bytes sink.old) (S.bytes sink.new) (trace_text image.now objects.now (O.origin origins.now) schedule.now limit)) }
-    ensures ends { IfOk result (λ outcome. EndsBy outcome (code image.now schedule.now limit)) }
+    ensures text { OnOk result (Appends (S.bytes sink.old) (S.bytes sink.new) (trace_text image.now objects.now (O.origin origins.now) schedule.now bound)) }
+    ensures ends { IfOk result (λ outcome. EndsBy outcome (code image.now schedule.now bound.steps)) }
     ensures kept { OnOk result (S.failures sink.new ≡ S.failures sink.old) }
     ensures memory { result ≡ Err RunFault.Memory → sink.new ≡ sink.old }
     ensures failed { result ≡ Err RunFault.Write → S.failures sink.old < S.failures sink.new }
-    ensures beginning { AppendsBeginning (S.bytes sink.old) (S.bytes sink.new) (trace_text image.now objects.now (O.origin origins.now) schedule.now limit) }
-    ensures count { steps.new ≤ steps.old + 2 * limit }
+    ensures beginning { AppendsBeginning (S.bytes sink.old) (S.bytes sink.new) (trace_text image.now objects.now (O.origin origins.now) schedule.now bound) }
+    ensures count { steps.new ≤ steps.old + 2 * bound.steps }
 {
     let mut before: Machine<'_, RingReady, HeapDelays> = Machine::start(alloc, image, schedule)?;
     let mut after: Machine<'_, RingReady, HeapDelays> = Machine::start(alloc, image, schedule)?;
@@ -306,11 +308,11 @@ pub fn trace<O: Origins, S: Sink, L: Ledger>(
         &mut before,
         &mut after,
         schedule,
-        limit,
+        bound.steps,
         sink,
         steps,
     )?;
-    let text = last_line(image, &outcome);
+    let text = cut_line(image, &outcome, bound.cut);
     match write_all(sink, text.as_slice()) {
         Ok(()) => Ok(outcome),
         Err(_) => Err(RunFault::Write),

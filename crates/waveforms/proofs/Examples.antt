@@ -1,6 +1,7 @@
 -- Dumps of images worked by computation: an entry with queue, service and a preemption; a delay and an exception that ends the run.
-use Rattle.std.proofs.Common.{◌≡◌, ℕ, List, [], ◌∷◌, ◌++◌, pos, Some, refl}
-use Rattle.std.specs.Prelude.{codes}
+use Rattle.std.proofs.Common.{◌≡◌, ℕ, List, [], ◌∷◌, ◌++◌, pos, Some, arith, refl}
+use Rattle.std.specs.Prelude.{◌<ℤ◌, codes}
+use Rattle.std.proofs.lemmas.Int.{ints}
 use Rattle.std.specs.Fmt.{digits}
 use Rattle.base.specs.Names.{predefined}
 use Rattle.image.specs.ObjectTable.{ObjectRow}
@@ -13,6 +14,8 @@ use Rattle.image.specs.declared.subprograms.Kind.{Kind}
 use Rattle.image.specs.declared.subprograms.Kind.TheVariants.{EntryBody, ProtectedProcedure, TaskBody}
 use Rattle.image.specs.declared.subprograms.Subprogram.{Subprogram}
 use Rattle.image.specs.declared.tasks.Task.{Task}
+use Rattle.machine.specs.Bounds.{IsBound, at_most}
+use Rattle.machine.specs.declared.bound.Cut.TheVariants.{Time}
 use Rattle.waveforms.specs.Waves.{preamble, waves_text}
 
 abbrev at : ℕ → Operation → Instr
@@ -41,7 +44,7 @@ served =
     ∷ at 0 (op.EntryCall 0) ∷ at 0 (op.Push (pos 7)) ∷ at 1 (op.PutLine 0) ∷ at 0 op.Return
     ∷ at 0 (op.ProtectedCall 0) ∷ at 0 op.Return ∷ [])
 
-served_waves : waves_text served (codes "DOOR" ∷ []) [] 100
+served_waves : waves_text served (codes "DOOR" ∷ []) [] (at_most 100)
     ≡ preamble
     ++ codes "$var wire 64 ! time $end\n"
     ++ codes "$scope module CONS $end\n$var wire 3 \" state $end\n$var wire 8 # priority $end\n$upscope $end\n"
@@ -76,11 +79,28 @@ until_it_wakes =
     ++ codes "#0\n$dumpvars\nb0 !\nb1 \"\nb101 #\nb0 $\nb0 %\n$end\n"
     ++ codes "#2\nb111110100 !\n"
 
-alone_waves : waves_text alone [] [] 100 ≡ until_it_wakes ++ codes "#5\nb110 \"\n#6\n$comment unhandled CONSTRAINT_ERROR in MAIN at 500\n$end\n"
+alone_waves : waves_text alone [] [] (at_most 100) ≡ until_it_wakes ++ codes "#5\nb110 \"\n#6\n$comment unhandled CONSTRAINT_ERROR in MAIN at 500\n$end\n"
 unfolding digits
 alone_waves = refl
 
 -- a name that isn't one of Ada's gives way to the number
-alone_cut : waves_text alone (codes "a b" ∷ []) [] 3 ≡ until_it_wakes ++ codes "#4\n$comment step limit at 500\n$end\n"
+alone_cut : waves_text alone (codes "a b" ∷ []) [] (at_most 3) ≡ until_it_wakes ++ codes "#4\n$comment step limit at 500\n$end\n"
 unfolding digits
 alone_cut = refl
+
+-- before it would sleep past the time, which it comes to at 500
+alone_is_cut : IsBound alone [] (Some (pos 499)) 100 (record { steps = 1; cut = Time })
+alone_is_cut =
+    let past : pos 499 <ℤ pos 500 = grind (arith, ints) in
+    record { earlier = omega arith; within = λ natural. natural; passes = past }
+
+alone_timed : waves_text alone (codes "a b" ∷ []) [] (record { steps = 1; cut = Time })
+    ≡ preamble
+    ++ codes "$var wire 64 ! time $end\n"
+    ++ codes "$scope module MAIN $end\n$var wire 3 \" state $end\n$var wire 8 # priority $end\n$upscope $end\n"
+    ++ codes "$scope module OBJECT_0 $end\n$var wire 8 $ inside $end\n$var wire 8 % queued $end\n$upscope $end\n"
+    ++ codes "$upscope $end\n$enddefinitions $end\n"
+    ++ codes "#0\n$dumpvars\nb0 !\nb1 \"\nb101 #\nb0 $\nb0 %\n$end\n"
+    ++ codes "#2\n$comment time limit at 0\n$end\n"
+unfolding digits
+alone_timed = refl

@@ -4,10 +4,11 @@ use Rattle.std.specs.Fmt.{digits}
 use Rattle.base.specs.Names.{is_name}
 use Rattle.base.specs.declared.schedule.ScheduleLine.{ScheduleLine}
 use Rattle.kernel.specs.State.{Outcome}
-use Rattle.kernel.specs.Text.{last_line}
 use Rattle.image.specs.Code.{code}
 use Rattle.image.specs.Sections.{Sections}
 use Rattle.image.specs.Texts.{names_of}
+use Rattle.machine.specs.Bounds.{cut_line}
+use Rattle.machine.specs.declared.bound.Bound.{Bound}
 use Rattle.waveforms.specs.Signals.{all_below, values}
 use Rattle.waveforms.specs.declared.text.TheConstants.{CODES}
 
@@ -110,11 +111,11 @@ steps_taken i schedule (suc n) = steps_taken i schedule n + one_without (code i 
 abbrev pub ending_text : ℕ → List ℕ → List ℕ
 ending_text taken last = tick_text (taken + 1) ++ codes "$comment " ++ last ++ codes "$end\n"
 
--- all that is written of a run of at most `limit` steps, where protected objects have these names
-abbrev pub waves_text : Sections → List (List ℕ) → List ScheduleLine → ℕ → List ℕ
-waves_text i names schedule limit =
-    let k = (code i schedule limit).kernel in
+-- all that is written of a run within a bound, where protected objects have these names
+abbrev pub waves_text : Sections → List (List ℕ) → List ScheduleLine → Bound → List ℕ
+waves_text i names schedule bound =
+    let k = (code i schedule bound.steps).kernel in
     declarations_text names i
     ++ start_text (values (code i schedule 0).kernel)
-    ++ steps_text i schedule limit
-    ++ ending_text (steps_taken i schedule limit) (last_line (names_of i) k.outcome k.now)
+    ++ steps_text i schedule bound.steps
+    ++ ending_text (steps_taken i schedule bound.steps) (cut_line bound.cut (names_of i) k.outcome k.now)

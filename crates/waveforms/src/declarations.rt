@@ -1,4 +1,4 @@
-//! The declarations in front of a dump.
+//! The declarations before a dump.
 ghost use Rattle.std.specs.Prelude.{◌≡◌, ◌+◌, ◌*◌, ◌<◌, ◌≤◌, ◌++◌, IfOk, OnOk, length, slice_get};
 ghost use Rattle.arrayvec.specs.ArrayVec.{array_vec_len};
 ghost use Rattle.base.specs.declared.limits.TheConstants.{NAME_LIMIT, OBJECTS, TASKS};

@@ -18,13 +18,13 @@ const FIRST_CODE: u8 = 33;
 /// How many characters codes are made of.
 const CODES: usize = 94;
 
-/// The most bytes of a value's line: 64 digits, the code, and what stands around these.
+/// The most bytes of a value's line: 64 digits, the code, and what is around these.
 const VALUE_BYTES: usize = 69;
 
 /// The most bytes of a tick's line.
 const TICK_BYTES: usize = 42;
 
-/// The most bytes in front of the values of the start.
+/// The most bytes before the values of the start.
 const FRONT_BYTES: usize = TICK_BYTES + 10;
 
 /// The most bytes of a step's text, or of the start's, whose end has 5.
@@ -145,7 +145,7 @@ pub(crate) fn changed_text(step: u64, before: &Values, after: &Values) -> StepTe
     text
 }
 
-/// The text of the end, behind so many steps, with the last line of the run.
+/// The text of the end, after so many steps, with the last line of the run.
 pub(crate) fn ending_text(taken: u64, last: &LineText) -> StepText
     ensures { result.items ≡ ending_text taken last.now.items }
 {

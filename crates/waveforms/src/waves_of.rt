@@ -16,7 +16,7 @@ use clock::{Delays, HeapDelays, Schedule};
 use dispatch::{Ready, RingReady};
 use image::Image;
 use image_laws::outcome_stays;
-use machine::{Machine, Outcome, RunFault, Sink, SinkError, Steps, last_line, write_all};
+use machine::{Bound, Machine, Outcome, RunFault, Sink, SinkError, Steps, cut_line, write_all};
 use std::alloc::{AllocError, Global};
 use std::sync::ledger::Ledger;
 
@@ -97,8 +97,9 @@ fn write_steps<R: Ready, D: Delays, S: Sink, L: Ledger>(
     Ok(Ending { outcome, taken })
 }
 
-/// Runs an image as `machine::run` does, with the same outcome, and writes the run as a value change dump, in which protected objects have
-/// these names; those that have none here, or no name that Ada allows, have their number. It takes at most `limit` steps, which are counted.
+/// Runs an image as `machine::run_within` does, with the same outcome, and writes the run as a value change dump, in which protected objects have
+/// these names; those that have none here, or no name that Ada allows, have their number. It takes at most as many steps as the
+/// bound has, which are counted.
 ///
 /// # Errors
 /// `Memory` where memory was refused, before anything is written; `Write` where a write failed, and what was written then is a beginning of the dump.
@@ -107,17 +108,17 @@ pub fn waves<S: Sink, L: Ledger>(
     image: &Image,
     names: &[Text],
     schedule: &Schedule,
-    limit: u64,
+    bound: Bound,
     sink: &mut S,
     steps: &mut Steps<L>,
 ) -> Result<Outcome, RunFault>
-    ensures text { OnOk result (Appends (S.bytes sink.old) (S.bytes sink.new) (waves_text image.now names.now schedule.now limit)) }
-    ensures ends { IfOk result (λ outcome. EndsBy outcome (code image.now schedule.now limit)) }
+    ensures text { OnOk result (Appends (S.bytes sink.old) (S.bytes sink.new) (waves_text image.now names.now schedule.now bound)) }
+    ensures ends { IfOk result (λ outcome. EndsBy outcome (code image.now schedule.now bound.steps)) }
     ensures kept { OnOk result (S.failures sink.new ≡ S.failures sink.old) }
     ensures memory { result ≡ Err RunFault.Memory → sink.new ≡ sink.old }
     ensures failed { result ≡ Err RunFault.Write → S.failures sink.old < S.failures sink.new }
-    ensures beginning { AppendsBeginning (S.bytes sink.old) (S.bytes sink.new) (waves_text image.now names.now schedule.now limit) }
-    ensures count { steps.new ≤ steps.old + limit }
+    ensures beginning { AppendsBeginning (S.bytes sink.old) (S.bytes sink.new) (waves_text image.now names.now schedule.now bound) }
+    ensures count { steps.new ≤ steps.old + bound.steps }
 {
     let mut machine: Machine<'_, RingReady, HeapDelays> = Machine::start(alloc, image, schedule)?;
     let start = beginning(alloc, image, names, &machine)?;
@@ -125,8 +126,8 @@ pub fn waves<S: Sink, L: Ledger>(
         Ok(()) => {}
         Err(_) => return Err(RunFault::Write),
     }
-    let ending = write_steps(&mut machine, limit, sink, steps)?;
-    let last = last_line(image, &ending.outcome);
+    let ending = write_steps(&mut machine, bound.steps, sink, steps)?;
+    let last = cut_line(image, &ending.outcome, bound.cut);
     match write_all(sink, ending_text(ending.taken, &last).as_slice()) {
         Ok(()) => Ok(ending.outcome),
         Err(_) => Err(RunFault::Write),

@@ -9,7 +9,7 @@ use Rattle.adarun.proofs.program.drive_trace.Goals as goal
 
 pub returns-in-Ok-write_trace-clause-leaves : goal.returns-in-Ok-write_trace-clause-leaves
 returns-in-Ok-write_trace-clause-leaves g c =
-    trace_leaves _ _ _ _ _ _ _ _ _ c.status_of.ensures.is
+    trace_leaves _ _ _ _ _ _ _ _ _ _ c.status_of.ensures.is
     (record {
       text = c.deref.result.now;
       source_read = source_whole _ _ _ c.deref.ensures.value c.in-Ok-compile_named.ensures.means.compiles.tree c.in-Ok.ensures c.in-Ok-compile_named.ensures.means.compiles.accepted.is_tree;
@@ -18,17 +18,19 @@ returns-in-Ok-write_trace-clause-leaves g c =
       given = record { input = c.deref-2.result.now; read = schedule_whole _ _ _ c.deref-2.ensures.value c.in-Ok-read-2.schedule c.in-Ok-read.ensures c.in-Ok-read-2.ensures.read; lines = c.in-Ok-read-2.schedule; is_schedule = c.in-Ok-read-2.ensures.read };
       places = c.in-Ok-compile_named.named.places;
       placed = c.in-Ok-compile_named.ensures.means.placed;
+      bound = c.in-Ok-bound_of.bound;
+      bounded = c.in-Ok-bound_of.ensures.bound;
       outcome = c.in-Ok-write_trace.outcome;
       status_is = refl;
       written = told_alike c.args.form (Appends (g.O.Sink.bytes c.args.out.now) (g.O.Sink.bytes c.write_trace.new.out)) c.in-Ok-compile_named.named.image
-          c.in-Ok-compile_named.named.places c.in-Ok-read-2.schedule c.args.limit _ _ _ _
+          c.in-Ok-compile_named.named.places c.in-Ok-read-2.schedule c.in-Ok-bound_of.bound _ _ _ _
           (ap names_alone c.in-Ok-compile_named.ensures.means.names) (c.deref-3.ensures.value ∙ sym c.deref.ensures.value) c.in-Ok-write_trace.ensures.text;
       ends = c.in-Ok-write_trace.ensures.ends;
     })
 
 pub returns-in-Err-read-2-clause-leaves : goal.returns-in-Err-read-2-clause-leaves
 returns-in-Err-read-2-clause-leaves g c =
-    unscheduled_trace _ _ _ _ _ _ _ _ _ c.refuse_schedule.ensures
+    unscheduled_trace _ _ _ _ _ _ _ _ _ _ c.refuse_schedule.ensures
     (schedule_leaves _ _ _ c.args.limit _ _ _ (faults.Schedule c.in-Err-read-2.fault) c.in-Err-read-2.fault _ _ _ _ c.refuse_schedule.ensures c.in-Ok.ensures c.deref.ensures.value c.in-Ok-read.ensures c.deref-2.ensures.value refl
     (record { image = c.in-Ok-compile_named.named.image; compiles = c.in-Ok-compile_named.ensures.means.compiles }, c.in-Err-read-2.ensures.refused) refl)
 
@@ -43,8 +45,10 @@ returns-clause-leaves g c =
       given = record { input = c.deref-2.result.now; read = schedule_whole _ _ _ c.deref-2.ensures.value c.in-Ok-read-2.schedule c.in-Ok-read.ensures c.in-Ok-read-2.ensures.read; lines = c.in-Ok-read-2.schedule; is_schedule = c.in-Ok-read-2.ensures.read };
       places = c.in-Ok-compile_named.named.places;
       placed = c.in-Ok-compile_named.ensures.means.placed;
+      bound = c.in-Ok-bound_of.bound;
+      bounded = c.in-Ok-bound_of.ensures.bound;
       begins = told_alike c.args.form (AppendsBeginning (g.O.Sink.bytes c.args.out.now) (g.O.Sink.bytes c.write_trace.new.out)) c.in-Ok-compile_named.named.image
-          c.in-Ok-compile_named.named.places c.in-Ok-read-2.schedule c.args.limit _ _ _ _
+          c.in-Ok-compile_named.named.places c.in-Ok-read-2.schedule c.in-Ok-bound_of.bound _ _ _ _
           (ap names_alone c.in-Ok-compile_named.ensures.means.names) (c.deref-3.ensures.value ∙ sym c.deref.ensures.value) c.in-Err-Write.ensures.beginning;
     }))
 

@@ -1,5 +1,4 @@
 use Rattle.std.proofs.Common.{ap, sym, ◌∙◌}
-use Rattle.kernel.specs.Interrupts.{asked}
 use Rattle.tasking.specs.Held.{kernel_of}
 use Rattle.machine.specs.TaskStates.{place_asked, place_if}
 use Rattle.machine.proofs.running.Machine.place.Goals as goal
