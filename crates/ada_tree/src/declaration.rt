@@ -84,7 +84,7 @@ pub struct TaskEntry {
     pub name: Identifier,
 }
 
-/// What stands between `is` and the semicolon of a task's declaration (RM 9.1).
+/// What is between `is` and the semicolon of a task's declaration (RM 9.1).
 pub struct TaskDefinition {
     pub entries: Vec<TaskEntry>,
     pub end_name: Identifier,

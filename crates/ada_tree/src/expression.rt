@@ -77,7 +77,7 @@ pub struct ElsifValue {
     pub value: Expr,
 }
 
-/// An operator, and the operand behind it (RM 4.4).
+/// An operator, and the operand after it (RM 4.4).
 #[cycle(expression)]
 pub struct Operand {
     pub operator: BinaryOperator,
@@ -98,8 +98,8 @@ pub enum Expr {
     Conditional(u32, Box<Expr>, Box<Expr>, Vec<ElsifValue>, Box<Expr>),
     /// An operator, its place and its operand.
     Unary(UnaryOperator, u32, Box<Expr>),
-    /// The first operand, the first operator with the operand behind it, and those after it, from left to right. They group to the left: all that
-    /// stands before an operator is its left operand.
+    /// The first operand, the first operator with the operand after it, and those after it, from left to right. They group to the left: all that
+    /// is before an operator is its left operand.
     Chain(Box<Expr>, Box<Operand>, Vec<Operand>),
 }
 
@@ -160,7 +160,7 @@ impl Expr {
         Ok(Expr::Unary(operator, place, operand))
     }
 
-    /// The expression in parentheses, the first of which stands at this place. Memory is the only refusal.
+    /// The expression in parentheses, the first of which is at this place. Memory is the only refusal.
     pub fn parenthesized(alloc: Global, place: u32, inner: Expr) -> Result<Expr, AllocError>
         ensures { IfOk result (λ e. expr_tree e ≡ Parenthesized place (expr_tree inner)) }
     {
@@ -168,7 +168,7 @@ impl Expr {
         Ok(Expr::Parenthesized(place, inner))
     }
 
-    /// The if expression of these parts, whose parenthesis stands at this place. Memory is the only refusal.
+    /// The if expression of these parts, whose parenthesis is at this place. Memory is the only refusal.
     pub fn conditional(
         alloc: Global,
         place: u32,

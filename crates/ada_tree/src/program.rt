@@ -31,14 +31,14 @@ pub struct PackageDeclaration {
     pub end_name: Identifier,
 }
 
-/// What stands in the body of a protected object (RM 9.4).
+/// What is in the body of a protected object (RM 9.4).
 pub enum ProtectedBodyItem {
     Subprogram(Subprogram, Body),
     /// The entry, its barrier and its body.
     Entry(EntryDeclaration, Expr, Body),
 }
 
-/// What stands in the body of a package (RM 7.2).
+/// What is in the body of a package (RM 7.2).
 pub enum BodyItem {
     Item(Item),
     Subprogram(Subprogram, Body),

@@ -85,7 +85,7 @@ pub enum Stmt {
     /// The name, of one or two identifiers.
     Requeue(u32, Identifier, Option<Identifier>),
     Accept(u32, Identifier),
-    /// A select statement. What stands in it is not kept.
+    /// A select statement. What is in it is not kept.
     Select(u32),
 }
 

@@ -14,11 +14,11 @@ pub const WRONG_LABEL: u8 = 5;
 pub const UNEXPECTED_TOKEN: u8 = 6;
 /// Too many levels are open.
 pub const TOO_MANY_LEVELS: u8 = 7;
-/// A name is not visible where it stands, or there is no component or operation of this name (RM 4.1, 8.3).
+/// A name is not visible where it is used, or there is no component or operation of this name (RM 4.1, 8.3).
 pub const NAME_NOT_VISIBLE: u8 = 10;
 /// A name is declared twice, or hides a visible one (RM 8.3).
 pub const DECLARED_TWICE: u8 = 11;
-/// A type is not as expected, or an operator, a call or a name has no meaning where it stands (RM 4).
+/// A type is not as expected, or an operator, a call or a name has no meaning where it is used (RM 4).
 pub const NO_MEANING: u8 = 12;
 /// What is to be changed is a constant, a loop parameter, an `in` formal, or a component in the body of a protected function (RM 3.3, 6.4.1, 9.5.1).
 pub const NOT_A_VARIABLE: u8 = 13;
@@ -28,11 +28,11 @@ pub const NOT_STATIC: u8 = 14;
 pub const WRONG_STATIC_VALUE: u8 = 15;
 /// A call has not as many actual parameters as there are formal ones (RM 6.4).
 pub const WRONG_ARGUMENT_COUNT: u8 = 16;
-/// A case statement chooses a value twice, has no `others`, or has alternatives behind it (RM 5.4).
+/// A case statement chooses a value twice, has no `others`, or has alternatives after it (RM 5.4).
 pub const WRONG_CHOICES: u8 = 17;
 /// A declaration has no body, or a body is a second one, matches no declaration or not the one before it (RM 3.11.1, 6.3.1, 7.2).
 pub const UNMATCHED_BODY: u8 = 18;
-/// An `exit`, a `return` or a `raise` without a name stands where it may not, or a `return` has a value outside a function (RM 5.7, 6.5, 11.3).
+/// An `exit`, a `return` or a `raise` without a name is where it can't be, or a `return` has a value outside a function (RM 5.7, 6.5, 11.3).
 pub const MISPLACED_STATEMENT: u8 = 19;
 /// A choice of a handler is no exception, or one that was named before, or an `others` that is not alone and last (RM 11.2).
 pub const WRONG_HANDLER: u8 = 20;

@@ -1,4 +1,4 @@
-//! What stands in bodies: local declarations, statements, barriers (RM D.7).
+//! What is in bodies: local declarations, statements, barriers (RM D.7).
 ghost use Rattle.std.specs.Prelude.{◌≡◌, bytes_eq, map, option_map};
 ghost use Rattle.std.specs.List.{list_any};
 ghost use Rattle.ada_tree.specs.ExpressionTree.{expr_tree};

@@ -1,4 +1,4 @@
-//! The restrictions of the Ravenscar profile on what stands in bodies (docs/LANGUAGE.md, "Rules of the profile").
+//! The restrictions of the Ravenscar profile on what is in bodies (docs/LANGUAGE.md, "Rules of the profile").
 #![tactic(auto)]
 
 mod bodies;

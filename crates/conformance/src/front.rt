@@ -1,4 +1,4 @@
-//! What stands in front of an item of a package's body: the specification, and the items before it.
+//! What is before an item of a package's body: the specification, and the items before it.
 ghost use Rattle.std.specs.Prelude.{◌≡◌, [], map, take, OnOk, IfOk};
 ghost use Rattle.std.specs.List.{list_any};
 ghost use Rattle.ada_tree.specs.StatementTree.{subprogram_tree};
@@ -15,7 +15,7 @@ use std::alloc::{AllocError, Global};
 use std::marker::Model;
 
 /// The declarations of a specification, and the items of a body up to a place, with the bodies and the profiles among them. Contracts see the specification,
-/// all items of the body, and the number of those in front.
+/// all items of the body, and the number of those before it.
 #[derive(Drop)]
 pub(crate) struct Front<'a> {
     specified: &'a [Item],
@@ -107,14 +107,14 @@ impl<'a> Front<'a> {
         }
     }
 
-    /// Whether a body of this kind and name stands in front.
+    /// Whether a body of this kind and name is before it.
     pub(crate) fn has_body(&self, kind: BodyOf, name: &'a Identifier) -> bool
         ensures { result ≡ list_any (is_body_of kind name.now) (front_before self.now) }
     {
         self.bodies.has(Key::of_body(kind, name))
     }
 
-    /// Whether a subprogram of this name is declared in front that its body doesn't conform to.
+    /// Whether a subprogram of this name is declared before it that its body doesn't conform to.
     pub(crate) fn has_unlike(&self, body: &'a Subprogram) -> bool
         ensures { result ≡ any_declared (is_unlike_subprogram (subprogram_tree body.now)) (front_specified self.now) (front_before self.now) }
     {
@@ -124,7 +124,7 @@ impl<'a> Front<'a> {
         )
     }
 
-    /// Whether an operation of this object and name is declared in front that its body doesn't conform to.
+    /// Whether an operation of this object and name is declared before it that its body doesn't conform to.
     pub(crate) fn has_unlike_operation(
         &self,
         object: &'a Identifier,

@@ -11,7 +11,7 @@ use indexmap::IndexSet;
 use lexer::Text;
 use std::alloc::{AllocError, Global};
 
-/// What a name with a body stands for.
+/// What a name with a body denotes.
 #[derive(Clone, Copy, Debug, PartialEq, Eq, Hash)]
 pub(crate) enum Kind {
     Subprogram,
@@ -21,7 +21,7 @@ pub(crate) enum Kind {
     Operation,
 }
 
-/// A name with a body: what it stands for, and the object that it is an operation of, or its own name where it is none.
+/// A name with a body: what it denotes, and the object that it is an operation of, or its own name where it is none.
 #[derive(Clone, Copy, PartialEq, Eq, Hash)]
 pub(crate) struct Key<'a> {
     pub kind: Kind,

@@ -33,7 +33,7 @@ fn declare_formal(scope: &mut Scope, formal: &Formal) -> Result<(), AllocError>
     declare(scope, &formal.name, entity)
 }
 
-/// Makes the formal parameters visible in front of their body. Memory is the only refusal, and may leave some of them visible.
+/// Makes the formal parameters visible before their body. Memory is the only refusal, and may leave some of them visible.
 pub fn declare_formals(scope: &mut Scope, formals: &[Formal]) -> Result<(), AllocError>
     ensures { OnOk result (scope.new ≡ formals_scope scope.old formals.now) }
 {
@@ -188,8 +188,8 @@ fn declare_operations(
     Ok(())
 }
 
-/// Begins the body of the protected object with this number: its operations are visible by their names, and none behind its own. Gives the operations,
-/// with which `leave_object` ends the body. Memory is the only refusal, and may leave some of this done.
+/// Begins the body of the protected object with this number: its operations are visible by their names, and none after the object's own name and a
+/// point. Gives the operations, with which `leave_object` ends the body. Memory is the only refusal, and may leave some of this done.
 pub fn enter_object(
     alloc: Global,
     scope: &mut Scope,
@@ -222,7 +222,7 @@ fn component_role(is_function: bool) -> Role
     }
 }
 
-/// Makes the components of a protected object visible in front of the body of one of its operations; in that of a function they are constants. Memory is the
+/// Makes the components of a protected object visible before the body of one of its operations; in that of a function they are constants. Memory is the
 /// only refusal, and may leave some of them visible.
 pub fn declare_components(
     scope: &mut Scope,

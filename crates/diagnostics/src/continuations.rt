@@ -1,4 +1,4 @@
-//! What may stand after the first tokens of a text, so that some program goes on from there.
+//! What may follow the first tokens of a text, so that some program goes on from there.
 
 mod continuation;
 mod following;

@@ -37,7 +37,7 @@ impl Wanted {
     pub const BOOLEAN: Wanted = Wanted::OfType(Subtype::BOOLEAN.type_number);
 }
 
-/// The type of what a name stands for.
+/// The type of what a name denotes.
 pub fn own_of_standing(standing: Standing) -> Own
     ensures { result ≡ own_of_standing standing }
 {

@@ -3,12 +3,12 @@
 
 ghost use Rattle.fault_numbers.specs.Numbers.{GrammarNumbers, LegalityNumbers, RestrictionNumbers, SpellingNumbers};
 
-/// What is told of a text that no tokens spell has a number from 1 to 5.
+/// The fault of a text that no tokens spell has a number from 1 to 5.
 pub fn spelling_numbers()
     ensures { SpellingNumbers }
 {}
 
-/// What is told of tokens without a tree has the number 6 or 7.
+/// The fault of tokens without a tree has the number 6 or 7.
 pub fn grammar_numbers()
     ensures { GrammarNumbers }
 {}

@@ -120,7 +120,7 @@ pub enum Operation {
     Clock,
 }
 
-/// One instruction: what it does, and how many words stand on the frame's operand stack before it.
+/// One instruction: what it does, and how many words are on the frame's operand stack before it.
 #[derive(Clone, Copy, PartialEq, Eq, Debug)]
 pub struct Instr {
     /// The words on the operand stack before it.

@@ -1,4 +1,4 @@
-//! Where subprograms stand: what a function without work ensures.
+//! Where subprograms are: what a function without work ensures.
 ghost use Rattle.image.specs.Laws.{FoundByEnds};
 
 /// The subprogram that holds a place is found by its number among the ends of subprograms.

@@ -19,7 +19,7 @@ pub enum Kind {
     TaskBody,
 }
 
-/// A subprogram. Its first instruction stands where the subprogram before it ends.
+/// A subprogram. Its first instruction is where the subprogram before it ends.
 #[derive(Clone, Copy, PartialEq, Eq, Debug)]
 pub struct Subprogram {
     pub kind: Kind,

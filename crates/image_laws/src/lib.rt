@@ -10,7 +10,7 @@ use kernel::laws::{
     lines_grow, reaches_callers, start_settles, steps_settle,
 };
 
-/// At the start the frame of a task's body stands at its first instruction, with the locals that the body declares and an empty operand stack.
+/// At the start the frame of a task's body is at its first instruction, with the locals that the body declares and an empty operand stack.
 pub fn begins_sound()
     ensures { BeginsSound }
 {}
@@ -22,7 +22,7 @@ pub fn steps_sound()
     ensures { StepsSound }
 {}
 
-/// Where a frame stands at an instruction, its operands are there, no depth passes what its subprogram declares, and its words fit a frame.
+/// Where a frame is at an instruction, it has its operands, no depth passes what its subprogram declares, and its words fit a frame.
 pub fn frames_have_room()
     ensures { FramesHaveRoom }
 {}
@@ -77,7 +77,7 @@ pub fn four_in_every_world()
 }
 
 /// In every world of every well-formed image the open actions of a task are those of its frames, the frames of a task that is not being
-/// served have their shape, a queued caller stands at its entry call with its parameters, and a served one without them.
+/// served have their shape, a queued caller is at its entry call with its parameters, and a served one without them.
 pub fn linked_in_every_world()
     ensures { LinkedInEveryWorld }
 {

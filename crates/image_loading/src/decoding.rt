@@ -1,4 +1,4 @@
-//! What the numbers of raw sections stand for (specs/Decoding). A number that stands for nothing gives way to one that does.
+//! What the numbers of raw sections denote (specs/Decoding). A number that denotes nothing gives way to one that does.
 ghost use Rattle.std.specs.Prelude.{◌≡◌, ◌≤◌, IfOk, Some, map};
 ghost use Rattle.image_loading.specs.Decoding.{barrier_from, block_from, entry_from, instruction_of, kind_from, object_from, operation_from, operation_of, region_from, sections_of, subprogram_from, task_from, text_from};
 
@@ -237,7 +237,7 @@ impl RawObject {
 }
 
 impl RawSections {
-    /// The sections that these stand for.
+    /// The sections that these denote.
     pub(crate) fn parts(&self, alloc: Global) -> Result<Parts, AllocError>
         ensures { IfOk result (λ parts. parts ≡ sections_of self.now) }
     {

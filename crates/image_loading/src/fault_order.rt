@@ -14,7 +14,7 @@ pub(crate) fn after(byte: u32, count: usize) -> u32
     }
 }
 
-/// The byte behind so many elements of one size.
+/// The byte after so many elements of one size.
 pub(crate) fn after_all(byte: u32, size: usize, count: usize) -> u32
     ensures { result ≡ after byte (size * count) }
 {

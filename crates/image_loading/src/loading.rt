@@ -229,7 +229,7 @@ impl RawSections {
         )
     }
 
-    /// The first of the rules 43 to 47 that these sections break, where they stand for those of the draft. Whether handler regions cross
+    /// The first of the rules 43 to 47 that these sections break, where they denote those of the draft. Whether handler regions cross
     /// is not asked where a fault comes before: then there may be more rows than an image has.
     ///
     /// # Errors

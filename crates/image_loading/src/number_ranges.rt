@@ -1,4 +1,4 @@
-//! The numbers of an image fit where they stand in its bytes: each is read, and has 16 or 64 bits.
+//! The numbers of an image fit their fields in its bytes: each is read, and has 16 or 64 bits.
 ghost use Rattle.image.specs.Rules.{IsWellFormed};
 ghost use Rattle.image_loading.specs.NumberRanges.{AttachmentFits, EachOf, InstructionFits, IsWord, ObjectFits, RowFits, SectionsFit, SubprogramFits, TaskNumbersFit};
 

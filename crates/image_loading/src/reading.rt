@@ -379,7 +379,7 @@ fn sections_of(alloc: Global, counts: Counts, bytes: &[u8]) -> Result<(RawSectio
     Ok((sections, rest))
 }
 
-/// The sections at the front of bytes, as many of each as the header says, and the bytes behind them.
+/// The sections at the front of bytes, as many of each as the header says, and the bytes after them.
 #[tactic(auto, unfolding(crate::specs::Reading::read_image))]
 pub(crate) fn read(alloc: Global, bytes: &[u8]) -> Result<(RawSections, &[u8]), Unread>
     ensures { ReadsAs (λ x. (x.0, x.1.now)) result (read_image bytes.now) }

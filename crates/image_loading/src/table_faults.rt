@@ -40,7 +40,7 @@ fn behind_task(byte: u32, task: &RawTask) -> u32
     after(byte, task.name.bytes.len() + 4)
 }
 
-/// The byte behind texts.
+/// The byte after texts.
 pub(crate) fn behind_texts(start: u32, texts: &[RawText]) -> u32
     ensures { result ≡ behind_all behind_text start texts.now }
 {
@@ -51,7 +51,7 @@ pub(crate) fn behind_texts(start: u32, texts: &[RawText]) -> u32
     byte
 }
 
-/// The byte behind objects.
+/// The byte after objects.
 pub(crate) fn behind_objects(start: u32, objects: &[RawObject]) -> u32
     ensures { result ≡ behind_all behind_object start objects.now }
 {
@@ -62,7 +62,7 @@ pub(crate) fn behind_objects(start: u32, objects: &[RawObject]) -> u32
     byte
 }
 
-/// The byte behind tasks.
+/// The byte after tasks.
 pub(crate) fn behind_tasks(start: u32, tasks: &[RawTask]) -> u32
     ensures { result ≡ behind_all behind_task start tasks.now }
 {
@@ -73,7 +73,7 @@ pub(crate) fn behind_tasks(start: u32, tasks: &[RawTask]) -> u32
     byte
 }
 
-/// Where the size of the last object stands, or `last` where there is none.
+/// Where the size of the last object is, or `last` where there is none.
 pub(crate) fn last_size_byte(last: u32, start: u32, objects: &[RawObject]) -> u32
     ensures { result ≡ last_size_byte last start objects.now }
 {

@@ -21,8 +21,8 @@ use std::marker::Model;
 use types::{Layout, Scope};
 use unit_rules::{main_faults, package_faults};
 
-/// A legal program, the tree of a text, with the names that are visible behind its package, and the layouts of its variables and protected objects. Contracts
-/// see the program itself, which tells the rest.
+/// A legal program, the tree of a text, with the names that are visible after its package, and the layouts of its variables and protected objects. Contracts
+/// see the program itself, which has the rest.
 #[derive(Drop)]
 pub struct Checked {
     parsed: Parsed,
@@ -62,21 +62,21 @@ impl Checked {
         self.parsed.program()
     }
 
-    /// The names that are visible behind the package; without one, those of Standard (RM 8.3). A name of a body may stand for something else in the body.
+    /// The names that are visible after the package; without one, those of Standard (RM 8.3). A name of a body may denote something else in the body.
     pub fn scope(&self) -> &Scope
         ensures { result.now ≡ program_scope (program_tree self.now) }
     {
         &self.scope
     }
 
-    /// Where the variables of the package stand: one behind the other, in the order of the text. Constants take no words.
+    /// Where the variables of the package are: one after the other, in the order of the text. Constants take no words.
     pub fn layout(&self) -> &Layout
         ensures { result.now ≡ variables_layout (program_scope (program_tree self.now)) }
     {
         &self.variables
     }
 
-    /// Where the components of the protected object with this number stand, in the order of the text; `None` where there is no such object. Objects are
+    /// Where the components of the protected object with this number are, in the order of the text; `None` where there is no such object. Objects are
     /// numbered from 0 on, in the order of their declarations.
     pub fn object_layout(&self, number: usize) -> Option<&Layout>
         ensures { option_map (λ l. l.now) result ≡ slice_get (object_layouts (program_scope (program_tree self.now))) number }

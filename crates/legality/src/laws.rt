@@ -1,4 +1,4 @@
-//! The order in which faults are told, what the check finds, and the words of packages, each what a function without work ensures.
+//! The order in which faults are reported, what the check finds, and the words of packages, each what a function without work ensures.
 ghost use Rattle.legality.specs.FoundFaults.{FindsWhatIsBroken};
 ghost use Rattle.legality.specs.ProgramLayouts.{ObjectsStandAtTheirNumbers, VariablesStandInOrder, WordsHaveRoom};
 ghost use Rattle.legality.specs.ProgramRules.{OrderIsByPlaceAndNumber};
@@ -7,7 +7,7 @@ use declaration_rules::laws::names_are_added;
 use size_rules::laws::words_add_up;
 use types::laws::shapes_stay;
 
-/// Of two faults the one at the lesser place is told first, and at one place the one with the lesser number.
+/// Of two faults the one at the lesser place is reported first, and at one place the one with the lesser number.
 pub fn order_is_by_place_and_number()
     ensures { OrderIsByPlaceAndNumber }
 {}
@@ -26,12 +26,12 @@ pub fn words_have_room()
     names_are_added();
 }
 
-/// The position of a variable in the layout is the number of variables among the names in front of it.
+/// The position of a variable in the layout is the number of variables among the names before it.
 pub fn variables_stand_in_order()
     ensures { VariablesStandInOrder }
 {}
 
-/// The layout of a protected object's components stands at the object's number.
+/// The layout of a protected object's components has the object's number.
 pub fn objects_stand_at_their_numbers()
     ensures { ObjectsStandAtTheirNumbers }
 {}

@@ -1,4 +1,4 @@
-//! Where the variables of a package and the components of its protected objects stand (docs/FORMATS.md).
+//! Where the variables of a package and the components of its protected objects are (docs/FORMATS.md).
 ghost use Rattle.std.specs.Prelude.{◌≡◌, ◌+◌, ◌≤◌, ◌++◌, ◌∷◌, [], IfOk, OnOk, map};
 ghost use Rattle.base.specs.declared.limits.TheConstants.{WORDS};
 ghost use Rattle.types.specs.Layouts.{total, words_of};

@@ -1,4 +1,4 @@
-//! Names, each with a place, found at once: up to where names of parts are open, and where bodies stand.
+//! Names, each with a place, found at once: up to where names of parts are open, and the places of bodies.
 ghost use Rattle.std.specs.Prelude.{◌≡◌, [], OnOk};
 ghost use Rattle.types.specs.Seen.{place_of};
 ghost use Rattle.legality.specs.OpenParts.{extended, is_open, reaches, with_end};
@@ -39,7 +39,7 @@ impl NameEnds {
         self.ends.get(name).copied()
     }
 
-    /// Whether the place of a name is behind this one.
+    /// Whether the place of a name is after this one.
     pub(crate) fn is_open(&self, name: &Text, place: usize) -> bool
         ensures { result ≡ is_open self.now name.now place }
     {
@@ -66,7 +66,7 @@ impl NameEnds {
         Ok(())
     }
 
-    /// Gives a name this place, unless its own is as far behind. Memory is the only refusal.
+    /// Gives a name this place, unless its own is the same or later. Memory is the only refusal.
     pub(crate) fn extend(&mut self, name: &Text, end: usize) -> Result<(), AllocError>
         ensures { OnOk result (self.new ≡ extended self.old name.now end) }
     {

@@ -53,7 +53,7 @@ fn is_string_character(c: u8) -> bool
     c != b'"' && c != b'\n'
 }
 
-/// Whether behind each underline stands another character, which is no underline.
+/// Whether each underline is followed by another character, which is no underline.
 pub fn has_single_underlines(text: &[u8]) -> bool
     ensures { result ≡ has_single_underlines text.now }
 {
@@ -67,7 +67,7 @@ pub fn has_single_underlines(text: &[u8]) -> bool
     true
 }
 
-/// How many characters of a word stand at the front of the text.
+/// How many characters of a word are at the front of the text.
 pub fn word_length(text: &[u8]) -> usize
     ensures value { result ≡ prefix_len characters.is_word_character text.now }
     ensures in_text { result ≤ length text.now }
@@ -75,7 +75,7 @@ pub fn word_length(text: &[u8]) -> usize
     text.iter().take_while(|c| is_word_character(**c)).count()
 }
 
-/// How many characters of a numeral stand at the front of the text.
+/// How many characters of a numeral are at the front of the text.
 pub fn numeral_length(text: &[u8]) -> usize
     ensures value { result ≡ prefix_len characters.is_numeral_character text.now }
     ensures in_text { result ≤ length text.now }
@@ -85,7 +85,7 @@ pub fn numeral_length(text: &[u8]) -> usize
         .count()
 }
 
-/// How many characters of a comment stand at the front of the text.
+/// How many characters of a comment are at the front of the text.
 pub fn comment_length(text: &[u8]) -> usize
     ensures value { result ≡ prefix_len characters.is_comment_character text.now }
     ensures in_text { result ≤ length text.now }
@@ -95,7 +95,7 @@ pub fn comment_length(text: &[u8]) -> usize
         .count()
 }
 
-/// How many characters of a string stand at the front of the text.
+/// How many characters of a string are at the front of the text.
 pub fn string_length(text: &[u8]) -> usize
     ensures value { result ≡ prefix_len characters.is_string_character text.now }
     ensures in_text { result ≤ length text.now }

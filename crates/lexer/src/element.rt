@@ -14,7 +14,7 @@ use base::faults::{STRAY_CHARACTER, WRONG_IDENTIFIER, WRONG_LABEL, WRONG_LITERAL
 use base::limits::{LABEL_LIMIT, LARGEST_NUMBER, NAME_LIMIT};
 use base::names::has_label_characters;
 
-/// What stands at the front of a text: a token, or white space or a comment, of so many bytes.
+/// What is at the front of a text: a token, or white space or a comment, of so many bytes.
 #[derive(Drop)]
 pub struct Element {
     pub kind: Option<TokenKind>,
@@ -156,7 +156,7 @@ fn read_numeral(text: &[u8]) -> Result<Element, Broken>
     }
 }
 
-/// Reads a label from behind its first quotation mark on.
+/// Reads a label from the character after its first quotation mark on.
 #[tactic(auto, unfolding(crate::specs::Reading::label_at))]
 fn read_label(text: &[u8]) -> Result<Element, Broken>
     ensures { result ≡ label_at text.now }
@@ -174,7 +174,7 @@ fn read_label(text: &[u8]) -> Result<Element, Broken>
     }
 }
 
-/// Reads a comment from behind its hyphens on.
+/// Reads a comment from the character after its hyphens on.
 #[tactic(auto, unfolding(crate::specs::Reading::comment_at))]
 fn read_comment(text: &[u8]) -> Result<Element, Broken>
     ensures { result ≡ comment_at text.now }
@@ -190,7 +190,7 @@ fn read_comment(text: &[u8]) -> Result<Element, Broken>
     }
 }
 
-/// Reads a delimiter, given its first character and the text behind it.
+/// Reads a delimiter, given its first character and the text after it.
 #[tactic(auto, unfolding(crate::specs::Reading::delimiter_at))]
 fn read_delimiter(first: u8, rest: &[u8]) -> Result<Element, Broken>
     ensures { result ≡ delimiter_at first rest.now }
@@ -212,7 +212,7 @@ fn read_delimiter(first: u8, rest: &[u8]) -> Result<Element, Broken>
     }
 }
 
-/// Reads what stands at the front of a text.
+/// Reads what is at the front of a text.
 #[tactic(auto, unfolding(crate::specs::Reading::element_at))]
 pub fn read_element(text: &[u8]) -> Result<Element, Broken>
     requires { 0 < length text.now }

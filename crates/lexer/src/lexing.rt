@@ -71,7 +71,7 @@ pub fn spelled_once()
     ensures { SpelledOnce }
 {}
 
-/// The spans of the tokens that spell a text lie in it, behind one another, and none is empty.
+/// The spans of the tokens that spell a text lie in it, one after another, and none is empty.
 pub fn spelled_in_order()
     ensures { SpellsInOrder }
 {}

@@ -55,7 +55,7 @@ impl ObjectRest {
 }
 
 impl TaskRest {
-    /// The declaration of which `task` stands at this place.
+    /// The declaration of which `task` is at this place.
     pub(crate) fn placed(self, place: u32) -> TaskDeclaration
         ensures { task_tree result ≡ reading.task_of place (reading.task_rest self) }
     {
@@ -69,7 +69,7 @@ impl TaskRest {
 }
 
 impl ProtectedRest {
-    /// The declaration of which `protected` stands at this place.
+    /// The declaration of which `protected` is at this place.
     pub(crate) fn placed(self, place: u32) -> ProtectedDeclaration
         ensures { protected_tree result ≡ reading.protected_of place (reading.protected_rest self) }
     {

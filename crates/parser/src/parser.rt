@@ -17,7 +17,7 @@ pub(crate) struct Parser<'a> {
 }
 
 impl<'a> Parser<'a> {
-    /// The next token cannot stand here, or opens too many levels.
+    /// The next token cannot be here, or opens too many levels.
     pub(crate) fn refusal(&self, deep: bool) -> Refusal
         ensures { result ≡ refusals.Broken (record { deep = deep; left = length self.now.rest.now }) }
     {

@@ -59,7 +59,7 @@ fn answer_of(tokens: &[Token], read: Result<Program, Refusal>) -> Result<Program
     }
 }
 
-/// How many tokens stand in front of the fault, or all of them; None where memory was refused.
+/// How many tokens are before the fault, or all of them; None where memory was refused.
 fn count_of(tokens: &[Token], read: Result<Program, Refusal>) -> Option<usize>
     ensures { result ≡ count_of tokens.now read }
 {
@@ -99,7 +99,7 @@ pub fn parse(alloc: Global, tokens: &[Token]) -> Result<Program, Fault>
     answer_of(tokens, read)
 }
 
-/// How many of the tokens, from the first on, begin a list that has a tree: all of them, or those in front of the first token that no
+/// How many of the tokens, from the first on, begin a list that has a tree: all of them, or those before the first token that no
 /// derivation allows.
 ///
 /// # Errors

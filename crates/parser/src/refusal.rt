@@ -4,7 +4,7 @@ ghost use Rattle.parser.specs.declared.refusal.Refusal.TheVariants.{Memory};
 
 use std::alloc::{AllocError, AllocFailed};
 
-/// A broken rule: too many levels are open, or else a token that no derivation allows. The place is told by the number of tokens
+/// A broken rule: too many levels are open, or else a token that no derivation allows. The place is given by the number of tokens
 /// that are left from it on: 0 at the end.
 #[derive(Clone, Copy, Debug)]
 pub struct Broken {

@@ -172,7 +172,7 @@ impl<'a> Parser<'a> {
         }
     }
 
-    /// Goes to the next `select`, and past it: `end` must stand before it.
+    /// Goes to the next `select`, and past it: `end` must be before it.
     fn selected(&mut self) -> Result<(), Refusal>
         ensures { Gives (λ _. tt) result self.new.rest.now (reading.selected_at false self.old.rest.now) }
     {
@@ -225,7 +225,7 @@ impl<'a> Parser<'a> {
         Ok(CaseChoices::Values(all))
     }
 
-    /// What stands before the statements of a loop, and its place.
+    /// What is before the statements of a loop, and its place.
     #[inline(never)]
     fn iteration(&mut self, levels: u8) -> Result<(u32, Iteration), Refusal>
         ensures { Gives (λ x. (x.0, iteration_tree x.1)) result self.new.rest.now (reading.iteration_at levels self.old.rest.now) }
@@ -274,7 +274,7 @@ impl<'a> Parser<'a> {
         Ok(all)
     }
 
-    /// What stands before the statements of a block, and its place.
+    /// What is before the statements of a block, and its place.
     fn block_start(&mut self, levels: u8) -> Result<(u32, Vec<Declaration>), Refusal>
         ensures { Gives (λ x. (x.0, map declaration_tree x.1.items)) result self.new.rest.now (reading.block_start_at levels self.old.rest.now) }
     {

@@ -28,7 +28,7 @@ pub fn premises_hold()
     crate::scope_laws::scopes_are_sound();
 }
 
-/// A place of the package's bodies fits the names that are visible in front of each declaration and body (RM 7.2, 8.3).
+/// A place of the package's bodies fits the names that are visible before each declaration and body (RM 7.2, 8.3).
 pub fn fronts_fit()
     ensures { FrontsFit }
 {

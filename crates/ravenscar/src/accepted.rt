@@ -59,21 +59,21 @@ impl Accepted {
         self.checked.program()
     }
 
-    /// The names that are visible behind the package (`Checked::scope`).
+    /// The names that are visible after the package (`Checked::scope`).
     pub fn scope(&self) -> &Scope
         ensures { result.now ≡ program_scope (program_tree self.now) }
     {
         self.checked.scope()
     }
 
-    /// Where the variables of the package stand (`Checked::layout`).
+    /// Where the variables of the package are (`Checked::layout`).
     pub fn layout(&self) -> &Layout
         ensures { result.now ≡ variables_layout (program_scope (program_tree self.now)) }
     {
         self.checked.layout()
     }
 
-    /// Where the components of the protected object with this number stand; `None` where there is no such object (`Checked::object_layout`).
+    /// Where the components of the protected object with this number are; `None` where there is no such object (`Checked::object_layout`).
     pub fn object_layout(&self, number: usize) -> Option<&Layout>
         ensures { option_map (λ l. l.now) result ≡ slice_get (object_layouts (program_scope (program_tree self.now))) number }
     {

@@ -29,7 +29,7 @@ pub fn part_of(opened: Opened) -> &'static str
     }
 }
 
-/// By what it is closed, in words; code stands between two marks (96).
+/// By what it is closed, in words; code is between two marks (96).
 pub fn closing_of(opened: Opened) -> &'static str
     ensures { result.now ≡ closing_of opened }
 {

@@ -2,7 +2,7 @@
 ghost use Rattle.std.specs.Prelude.{◌≡◌};
 ghost use Rattle.remedies.specs.Remedies.{text_of};
 
-/// What stands at the place of a fault: what Ada has and this language doesn't, or a first mistake.
+/// What is at the place of a fault: what Ada has and this language doesn't, or a first mistake.
 #[derive(Clone, Copy)]
 pub enum Construct {
     /// An enumeration type (RM 3.5.1).
@@ -179,7 +179,7 @@ pub enum Construct {
     Seconds,
     /// A conversion to or from Duration, or a constant of Time_Span (RM D.8).
     DurationConversion,
-    /// A first value that is reckoned from Clock.
+    /// A first value that is computed from Clock.
     FirstValueFromClock,
     /// A relative delay (RM 9.6).
     RelativeDelay,
@@ -352,7 +352,7 @@ pub enum Construct {
 }
 
 impl Construct {
-    /// What to write instead, as one line without its line feed; code stands between two marks (96).
+    /// What to write instead, as one line without its line feed; code is between two marks (96).
     pub fn text(self) -> &'static str
         ensures { result.now ≡ text_of self }
     {
@@ -837,7 +837,7 @@ The first value is `Clock` alone: write `Next : Time := Clock;`, and `Next := Ne
 Milliseconds (10);` as the first statement.";
 
 const RELATIVE_DELAY: &str = "\
-A task waits by `delay until`: write `delay until Clock + Milliseconds (500);`.";
+A task waits by `delay until`: write `delay until Clock + Milliseconds (500);` for half a second.";
 
 const NOT_OF_RELATION: &str = "\
 `not` takes one operand: write `not (X > 80)`, or `X <= 80`.";

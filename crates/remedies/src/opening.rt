@@ -43,7 +43,7 @@ pub enum Opened {
     Select,
 }
 
-/// What is open, and how many tokens stand before the one that opened it.
+/// What is open, and how many tokens are before the one that opened it.
 #[derive(Clone, Copy, Debug, PartialEq, Eq)]
 pub struct Opening {
     pub opened: Opened,
@@ -82,7 +82,7 @@ pub enum Action {
     Nothing,
 }
 
-/// Which of its kinds the token in front is.
+/// Which of its kinds the token before it is.
 pub(crate) fn lead_of(kind: &TokenKind) -> Lead
     ensures { result ≡ lead_of kind.now }
 {
@@ -137,7 +137,7 @@ fn action_of_word(word: Word, lead: Lead) -> Action
     }
 }
 
-/// What a token of this kind does, by the kind of the token in front.
+/// What a token of this kind does, by the kind of the token before it.
 pub(crate) fn action_of(kind: &TokenKind, lead: Lead) -> Action
     ensures { result ≡ action_of kind.now lead }
 {

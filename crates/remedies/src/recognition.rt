@@ -211,7 +211,7 @@ fn unclosed_between(
 }
 
 /// What is open at the place, in a text of these tokens, where an `end` of it is wrong or missing there: an `end` is the token before the place, the text
-/// ends there, or what stands there can't be among statements. None where nothing is open, or none of this is so.
+/// ends there, or what is there can't be among statements. None where nothing is open, or none of this is so.
 ///
 /// # Errors
 /// Where memory was refused.

@@ -39,7 +39,7 @@ fn of_number_byte(byte: u8) -> &'static str
     }
 }
 
-/// What is said of a text that begins with a number that is misspelled (RM 2.4.1), as one line without its line feed; code stands between two marks (96).
+/// What is said of a text that begins with a number that is misspelled (RM 2.4.1), as one line without its line feed; code is between two marks (96).
 pub fn of_number(text: &[u8]) -> &'static str
     ensures { result.now ≡ of_number text.now }
 {
@@ -79,8 +79,8 @@ fn has_blank(text: &[u8]) -> bool
     false
 }
 
-/// What is said of a label that is misspelled (RM 2.6), of which this text stands after the opening quotation mark: one line without its line feed; code
-/// stands between two marks (96).
+/// What is said of a label that is misspelled (RM 2.6), of which this text is after the opening quotation mark: one line without its line feed; code
+/// is between two marks (96).
 pub fn of_label(text: &[u8]) -> &'static str
     ensures { result.now ≡ of_label text.now }
 {

@@ -2,7 +2,7 @@
 ghost use Rattle.std.specs.Prelude.{◌≡◌};
 ghost use Rattle.remedies.specs.Strays.{of_byte};
 
-/// What is said of a byte with which no token begins, as one line without its line feed; code stands between two marks (96).
+/// What is said of a byte with which no token begins, as one line without its line feed; code is between two marks (96).
 pub fn of_byte(byte: u8) -> &'static str
     ensures { result.now ≡ of_byte byte }
 {

@@ -69,7 +69,7 @@ fn body_item_faults(
     }
 }
 
-/// Notes each fault of the words of the frames in the body of a package. What it declares is pushed, and what stands in its bodies. Memory is the only refusal,
+/// Notes each fault of the words of the frames in the body of a package. What it declares is pushed, and what is in its bodies. Memory is the only refusal,
 /// and may leave some of this done.
 pub(crate) fn body_items_faults(
     alloc: Global,

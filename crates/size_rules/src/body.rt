@@ -1,4 +1,4 @@
-//! What stands in a body: its objects, and the labels of its calls.
+//! What is in a body: its objects, and the labels of its calls.
 ghost use Rattle.std.specs.Prelude.{◌≡◌, ◌++◌, ◌∷◌, [], OnOk, map};
 ghost use Rattle.ada_tree.specs.ExpressionTree.{argument_trees, name_tree, selector_trees};
 ghost use Rattle.ada_tree.specs.ProgramTree.{body_tree};
@@ -181,7 +181,7 @@ fn push_body(
     push_handlers(scope, &body.handlers, things)
 }
 
-/// Notes each fault of the words of a body's frame, which sees the names in front of it; what stands in it is pushed. Memory is the only refusal, and may leave
+/// Notes each fault of the words of a body's frame, which sees the names before it; what is in it is pushed. Memory is the only refusal, and may leave
 /// some of it pushed.
 pub(crate) fn body_faults(
     scope: &Scope,

@@ -1,7 +1,7 @@
 //! The laws of words, each what a function without work ensures.
 ghost use Rattle.size_rules.specs.Laws.{CappedWordsSuffice, WordsAddUp};
 
-/// That one more than a package may have stands for all larger numbers of words changes nothing that is told.
+/// No number of words above what a package may have is distinguished from that limit and one: no fault depends on it.
 pub fn capped_words_suffice()
     ensures { CappedWordsSuffice }
 {}

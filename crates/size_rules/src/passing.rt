@@ -1,4 +1,4 @@
-//! What passes a limit: the things behind the first so many, and the objects for which no words are left.
+//! What passes a limit: the things after the first so many, and the objects for which no words are left.
 ghost use Rattle.std.specs.Prelude.{◌≡◌, ◌++◌, ◌∷◌, [], IfOk, OnOk, drop, map};
 ghost use Rattle.expr_rules.specs.Findings.{noted};
 ghost use Rattle.size_rules.specs.Limits.{first_use, first_uses, is_among, limit_passed, object_rule, over, place_of_kind, places_of, room_behind};
@@ -66,7 +66,7 @@ fn places_of(alloc: Global, kind: Kind, things: &[Thing]) -> Result<Vec<u32>, Al
     Ok(places)
 }
 
-/// Notes the faults of the things of this kind that are behind so many of the kind. Memory is the only refusal.
+/// Notes the faults of the things of this kind that are after so many of the kind. Memory is the only refusal.
 pub(crate) fn count_faults(
     alloc: Global,
     kind: Kind,
@@ -137,7 +137,7 @@ fn first_uses(alloc: Global, things: &[Thing]) -> Result<Vec<u32>, AllocError>
     Ok(places)
 }
 
-/// Notes the faults of the labels that are behind so many different ones. Memory is the only refusal.
+/// Notes the faults of the labels that are after so many different ones. Memory is the only refusal.
 pub(crate) fn label_faults(
     alloc: Global,
     limit: usize,

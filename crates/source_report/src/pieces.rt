@@ -1,4 +1,4 @@
-//! Pieces of texts: what stands on a line, in front of a byte, behind one.
+//! Pieces of texts: what is on a line, before a byte, after one.
 ghost use Rattle.std.specs.Prelude.{◌≡◌, ◌≤◌, length};
 ghost use Rattle.source_report.specs.Marked.{behind, count_to, first_line, last_line, up_to};
 ghost use Rattle.source_report.specs.Reports.{behind_lines, numbered_line};
@@ -18,14 +18,14 @@ fn count_to(value: u8, text: &[u8]) -> usize
     text.len()
 }
 
-/// What stands in front of the first byte of this value, or all where there is none.
+/// What is before the first byte of this value, or all where there is none.
 pub(crate) fn up_to(value: u8, text: &[u8]) -> &[u8]
     ensures { result.now ≡ up_to value text.now }
 {
     &text[..count_to(value, text)]
 }
 
-/// What stands behind the first byte of this value; nothing where there is none.
+/// What is after the first byte of this value; nothing where there is none.
 pub(crate) fn behind(value: u8, text: &[u8]) -> &[u8]
     ensures { result.now ≡ behind value text.now }
 {
@@ -37,14 +37,14 @@ pub(crate) fn behind(value: u8, text: &[u8]) -> &[u8]
     &[]
 }
 
-/// What stands on the line behind which the text ends.
+/// What is on the line after which the text ends.
 pub(crate) fn last_line(text: &[u8]) -> &[u8]
     ensures { result.now ≡ last_line text.now }
 {
     &text[line_start(text)..]
 }
 
-/// What stands on the line with which the text begins.
+/// What is on the line with which the text begins.
 pub(crate) fn first_line(text: &[u8]) -> &[u8]
     ensures { result.now ≡ first_line text.now }
 {
@@ -68,7 +68,7 @@ fn behind_lines(lines: usize, text: &[u8]) -> usize
     text.len()
 }
 
-/// What stands on the line of this number, the first being 1.
+/// What is on the line of this number, the first being 1.
 pub(crate) fn numbered_line(number: usize, text: &[u8]) -> &[u8]
     ensures { result.now ≡ numbered_line number text.now }
 {

@@ -32,7 +32,7 @@ pub fn servers_are_sound()
     ensures { ServersAreSound }
 {}
 
-/// A caller that was served goes on behind its entry call (RM 9.5.3).
+/// A caller that was served goes on after its entry call (RM 9.5.3).
 pub fn callers_go_on()
     ensures { CallersGoOn }
 {}

@@ -8,7 +8,7 @@ use std::io::{Error, ErrorKind, Read, Write};
 use std::os::fd::AsFd;
 use std::os::unix::fs::{MetadataExt, fchown};
 
-/// By what the system tells one regular file from another, whatever names it has.
+/// By what the system distinguishes one regular file from another, whatever names it has.
 #[derive(Clone, Copy, PartialEq, Eq)]
 pub struct Identity {
     device: u64,
@@ -26,7 +26,7 @@ pub enum Place {
     Other,
 }
 
-/// As what an error of the system is told.
+/// How an error of the system is reported.
 pub fn told(error: &Error) -> FileError {
     match error.kind() {
         ErrorKind::OutOfMemory => FileError::Memory,

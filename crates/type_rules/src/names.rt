@@ -11,7 +11,7 @@ use expr_rules::{Findings, Own, Wanted, is_integral};
 use std::alloc::AllocError;
 use types::{Entity, Scope, Subtype};
 
-/// What the name stands for, if it is visible.
+/// What the name denotes, if it is visible.
 pub fn named_entity<'a>(scope: &'a Scope, name: &Identifier) -> Option<&'a Entity>
     ensures { option_map (λ e. entity_value e.now) result ≡ named_entity scope.now name.now }
 {
@@ -62,7 +62,7 @@ fn subtype_in(entity: Option<&Entity>) -> Option<Subtype>
     }
 }
 
-/// The subtype that the name stands for, if it is one.
+/// The subtype that the name denotes, if it is one.
 pub fn subtype_of(scope: &Scope, name: &Identifier) -> Option<Subtype>
     ensures { result ≡ subtype_of scope.now name.now }
 {
@@ -81,7 +81,7 @@ fn note_subtype_rule(place: u32, entity: Option<&Entity>, found: &mut Findings)
     }
 }
 
-/// The rules of a name that is to be one of a subtype: 10 where it is not visible, 12 where it stands for something else.
+/// The rules of a name that is to be one of a subtype: 10 where it is not visible, 12 where it denotes something else.
 pub fn subtype_faults(scope: &Scope, name: &Identifier, found: &mut Findings)
     ensures { found.new ≡ noted found.old (subtype_faults scope.now name.now) }
 {

@@ -1,4 +1,4 @@
-//! What names stand for.
+//! What names denote.
 ghost use Rattle.std.specs.Prelude.{◌≡◌, bytes_eq, position};
 ghost use Rattle.types.specs.Entities.{protected_value};
 ghost use Rattle.types.specs.Scopes.{base_range_of};
@@ -167,7 +167,7 @@ impl ProtectedObject {
     }
 }
 
-/// What a name stands for.
+/// What a name denotes.
 #[derive(Drop)]
 pub enum Entity {
     /// A type and its first subtype (RM 3.2.1).

@@ -132,7 +132,7 @@ fn elsif_bounds(scope: &Scope, first: (i64, i64), parts: &[ElsifValue]) -> (i64,
 /// Two numbers between which every value of a legal integer expression lies, these among them: for a static expression whose evaluation doesn't
 /// raise its value twice; for an object, a loop parameter, a component, a call or a conversion the bounds of its subtype; for an if expression the
 /// least and the greatest over its parts; for `E mod k` with a static k above 0 those from 0 to k - 1; for `+ E`, and in parentheses, those of what
-/// stands there; else the base range. No memory is asked for.
+/// is there; else the base range. No memory is asked for.
 #[cycle(bounds)]
 pub fn bounds(scope: &Scope, e: &Expr) -> (i64, i64)
     ensures { result ≡ bounds_of scope.now (expr_tree e.now) }

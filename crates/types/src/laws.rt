@@ -33,7 +33,7 @@ pub fn shapes_stay()
     ensures { ShapesStay }
 {}
 
-/// The words of a component stand at its place among those of the whole.
+/// The words of a component are at its place among those of the whole.
 pub fn parts_have_places()
     ensures { PartsHavePlaces }
 {}

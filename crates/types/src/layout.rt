@@ -1,4 +1,4 @@
-//! Where objects stand (docs/FORMATS.md): one behind the other, in the order of their declarations.
+//! Where objects are (docs/FORMATS.md): one after the other, in the order of their declarations.
 ghost use Rattle.std.specs.Prelude.{◌≡◌, ◌+◌, ◌<◌, ◌≤◌, ◌++◌, ◌∷◌, ◌↔◌, [], length, IfErr, IfOk, IfSome, IsSome, OnErr, OnOk};
 ghost use Rattle.types.specs.Layouts.{first_word, total};
 
@@ -85,7 +85,7 @@ impl Layout {
         }
     }
 
-    /// Places an object of so many words behind the others, and gives its first word. `Full` where the limit is passed; a refusal changes nothing.
+    /// Places an object of so many words after the others, and gives its first word. `Full` where the limit is passed; a refusal changes nothing.
     pub fn add(&mut self, words: u16) -> Result<u16, LayoutFault>
         ensures place { IfOk result (λ first. first ≡ total self.old.words) }
         ensures added { OnOk result (self.new ≡ record self.old { words = self.old.words ++ words ∷ [] }) }

@@ -1,4 +1,4 @@
-//! Scopes: the visible names and what they stand for (RM 8.3).
+//! Scopes: the visible names and what they denote (RM 8.3).
 ghost use Rattle.std.specs.Prelude.{◌≡◌, ◌+◌, ◌*◌, ◌<◌, ◌^◌, [], length, map, take, option_map, Some, OnOk, OnErr, IfOk};
 ghost use Rattle.types.specs.Entities.{entity_value, form_value, operation_value, profile_value, protected_value};
 ghost use Rattle.types.specs.Layouts.{capped, component_offset, words_of};
@@ -52,7 +52,7 @@ impl Declared {
     }
 }
 
-/// The visible names in the order of their declarations, with what they stand for. A name's number is its position. Contracts see a list.
+/// The visible names in the order of their declarations, with what they denote. A name's number is its position. Contracts see a list.
 #[derive(Drop)]
 pub struct Scope {
     names: IndexMap<Text, Declared>,
@@ -119,7 +119,7 @@ impl Scope {
         self.names.get_index_of(name)
     }
 
-    /// What the name with this number stands for.
+    /// What the name with this number denotes.
     pub fn entity(&self, number: usize) -> Option<&Entity>
         ensures { option_map (λ e. entity_value e.now) result ≡ entity_at self.now number }
     {
@@ -171,7 +171,7 @@ impl Scope {
         }
     }
 
-    /// The first word of the component with this name, counted from that of the record, or `MORE_WORDS` where it is behind more words than a program may
+    /// The first word of the component with this name, counted from that of the record, or `MORE_WORDS` where it is after more words than a program may
     /// have.
     pub fn component_offset(&self, components: &[RecordComponent], name: &Text) -> Option<u16>
         ensures { result ≡ option_map capped (component_offset self.now components.now name.now) }
@@ -267,7 +267,7 @@ impl Scope {
         }
     }
 
-    /// Gives the protected object with this number these operations, and gives its own back: in its own body it has none behind its name (RM 9.4).
+    /// Gives the protected object with this number these operations, and gives its own back: in its own body it has none after its name (RM 9.4).
     /// Where the number is none of a protected object, nothing changes and the given ones come back.
     pub fn replace_operations(&mut self, number: usize, operations: Operations) -> Operations
         ensures scope { self.new ≡ with_operations self.old number (map operation_value operations) }

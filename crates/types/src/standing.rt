@@ -1,4 +1,4 @@
-//! What a name stands for, part by part (RM 4.1).
+//! What a name denotes, part by part (RM 4.1).
 ghost use Rattle.std.specs.Prelude.{◌≡◌, bytes_eq, option_map};
 ghost use Rattle.ada_tree.specs.ExpressionTree.{argument_trees, name_tree, selector_tree, selector_trees};
 ghost use Rattle.types.specs.Entities.{entity_value, form_value, profile_value, protected_value};
@@ -19,7 +19,7 @@ pub enum Callee {
     Operation(usize, usize),
 }
 
-/// What the parts of a name read so far stand for.
+/// What the parts of a name read so far denote.
 #[derive(Clone, Copy, Debug, PartialEq, Eq)]
 pub enum Standing {
     /// An object or a part of one, and what the object may be used for.
@@ -249,7 +249,7 @@ impl Scope {
         }
     }
 
-    /// What it stands for with one part more; what has no meaning is doubtful from there on.
+    /// What it denotes with one part more; what has no meaning is doubtful from there on.
     pub fn select(&self, standing: Standing, selector: &Selector) -> Standing
         ensures { result ≡ select self.now standing (selector_tree selector.now) }
     {
@@ -276,7 +276,7 @@ impl Scope {
         }
     }
 
-    /// What it stands for where it ends: what is called alone is a call (RM 6.4).
+    /// What it denotes where it ends: what is called alone is a call (RM 6.4).
     pub fn settle(&self, standing: Standing) -> Standing
         ensures { result ≡ settle self.now standing }
     {
@@ -290,7 +290,7 @@ impl Scope {
         }
     }
 
-    /// What an identifier stands for before its further parts.
+    /// What an identifier denotes before its further parts.
     pub fn stands_first(&self, name: &Identifier) -> Standing
         ensures { result ≡ stands_first self.now (number_of self.now name.now.name) }
     {
@@ -310,7 +310,7 @@ impl Scope {
         self.settle(standing)
     }
 
-    /// What a whole name stands for (RM 4.1).
+    /// What a whole name denotes (RM 4.1).
     pub fn standing(&self, name: &NameExpr) -> Standing
         ensures { result ≡ standing_of self.now (name_tree name.now).first (name_tree name.now).selectors }
     {

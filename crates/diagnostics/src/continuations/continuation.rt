@@ -1,9 +1,9 @@
-//! What may stand at a place of a text, as far as the grammar distinguishes it.
+//! What may be at a place of a text, as far as the grammar distinguishes it.
 ghost use Rattle.diagnostics.specs.continuations.Following.{EachIsTried};
 
 use lexer::{Delimiter, Word};
 
-/// What may stand after tokens.
+/// What may follow tokens.
 #[derive(Clone, Copy, Debug, PartialEq, Eq)]
 pub enum Continuation {
     /// An identifier.
@@ -20,7 +20,7 @@ pub enum Continuation {
     End,
 }
 
-/// All that may stand after tokens, in the order in which it is reported.
+/// All that may follow tokens, in the order in which it is reported.
 pub const EVERY_CONTINUATION: [Continuation; 98] = [
     Continuation::Identifier,
     Continuation::Number,
@@ -122,7 +122,7 @@ pub const EVERY_CONTINUATION: [Continuation; 98] = [
     Continuation::End,
 ];
 
-/// Whatever may stand after tokens is in the table of what is tried.
+/// Whatever may follow tokens is in the table of what is tried.
 pub fn each_is_tried()
     ensures { EachIsTried }
 {}

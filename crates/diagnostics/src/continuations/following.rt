@@ -1,4 +1,4 @@
-//! Which tokens may stand after others, asked of the parser.
+//! Which tokens may follow others, asked of the parser.
 ghost use Rattle.std.specs.Prelude.{◌≡◌, ◌++◌, [], ◌∷◌, Decides, IfOk, OnOk};
 ghost use Rattle.parser.specs.Parsing.{SomeBegins};
 ghost use Rattle.diagnostics.specs.continuations.Following.{AreTheAllowed, CanEnd, CanFollow, IsAsked, sample, sample_kind, sample_name};
@@ -91,7 +91,7 @@ fn ask(
     Ok(())
 }
 
-/// All that may stand after the tokens, in the order of the table: each continuation with which some tree derives a list that begins so, at
+/// All that may follow the tokens, in the order of the table: each continuation with which some tree derives a list that begins so, at
 /// most 40 levels being open at once in the tree, and no other one.
 ///
 /// # Errors

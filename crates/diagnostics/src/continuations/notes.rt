@@ -1,4 +1,4 @@
-//! Reporting what may stand at a place, in the words of the source.
+//! Reporting what may be at a place, in the words of the source.
 ghost use Rattle.std.specs.Prelude.{◌≡◌, ◌++◌, flat_map, OnOk, IfOk};
 ghost use Rattle.std.specs.List.{list_any};
 ghost use Rattle.std.specs.Str.{str_to_ascii_lowercase};
@@ -152,8 +152,8 @@ fn put_reserved_line(
     }
 }
 
-/// What is reported of the place between two parts of the tokens of a text: a line with all that could stand there, and another one where a
-/// reserved word stands there that is meant as a name: an identifier could, and nothing else, or `:`, `;` or `is` follows.
+/// What is reported of the place between two parts of the tokens of a text: a line with all that could be there, and another one where a
+/// reserved word is there that is meant as a name: an identifier could, and nothing else, or `:`, `;` or `is` follows.
 ///
 /// # Errors
 /// Where memory was refused.

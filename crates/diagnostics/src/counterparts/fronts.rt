@@ -1,4 +1,4 @@
-//! Names that are declared in front of a place.
+//! Names that are declared before a place.
 ghost use Rattle.std.specs.Prelude.{◌≡◌, map};
 ghost use Rattle.ada_tree.specs.ProgramTree.{body_item_tree, item_tree};
 ghost use Rattle.ada_tree.specs.StatementTree.{declaration_tree, operation_tree, protected_component_tree, protected_tree};

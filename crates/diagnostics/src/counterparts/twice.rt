@@ -426,7 +426,7 @@ fn twice_in(name: &[u8], place: u32, package_: &Package) -> Option<u32>
     }
 }
 
-/// The other place of a fault 11 at the place where this name is declared again: that of the declaration in front of it that is visible
+/// The other place of a fault 11 at the place where this name is declared again: that of the declaration before it that is visible
 /// there, or that of the part of a protected object, a record or a profile that has the name. None where there is none, as for a predefined
 /// name.
 pub fn twice_other(program: &Program, name: &[u8], place: u32) -> Option<u32>

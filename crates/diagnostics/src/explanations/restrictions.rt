@@ -149,7 +149,8 @@ A task waits by `delay until` alone (RM D.7, No_Relative_Delay).
 
 fault 34 at 8:7
 
-The place is the statement. With Ada.Real_Time write `delay until Clock + Milliseconds (5_000);`.
+The place is the statement. With Ada.Real_Time write `delay until Clock + Milliseconds (5_000);`. \
+There are no real numbers, so `delay 0.5;` is refused before, by 6.
 ";
 
 const SELECT_STATEMENT: &str = "\

@@ -25,13 +25,15 @@ leading zeros.
 
 schedule fault 50 at line 2
 
-One space alone stands between the numbers. The last line ends with a line feed too.
+One space alone is between the numbers. The last line ends with a line feed too. A line of a file \
+from Windows ends with a carriage return before its line feed, and is refused for it: leave that out \
+(`sed -i 's/\\r$//' FILE`).
 ";
 
 const TIME_GOES_BACK: &str = "\
 51 The time goes back
 
-Lines stand in the order of their times.
+Lines are in the order of their times.
 
     10 1 5
     9 1 6

@@ -145,7 +145,7 @@ pub(crate) fn conversion_of(remark: Remark, list: &[Token]) -> Option<Conversion
     }
 }
 
-/// What to write, as one line without its line feed; code stands between two marks (96).
+/// What to write, as one line without its line feed; code is between two marks (96).
 pub(crate) fn conversion_text(conversion: Conversion) -> &'static str
     ensures { result.now ≡ conversion_text conversion }
 {
@@ -168,10 +168,10 @@ pub(crate) fn conversion_text(conversion: Conversion) -> &'static str
 }
 
 const TIME_OF_NUMBER: &str = "\
-A number is no time: write `Clock + Milliseconds (10)`.";
+A number is no time: write `Clock + Milliseconds (10)`, or with a period `Next + Milliseconds (10)`.";
 
 const TIME_OF_SPAN: &str = "\
-A time span is no time: write `Clock + Milliseconds (10)`.";
+A time span is no time: write `Clock + Milliseconds (10)`, or with a period `Next + Milliseconds (10)`.";
 
 const SPAN_OF_NUMBER: &str = "\
 A number is no time span: write `Milliseconds (10)`.";
@@ -199,7 +199,7 @@ const NUMBER_WITH_SPAN: &str = "\
 A time span is made of a number: write `Milliseconds (2 * N)`.";
 
 const TWO_SPANS: &str = "\
-Time spans are compared, and added to a time: reckon with Integers, `Milliseconds (N + M)`.";
+Time spans are compared, and added to a time: add Integers, `Milliseconds (N + M)`.";
 
 const TWO_TIMES: &str = "\
 Times are compared, and subtracted: write `Clock - Start` for the span between two of them.";

@@ -88,7 +88,7 @@ pub fn notes_at(
 }
 
 /// The explanation of the fault of this number, and after it, where the text's fault has the number and this place, what to write instead, what is open there
-/// where an `end` is wrong or missing, and what is reported of the text: of a token that cannot stand where it does, what could stand there; of a name that is
+/// where an `end` is wrong or missing, and what is reported of the text: of a token that cannot be where it is, what could be there; of a name that is
 /// declared twice, and of a body that doesn't belong to its declaration, where the other one is. None where no fault has the number.
 ///
 /// # Errors

@@ -14,7 +14,7 @@ fn put_number(out: &mut Vec<u8>, number: usize) -> Result<(), AllocError>
     out.extend_from_slice(Buffer::new().format(number).as_bytes())
 }
 
-/// The name that stands at the place, and the place.
+/// The name that is at the place, and the place.
 ///
 /// # Errors
 /// Where memory was refused.
@@ -34,7 +34,7 @@ pub(crate) fn put_named_place(
     put_place(out, text, place)
 }
 
-/// What is reported of the code of the body whose name stands at this place, with which there may be more instructions than an image has, after so many.
+/// What is reported of the code of the body whose name is at this place, with which there may be more instructions than an image has, after so many.
 ///
 /// # Errors
 /// Where memory was refused.
@@ -58,7 +58,7 @@ pub fn instructions_line(
     Ok(out)
 }
 
-/// What is reported of the code of the body whose name stands at this place, whose frame and operand stack may need more words together than a frame has.
+/// What is reported of the code of the body whose name is at this place, whose frame and operand stack may need more words together than a frame has.
 ///
 /// # Errors
 /// Where memory was refused.

@@ -79,7 +79,7 @@ fn kind_of(missing: Missing) -> TokenKind
     }
 }
 
-/// What is said where it is missing, as one line without its line feed; code stands between two marks (96).
+/// What is said where it is missing, as one line without its line feed; code is between two marks (96).
 pub fn missing_text(missing: Missing) -> &'static str
     ensures { result.now ≡ missing_text missing }
 {
@@ -147,7 +147,7 @@ fn missing_before(
     first_missing(alloc, &EACH_MISSING, front, tokens_behind(count, tokens))
 }
 
-/// The token that mends a text with these tokens, refused at this place for a token that can't stand there, where it is put in at the place. None where none of
+/// The token that mends a text with these tokens, refused at this place for a token that can't be there, where it is put in at the place. None where none of
 /// those that are tried does, and for other faults.
 ///
 /// # Errors

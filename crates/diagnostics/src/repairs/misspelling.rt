@@ -165,7 +165,7 @@ fn first_misspelled(
     Ok(None)
 }
 
-/// The reserved word that mends a text with these tokens, refused at this place for a token that can't stand there, in place of an identifier at the place or
+/// The reserved word that mends a text with these tokens, refused at this place for a token that can't be there, in place of an identifier at the place or
 /// close before it that is like the word: a letter more, less or other, or two exchanged. None where no such word does, and for other faults.
 ///
 /// # Errors
