@@ -4,11 +4,13 @@
     failing_writes.py PROGRAM WRITING SCRATCH
 
 WRITING is what makes a write go wrong, and tells that it did (streams.c). Where the nth write fails, or takes nothing, the program says `cannot write` and ends with
-status 1 (`simulate` says nothing), and standard output has a beginning of what the call writes, nothing where n is 1; the beginnings grow with n, up to the first n that no call comes to,
-whose call writes all. Where the nth write takes one byte, or each of them does, all of it is written. Where nobody reads the pipe that standard output is, it says
-the same.
+status 1 (`simulate` says nothing), and standard output has a beginning of what the call writes, nothing where n is 1; the beginnings grow with n, up to the first n
+that no call comes to, whose call writes all. Where the nth write takes one byte, or each of them does, all of it is written. Where nobody reads the pipe that
+standard output is, it says the same, and no signal ends it; so it does where the reader goes after the first line of more than the pipe holds, as `head -1`. `check`
+has status 1 where standard error is that pipe.
 """
 import errno
+import fcntl
 import os
 import subprocess
 import sys
@@ -27,6 +29,38 @@ ROWS = [
     ("tasks", "the same without a step"),
     ("entries", "a caller that nobody serves"),
     ("programs", "an exception of a handler passes by the other handlers of its sequence"),
+]
+
+
+SECONDS = 60
+PIPE = 4_096
+LONG = b"""pragma Profile (Ravenscar);
+with Ada.Real_Time; use Ada.Real_Time; with Control_IO; use Control_IO;
+package App is procedure Run; end App;
+package body App is
+   procedure Run is
+   begin
+      delay until Clock + Milliseconds (10);
+      for I in 1 .. 2_000 loop
+         Put ("n", I);
+         delay until Clock + Milliseconds (1);
+      end loop;
+   end Run;
+end App;
+with App;
+procedure Main is begin App.Run; end Main;
+"""
+FAULTS = LONG.replace(b'Put ("n", I);', b"X := Y;\n" * 100)
+# Calls with long answers: their words, which stream has the answer, and what the other one has, and the status, where the reader goes after the first line.
+FIRST_LINES = [
+    (["go", "long.adb", "empty", "100000"], "stdout", CANNOT_WRITE),
+    (["simulate", "long.adb"], "stdout", SILENT),
+    (["trace", "long.adb", "empty", "100000"], "stdout", CANNOT_WRITE),
+    (["trace", "--vcd", "long.adb", "empty", "100000"], "stdout", CANNOT_WRITE),
+    (["run", "long.img", "empty", "100000"], "stdout", CANNOT_WRITE),
+    (["list", "every.img"], "stdout", CANNOT_WRITE),
+    (["search", "long.adb", "many", "20000", "100000", "line", "n"], "stdout", CANNOT_WRITE),
+    (["check", "faults.adb"], "stderr", (b"", 1)),
 ]
 
 
@@ -105,10 +139,68 @@ def calls_of(folder):
     return found
 
 
+def calls_of_commands(program, folder):
+    """Calls of the commands that write more than lines; what they write where each write is taken is compared elsewhere."""
+    examples = os.path.join(os.path.dirname(os.path.abspath(__file__)), "..", "examples")
+    for name in ("tank.adb", "tank.schedule"):
+        with open(os.path.join(examples, name), "rb") as file:
+            write(folder, name, file.read())
+    write(folder, "choices", b"0 1 50|90\n8000 1 70|-\n")
+    words = [
+        ["trace", "tank.adb", "tank.schedule", "60"],
+        ["trace", "--vcd", "tank.adb", "tank.schedule", "60"],
+        ["search", "tank.adb", "choices", "20000", "1000"],
+        ["search", "tank.adb", "choices", "20000", "1000", "line", "alarm"],
+        ["explain", "6", "tank.adb"],
+        ["manual"],
+        ["version"],
+    ]
+    found = []
+    for call in words:
+        ran = subprocess.run([program, *call], cwd=folder, capture_output=True, check=False)
+        found.append(Call(" ".join(call), call, (ran.stdout, ran.stderr, ran.returncode)))
+    return found
+
+
+def first_line(program, folder, words, stream):
+    """What a call leaves whose reader takes the first line of this stream and goes: the other stream and the status."""
+    reader, writer = os.pipe()
+    fcntl.fcntl(writer, fcntl.F_SETPIPE_SZ, PIPE)
+    other = {"stdout": "stderr", "stderr": "stdout"}[stream]
+    with subprocess.Popen([program, *words], cwd=folder, **{stream: writer, other: subprocess.PIPE}) as process:
+        os.close(writer)
+        while os.read(reader, 1) not in (b"\n", b""):
+            pass
+        os.close(reader)
+        out, err = process.communicate(timeout=SECONDS)
+    return err if stream == "stdout" else out, process.returncode
+
+
+def first_lines(program, folder):
+    """How many calls whose reader goes after the first line there are, and what is wrong of them."""
+    for name, data in (("long.adb", LONG), ("faults.adb", FAULTS), ("many", b"0..4095/1 1 5\n")):
+        write(folder, name, data)
+    subprocess.run([program, "compile", "long.adb", "long.img"], cwd=folder, check=True)
+    images = os.path.join(os.path.dirname(os.path.abspath(__file__)), "images.py")
+    subprocess.run([sys.executable, images, "large", "every.img", "2000"], cwd=folder, check=True)
+    wrong = []
+    for words, stream, expected in FIRST_LINES:
+        whole = subprocess.run([program, *words], cwd=folder, capture_output=True, check=False)
+        left = first_line(program, folder, words, stream)
+        if left != expected or len(getattr(whole, stream)) < 2 * PIPE:
+            wrong.append(f"{' '.join(words)}: the reader goes after the first line: {left} where {expected} is expected")
+    return len(FIRST_LINES), wrong
+
+
 def main():
     program, writing, folder = (os.path.abspath(word) for word in sys.argv[1:])
     os.makedirs(folder)
-    failed, calls = False, calls_of(folder)
+    calls = calls_of(folder) + calls_of_commands(program, folder)
+    readers, wrong = first_lines(program, folder)
+    for told in wrong:
+        print(f"failing_writes: {told}", file=sys.stderr)
+    print(f"failing_writes: {readers} readers go after the first line, {len(wrong)} wrong")
+    failed = bool(wrong)
     for call in calls:
         writes = [call.fails(program, writing, folder, how) for how in FAILING]
         call.expect(len(set(writes)) == 1, "all", "differ in number", (b"", b"", writes))

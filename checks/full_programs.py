@@ -1,6 +1,6 @@
 #!/usr/bin/env python3
-"""Runs programs with as many tasks, protected objects and subprograms as there may be at once (docs/LANGUAGE.md, "Limits"), by `go`, by `compile` and `run`, and with
-exclusion after each of the first 3,000 steps.
+"""Runs programs with as many tasks, protected objects and subprograms as there may be at once (docs/LANGUAGE.md, "Limits"), by `go`, by `compile` and `run`, by `simulate`,
+`trace`, `check` and `search`, and with exclusion after each of the first 3,000 steps.
 
     full_programs.py PROGRAM WATCHER SCRATCH
 """
@@ -8,6 +8,9 @@ import os
 import re
 import subprocess
 import sys
+
+sys.dont_write_bytecode = True
+from shared import lines_of_trace  # noqa: E402 (no file of it is to be kept)
 
 TASKS = OBJECTS = 64
 SUBPROGRAMS = 128
@@ -115,6 +118,11 @@ def wrong(program, watcher, scratch, text, lines, subprograms):
     yield "go", called([program, "go", source, os.devnull, str(LIMIT)]), expected
     yield "compile", called([program, "compile", source, image]), (0, "", "")
     yield "run", called([program, "run", image, os.devnull, str(LIMIT)]), expected
+    yield "simulate", called([program, "simulate", source, os.devnull, str(LIMIT)]), expected
+    yield "check", called([program, "check", source]), (0, "", "")
+    status, out, err = called([program, "trace", source, os.devnull, str(LIMIT)])
+    yield "trace", (status, lines_of_trace(out), err), expected
+    yield "search", called([program, "search", source, os.devnull, "1", str(LIMIT)]), (0, "none of 1 schedules\n", "")
     with open(image, "rb") as file:
         yield "subprograms", int.from_bytes(file.read()[8:10], "big"), subprograms
     status, out, err = called([watcher, image, os.devnull, str(WATCHED)])

@@ -208,4 +208,5 @@ def main():
             (folder / f"{name}.{ending}").write_text(content)
 
 
-main()
+if __name__ == "__main__":
+    main()

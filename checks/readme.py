@@ -31,6 +31,8 @@ def blocks_of(text):
         before = part
     return found
 
+OPTION = r" \[(--(?:quiet|until TIME))\]"
+
 
 class Checker:
     def __init__(self, program, scratch):
@@ -82,10 +84,11 @@ class Checker:
         """Each command of the program, with names in the place of the words in capitals; of alternatives in brackets none, and each."""
         image = os.path.join(self.scratch, "tank.img")
         choices = self.file("choices.txt", "10000 1 20|50|90\n")
-        names = {"SRC": SOURCE, "SCHED": SCHEDULE, "LIMIT": "1000000", "IMG": image, "NUMBER": "6", "CHOICES": choices, "UNTIL": "60000", "LABEL": "nobody"}
+        names = {"SRC": SOURCE, "SCHED": SCHEDULE, "LIMIT": "1000000", "IMG": image, "NUMBER": "6", "CHOICES": choices, "UNTIL": "60000", "LABEL": "nobody", "TIME": "60000"}
         for line in lines:
             shown, _, group, part = re.fullmatch(r"(.*?)( \[([^]]*\|[^]]*)\])?( \[--part K/N\])?", re.split(r"  +", line)[0]).groups()
-            forms = [shown] if group is None else [shown, *(f"{shown} {words.strip()}" for words in group.split("|"))]
+            starts = [re.sub(OPTION, "", shown), *([re.sub(OPTION, r" \1", shown)] if re.search(OPTION, shown) else [])]
+            forms = starts if group is None else [*starts, *(f"{start} {words.strip()}" for start in starts for words in group.split("|"))]
             for form in [*forms, *(f"{form} --part 2/3" for form in forms if part)]:
                 words = form.split()
                 status, out, err = self.called([self.program, *(names.get(word.strip("[]"), word) for word in words[1:])])
@@ -113,11 +116,15 @@ class Checker:
         self.is_so("./build --install", (status, out) == (0, "") and manual != "" and has_all and completed == (0, "simulate search\n", ""), (err[-1000:], completed))
 
     def run_of(self, words):
-        """`./run` with as few words as it takes, and with all."""
-        most = [{"SOURCE": SOURCE, "SCHEDULE": SCHEDULE, "LIMIT": "0"}[word] for word in re.findall(r"[A-Z]+", words)]
+        """`./run` with as few words as it takes, and with all; and up to a time, at which it ends or is cut."""
+        shown = re.sub(OPTION, "", words)
+        most = [{"SOURCE": SOURCE, "SCHEDULE": SCHEDULE, "LIMIT": "0"}[word] for word in re.findall(r"[A-Z]+", shown)]
         for number in range(1, len(most) + 1):
             status, _, _ = self.called(["./run", *most[:number]])
-            self.is_so(f"{words} with {number}", status == (5 if number == len(most) else 0), status)
+            self.is_so(f"{shown} with {number}", status == (5 if number == len(most) else 0), status)
+        for time, wanted in (("60000", 0), ("20000", 5)) if shown != words else ():
+            status, out, _ = self.called(["./run", SOURCE, SCHEDULE, "--until", time])
+            self.is_so(f"{words} with {time}", status == wanted and (wanted == 0) != out.endswith(f"time limit at {time}\n"), (status, out))
 
     def statuses(self, text):
         """Each status of the table, with what stands on standard error."""

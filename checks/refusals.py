@@ -4,7 +4,8 @@
     refusals.py PROGRAM REFUSING SCRATCH
 
 REFUSING is what refuses, and tells that it did (refuse.c). A call in which a request was refused writes nothing but `no memory`, ends with status 8, and leaves
-the files as they were, so that the same call with memory, made behind it, does what it should; the others do that too.
+the files as they were, so that the same call with memory, made after it, does what it should; the others do that too. One of `simulate` that has reported less for
+want of memory, as docs/FORMATS.md has it ("Commands"), leaves what `go` does, and a search that could keep less of the runs that it has made leaves its answer.
 """
 import os
 import subprocess
@@ -47,8 +48,8 @@ def write(path, data):
 class Call:
     """A call of the program in a folder of its own: its words and files, what it writes and its status, and the files that it leaves otherwise."""
 
-    def __init__(self, name, words, files, out, err="", status=0, leaves=()):
-        self.name, self.words, self.files, self.leaves = name, words, files, dict(leaves)
+    def __init__(self, name, words, files, out, err="", status=0, leaves=(), less=None):
+        self.name, self.words, self.files, self.leaves, self.less = name, words, files, dict(leaves), less
         self.ample = (out.encode(), err.encode(), status)
 
     def prepare(self, folder):
@@ -69,8 +70,8 @@ class Call:
         run = subprocess.run([program, *self.words], cwd=folder, env=environment, capture_output=True, check=False)
         was_refused = os.path.exists(told)
         found = (run.stdout, run.stderr, run.returncode)
-        expected = (b"", b"no memory\n", 8) if was_refused else self.ample
-        if found != expected:
+        expected = [(b"", b"no memory\n", 8), self.less] if was_refused else [self.ample]
+        if found not in expected:
             return was_refused, f"status {run.returncode}, {run.stdout[-200:]!r}, {run.stderr!r}"
         for name in {*self.files, *self.leaves}:
             wanted = self.files.get(name) if was_refused else self.leaves.get(name, self.files.get(name))
@@ -102,6 +103,41 @@ def go_of(table, name):
 def example(name):
     folder = os.path.join(HERE, "..", "examples")
     return content(os.path.join(folder, name + ".adb")), content(os.path.join(folder, name + ".out")).decode()
+
+
+def ample_call(program, folder, name, words, files, less=None):
+    """A call that leaves what the program leaves with memory."""
+    for file, data in files.items():
+        write(os.path.join(folder, file), data)
+    ran = subprocess.run([program, *words], cwd=folder, capture_output=True, text=True, check=False)
+    call = Call(name, words, files, ran.stdout, ran.stderr, ran.returncode, less=less)
+    call.less = call.ample if less == "the answer" else less
+    return call
+
+
+def calls_of_commands(program, folder):
+    """Calls of the commands that report more than a run."""
+    faulty = b"pragma Profile (Ravenscar);\npackage App is N : Integer := True; M : Nobody; end App;\npackage body App is end App;\n"
+    faulty += b"with App;\nprocedure Main is begin null; end Main;\n"
+    entry, _, _, lines, _, status = row_of("entries", "a caller that nobody serves")
+    raised, _, _, raised_lines, _, raised_status = row_of("programs", "an exception of a handler passes by the other handlers of its sequence")
+    tank = example("tank")[0]
+    schedule, choices = content(os.path.join(HERE, "..", "examples", "tank.schedule")), b"0 1 50|90\n8000 1 70|-\n"
+    files = {"main.adb": tank, "input": schedule}
+    calls = [
+        ("check", ["check", "main.adb"], files, None),
+        ("check of a text with faults", ["check", "main.adb"], {"main.adb": faulty}, None),
+        ("simulate", ["simulate", "main.adb", "input"], files, None),
+        ("simulate of a refused text", ["simulate", "main.adb"], {"main.adb": faulty}, (b"", b"fault 18 at 2:9\n", 2)),
+        ("simulate of a run that waits", ["simulate", "main.adb"], {"main.adb": entry}, (lines, b"", status)),
+        ("simulate of an exception", ["simulate", "main.adb"], {"main.adb": raised}, (raised_lines, b"", raised_status)),
+        ("trace", ["trace", "main.adb", "input", "1000"], files, None),
+        ("trace --vcd", ["trace", "--vcd", "main.adb", "input", "1000"], files, None),
+        ("search that finds none", ["search", "main.adb", "choices", "20000", "1000"], {"main.adb": tank, "choices": choices}, "the answer"),
+        ("search that finds a line", ["search", "main.adb", "choices", "20000", "1000", "line", "alarm"], {"main.adb": tank, "choices": choices}, "the answer"),
+        ("explain of a text", ["explain", "12", "main.adb"], {"main.adb": faulty}, None),
+    ]
+    return [ample_call(program, folder, *call) for call in calls]
 
 
 def calls_of(program, folder):
@@ -138,7 +174,7 @@ def calls_of(program, folder):
     explained = subprocess.run([program, "explain", "23"], check=True, capture_output=True, text=True).stdout
     told = explained + limits.frame_line("GO", place_of(text, mark))
     found.append(Call("explain of code that passes a limit", ["explain", "23", "main.adb"], {"main.adb": text.encode()}, told))
-    return found
+    return found + calls_of_commands(program, folder)
 
 
 def main():

@@ -15,6 +15,7 @@ and operations have images, words has words.
 - A row on one line has what is expected, `: `, and the text, the schedule or the words.
 - A row with `limits` is run with each limit from 0 on: up to the first one that gives the row's lines it writes whole lines of these, no fewer than with the
   limit before, and then where the limit cut it, at a time between those of the lines around; from there on it gives the row's lines.
+- A row with `until N` is called by `simulate` and by `trace`, both up to this time, and by nothing else.
 - What a row with `checks N` compiles to has N instructions CHK in its listing.
 - Of the image of a row with `cut`, each beginning is too short by what isn't there, and is refused at its end.
 - `\\n`, `\\xNN` and the like stand for bytes, and {5*ab} for a part five times.
@@ -217,11 +218,16 @@ def row_of(table, name):
 
 
 def run_source(caller, row):
-    """A source by `go`, and by `compile` and then `run`."""
+    """A source by `go`, and by `compile` and then `run`; up to a time by `simulate`."""
     limit = row.get("limit", ["100000"])[0]
     out, err, status = expected_of(row)
     caller.write("main.adb", framed(row["frame"], row))
     caller.write("input", bytes_of("".join(row.get("schedule", []))))
+    if "until" in row:
+        words = ["main.adb", "input", limit, "--until", row["until"][0]]
+        caller.call(row, ["simulate", *words], out, err, status)
+        caller.tell(row, words, out, b"", status)
+        return
     caller.call(row, ["go", "main.adb", "input", limit], out, err, status)
     caller.tell(row, ["main.adb", "input", limit], out, err, status)
     if status == 2:

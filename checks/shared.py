@@ -1,6 +1,7 @@
 """What the checks of the built program share: calls and what is expected of them, files of a scratch folder, places in texts."""
 
 import os
+import re
 import subprocess
 import sys
 from dataclasses import dataclass
@@ -77,6 +78,13 @@ class Checks:
         self.expect(name, ran, 0, ran.out if told is None else told)
         if told is None:
             print(ran.out, end="", flush=True)
+
+
+def lines_of_trace(trace):
+    """The lines of a run, with its last line, of its trace."""
+    *rows, last = trace.splitlines() or [""]
+    written = [found[1] for row in rows if (found := re.search(r"^\S+ \S+ \S+ writes (.*?)(?: at \d+:\d+)?$", row))]
+    return "".join(f"{line}\n" for line in [*written, last]) if trace else ""
 
 
 def text_of(path):

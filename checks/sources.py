@@ -4,9 +4,10 @@ import os
 import re
 import resource
 
-from shared import CHECKS, EMPTY_SCHEDULE, STEPS, call, make_by, place_of, text_of
+from shared import CHECKS, EMPTY_SCHEDULE, STEPS, Called, call, lines_of_trace, make_by, place_of, text_of
 
-STACK = 192 * 1024
+STACK, REPORTING_STACK, SEARCHING_STACK = 192 * 1024, 320 * 1024, 512 * 1024
+FAULT = re.compile(r"fault (\d+) at (\d+:\d+)")
 
 
 def many(procedures, labels):
@@ -62,16 +63,48 @@ def every_production(checks):
         checks.go(f"without the token at byte {start}", text, 2, "", bodiless if place == "none" else f"fault 6 at {place}")
 
 
-def small_stack():
-    resource.setrlimit(resource.RLIMIT_STACK, (STACK, STACK))
+def with_stack(size):
+    return lambda: resource.setrlimit(resource.RLIMIT_STACK, (size, size))
+
+
+def reported(called, fault):
+    """What `go` leaves of a text with this fault, of a call that reports it among others in words."""
+    number, place = FAULT.fullmatch(fault).groups()
+    is_there = re.search(rf":{place}: error: .*\[fault {number}\]\n", called.err)
+    return Called(called.status, called.out, fault) if is_there else called
+
+
+def by_other_commands(checks, name, path, status, out, err):
+    """The text by the commands that report more than `go`: `check` with the same stack, those that keep more than one run with larger ones."""
+
+    def called(*words, stack=REPORTING_STACK):
+        return call(checks.program, *words, env={}, preexec_fn=with_stack(stack))
+
+    run = [path, EMPTY_SCHEDULE, STEPS]
+    checked = called("check", path, stack=STACK)
+    traced, simulated, dumped = called("trace", *run), called("simulate", *run), called("trace", "--vcd", *run)
+    searched = called("search", path, EMPTY_SCHEDULE, "0", STEPS, stack=SEARCHING_STACK)
+    checks.expect(f"{name}: trace", Called(traced.status, lines_of_trace(traced.out), traced.err), status, out, err)
+    if status == 2:
+        checks.expect(f"{name}: simulate", reported(simulated, err), status, out, err)
+        checks.expect(f"{name}: check", reported(checked, err), status, out, err)
+        checks.expect(f"{name}: dump", dumped, status, out, err)
+        checks.expect(f"{name}: search", searched, status, out, err)
+        return
+    checks.expect(f"{name}: simulate", Called(simulated.status, simulated.out, ""), status, out)
+    checks.expect(f"{name}: check", checked, 0)
+    checks.expect(f"{name}: dump", Called(dumped.status, dumped.out.splitlines()[-1:][0], dumped.err), status, "$end")
+    checks.expect(f"{name}: search", Called(searched.status, "", searched.err), 0 if status == 0 else status)
 
 
 def with_a_small_stack(checks):
-    """The longest and the deepest texts of each kind (checks/large_texts.py), with a stack of 192 KiB: what a long text needs doesn't grow with its length, and what
-    a deep one needs is bounded by the 40 levels. The environment is on the stack too, so it is empty."""
+    """The longest and the deepest texts of each kind (checks/large_texts.py), with a stack of 192 KiB, 320 for the commands that run them twice and 512 for `search`: what a long
+    text needs doesn't grow with its length, and what a deep one needs is bounded by the 40 levels. The environment is on the stack too, so it is empty."""
     folder = checks.path("large")
     make_by("large_texts.py", folder)
     for name in sorted(re.sub(r"\.adb$", "", file) for file in os.listdir(folder) if file.endswith(".adb")):
-        expected = [text_of(os.path.join(folder, f"{name}.{part}")) for part in ("status", "out", "err")]
-        ran = call(checks.program, "go", os.path.join(folder, f"{name}.adb"), EMPTY_SCHEDULE, STEPS, env={}, preexec_fn=small_stack)
-        checks.expect(name, ran, int(expected[0]), *expected[1:])
+        status, out, err = (text_of(os.path.join(folder, f"{name}.{part}")) for part in ("status", "out", "err"))
+        path = os.path.join(folder, f"{name}.adb")
+        ran = call(checks.program, "go", path, EMPTY_SCHEDULE, STEPS, env={}, preexec_fn=with_stack(STACK))
+        checks.expect(name, ran, int(status), out, err)
+        by_other_commands(checks, name, path, int(status), out, err.rstrip("\n"))

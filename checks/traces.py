@@ -5,7 +5,7 @@ places of the source: those of rows are left out there, compared with the statem
     traces.py PROGRAM FOLDER EXAMPLES SCRATCH
 
 FOLDER has the tables of rows.py, of which all count whose sources are compiled; EXAMPLES has programs NAME.adb, some with a NAME.schedule, and their traces
-NAME.trace, which the reference has made too but for those places.
+NAME.trace, which the reference has made too but for those places. Each source is traced again up to the half of its last time, and simulated up to then.
 """
 import os
 import re
@@ -99,13 +99,22 @@ class Comparer:
         for file, content in (("main.adb", source), ("input", schedule)):
             write(os.path.join(self.folder, file), content)
 
-    def reference_of(self, source, schedule):
-        return world_of(self.program, self.folder, source, schedule, objects_of(source)).trace(STEPS)
+    def reference_of(self, source, schedule, until=None):
+        return world_of(self.program, self.folder, source, schedule, objects_of(source)).trace(STEPS, until)
 
-    def compare(self, name, steps, expected, placed):
+    def compare_timed(self, name, source, schedule, whole):
+        """Traces and simulates the source that was written up to the half of the last time of its whole trace."""
+        until = int(whole.split()[-1]) // 2
+        self.compare(name, STEPS, self.reference_of(source, schedule, until), False, "--until", str(until))
+        expected = world_of(self.program, self.folder, source, schedule).run(STEPS, until)
+        run = self.call("simulate", "main.adb", "input", str(STEPS), "--until", str(until))
+        if (run.stdout.decode(), run.returncode) != (expected, STATUSES[expected.splitlines()[-1].split()[0]]):
+            self.wrong.append(f"{name}: simulated up to {until}: status {run.returncode}, {run.stdout.decode()!r}")
+
+    def compare(self, name, steps, expected, placed, *words):
         """Traces the source that was written: its trace is what is expected, with the places of rows or without them, at each place a statement begins that does what
         the row reports, and the status is that of the last line."""
-        run = self.call("trace", "main.adb", "input", str(steps))
+        run = self.call("trace", "main.adb", "input", str(steps), *words)
         told = run.stdout.decode() if placed else PLACED.sub(r"\1", run.stdout.decode())
         self.rows += told.count("\n")
         if (told, run.stderr, run.returncode) != (expected, b"", STATUSES[expected.splitlines()[-1].split()[0]]):
@@ -119,11 +128,15 @@ def main():
     comparer, sources = Comparer(program, scratch), 0
     for name, source, schedule in rows_of(folder):
         comparer.write(source, schedule)
-        comparer.compare(name, STEPS, comparer.reference_of(source, schedule), False)
+        whole = comparer.reference_of(source, schedule)
+        comparer.compare(name, STEPS, whole, False)
+        comparer.compare_timed(name, source, schedule, whole)
         sources += 1
     for name, source, schedule, trace in examples_of(examples):
         comparer.write(source, schedule)
-        comparer.compare(name, STEPS, comparer.reference_of(source, schedule), False)
+        whole = comparer.reference_of(source, schedule)
+        comparer.compare(name, STEPS, whole, False)
+        comparer.compare_timed(name, source, schedule, whole)
         comparer.compare(name, ALL_STEPS, trace, True)
         sources += 1
     for told in comparer.wrong:

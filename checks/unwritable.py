@@ -22,7 +22,6 @@ OLD = b"what was there"
 CANNOT_WRITE = (b"", b"cannot write\n", 1)
 ROOM = 64 << 20
 PLACES = (".", "folder", "open")
-MOST = 1_000
 DONE = (b"", b"", 0)
 ROW = ("entries", "a consumer that waits is served by the producer, before that goes on")
 HERE = os.path.dirname(os.path.abspath(__file__))
@@ -266,26 +265,6 @@ def failing(folder, streams, where, how, number):
     return {**os.environ, "LD_PRELOAD": streams, "WHERE": where, "NUMBER": str(int(number)), "HOW": how, "REACHED": folder.path("reached")}
 
 
-def try_reads(folder, streams):
-    """Each read of the source and of the schedule fails in turn, or gives one byte."""
-    lines = row_of(*ROW)[3]
-    folder.write("empty", b"")
-    words = ["go", "main.adb", "empty", "100000"]
-    folder.call("reads of one byte", words, (lines, b"", 0), {}, env=failing(folder, streams, "reads", "byte", 0))
-    folder.was_reached("reads of one byte")
-    told = []
-    for number in range(1, MOST):
-        run = subprocess.run([folder.program, *words], cwd=folder.scratch, capture_output=True, check=False, env=failing(folder, streams, "reads", str(errno.EIO), number))
-        folder.calls += 1
-        if not os.path.exists(folder.path("reached")):
-            break
-        folder.was_reached("")
-        told.append((run.stdout, run.stderr, run.returncode))
-    both = [(b"", b"cannot read %s\n" % name, 1) for name in (b"main.adb", b"empty")]
-    if set(told) != set(both) or told != sorted(told, key=both.index) or (run.stdout, run.returncode) != (lines, 0):
-        folder.wrong.append(f"a read that fails: {words} leaves {told}")
-
-
 def main():
     program, streams, scratch = (os.path.abspath(word) for word in sys.argv[1:])
     folder = Folder(program, scratch)
@@ -297,7 +276,6 @@ def main():
     try_replaced(folder, image)
     try_itself(folder, image, streams)
     try_full(folder, image, streams)
-    try_reads(folder, streams)
     for told in folder.wrong:
         print(f"unwritable: {told}", file=sys.stderr)
     print(f"unwritable: {folder.calls} calls where something can't be read or written, {len(folder.wrong)} wrong")

@@ -4,7 +4,7 @@
     waves.py PROGRAM FOLDER EXAMPLES SCRATCH
 
 FOLDER has the tables of rows.py, EXAMPLES programs NAME.adb, some with a NAME.schedule. The reader is written from the standard (IEEE 1364-2005, section 18.2) and
-refuses what that doesn't allow. Where GTKWave's vcd2fst and fst2vcd are installed, the examples' dumps go through both, and what comes back has the same values.
+refuses what that doesn't allow. Each is dumped up to a time, too. Where GTKWave's vcd2fst and fst2vcd are installed, the examples' dumps go through both, and what comes back has the same values.
 """
 import os
 import re
@@ -22,6 +22,7 @@ from reference import STATUSES  # noqa: E402
 TABLES = ("delays", "tasks", "protected", "entries", "interrupts", "traces")
 STATES = {"ready": 0, "running": 1, "asleep": 2, "queued": 3, "served": 4, "finished": 5}
 LEFT = 6
+UNTIL = 20_000
 FIRST_CODE, CODES = 33, 94
 NAME = re.compile(r"[A-Za-z_][A-Za-z0-9_$]*$")
 
@@ -148,22 +149,26 @@ def values_of(world):
     return values
 
 
-def compare(dump, world, objects, limit):
-    """Each value at each tick is the reference's, nothing else is told to change, and the dump ends behind the last step."""
+def compare(dump, world, objects, limit, until):
+    """Each value at each tick is the reference's, nothing else is told to change, and the dump ends after the last step: the last one before the clock passes the
+    time, if one is given. The first word of the last line is returned."""
     need(dump.signals == signals_of(world, objects), f"signals {dump.signals}")
     need(list(dump.codes) == [code_of(signal) for signal in range(len(dump.signals))], f"codes {list(dump.codes)}")
-    told, steps = [None] * len(dump.signals), 0
-    while True:
+    told, steps, now = [None] * len(dump.signals), 0, world.now
+    while not world.is_past(until):
         values = values_of(world)
         differing = {signal: value for signal, value in enumerate(values) if value != told[signal]}
         need(dump.changes.pop(steps, {}) == differing, f"at step {steps}: the reference changes {differing}")
         told = values
         if steps == limit or world.outcome is not None:
             break
+        now = world.now
         world.step()
         steps += 1
+    steps -= world.is_past(until)
     need(dump.changes == {steps + 1: {}} and dump.end == steps + 1, f"the dump ends at {dump.end}, the run behind step {steps}")
-    need(dump.comments == [f"{world.outcome or 'step limit'} at {world.now}"], f"comments {dump.comments}")
+    need(dump.comments == [world.last_line(now, until)], f"comments {dump.comments}")
+    return world.last_line(now, until).split()[0]
 
 
 def sources_of(folder):
@@ -191,17 +196,16 @@ class Checker:
     def path(self, name):
         return os.path.join(self.folder, name)
 
-    def check(self, name, source, schedule, limit):
+    def check(self, name, source, schedule, limit, until=None):
         for file, content in (("main.adb", source), ("input", schedule)):
             with open(self.path(file), "wb") as written:
                 written.write(content)
         world = world_of(self.program, self.folder, source, schedule)
-        run = self.call(self.program, "trace", "--vcd", "main.adb", "input", str(limit))
+        run = self.call(self.program, "trace", "--vcd", "main.adb", "input", str(limit), *([] if until is None else ["--until", str(until)]))
         try:
             dump = Dump(run.stdout.decode("ascii"))
             self.ticks += len(dump.changes)
-            compare(dump, world, protected_names(source), limit)
-            status = STATUSES[(world.outcome or "step limit").split()[0]]
+            status = STATUSES[compare(dump, world, protected_names(source), limit, until)]
             need((run.stderr, run.returncode) == (b"", status), f"status {run.returncode}, {run.stderr!r}")
         except (Wrong, ValueError) as wrong:
             self.wrong.append(f"{name}: {wrong}")
@@ -225,9 +229,11 @@ def main():
     installed = shutil.which("vcd2fst") and shutil.which("fst2vcd")
     for name, source, schedule in sources_of(folder):
         checker.check(name, source, schedule, STEPS)
+        checker.check(name, source, schedule, STEPS, UNTIL)
         sources += 1
     for name, source, schedule, _ in examples_of(examples):
         text = checker.check(name, source, schedule, ALL_STEPS)
+        checker.check(name, source, schedule, ALL_STEPS, UNTIL)
         if installed:
             checker.convert(name, text)
         sources += 1
