@@ -11,6 +11,7 @@ or where that isn't built the unproved one."""
 
 import argparse
 import os
+import shutil
 import subprocess
 import sys
 import tempfile
@@ -138,7 +139,10 @@ def main():
     arguments = parser.parse_args()
     arguments.kind = [arguments.case.split("-")[-2]] if arguments.case else arguments.kind or list(KINDS)
     folder = tempfile.mkdtemp(prefix="campaign-")
-    return Campaign(arguments, folder).run(program_of(arguments.program))
+    status = Campaign(arguments, folder).run(program_of(arguments.program))
+    if status == 0:
+        shutil.rmtree(folder)
+    return status
 
 
 if __name__ == "__main__":

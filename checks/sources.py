@@ -98,8 +98,9 @@ def by_other_commands(checks, name, path, status, out, err):
 
 
 def with_a_small_stack(checks):
-    """The longest and the deepest texts of each kind (checks/large_texts.py), with a stack of 192 KiB, 320 for the commands that run them twice and 512 for `search`: what a long
-    text needs doesn't grow with its length, and what a deep one needs is bounded by the 40 levels. The environment is on the stack too, so it is empty."""
+    """The longest and the deepest texts of each kind (checks/large_texts.py), with a stack of 192 KiB, 320 for the commands that run them twice and 512 for
+    `search`: what a long text needs doesn't grow with its length, and what a deep one needs is bounded by the 40 levels. The environment is on the stack too, so
+    it is empty."""
     folder = checks.path("large")
     make_by("large_texts.py", folder)
     for name in sorted(re.sub(r"\.adb$", "", file) for file in os.listdir(folder) if file.endswith(".adb")):
