@@ -4,10 +4,10 @@ lists, traces and dumps beside that machine, searches beside running each schedu
 
     campaign.py [--program PROGRAM] [--kind KIND]... [--count N] [--case SEED] [MINUTES [SEED]]
 
-The interpreter and the judge (checks/campaigns) are written from docs/LANGUAGE.md alone. A campaign takes so many minutes (2), or with --count ends after so
-many cases of each kind. Each minute a line says how many were tried. Each difference is made smaller, reported with the seed of its case, and kept in a folder
-`campaign-..` of the directory for temporary files; `--case SEED` tries one case again. The status is 1 where there was a difference. The program is bin/adarun,
-or where that isn't built the unproved one."""
+The interpreter and the judge (checks/campaigns) are written from docs/LANGUAGE.md (checks/README.md, "Campaigns"). A campaign takes so many minutes (2), or
+with --count ends after so many cases of each kind. Each minute a line says how many were tried. Each difference is made smaller, reported with the seed of its
+case, and kept in a folder `campaign-..` of the directory for temporary files; `--case SEED` tries one case again. The status is 1 where there was a
+difference. The program is bin/adarun, or where that isn't built the unproved one."""
 
 import argparse
 import os

@@ -5,7 +5,7 @@
 
 REFUSING is what refuses, and tells that it did (refuse.c). A call in which a request was refused writes nothing but `no memory`, ends with status 8, and leaves
 the files as they were, so that the same call with memory, made after it, does what it should; the others do that too. One of `simulate` that has reported less for
-want of memory, as docs/FORMATS.md has it ("Commands"), leaves what `go` does, and a search that could keep less of the runs that it has made leaves its answer.
+want of memory, as docs/FORMATS.md has it ("Commands"), leaves what `go` does, and a search that could keep less of the runs that it has made leaves its answer: that is what the program does, docs/FORMATS.md doesn't say it.
 """
 import os
 import subprocess

@@ -1,6 +1,7 @@
 """Judges trees by the rules of docs/LANGUAGE.md: the faults from 10 to 23, or else those from 30 to 39 and 70 to 73, each with the byte of its place.
 
-Written from that document alone, beside the crates that check the same. Uses of a name whose own declaration is broken are not judged."""
+Written from that document, and corrected by the rows of checks/rules.txt, beside the crates that check the same. Uses of a name whose own declaration is
+broken are not judged."""
 from dataclasses import dataclass, field
 from typing import Optional
 
