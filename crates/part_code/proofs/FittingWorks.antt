@@ -81,7 +81,7 @@ module _ (laws : Laws) (v : Visible) (sound : SoundScope v.scope) (covered : Has
       passes composite i g calls p view x good sees is =
           composite_passes v.scope sound t composite x (shaped laws.typed v t e fit calls p sees.names.agrees (good.0 p sees.unit.sound) x is)
 
-  checked_works : is_taken v.scope t ≡ true → ValueWorks v d t e (checked_code v d t e (expr_code v d e))
+  pub checked_works : is_taken v.scope t ≡ true → ValueWorks v d t e (checked_code v d t e (expr_code v d e))
   checked_works = by_test (is_passable v.scope t) refl
     where
       by_test : (b : Bool) → is_passable v.scope t ≡ b → (b || is_composite (form_at v.scope t.type_number)) ≡ true

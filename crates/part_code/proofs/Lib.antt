@@ -14,10 +14,10 @@ pub mod Arriving
 pub mod Assigning
 pub mod Actuals
 pub mod Walking
-mod Comparing
+pub mod Comparing
 mod PartWords
 mod Targeting
-mod Deciding
+pub mod Deciding
 pub mod FormalFlows
 pub mod FormalWords
 mod PartValues
@@ -34,7 +34,7 @@ pub mod Lacking
 mod FormalsRefused
 pub mod CallsRefused
 mod BodiesRefused
-mod Choosable
+pub mod Choosable
 mod Moves
 mod CodeExamples
 pub mod PieceNeeds

@@ -229,7 +229,7 @@ module _ (calls : CallsAreTyped) (statics : StaticIsValue) (quiet : QuietStays) 
   inside = selecting_inside s e selecting
 
   -- what is known wherever it is evaluated
-  wants_there : (p : Place) (view : View) → Sees g f.names p view → Wants s (own_of s e)
+  pub wants_there : (p : Place) (view : View) → Sees g f.names p view → Wants s (own_of s e)
   wants_there p view sees =
       wants s (own_of s e) sees.names.agrees.sound
       (discrete s (own_of s e) (start_of e) (calls.typed s p sees.names.agrees sees.unit.sound e Anything inside).known (selecting_rule s e selecting))
@@ -237,7 +237,7 @@ module _ (calls : CallsAreTyped) (statics : StaticIsValue) (quiet : QuietStays) 
   suited : (p : Place) (view : View) → Sees g f.names p view → (x : Value) → val p e ≡ Gives x → is_value_of s (own_of s e) x ≡ true
   suited p view sees x is = ap (suits s (own_of s e)) (sym is) ∙ (calls.typed s p sees.names.agrees sees.unit.sound e Anything inside).suited
 
-  scalar_there : IsScalar quiet i program g numbers f e
+  pub scalar_there : IsScalar quiet i program g numbers f e
   scalar_there p view sees x is =
       elim (wants_there p view sees).kind [
         | inl k ↦ number_scalar calls statics quiet i program g numbers f e Anything inside k.0 p view sees x is
@@ -270,10 +270,10 @@ module _ (calls : CallsAreTyped) (statics : StaticIsValue) (quiet : QuietStays) 
         of_type = ap (suits s (Typed wanted.number)) (sym (told p view sees))
             ∙ calls.wanted s p sees.names.agrees sees.unit.sound c wanted.number (ap (λ w. faults_of s w c) (sym wanted.wanted) ∙ legal)
 
-    static_there : IsStatic quiet i program g numbers f e c x
+    pub static_there : IsStatic quiet i program g numbers f e c x
     static_there = record { told = told; alike = alike }
 
-  choice_legal : (w : Wanted) (before : List Scalar) (c : ExprTree) → choice_faults s w before c ≡ [] → faults_of s w c ≡ []
+  pub choice_legal : (w : Wanted) (before : List Scalar) (c : ExprTree) → choice_faults s w before c ≡ [] → faults_of s w c ≡ []
   choice_legal w before c h =
       let of_c = faults_of s w c in
       let of_form = form_rule (start_of c) (static_form s c) in

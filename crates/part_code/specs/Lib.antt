@@ -25,6 +25,7 @@ pub mod Passing
 pub mod Moving
 pub mod Moves
 pub mod PartCode
+pub mod ObjectCode
 pub mod Formals
 pub mod Turns
 pub mod Labels

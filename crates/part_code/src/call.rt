@@ -120,9 +120,9 @@ pub fn words_of(visible: &Visible, subtype: Subtype) -> Result<u16, Refusal>
     Ok(words)
 }
 
-// Adds the value of an expression, which is checked against a subtype; where this has no words, or more than one instruction moves, what no image may have.
+/// Adds the value of an expression, which is checked against a subtype; where this has no words, or more than one instruction moves, what no image may have.
 #[tactic(auto, using(expr_code::proofs::Pieces::adds_then))]
-fn fitting(
+pub fn fitting(
     fragment: &mut Fragment,
     visible: &Visible,
     depth: usize,
@@ -147,8 +147,8 @@ fn misfit(fragment: &mut Fragment, depth: usize, words: u16) -> Result<(), Alloc
     fragment.put(depth, Operation::LoadBlock { region, words: 0 })
 }
 
-// The object with this standing and place.
-fn object_at(standing: Standing, slot: Option<Slot>) -> Option<Source>
+/// The object with this standing and place.
+pub fn object_at(standing: Standing, slot: Option<Slot>) -> Option<Source>
     ensures { result ≡ object_at standing slot }
 {
     match (standing, slot) {
@@ -309,8 +309,8 @@ fn actual(
     }
 }
 
-// Adds the code of the actual parameters from left to right, and returns how many words are on the operand stack with theirs.
-fn actuals(
+/// Adds the code of the actual parameters from left to right, and returns how many words are on the operand stack with theirs.
+pub fn actuals(
     fragment: &mut Fragment,
     visible: &Visible,
     formals: &[FormalParameter],
@@ -428,8 +428,8 @@ fn below(height: usize, words: u16) -> usize
     height.saturating_sub(usize::from(words)).saturating_sub(1)
 }
 
-// Adds the code of all that is copied back.
-fn copies(
+/// Adds the code of all that is copied back.
+pub fn copies(
     fragment: &mut Fragment,
     visible: &Visible,
     destinations: &[Destination],

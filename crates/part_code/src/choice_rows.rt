@@ -10,8 +10,8 @@ use expr_code::Refusal;
 use handlers::Row;
 use lexer::Text;
 
-// The number for which a choice makes a row.
-fn choice_number(exceptions: &[Text], choice: &ExceptionChoice) -> Option<u16>
+/// The number for which a choice makes a row.
+pub fn choice_number(exceptions: &[Text], choice: &ExceptionChoice) -> Option<u16>
     ensures { result ≡ choice_number exceptions.now choice.now }
 {
     match choice {

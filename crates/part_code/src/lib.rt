@@ -2,7 +2,7 @@
 #![tactic(auto)]
 
 mod body;
-mod call;
+pub mod call;
 mod choice_rows;
 mod choices;
 mod declaration;
@@ -14,7 +14,7 @@ mod leaving;
 mod line;
 mod looping;
 mod main_calls;
-mod moving;
+pub mod moving;
 mod storing;
 mod turns;
 
@@ -23,7 +23,7 @@ pub use call::{
     Destination, actuals_of, add_actuals, add_copies, entry_behind, is_own_entry, operation_of,
     words_of,
 };
-pub use choice_rows::{add_choice_rows, add_rows};
+pub use choice_rows::{add_choice_rows, add_rows, choice_number};
 pub use choices::add_choices;
 pub use declaration::add_object;
 pub use exceptions::raised_by;

@@ -142,9 +142,9 @@ pub fn add_move(code: &mut Code, visible: &Visible, to: Moved, e: &Expr) -> Resu
     code.append(&fragment)
 }
 
-// Adds what moves the value of an expression.
+/// Adds what moves the value of an expression.
 #[cycle(move_value)]
-fn move_value(
+pub fn move_value(
     fragment: &mut Fragment,
     visible: &Visible,
     to: Moved,

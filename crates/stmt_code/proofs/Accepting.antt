@@ -1,5 +1,4 @@
--- What statements that break no rule and no restriction have where they stand in loops, handlers and bodies: ways out; and exceptions with numbers.
-use Rattle.std.proofs.Common.{◌≡◌, ◌++◌, ℕ, [], ◌∷◌, List, Bool, true, ◌||◌, ◌&&◌, not, Option, Some, None, refl, sym, subst}
+use Rattle.std.proofs.Common.{◌≡◌, ◌++◌, ℕ, [], ◌∷◌, List, Bool, true, ◌||◌, ◌&&◌, not, Option, Some, None, refl}
 use Rattle.std.specs.Prelude.{◌≢◌, is_some}
 use Rattle.std.proofs.lemmas.Bool.{and_from, or_left, or_right}
 use Rattle.base.specs.declared.faults.TheConstants.{MISPLACED_STATEMENT}
@@ -31,13 +30,6 @@ use Rattle.stmt_code.specs.Emitting.{AreAcceptedHandlers, AreAcceptedStatements,
 use Rattle.stmt_code.specs.Leaves.{any_leave, handlers_leave, is_return}
 use Rattle.stmt_code.specs.declared.leaves.WayOut.{WayOut}
 use Rattle.stmt_code.specs.declared.leaves.WayOut.TheVariants as way
-use Rattle.stmt_code.specs.declared.draft.Draft.{Draft}
-
--- what is visible has what code needs also where the draft has the same exceptions
-pub covered_still : (v later : Visible) (old new : Draft) → new.exceptions ≡ old.exceptions → later ≡ v → HasWhatCodeNeeds old.exceptions.items v
-    → HasWhatCodeNeeds new.exceptions.items later
-covered_still v later old new kept same h =
-    subst (λ x. HasWhatCodeNeeds x.items later) (sym kept) (subst (HasWhatCodeNeeds old.exceptions.items) (sym same) h)
 
 -- ---- ways out
 

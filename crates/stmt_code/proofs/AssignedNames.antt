@@ -35,7 +35,7 @@ module _ (v : Visible) (sound : SoundScope v.scope) (covered : HasWhatExpression
   in_target : target_faults s name.first name.selectors ≡ []
   in_target = front_empty (target_faults s name.first name.selectors) (faults_of s (assigned_wanted s name) e) h.unbroken
 
-  in_name : name_faults s name.first name.selectors ≡ []
+  pub in_name : name_faults s name.first name.selectors ≡ []
   in_name = front_empty (name_faults s name.first name.selectors) (variable_rule s name.first.place Anything ends) in_target
 
   target : IsTarget v sound covered ends
@@ -43,7 +43,7 @@ module _ (v : Visible) (sound : SoundScope v.scope) (covered : HasWhatExpression
       name_target v sound covered name.first name.selectors Anything in_name
       (back_empty (name_faults s name.first name.selectors) (variable_rule s name.first.place Anything ends) in_target)
 
-  assigned_object : is_object ends ≡ true
+  pub assigned_object : is_object ends ≡ true
   assigned_object = target_object v sound covered ends target
 
   pub assigned_first : IsObjectAt (stands_first s (number_of s name.first.name))

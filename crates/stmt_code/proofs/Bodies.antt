@@ -45,9 +45,6 @@ none_bound (f ∷ fs) vs name h = by_mode (is_out f.mode) vs (λ us. none_bound 
     by_mode true vs rest = rest vs
     by_mode false vs rest = by_value vs rest
 
-found_none : (o : Option Object) → or_else None o ≡ o
-found_none o = refl
-
 pub entered_alike : (ps : List Parameter) (vs : List Value) (l : List Object) (name : List ℕ) → AreDistinct ps
     → object_of (entered ps vs l) name ≡ or_else (object_of (bound ps vs) name) (object_of l name)
 entered_alike [] vs l name h = refl

@@ -1,21 +1,13 @@
 -- What is known of a loop over a range that breaks no rule: its bounds are of integer types, and its parameter is visible in its statements, with the first of
 -- two words of the frame.
-use Rattle.std.proofs.Common.{◌≡◌, ℕ, suc, ◌<◌, ◌≤◌, ◌++◌, List, [], ◌∷◌, length, take, Bool, true, false, not, ◌&&◌, Option, Some, None, inl, inr, refl, sym, ap, ◌∙◌, subst, arith, ℤ}
-use Rattle.std.specs.Prelude.{pos, int_le, int_lt, is_some, option_map}
+use Rattle.std.proofs.Common.{◌≡◌, ℕ, ◌++◌, [], Bool, true, false, not, ◌&&◌, Option, Some, None, ap, subst, arith, ℤ}
+use Rattle.std.specs.Prelude.{int_le, int_lt, is_some}
 use Rattle.base.specs.declared.faults.TheConstants.{NO_MEANING}
 use Rattle.ada_tree.specs.declared.expression.Identifier.{Identifier}
 use Rattle.ada_tree.specs.ExpressionTree.{ExprTree}
 use Rattle.ada_tree.specs.StatementTree.{For, Loop, RangeTree, StmtTrees}
-use Rattle.image.specs.Sections.{Sections}
-use Rattle.image.specs.declared.instruction.Region.TheVariants as regions
-use Rattle.image.specs.declared.subprograms.Subprogram.{Subprogram}
-use Rattle.types.specs.declared.entity.Role.TheVariants as role
-use Rattle.types.specs.Entities as entity
-use Rattle.types.specs.Entities.{Entity, Profile}
-use Rattle.types.specs.Laws.{ShapesStay, ValuesHaveWords}
-use Rattle.types.specs.Layouts.{words_of}
-use Rattle.types.specs.Places.{Object, Place}
-use Rattle.types.specs.Scopes.{Scope, form_at, integer_type, is_visible, with_name}
+use Rattle.types.specs.Places.{Place}
+use Rattle.types.specs.Scopes.{Scope, form_at, integer_type, is_visible}
 use Rattle.types.specs.Statics.{start_of}
 use Rattle.types.specs.Values.{Number, Value}
 use Rattle.expr_soundness.specs.expr_rules.specs.declared.own.Own.{Own}
@@ -27,45 +19,27 @@ use Rattle.expr_soundness.specs.expr_rules.specs.NameRules.{mismatch}
 use Rattle.expr_soundness.specs.expr_rules.specs.Typing.{is_integers, is_integral, is_known, is_wanted, own_of}
 use Rattle.expr_soundness.specs.expr_rules.proofs.TypedLaw.{back_empty, front_empty, judged, unbroken}
 use Rattle.type_rules.specs.SubtypeNames.{declared_twice}
-use Rattle.declaration_rules.specs.BodyNames.{bounds_type, if_integers, last_rule, loop_faults, loop_scope, loop_type, parameter_entity, turns_subtype}
+use Rattle.declaration_rules.specs.BodyNames.{bounds_type, if_integers, last_rule, loop_faults, loop_scope, loop_type, turns_subtype}
 use Rattle.part_code.specs.stmt_rules.specs.StatementRules.{in_loop, stmts_faults}
-use Rattle.expr_soundness.specs.Agreeing.{Agrees}
-use Rattle.expr_soundness.specs.Laws.{AgreementIsKept, ScopesAreSound}
 use Rattle.expr_soundness.specs.SoundScopes.{SoundScope}
-use Rattle.expr_soundness.specs.meaning.specs.Calls.{procedure_here}
-use Rattle.expr_soundness.specs.meaning.specs.Programs.{Procedure, Program}
-use Rattle.part_code.specs.step_soundness.specs.Fitting.{IsFound, entity_named}
 use Rattle.expr_code.specs.Emitting as expressions
-use Rattle.expr_code.specs.Seeing.{Package, subprogram_of, NamesProfile}
+use Rattle.expr_code.specs.Seeing.{Package}
 use Rattle.expr_code.specs.Widths.{width_of}
-use Rattle.expr_code.specs.declared.visible.Slot.{Slot}
-use Rattle.expr_code.specs.declared.visible.Visible.{Visible}
 use Rattle.expr_code.proofs.Widths.{integral_one, known}
-use Rattle.stmt_code.specs.Emitting.{AreAcceptedStatements, IsAcceptedStatement, Serves, seeing}
+use Rattle.stmt_code.specs.Emitting.{AreAcceptedStatements, IsAcceptedStatement}
 use Rattle.stmt_code.specs.Leaves.{any_leave}
 use Rattle.stmt_code.specs.declared.leaves.WayOut.TheVariants as way
-use Rattle.part_code.specs.Emitting.{HasEntries}
-use Rattle.part_code.specs.Layout.{EndsBelow}
 use Rattle.part_code.specs.Resting.{Framed, Knows}
-use Rattle.stmt_code.specs.Turns.{BeginsRange, is_full}
-use Rattle.stmt_code.specs.declared.draft.Draft.{Draft}
-use Rattle.part_code.specs.declared.turns.Turns.{Turns}
+use Rattle.stmt_code.specs.Turns.{is_full}
 use Rattle.stmt_code.proofs.Adding.{wanted_legal}
-use Rattle.stmt_code.proofs.Laying.{AddsObject}
-use Rattle.part_code.proofs.Names.{single_number, is_told, profile_without}
-use Rattle.stmt_code.proofs.Parameters.{AreBelow, HoldsRange, holds_behind, parameter_below, parameter_ends, parameter_laid}
-use Rattle.part_code.specs.Statements.{Numbers, Ways, with_exit}
-use Rattle.part_code.specs.Suiting.{SuitsStatements}
+use Rattle.part_code.specs.Statements.{Ways, with_exit}
 use Rattle.stmt_code.proofs.Accepting.{ways_in_loop}
-use Rattle.stmt_code.proofs.Suiting.{entries_wider, entry_wider, external_wider, number_wider, slots_first, stands_wider, subprograms_first, suits_wider}
-use Rattle.stmt_code.proofs.Widening.{scope_wider}
 use Rattle.types.specs.declared.entity.Subtype.{Subtype}
 use Rattle.types.specs.Bounds.{bounds_of}
 use Rattle.types.specs.Evaluations.{Val, Gives, Raises, Meaningless, and_then}
 use Rattle.types.specs.Evaluating.{call, val, value_with}
 use Rattle.expr_soundness.specs.BoundsLaw.{ValuesAreBounded, VisibleValuesLie}
 use Rattle.expr_soundness.specs.Lying.{comes_between}
-use Rattle.expr_soundness.specs.meaning.specs.Works.{turn_subtype}
 use Rattle.expr_code.specs.Views.{View}
 use Rattle.part_code.specs.Counting.{bounds, number_bounds, with_last, Bounds}
 use Rattle.expr_soundness.proofs.Elements.{both_left, both_right}
@@ -215,129 +189,3 @@ module _ (bounded : ValuesAreBounded) (visible : VisibleValuesLie) (g : Package)
     where
       between : (a b : ℤ) → int_le x a ≡ true → int_le a b ≡ true → int_le b y ≡ true → int_lt y x ≡ false
       between a b low mid high = grind (arith, low, mid, high)
-
--- ---- what is visible in the loop
-
-module _ (stay : ShapesStay) (v later : Visible) (start opened : Draft) (parameter : Identifier) (reversed : Bool) (range : RangeTree) (t : Turns) (null : Option ℕ)
-    (sound : SoundScope v.scope) (entries : HasEntries v) (legal : loop_faults v.scope parameter range ≡ []) (of_type : IsOfIntegers v.scope range)
-    (r : BeginsRange v start parameter reversed range t null later opened) where
-  abbrev pub slot : Slot
-  slot = record { region = regions.Locals; offset = t.counter }
-
-  abbrev pub subtype : Subtype
-  subtype = subtype_in v.scope range of_type
-
-  scope_is : later.scope ≡ with_name v.scope parameter.name (entity.Object role.LoopParameter subtype)
-  scope_is = r.scope ∙ ap (λ o. with_name v.scope parameter.name (parameter_entity (option_map (turns_subtype v.scope range) o))) of_type.typed
-
-  hidden : is_visible v.scope parameter.name ≡ false
-  hidden = parameter_hidden v.scope parameter range legal
-
-  pub sound_inside : ScopesAreSound → SoundScope later.scope
-  sound_inside scopes =
-      subst SoundScope (sym scope_is)
-      (scope_wider scopes v.scope parameter.name role.LoopParameter subtype hidden of_type.integers sound)
-
-  pub entries_inside : HasEntries later
-  entries_inside =
-      entries_wider stay v later parameter.name role.LoopParameter subtype slot sound entries hidden scope_is r.slots r.subprograms
-
-  pub slots_stay : take (length v.slots) later.slots ≡ v.slots
-  slots_stay =
-      slots_first stay v later parameter.name role.LoopParameter subtype slot sound entries hidden scope_is r.slots r.subprograms
-
-  pub subprograms_stay : take (length v.subprograms) later.subprograms ≡ v.subprograms
-  subprograms_stay =
-      subprograms_first stay v later parameter.name role.LoopParameter subtype slot sound entries hidden scope_is r.slots r.subprograms
-
-  pub suits_inside : (i : Sections) (s : Subprogram) → t.counter < s.locals → SuitsStatements v i s → SuitsStatements later i s
-  suits_inside i s within suits =
-      suits_wider stay v later parameter.name role.LoopParameter subtype slot sound entries hidden scope_is r.slots r.subprograms
-      i s r.operations refl within suits
-
-  -- ---- the frame in the loop
-
-  module _ (kept : AgreementIsKept) (sized : ValuesHaveWords) (program : Program) (g : Package) (numbers : Numbers) (f : Framed)
-      (serves : Serves program g numbers (seeing f v) start.words.taken) (room : opened.words.most ≤ f.room) where
-    abbrev pub inner : Framed
-    inner = record { names = later; room = f.room; reserved = t.counter ∷ t.limit ∷ f.reserved; within = f.within }
-
-    single : words_of v.scope subtype ≡ 1
-    single = single_number sized v.scope subtype of_type.integers
-
-    adds : AddsObject (seeing f v) parameter.name role.LoopParameter subtype start.words.taken slot inner
-    adds = record {
-      hidden = hidden;
-      sound = of_type.integers;
-      scope = scope_is;
-      slots = r.slots;
-      subprograms = r.subprograms;
-      operations = r.operations;
-      room = refl;
-      within = refl;
-      region = refl;
-      offset = r.counter;
-      fits = (let n = r.takes.taken in let m = r.takes.most in let k = single in omega (arith, n, m, k, room));
-    }
-
-    limit_is : t.limit ≡ suc start.words.taken
-    limit_is = r.limit ∙ ap suc r.counter
-
-    pub holds : HoldsRange (seeing f v) parameter.name subtype slot t.limit inner
-    holds =
-        subst (λ m. HoldsRange (seeing f v) parameter.name subtype slot m inner) (sym limit_is)
-        (holds_behind (seeing f v) inner parameter.name subtype start.words.taken slot serves.ends serves.below adds
-        (λ j. r.counter j ∷ limit_is j ∷ f.reserved)
-        (let n = r.takes.taken in let m = r.takes.most in omega (arith, n, m, room)))
-
-    top : suc (suc start.words.taken) ≡ opened.words.taken
-    top = let n = r.takes.taken in omega (arith, n)
-
-    pub serves_inside : Serves program g numbers inner opened.words.taken
-    serves_inside = record {
-      finds = finds;
-      numbered = numbered;
-      externals = λ name operation n o q told.
-          serves.externals name operation n o q
-          (external_wider stay v later parameter.name role.LoopParameter subtype slot sound entries hidden scope_is r.slots r.subprograms
-          r.operations name operation n told);
-      entries = λ name operation n o told.
-          serves.entries name operation n o
-          (entry_wider stay v later parameter.name role.LoopParameter subtype slot sound entries hidden scope_is r.slots r.subprograms
-          name operation n told);
-      scope = serves.scope;
-      place = record serves.place { locals = object ∷ serves.place.locals };
-      here = serves.here;
-      agrees = subst (λ z. Agrees z (record serves.place { locals = object ∷ serves.place.locals })) (sym scope_is)
-          (kept.parameter v.scope serves.place parameter.name subtype (pos 0) serves.agrees hidden of_type.integers);
-      laid = parameter_laid kept sized g (seeing f v) inner serves.laid sound parameter.name subtype slot t.limit holds stay;
-      ends = subst (EndsBelow inner) top
-          (parameter_ends kept sized g (seeing f v) inner serves.laid sound parameter.name subtype slot t.limit holds stay start.words.taken serves.ends
-          r.counter);
-      below = subst (AreBelow inner.reserved) top
-          (parameter_below kept sized g (seeing f v) inner serves.laid sound parameter.name subtype slot t.limit holds start.words.taken serves.below
-          r.counter limit_is);
-    }
-      where
-        object : Object
-        object = record { name = parameter.name; subtype = turn_subtype (pos 0); value = Number (pos 0) }
-
-        finds : (name : List ℕ) (e : Entity) → entity_named later.scope name ≡ Some e → IsFound program f.within name e
-        finds name e h =
-            elim (stands_wider stay v later parameter.name role.LoopParameter subtype slot sound entries hidden scope_is r.slots
-            r.subprograms name e h) [
-              | inl old ↦ serves.finds name e old
-              | inr is ↦ subst (IsFound program f.within name) (sym is.1) tt
-            ]
-
-        numbered : (name : List ℕ) (q : Procedure) (n : ℕ) (profile : Profile) → procedure_here program f.within name ≡ Some q
-            → subprogram_of later name ≡ Some n → NamesProfile later.scope name profile → profile.result ≡ None
-            → numbers q ≡ Some n
-        numbered name q n profile found told naming none =
-            let old =
-            (number_wider stay v later parameter.name role.LoopParameter subtype slot sound entries hidden scope_is r.slots r.subprograms
-            name n told).0 in
-            let before = is_told v.scope v.subprograms name n old in
-            serves.numbered name q n profile found old
-            (profile_without v.scope parameter.name (entity.Object role.LoopParameter subtype) name before.number profile before.numbered
-            (subst (λ z. NamesProfile z name profile) scope_is naming)) none

@@ -9,7 +9,7 @@ use Rattle.types.specs.declared.standing.Callee.TheVariants as callee
 use Rattle.types.specs.declared.standing.Standing.{Standing}
 use Rattle.types.specs.declared.standing.Standing.TheVariants as standing
 use Rattle.types.specs.Entities.{Constant, Doubtful, Entity, Entry, Exception, LibraryUnit, Literal, Object, OfSubtype, OfType, Predefined, Profile, Protected, ProtectedObject, Put, Subprogram, Task}
-use Rattle.types.specs.Scopes.{Scope, is_visible, number_of, profile_of, protected_at, protected_of}
+use Rattle.types.specs.Scopes.{Scope, entity_at, is_visible, number_of, profile_of, protected_at, protected_of}
 use Rattle.types.specs.Standings.{select_all, standing_of, stands_first, stands_for}
 use Rattle.expr_soundness.specs.expr_rules.specs.Faults.{rule}
 use Rattle.expr_soundness.specs.expr_rules.specs.ExpressionRules.{call_faults, name_faults, selectors_faults}
@@ -17,10 +17,10 @@ use Rattle.expr_soundness.specs.expr_rules.specs.NameRules.{call_rule}
 use Rattle.expr_soundness.specs.expr_rules.proofs.TypedLaw.{back_empty, front_empty, unbroken}
 use Rattle.expr_soundness.specs.SoundScopes.{SoundScope}
 use Rattle.expr_soundness.proofs.Expressions.{not_false}
-use Rattle.expr_soundness.proofs.Positions.{IsNamed, named, same_some}
+use Rattle.expr_soundness.proofs.Positions.{IsNamed, named}
 use Rattle.type_rules.specs.SubtypeNames.{entity_at_or_none}
 use Rattle.part_code.specs.step_soundness.specs.Fitting.{entity_named}
-use Rattle.part_code.specs.step_soundness.proofs.Naming.{HasArguments, IsCall, IsPutCall, called_with, no_call, operation_called, put_called}
+use Rattle.part_code.specs.step_soundness.proofs.Naming.{HasArguments, IsCall, IsOperationCall, IsPutCall, called_with, no_call, operation_called, put_called}
 use Rattle.expr_code.specs.Seeing.{external_profile, profile_behind, profile_named, subprogram_profile}
 use Rattle.expr_code.proofs.Language.{gives_number}
 use Rattle.expr_code.proofs.NamedBehind.{operation_told}
@@ -39,16 +39,15 @@ no_operation path a (inl h) = ap operation_behind h.0
 no_operation path a (inr h) = ap operation_behind h
 
 -- an operation is named behind a protected object, with its actual parameters
-record CallsThrough (s : Scope) (name : NameTree) : Type 0 where
-  operation : Identifier
-  rest : SelectorTrees
-  written : name.selectors ≡ MoreSelectors (Component operation) rest
-  arguments : ArgumentTrees
-  passed : HasArguments rest arguments
-  profile : Profile
-  told : external_profile s name.first.name operation.name ≡ Some profile
+pub record CallsThrough (s : Scope) (name : NameTree) : Type 0 where
+  pub number : ℕ
+  pub numbered : number_of s name.first.name ≡ Some number
+  pub protected : ProtectedObject
+  pub stands : entity_at s number ≡ Some (Protected protected)
+  pub called : IsOperationCall s number protected name.selectors
+  pub profiled : external_profile s name.first.name called.name.name ≡ Some called.operation.profile
 
-named_through : (path rest : SelectorTrees) (operation : Identifier) (a : ArgumentTrees) → path ≡ MoreSelectors (Component operation) rest
+pub named_through : (path rest : SelectorTrees) (operation : Identifier) (a : ArgumentTrees) → path ≡ MoreSelectors (Component operation) rest
     → HasArguments rest a → operation_behind path ≡ Some (record { operation = operation; arguments = a })
 named_through path rest operation a written (inl h) =
     ap operation_behind (written ∙ ap (MoreSelectors (Component operation)) h.0) ∙ ap (λ b. Some (record { operation = operation; arguments = b })) (sym h.1)
@@ -126,13 +125,12 @@ module _ (s : Scope) (sound : SoundScope s) (name : NameTree) (h : call_faults s
         let it = operation_called s first.place x.number o name.selectors (ap protected_of (x.stands ∙ ap Some is)) (parts_of w (begins_is (Protected o) is))
         (called_as w (begins_is (Protected o) is)) in
         record {
-          operation = it.name;
-          rest = it.rest;
-          written = it.written;
-          arguments = it.call.arguments;
-          passed = it.call.written;
-          profile = it.operation.profile;
-          told = ap (λ q. profile_behind q it.name.name)
+          number = x.number;
+          numbered = x.numbered;
+          protected = o;
+          stands = x.stands ∙ ap Some is;
+          called = it;
+          profiled = ap (λ q. profile_behind q it.name.name)
               (ap (λ m. elim m [ None ↦ None | Some k ↦ protected_at s k ]) x.numbered ∙ ap protected_of (x.stands ∙ ap Some is))
               ∙ operation_told o it.name.name it.place it.operation it.found it.there;
         }
@@ -171,7 +169,7 @@ module _ (s : Scope) (sound : SoundScope s) (name : NameTree) (h : call_faults s
       by_form (inr (inl (inl own, c))) = absurd (let never = sym other ∙ own in cc)
       by_form (inr (inl (inr (p, is), c))) = absurd (let never = sym none ∙ is in cc)
       by_form (inr (inr c)) =
-          absurd (let never = sym alone ∙ named_through name.selectors c.rest c.operation c.arguments c.written c.passed in cc)
+          absurd (let it = c.called in let never = sym alone ∙ named_through name.selectors it.rest it.name it.call.arguments it.written it.call.written in cc)
 
   put_written : entity_named s first.name ≡ Some Put → IsPutCall s name.selectors
   put_written put = put_called s first.place name.selectors (parts_of standing.Put (put_stands (number_of s first.name) put))
@@ -184,16 +182,10 @@ module _ (s : Scope) (sound : SoundScope s) (name : NameTree) (h : call_faults s
   pub line_there : entity_named s first.name ≡ Some Put → line_of name ≡ None → ⊥
   line_there put none = let never = sym none ∙ ap line_behind (put_written put).written in cc
 
-  -- ---- operations behind protected objects
-
-  pub external_there : (x : ExternalName) → operation_behind name.selectors ≡ Some x → external_profile s first.name x.operation.name ≡ None → ⊥
-  external_there x behind none = by_form forms
+  pub through_there : (x : ExternalName) → operation_behind name.selectors ≡ Some x → CallsThrough s name
+  through_there x behind = by_form forms
     where
-      by_form : Forms → ⊥
-      by_form (inl put) = let never = sym behind ∙ ap operation_behind (put_written put).written in cc
-      by_form (inr (inl (direct, c))) = let never = sym behind ∙ no_operation name.selectors c.0 c.1 in cc
-      by_form (inr (inr c)) =
-          let same = same_some x (record { operation = c.operation; arguments = c.arguments })
-          (sym behind ∙ named_through name.selectors c.rest c.operation c.arguments c.written c.passed) in
-          let never = sym none ∙ ap (λ y. external_profile s first.name y.operation.name) same ∙ c.told in
-          cc
+      by_form : Forms → CallsThrough s name
+      by_form (inl put) = absurd (let never = sym behind ∙ ap operation_behind (put_written put).written in cc)
+      by_form (inr (inl (direct, c))) = absurd (let never = sym behind ∙ no_operation name.selectors c.0 c.1 in cc)
+      by_form (inr (inr c)) = c

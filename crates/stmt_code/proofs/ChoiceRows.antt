@@ -195,7 +195,7 @@ module _ (exceptions : List (List ℕ)) (q : Row) where
   choices_long [] = refl
   choices_long (c ∷ cs) = ap suc (choices_long cs)
 
-  choice_known : (c : ExceptionChoice) (n : ℕ) → choice_number exceptions c ≡ Some n → n ≤ length exceptions
+  pub choice_known : (c : ExceptionChoice) (n : ℕ) → choice_number exceptions c ≡ Some n → n ≤ length exceptions
   choice_known (choice.Others place) n h = (let same = some_same 0 n h in omega (arith, same))
   choice_known (choice.Exception name) n h = number_known exceptions name.name n h
 

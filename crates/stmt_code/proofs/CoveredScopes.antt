@@ -244,10 +244,6 @@ module _ (exceptions : List (List ℕ)) (v : Visible) (sound : SoundScope v.scop
         (covered_with exceptions v.operations v.scope v.slots v.subprograms whole d.name.name (role_of d.constant) t here refl
         (constant_or_variable v.scope d.constant t (subtype_known v.scope d.subtype t sound is)) (new_name v.scope d.name new))
 
-    pub covered_local : (d : ObjectTree) (t : Subtype) → subtype_of v.scope d.subtype ≡ Some t → declared_twice v.scope d.name ≡ []
-        → HasWhatCodeNeeds exceptions (local_visible v taken (LocalObject d))
-    covered_local d t is new = (whole_local d t is new).has
-
     pub whole_loop : (parameter : Identifier) (range : RangeTree) → loop_faults v.scope parameter range ≡ []
         → IsCovered exceptions (with_object v (loop_scope v.scope parameter range) taken)
     whole_loop parameter range h =
@@ -257,10 +253,6 @@ module _ (exceptions : List (List ℕ)) (v : Visible) (sound : SoundScope v.scop
         (sym found.typed)
         (covered_with exceptions v.operations s v.slots v.subprograms whole parameter.name role.LoopParameter (subtype_in s range found) here refl
         found.integers (parameter_hidden s parameter range h))
-
-    pub covered_loop : (parameter : Identifier) (range : RangeTree) → loop_faults v.scope parameter range ≡ []
-        → HasWhatCodeNeeds exceptions (with_object v (loop_scope v.scope parameter range) taken)
-    covered_loop parameter range h = (whole_loop parameter range h).has
 
 -- ---- formals
 

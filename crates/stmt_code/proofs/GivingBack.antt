@@ -60,14 +60,6 @@ module _ (i : Sections) (v : Framed) where
   AreGiven from to (name ∷ names) (n ∷ held) (t ∷ ts) = (mid : ℕ) × (from ≤ mid) × (mid ≤ to) × AreGiven from mid names held ts × IsGiven name n t mid to
   AreGiven from to names held ts = ⊥
 
-  pub given_none : (from : ℕ) (held : List ℕ) → AreGiven from from [] held []
-  given_none from held = refl
-
-  pub given_more : (name : List ℕ) (n : ℕ) (t : Subtype) (names : List (List ℕ)) (held : List ℕ) (ts : List Subtype) (from mid to : ℕ) → from ≤ mid → mid ≤ to
-      → AreGiven from mid names held ts → IsGiven name n t mid to
-      → AreGiven from to (name ∷ names) (n ∷ held) (t ∷ ts)
-  given_more name n t names held ts from mid to le up rest one = (mid, le, up, rest, one)
-
   given_up : (names : List (List ℕ)) (held : List ℕ) (ts : List Subtype) (from to : ℕ) → AreGiven from to names held ts → from ≤ to
   given_up [] held [] from to h = omega (arith, h)
   given_up (name ∷ names) (n ∷ held) (t ∷ ts) from to h = let low = h.1 in let high = h.2 in omega (arith, low, high)

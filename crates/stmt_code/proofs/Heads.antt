@@ -8,14 +8,13 @@ use Rattle.image.specs.declared.instruction.Instr.{Instr}
 use Rattle.image.specs.declared.instruction.Operation.TheVariants as op
 use Rattle.image.specs.declared.subprograms.Subprogram.{Subprogram}
 use Rattle.expr_soundness.specs.meaning.specs.Programs.{Program}
-use Rattle.expr_code.specs.Views.{At}
 use Rattle.expr_code.specs.Code.{Extends, here}
 use Rattle.expr_code.specs.Flows.{AreKeptBetween}
 use Rattle.expr_code.specs.Seeing.{Package}
 use Rattle.expr_code.specs.declared.code.Code.{Code}
 use Rattle.expr_code.proofs.Flowing.{kept_then}
 use Rattle.expr_code.proofs.Growing.{added_extends, added_here, extends_self, extends_trans, patched_extends, patched_here, patched_other}
-use Rattle.part_code.specs.Emitting.{BeginsLoop, EndsLoop, EndsWay, IsReachable, SkipsWay}
+use Rattle.part_code.specs.Emitting.{BeginsLoop, EndsWay, IsReachable, SkipsWay}
 use Rattle.part_code.specs.Handling.{Handling}
 use Rattle.part_code.specs.Jumping.{Here, Jumps, There}
 use Rattle.part_code.specs.Resting.{Framed}
@@ -133,10 +132,6 @@ pub headed : (old new : Code) (exit : Option ℕ) → BeginsLoop old exit new �
 headed old new (Some out) p = way_headed old new out p.0 p.1
 headed old new None same = subst (λ c. Headed old c None) (sym same) (plain_headed old)
 
--- the way out stands in front of all that follows
-pub way_before : (old new : Code) (exit : Option ℕ) → BeginsLoop old exit new → (n : ℕ) → here new ≤ n → (out : ℕ) → exit ≡ Some out → out < n
-way_before old new exit p n up out is = let at = (headed old new exit p).last out is in omega (arith, at, up)
-
 -- ---- the end
 
 -- what is known of code whose way out, if there is one, leads to its end
@@ -170,9 +165,6 @@ ended old new None same = subst (λ c. Ended old c None) (sym same) (record {
   grows = λ a low e. e;
   finds = λ place h. h;
 })
-
-pub ended_here : (old : Code) (exit : Option ℕ) (back : ℕ) (new : Code) → EndsLoop old exit back new → here new ≡ suc (here old)
-ended_here old exit back new p = (ended p.turned new exit p.ends).at ∙ added_here old p.turned 0 (op.Jump back) p.turns
 
 -- ---- the statements of the loop
 

@@ -2,7 +2,6 @@ mod ExceptionWords
 pub mod AddedRows
 pub mod PlacesAdded
 pub mod RowsAdded
-mod RowsCounted
 pub mod Narrowing
 pub mod Laying
 pub mod Entering
@@ -13,13 +12,11 @@ pub mod Functions
 mod Parameters
 mod Ranging
 mod AssigningParts
-mod Widening
 mod Accepting
 mod Adding
 mod Opening
 mod Heads
 mod Repeating
-mod Testing
 pub mod Putting
 mod Delaying
 mod Running
@@ -36,33 +33,63 @@ pub mod Declared
 mod Alternatives
 mod CallsAdded
 mod EntryCalls
-mod Turned
-mod FirstTurns
 mod Bounded
-mod Ranged
 mod WholeBounds
 pub mod Refused
-mod PartsRefused
 mod MovingParts
-mod Moved
 mod Labelled
-mod Staying
-mod PartsStay
-mod LeavesStay
 mod WholePlaces
 mod WholeRefused
 mod CallsStay
 mod RaisesAdded
 mod ChoiceRows
 mod CoveredRows
-mod HandlersAdded
-mod HandlersCovered
-mod HandlersRefused
-mod HandlersStay
-mod MovedStays
 pub mod ObjectMore
 pub mod FormalNames
 pub mod CoveredScopes
 pub mod CallForms
 mod AssignedNames
 mod StaticChoices
+mod StatementExamples
+mod PartsAdded
+mod ObjectsMade
+mod AssignmentsMade
+mod ReturnsMade
+mod ChoicesMade
+mod LoopsMade
+mod BranchesMade
+mod DeclarationsMade
+mod TurnsMade
+mod TimesMade
+mod RowsKept
+mod StatementRows
+mod PartsFill
+mod AlikeNeeds
+mod SimpleFills
+mod StatementsFill
+mod AssignmentFills
+mod ObjectFills
+mod FirstWords
+mod KeptWords
+mod PartsStand
+mod PartsDo
+mod BranchesDo
+mod HandlersDo
+mod LoopsDo
+mod LoopNames
+mod TurnsDo
+mod RangesDo
+mod AcceptedParts
+mod DeclarationsDo
+mod CasesDo
+mod SimpleDo
+mod StatementsDo
+mod LocalNames
+mod ObjectsDo
+mod AssignmentsDo
+mod LinesDo
+mod CallsDo
+mod CallFills
+mod RunMade
+mod BodiesDo
+mod RunJoined

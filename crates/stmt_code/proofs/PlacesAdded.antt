@@ -1,17 +1,16 @@
 -- Rows of places that are added with code: how they lie where parts stand one behind the other, and of which statements they tell.
 use Rattle.std.proofs.Common.{◌≡◌, ℕ, zero, suc, ◌≤◌, inl, inr, List, [], ◌∷◌, ◌++◌, All, Some, refl, ap, sym, ◌∙◌, subst, arith}
 use Rattle.std.specs.Prelude.{slice_get}
-use Rattle.std.proofs.lemmas.List.{append-nil, append_assoc}
+use Rattle.std.proofs.lemmas.List.{append_assoc}
 use Rattle.std.proofs.lemmas.List.Elements.{All-append, All-cons, All-head, All-nil, All-tail, All-weaker}
-use Rattle.ada_tree.specs.declared.statement.ExceptionChoice.{ExceptionChoice}
 use Rattle.ada_tree.specs.ExpressionTree.{ExprTree}
-use Rattle.ada_tree.specs.StatementTree.{ChoicesTree, StmtTree, StmtTrees, alternatives_of, elsifs_of, handlers_of, stmts_of}
+use Rattle.ada_tree.specs.StatementTree.{StmtTree, StmtTrees, elsifs_of}
 use Rattle.image.specs.Sections.{Sections}
 use Rattle.expr_soundness.specs.meaning.specs.Programs.{Program}
 use Rattle.expr_code.specs.Seeing.{Package}
 use Rattle.part_code.specs.Statements.{Numbers}
 use Rattle.stmt_code.specs.Emitting.{TellPlaces, TellsPlace}
-use Rattle.stmt_code.specs.Placing.{AreInnermostFirst, IsInnerOrBefore, StandsBetween, alternatives_within, elsifs_within, handlers_within, stmt_within, stmts_within}
+use Rattle.stmt_code.specs.Placing.{AreInnermostFirst, IsInnerOrBefore, StandsBetween, elsifs_within, stmts_within}
 use Rattle.stmt_code.specs.declared.tables.PlaceRow.{PlaceRow}
 
 -- ---- how they lie
@@ -69,38 +68,7 @@ told_row i program g numbers (r ∷ rows) [] p n q e = absurd p
 told_row i program g numbers (r ∷ rows) (x ∷ xs) p zero q e = (x, refl, subst (λ z. TellsPlace i program g numbers z x) (some_same r q e) p.0)
 told_row i program g numbers (r ∷ rows) (x ∷ xs) p (suc n) q e = told_row i program g numbers rows xs p.1 n q e
 
-pub row_told : (i : Sections) (program : Program) (g : Package) (numbers : Numbers) (rows : List PlaceRow) (xs : List StmtTree)
-    → TellPlaces i program g numbers rows xs → (n : ℕ) (x : StmtTree) → slice_get xs n ≡ Some x
-    → (q : PlaceRow) × (slice_get rows n ≡ Some q) × TellsPlace i program g numbers q x
-row_told i program g numbers [] [] p n x e = cc
-row_told i program g numbers [] (y ∷ xs) p n x e = absurd p
-row_told i program g numbers (r ∷ rows) [] p n x e = absurd p
-row_told i program g numbers (r ∷ rows) (y ∷ xs) p zero x e = (r, refl, subst (λ z. TellsPlace i program g numbers r z) (some_same y x e) p.0)
-row_told i program g numbers (r ∷ rows) (y ∷ xs) p (suc n) x e = row_told i program g numbers rows xs p.1 n x e
-
--- ---- statements within lists of trees
-
-pub statements_joined : (xs : List StmtTree) (x : StmtTree) → stmts_within (stmts_of (xs ++ x ∷ [])) ≡ stmts_within (stmts_of xs) ++ (stmt_within x ++ x ∷ [])
-statements_joined [] x = append-nil (stmt_within x ++ x ∷ [])
-statements_joined (y ∷ xs) x =
-    ap (λ l. (stmt_within y ++ y ∷ []) ++ l) (statements_joined xs x)
-    ∙ sym (append_assoc (stmt_within y ++ y ∷ []) (stmts_within (stmts_of xs)) (stmt_within x ++ x ∷ []))
-
 pub elsifs_joined : (xs ys : List (ExprTree × StmtTrees)) → elsifs_within (elsifs_of (xs ++ ys)) ≡ elsifs_within (elsifs_of xs) ++ elsifs_within (elsifs_of ys)
 elsifs_joined [] ys = refl
 elsifs_joined (x ∷ xs) ys =
     ap (λ l. stmts_within x.1 ++ l) (elsifs_joined xs ys) ∙ sym (append_assoc (stmts_within x.1) (elsifs_within (elsifs_of xs)) (elsifs_within (elsifs_of ys)))
-
-pub alternatives_joined : (xs ys : List (ℕ × (ChoicesTree × StmtTrees)))
-    → alternatives_within (alternatives_of (xs ++ ys)) ≡ alternatives_within (alternatives_of xs) ++ alternatives_within (alternatives_of ys)
-alternatives_joined [] ys = refl
-alternatives_joined (x ∷ xs) ys =
-    ap (λ l. stmts_within x.1.1 ++ l) (alternatives_joined xs ys)
-    ∙ sym (append_assoc (stmts_within x.1.1) (alternatives_within (alternatives_of xs)) (alternatives_within (alternatives_of ys)))
-
-pub handlers_joined : (xs ys : List (List ExceptionChoice × StmtTrees))
-    → handlers_within (handlers_of (xs ++ ys)) ≡ handlers_within (handlers_of xs) ++ handlers_within (handlers_of ys)
-handlers_joined [] ys = refl
-handlers_joined (x ∷ xs) ys =
-    ap (λ l. stmts_within x.1 ++ l) (handlers_joined xs ys)
-    ∙ sym (append_assoc (stmts_within x.1) (handlers_within (handlers_of xs)) (handlers_within (handlers_of ys)))

@@ -1,13 +1,8 @@
 -- Code of lines: the value, and the instruction that writes it with a label.
-use Rattle.std.proofs.Common.{◌≡◌, ℕ, suc, ◌<◌, ◌≤◌, List, [], length, true, Option, Some, None, refl, sym, ap, ◌∙◌, subst, arith, rules}
-use Rattle.std.specs.Prelude.{nat_lt, slice_get}
+use Rattle.std.proofs.Common.{◌≡◌, ℕ, List, [], true, Option, Some, None, refl, sym, ap, ◌∙◌, subst}
 use Rattle.ada_tree.specs.ExpressionTree as tree
 use Rattle.ada_tree.specs.ExpressionTree.{Arguments, Attribute, Component, ExprTree, MoreArguments, MoreSelectors, NameTree, NoArguments, NoSelectors, SelectorTrees, Text}
 use Rattle.ada_tree.specs.StatementTree as statements
-use Rattle.ada_tree.specs.Size.{selectors_size}
-use Rattle.image.specs.Sections.{Sections}
-use Rattle.image.specs.Texts.{text_or_none}
-use Rattle.image.specs.declared.instruction.Operation.TheVariants as op
 use Rattle.types.specs.Entities.{Entity, OfType, OfSubtype, Object, Constant, Literal, Exception, Subprogram as SubprogramEntity, Entry, Predefined, Put, Task, Protected, LibraryUnit, Doubtful}
 use Rattle.types.specs.Scopes.{Scope, base_range_of, integer_type, number_of}
 use Rattle.types.specs.Standings.{stands_first, stands_for}
@@ -16,28 +11,13 @@ use Rattle.expr_soundness.specs.expr_rules.proofs.TypedLaw.{back_empty, front_em
 use Rattle.expr_soundness.specs.expr_rules.specs.declared.own.Wanted.TheVariants.{OfType as WantsType}
 use Rattle.expr_soundness.specs.expr_rules.specs.ExpressionRules.{faults_of, name_faults, selectors_faults}
 use Rattle.type_rules.specs.SubtypeNames.{entity_at_or_none}
-use Rattle.expr_soundness.specs.meaning.specs.Calls.{callee_by, callee_with}
-use Rattle.expr_soundness.specs.meaning.specs.Programs.{Program}
 use Rattle.part_code.specs.step_soundness.specs.Fitting.{entity_named}
 use Rattle.part_code.specs.step_soundness.proofs.Naming.{put_called}
-use Rattle.expr_code.specs.Code.{Adds, Holds, StandsFrom, here}
-use Rattle.expr_code.specs.Computing.{Computes}
-use Rattle.expr_code.specs.Emitting.{EmitsExpression}
-use Rattle.expr_code.specs.Seeing.{Package, Sees, library_of}
 use Rattle.expr_code.specs.Widths.{width_of}
 use Rattle.expr_soundness.specs.SoundScopes.{SoundScope}
 use Rattle.expr_code.proofs.Widths.{integers_fit_width}
-use Rattle.expr_code.specs.declared.code.Code.{Code}
-use Rattle.expr_code.specs.declared.visible.Visible.{Visible}
-use Rattle.expr_code.proofs.Growing.{added_at, added_extends, added_here, holds_before}
-use Rattle.stmt_code.specs.Emitting.{EmitsStatement, HasLabels, IsLegalStatement, Serves}
+use Rattle.stmt_code.specs.Emitting.{IsLegalStatement}
 use Rattle.part_code.specs.Lines.{LabelledValue, is_put, line_behind, line_of}
-use Rattle.part_code.specs.Resting.{Framed}
-use Rattle.part_code.specs.Statements.{IsCalleeCode, Numbers, Ways}
-use Rattle.stmt_code.specs.declared.draft.Draft.{Draft}
-use Rattle.stmt_code.proofs.RowsAdded.{KeepsRows, goes_kept, rows_kept}
-use Rattle.stmt_code.proofs.Adding.{value_extends, value_kept}
-use Rattle.part_code.proofs.Lists.{shorter}
 
 -- ---- the form
 
@@ -119,61 +99,3 @@ module _ (s : Scope) (name : NameTree) (label : List ℕ) (value : ExprTree) (h 
 pub line_wide : (s : Scope) → SoundScope s → (e : ExprTree) → faults_of s (WantsType integer_type) e ≡ [] → width_of s e ≡ 1
 line_wide s sound e h =
     integers_fit_width s sound (base_range_of integer_type) e (record { wanted = WantsType integer_type; fits = refl; unbroken = h }) sound.integer
-
--- ---- the code
-
-module _ (v : Visible) (w : Ways) (a c : Draft) (m : Code) (name : NameTree) (label : List ℕ) (value : ExprTree) (number : ℕ)
-    (put : entity_named v.scope name.first.name ≡ Some Put) (written : line_of name ≡ Some (record { label = label; value = value }))
-    (p : EmitsExpression v a.code 0 1 value m) (q : Adds m 1 (op.PutLine number) c.code)
-    (stay : StandsFrom 0 a.labels c.labels) (still : c.words ≡ a.words) (kept : KeepsRows a c) (there : slice_get c.labels number ≡ Some label) where
-  next : here c.code ≡ suc (here m)
-  next = added_here m c.code 1 (op.PutLine number) q
-
-  abbrev forms : SelectorTrees → Sections → Program → Package → Numbers → Framed → (from to : ℕ) → Type 0
-  forms x i program g numbers f from to =
-      IsCalleeCode i program g numbers f from to (record { first = name.first; selectors = x }) (callee_by program f.within name.first x)
-
-  means : (i : Sections) → Holds i (here a.code) c.code → HasLabels i c.labels → (program : Program) (g : Package) (numbers : Numbers) (f : Framed) → f.names ≡ v
-      → Serves program g numbers f a.words.taken → c.words.most ≤ f.room → forms name.selectors i program g numbers f (here a.code) (here c.code)
-  means i h l program g numbers f names serves room =
-      let this = line_written name.selectors label value written in
-      let line = MoreArguments (Text label this.at) (MoreArguments (tree.Value value) NoArguments) in
-      let found = serves.finds name.first.name Put (ap (λ x. entity_named x.scope name.first.name) names ∙ put) in
-      subst (λ x. forms x i program g numbers f (here a.code) (here c.code)) (sym this.is)
-      (subst (λ o. IsCalleeCode i program g numbers f (here a.code) (here c.code)
-      (record { first = name.first; selectors = MoreSelectors (Arguments line) NoSelectors }) (callee_with o None line)) (sym found.free) (
-        found.is,
-        (
-          here m,
-          number,
-          p.extends.longer,
-          subst (λ x. Computes i (library_of g) (Sees g x) (here a.code) (here m) value) (sym names)
-              (p.computes i (holds_before i (here a.code) m c.code (added_extends m c.code 1 (op.PutLine number) q) h) g),
-          added_at m c.code 1 (op.PutLine number) q i (here a.code) p.extends.longer h,
-          ap text_or_none (l.labels number label (omega arith) there),
-          next,
-        ),
-      ))
-
-  pub put_emits : EmitsStatement v w a (statements.Call name) c
-  put_emits = record {
-    extends = value_extends v a.code m c.code (op.PutLine number) p.extends p.flows q;
-    labels = stay;
-    taken = ap (λ x. x.taken) still;
-    most = (let m = ap (λ x. x.most) still in omega (arith, m));
-    sized = let size = ap selectors_size (line_written name.selectors label value written).is in omega (arith, p.sized, next, size);
-    rows = rows_kept a c kept;
-    stands = λ i h l program g numbers f names serves room handling goes.
-        (means i h l program g numbers f names serves room, goes_kept a c kept i program handling goes);
-    tells = λ i h l program g numbers f names serves room handling goes. tt;
-    flows = λ i s low high down up h l suits deep wide ends ways.
-        value_kept v a.code m c.code (op.PutLine number) p.extends p.flows q i s low high down up h suits deep refl
-        (lt_true number (length i.labels) (shorter i.labels number label (l.labels number label (omega arith) there))) (omega arith) (omega arith) refl ends
-        (λ t g. absurd (no_target t g));
-  }
-    where
-      lt_true : (x y : ℕ) → x < y → nat_lt x y ≡ true
-      lt_true x y less = search rules
-
-      no_target : (t : ℕ) → None ≡ Some t → ⊥
-      no_target t e = cc

@@ -10,7 +10,6 @@ use Rattle.kernel.specs.Counting.{Done}
 use Rattle.kernel.specs.Laws.{QuietStays}
 use Rattle.kernel.specs.RunLaws.{spends_more}
 use Rattle.expr_soundness.specs.meaning.specs.Meeting.{Last}
-use Rattle.expr_soundness.specs.meaning.specs.Programs.{Program}
 use Rattle.expr_soundness.specs.meaning.specs.SameMeaning.{frames_of}
 use Rattle.expr_soundness.specs.meaning.specs.SourceSteps.{number_computed}
 use Rattle.expr_soundness.specs.meaning.specs.Works.{Activation}
@@ -19,8 +18,7 @@ use Rattle.image.specs.Frames.{Words, Frame}
 use Rattle.image.specs.Scalars.{are_equal, word_of}
 use Rattle.image.specs.Steps.{act, behaviour, does, gives}
 use Rattle.image.specs.declared.instruction.Operation.TheVariants as op
-use Rattle.ada_tree.specs.declared.expression.Identifier.{Identifier}
-use Rattle.ada_tree.specs.StatementTree.{For, Loop, RangeTree, StmtTrees}
+use Rattle.ada_tree.specs.StatementTree.{RangeTree}
 use Rattle.types.specs.Evaluating.{call, value_with}
 use Rattle.types.specs.Evaluations.{Val, Gives, Raises, Meaningless, and_then}
 use Rattle.types.specs.Laws.{ValuesHaveWords}
@@ -35,12 +33,9 @@ use Rattle.expr_code.specs.Seeing.{library_of, Package, Sees}
 use Rattle.expr_code.specs.Views.{At, in_frame, placed, view_of, View}
 use Rattle.expr_code.specs.declared.visible.Slot.{Slot}
 use Rattle.expr_code.proofs.Coming.{acts, after_first, more, then_comes, steps}
-use Rattle.part_code.specs.Handling.{GoesBy, Handling}
 use Rattle.part_code.specs.Counting.{Bounds, GoesOn, IsCounted, IsTurnEnd, IsRange, bounds, in_turn, number_bounds, turn_first, turn_last, with_last, with_parameter, are_turns_inside}
-use Rattle.part_code.specs.Jumping.{Jumps}
 use Rattle.part_code.specs.Layout.{IsLaidOut}
 use Rattle.part_code.specs.Resting.{Framed, HeldWord, Knows, RestsWith, AreHeld}
-use Rattle.part_code.specs.Statements.{AreStatements, IsStatement, Numbers, Ways, within_loop}
 use Rattle.part_code.specs.Turns.{next_operation}
 use Rattle.stmt_code.proofs.Parameters.{HoldsRange, both_swapped, inside, next_rests, null_rests, parameter_fits, parameter_shows, turn_rests, with_both, with_word, word_long, turn_held}
 use Rattle.part_code.proofs.Walking.{Walks, behind, compares, jumps_if, loads_local, orders, puts, stores_local, then_step}
@@ -449,39 +444,3 @@ module _ (quiet : QuietStays) (kept : AgreementIsKept) (sized : ValuesHaveWords)
     shows = parameter_shows kept sized g v inner laid sound name t slot limit holds;
     reserved = holds.reserved;
   }
-
-  -- the statement: jumps to the bounds, these, the statements of a turn, its end, and a jump back to them; and from the way out jumps to the end
-  pub stands_counted : (program : Program) (numbers : Numbers) (w : Ways) (handling : Handling) (parameter : Identifier) → parameter.name ≡ name → (place : ℕ) (reversed : Bool)
-      (range : RangeTree) (body : StmtTrees) (full : Bool) (from begin out middle mid start back to : ℕ)
-      → from ≤ begin → from ≤ out → out ≤ to → Jumps i from begin → Jumps i out to
-      → begin ≤ middle → middle ≤ mid → mid ≤ start → start ≤ back → to ≡ suc (behind 8 back)
-      → Computes i (library_of g) (Sees g v.names) begin middle range.first → Computes i (library_of g) (Sees g v.names) middle mid range.last
-      → ((p : Place) (view : View) (x y : ℤ) → Knows g v p view → bounds range (call p.frames_left) p ≡ Gives (number_bounds x y)
-      → (int_le t.first x && int_le y t.last) ≡ true)
-      → (full ≡ true → (p : Place) (view : View) (x y : ℤ) → Knows g v p view → bounds range (call p.frames_left) p ≡ Gives (number_bounds x y)
-      → int_lt y x ≡ false)
-      → Opens i counter limit mid start to reversed full
-      → AreStatements i program g numbers inner (within_loop out w) handling start back body
-      → Advances i counter limit back to reversed → At i (behind 8 back) (op.Jump start)
-      → GoesBy i handling begin start → GoesBy i handling back to
-      → IsStatement i program g numbers v w handling from to (Loop place (For parameter reversed range) body)
-  stands_counted program numbers w handling parameter same place reversed range body full from begin out middle mid start back to down above below skips way low high up over end
-      first last fitted never opens statements code jump bounds_go turns_go =
-      subst
-      (λ q. (s : ℕ) × (o : ℕ) × (from ≤ s) × (from ≤ o) × (o ≤ to) × Jumps i from s × Jumps i o to × (c : IsCounted i g v s to q reversed)
-      × IsRange i g v c.inner c.counter c.limit s c.start to q reversed range c.subtype
-      × AreStatements i program g numbers c.inner (within_loop o w) handling c.start c.back body × GoesBy i handling s c.start
-      × GoesBy i handling c.back to) (sym same) (
-        begin,
-        out,
-        down,
-        above,
-        below,
-        skips,
-        way,
-        is_counted reversed begin start back to (omega (arith, low, high, up)) over end code jump,
-        is_range range reversed begin middle mid to low high first last fitted full start never opens,
-        statements,
-        bounds_go,
-        turns_go,
-      )

@@ -11,21 +11,18 @@ use Rattle.handlers.specs.declared.rows.Row.{Row}
 use Rattle.image.specs.Sections.{Sections}
 use Rattle.image.specs.declared.instruction.Instr.{Instr}
 use Rattle.image.specs.declared.instruction.Operation.{Operation}
-use Rattle.image.specs.declared.instruction.Operation.TheVariants as op
-use Rattle.types.specs.Places.{is_among}
 use Rattle.expr_soundness.specs.meaning.specs.Programs.{Program}
-use Rattle.expr_code.specs.Branches.{Rejoins}
 use Rattle.expr_code.specs.Code.{Extends, Patches, here}
 use Rattle.expr_code.specs.declared.code.Code.{Code}
 use Rattle.expr_code.proofs.Growing.{patched_other, patched_there}
 use Rattle.stmt_code.specs.Emitting.{AddsRows, FindsException, IsHandled}
-use Rattle.part_code.specs.Handling.{GoesBy, GoesByRows, Handling}
+use Rattle.part_code.specs.Handling.{Handling}
 use Rattle.part_code.specs.Rows.{LiesWithin}
 use Rattle.stmt_code.specs.declared.draft.Draft.{Draft}
 use Rattle.stmt_code.specs.Placing.{StandsBetween}
 use Rattle.stmt_code.specs.declared.tables.PlaceRow.{PlaceRow}
 use Rattle.stmt_code.proofs.PlacesAdded.{innermost_around, innermost_then, wider_places}
-use Rattle.stmt_code.proofs.AddedRows.{rows_first, rows_none, rows_part, rows_second}
+use Rattle.stmt_code.proofs.AddedRows.{rows_first, rows_second}
 
 -- ---- instructions that find the exception
 
@@ -63,21 +60,11 @@ finds_patched old new at o p = λ place h. by place h (nat_eq at place) refl
         }
     by place h false e = record { operation = h.operation; there = patched_other old new at o p place (other_nat at place e) ∙ h.there }
 
-pub finds_rejoined : (old new : Code) (places : List ℕ) (end : ℕ) → Rejoins old places end new → StillFinds old new
-finds_rejoined old new places end r = λ place h. by place h (is_among places place) refl
-  where
-    by : (place : ℕ) (h : FindsException old place) (t : Bool) → is_among places place ≡ t → FindsException new place
-    by place h true e = record { operation = op.Jump end; there = r.jumps place (record { depth = 1; operation = h.operation }) e h.there }
-    by place h false e = record { operation = h.operation; there = r.others place e ∙ h.there }
-
 -- ---- none
 
 -- the one draft has the rows and exceptions of the other
 abbrev pub KeepsRows : (old new : Draft) → Type 0
 KeepsRows old new = (new.rows ≡ old.rows) × (new.exceptions ≡ old.exceptions)
-
-pub keeps_then : (a b c : Draft) → KeepsRows a b → KeepsRows b c → KeepsRows a c
-keeps_then a b c p q = (q.0 ∙ p.0, q.1 ∙ p.1)
 
 module _ (a c : Draft) (same : KeepsRows a c) where
   abbrev pub rows_kept : AddsRows a c
@@ -94,9 +81,6 @@ module _ (a c : Draft) (same : KeepsRows a c) where
     between = All-nil (StandsBetween (here a.code) (here c.code));
     innermost = tt;
   }
-
-  pub goes_kept : (i : Sections) (program : Program) (r : Handling) → IsHandled i program a c rows_kept r → GoesBy i r (here a.code) (here c.code)
-  goes_kept i program r h = rows_none i r (here a.code) (here c.code) h.goes
 
 -- ---- of parts one behind the other
 
@@ -231,26 +215,6 @@ module _ (a s b d : Draft) (x : Surrounds a s b d) (p : AddsRows s b) where
     innermost = p.innermost;
   }
 
-  module _ (i : Sections) (program : Program) (r : Handling) (h : IsHandled i program a d rows_around r) where
-    pub handled_inside : IsHandled i program s b p r
-    handled_inside = record {
-      exceptions = h.exceptions ∙ ap (λ e. e.items) (sym x.begun.1);
-      named = h.named;
-      goes = rows_part i r p.added (here a.code) (here s.code) (here b.code) (here d.code) x.up x.over h.goes;
-    }
-
-    -- what stands in front of the part, and behind it
-    pub goes_front : GoesBy i r (here a.code) (here s.code)
-    goes_front = rows_none i r (here a.code) (here s.code)
-        (rows_first i r [] p.added (here a.code) (here s.code) (here d.code) (let m = x.mid in let o = x.over in omega (arith, m, o))
-        (begins_behind (here s.code) (here b.code) (here s.code) p.added (omega arith) p.within) h.goes)
-
-    pub goes_behind : GoesBy i r (here b.code) (here d.code)
-    goes_behind = rows_none i r (here b.code) (here d.code)
-        (rows_second i r p.added [] (here a.code) (here b.code) (here d.code) (let u = x.up in let m = x.mid in omega (arith, u, m))
-        (ends_before (here s.code) (here b.code) (here b.code) p.added (omega arith) p.within)
-        (subst (λ l. GoesByRows i l r (here a.code) (here d.code)) (sym (append-nil p.added)) h.goes))
-
 -- ---- with the row of the place of the whole
 
 -- the draft with a row of this place for code that begins there
@@ -282,6 +246,3 @@ module _ (a m : Draft) (place : ℕ) where
           (All-nil (StandsBetween (here a.code) (here m.code))));
       innermost = innermost_around own_place p.placed p.between p.innermost;
     }
-
-    pub handled_marked : (i : Sections) (program : Program) (r : Handling) → IsHandled i program a marked rows_marked r → IsHandled i program a m p r
-    handled_marked i program r h = record { exceptions = h.exceptions; named = h.named; goes = h.goes }

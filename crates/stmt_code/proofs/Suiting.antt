@@ -1,7 +1,6 @@
 -- Where names of objects more are visible: what one stands for, what may be called, and what the image and the subprogram have to have for them.
 use Rattle.std.proofs.Common.{◌≡◌, ◌≢◌, ℕ, zero, suc, ◌+◌, ◌<◌, ◌⊎◌, inl, inr, List, [], ◌∷◌, ◌++◌, length, map, cond, Bool, Option, Some, None, true, false, refl, sym, ap, ◌∙◌, subst, arith}
-use Rattle.std.specs.Prelude.{bytes_eq, is_some, option_map, slice_get, take, ⊤}
-use Rattle.std.proofs.Math.Seq.{take-append_seam}
+use Rattle.std.specs.Prelude.{bytes_eq, is_some, option_map, slice_get, ⊤}
 use Rattle.ada_tree.specs.declared.declaration.Mode.TheVariants as mode
 use Rattle.ada_tree.specs.Size.{total}
 use Rattle.image.specs.Sections.{Sections}
@@ -284,10 +283,6 @@ module _ (stay : ShapesStay) (v later : Visible) (more : Scope) (slots : List (O
 abbrev no_number : List (Option ℕ)
 no_number = None ∷ []
 
-longer : {X : Type 0} (xs : List X) (x : X) → length (xs ++ x ∷ []) ≡ suc (length xs)
-longer [] x = refl
-longer (y ∷ xs) x = ap suc (longer xs x)
-
 module _ (stay : ShapesStay) (v later : Visible) (name : List ℕ) (r : Role) (t : Subtype) (slot : Slot) (sound : SoundScope v.scope) (entries : HasEntries v)
     (hidden : is_visible v.scope name ≡ false) (scope : later.scope ≡ with_name v.scope name (entity.Object r t))
     (slots : later.slots ≡ v.slots ++ Some slot ∷ []) (subprograms : later.subprograms ≡ v.subprograms ++ None ∷ []) where
@@ -302,18 +297,6 @@ module _ (stay : ShapesStay) (v later : Visible) (name : List ℕ) (r : Role) (t
 
   pub scope_is : later.scope ≡ wider
   scope_is = scope ∙ ap (λ b. cond b s wider) hidden
-
-  pub entries_wider : HasEntries later
-  entries_wider = record {
-    slots = ap length slots ∙ longer v.slots (Some slot) ∙ ap suc entries.slots ∙ sym (longer s new) ∙ sym (ap length scope_is);
-    subprograms = ap length subprograms ∙ longer v.subprograms None ∙ ap suc entries.subprograms ∙ sym (longer s new) ∙ sym (ap length scope_is);
-  }
-
-  pub slots_first : take (length v.slots) later.slots ≡ v.slots
-  slots_first = ap (take (length v.slots)) slots ∙ take-append_seam v.slots (Some slot ∷ [])
-
-  pub subprograms_first : take (length v.subprograms) later.subprograms ≡ v.subprograms
-  subprograms_first = ap (take (length v.subprograms)) subprograms ∙ take-append_seam v.subprograms (None ∷ [])
 
   -- ---- what a name stands for
 

@@ -1,8 +1,8 @@
 -- What methods that add the code of statements promise.
 use Rattle.std.specs.List.{All}
-use Rattle.std.specs.Prelude.{◌≡◌, ◌≢◌, ℕ, ◌+◌, ◌≤◌, ◌<◌, Bool, true, List, [], ◌∷◌, ◌++◌, length, take, Option, Some, None, is_some, slice_get, ⊤}
+use Rattle.std.specs.Prelude.{◌≡◌, ◌≢◌, ℕ, ◌+◌, ◌≤◌, ◌<◌, Bool, true, List, [], ◌∷◌, ◌++◌, length, Option, Some, None, is_some, slice_get, ⊤}
 use Rattle.ada_tree.specs.ExpressionTree.{ExprTree, ArgumentTree}
-use Rattle.ada_tree.specs.StatementTree.{DeclarationTree, ElsifTrees, HandlerTrees, If, MoreElsifs, NoElsifs, NoStmts, StmtTree, StmtTrees, elsifs_of}
+use Rattle.ada_tree.specs.StatementTree.{DeclarationTree, ElsifTrees, HandlerTrees, MoreElsifs, StmtTree, StmtTrees, elsifs_of}
 use Rattle.handlers.specs.Nesting.{all_nested}
 use Rattle.handlers.specs.declared.rows.Row.{Row}
 use Rattle.image.specs.Sections.{Sections}
@@ -20,7 +20,6 @@ use Rattle.part_code.specs.stmt_rules.specs.declared.around.BodyKind.{BodyKind}
 use Rattle.part_code.specs.stmt_rules.specs.declared.around.BodyKind.TheVariants as kinds
 use Rattle.part_code.specs.stmt_rules.specs.StatementRules.{elsifs_faults, in_body, more_handlers_faults, stmt_faults, stmts_faults}
 use Rattle.expr_soundness.specs.Agreeing.{Agrees}
-use Rattle.expr_soundness.specs.SoundScopes.{SoundScope}
 use Rattle.expr_soundness.specs.meaning.specs.Calls.{procedure_here, procedure_among}
 use Rattle.expr_soundness.specs.meaning.specs.Programs.{Procedure, Program}
 use Rattle.part_code.specs.step_soundness.specs.Fitting.{IsFound, entity_named}
@@ -31,21 +30,21 @@ use Rattle.expr_code.specs.Seeing.{Package, subprogram_of, NamesProfile, externa
 use Rattle.expr_code.specs.declared.code.Code.{Code}
 use Rattle.expr_code.specs.declared.visible.Visible.{Visible}
 use Rattle.part_code.specs.EntryNames.{entry_behind}
-use Rattle.part_code.specs.Bounds.{declarations_bound, elsifs_bound, run_bound, stmt_bound, stmts_bound}
+use Rattle.part_code.specs.Bounds.{elsifs_bound, run_bound, stmts_bound}
 use Rattle.part_code.specs.Layout.{EndsBelow, IsLaidOut}
 use Rattle.part_code.specs.Suiting.{SuitsStatements}
 use Rattle.part_code.specs.Resting.{Framed}
 use Rattle.part_code.specs.Handling.{GoesByRows, Handling, unhandled}
 use Rattle.part_code.specs.Raising.{AreNamed}
 use Rattle.part_code.specs.Rows.{LiesWithin}
-use Rattle.part_code.specs.Statements.{AreDeclared, AreStatements, IsOtherwise, IsRun, IsStatement, Numbers, Ways}
+use Rattle.part_code.specs.Statements.{AreStatements, IsOtherwise, IsRun, IsStatement, Numbers, Ways}
 use Rattle.stmt_code.specs.declared.draft.Draft.{Draft}
 use Rattle.stmt_code.specs.declared.tables.PlaceRow.{PlaceRow}
 use Rattle.stmt_code.specs.Leaves.{any_leave, elsifs_leave, handlers_leave, leaves}
 use Rattle.stmt_code.specs.declared.leaves.WayOut.{WayOut}
 use Rattle.stmt_code.specs.declared.leaves.WayOut.TheVariants as way
-use Rattle.stmt_code.specs.Placing.{AreInnermostFirst, StandsBetween, elsifs_within, sequence_within, stmt_place, stmt_within, stmts_within}
-use Rattle.part_code.specs.Emitting.{IsReachable, HasEntries}
+use Rattle.stmt_code.specs.Placing.{AreInnermostFirst, StandsBetween, elsifs_within, sequence_within, stmt_place, stmts_within}
+use Rattle.part_code.specs.Emitting.{IsReachable}
 use Rattle.types.specs.declared.entity.FormalParameter.{FormalParameter}
 use Rattle.part_code.specs.declared.call.Destination.{Destination}
 use Rattle.part_code.specs.Passing.{EmitsCopies, EmitsPassedActuals}
@@ -210,16 +209,6 @@ pub record Emits (Is : Meant) (v : Visible) (w : Ways) (old : Draft) (size : ℕ
       → has_depth i (here new.code) 0 ≡ true → Allows i s low high w
       → AreKeptBetween i s low high (here old.code) (here new.code) 0
 
--- rows of places are those of the statements within it
-abbrev pub EmitsStatement : Visible → Ways → Draft → StmtTree → Draft → Type 0
-EmitsStatement v w old x new = Emits (λ i program g numbers f handling from to. IsStatement i program g numbers f w handling from to x) v w old
-    (stmt_bound v.scope x) (stmt_within x) new
-
--- a statement's code was added, and its own place
-abbrev pub EmitsMarkedStatement : Visible → Ways → Draft → StmtTree → Draft → Type 0
-EmitsMarkedStatement v w old x new = Emits (λ i program g numbers f handling from to. IsStatement i program g numbers f w handling from to x) v w old
-    (stmt_bound v.scope x) (stmt_within x ++ x ∷ []) new
-
 abbrev pub EmitsStatements : Visible → Ways → Draft → StmtTrees → Draft → Type 0
 EmitsStatements v w old body new =
     Emits (λ i program g numbers f handling from to. AreStatements i program g numbers f w handling from to body) v w old (stmts_bound v.scope body)
@@ -230,31 +219,6 @@ EmitsStatements v w old body new =
 -- the same frame, where other names are visible
 abbrev pub seeing : Framed → Visible → Framed
 seeing f later = record f { names = later }
-
--- The code of declarations was added, and each name is visible behind its own, with words that are taken from there on: in every image that holds it, and in
--- every frame with as many words.
-pub record EmitsDeclarations (v : Visible) (old : Draft) (ds : List DeclarationTree) (later : Visible) (new : Draft) : Type 0 where
-  pub extends : Extends old.code new.code
-  pub labels : StandsFrom 0 old.labels new.labels
-  pub most : old.words.most ≤ new.words.most
-  pub sized : here new.code ≤ here old.code + declarations_bound v.scope ds
-  pub rows : new.rows ≡ old.rows
-  pub exceptions : new.exceptions ≡ old.exceptions
-  pub scope : later.scope ≡ locals_scope v.scope ds
-  pub slots : take (length v.slots) later.slots ≡ v.slots
-  pub subprograms : take (length v.subprograms) later.subprograms ≡ v.subprograms
-  pub operations : later.operations ≡ v.operations
-  pub sound : SoundScope later.scope
-  pub entries : HasEntries later
-  pub stands : (i : Sections) → Holds i (here old.code) new.code → HasLabels i new.labels
-      → (program : Program) (g : Package) (numbers : Numbers) (f : Framed) → f.names ≡ v → Serves program g numbers f old.words.taken
-      → new.words.most ≤ f.room
-      → AreDeclared i program g numbers f (here old.code) (here new.code) (seeing f later) ds × Serves program g numbers (seeing f later) new.words.taken
-  pub flows : (i : Sections) (s : Subprogram) (low high : ℕ) → low ≤ here old.code → here new.code ≤ high
-      → Holds i (here old.code) new.code → SuitsStatements v i s → new.code.deepest ≤ s.stack → new.words.most ≤ s.locals
-      → has_depth i (here new.code) 0 ≡ true
-      → AreKeptBetween i s low high (here old.code) (here new.code) 0
-  pub suits : (i : Sections) (s : Subprogram) → SuitsStatements v i s → new.words.most ≤ s.locals → SuitsStatements later i s
 
 -- ---- code whose jumps to its end wait for the place
 
@@ -306,10 +270,6 @@ pub record AddsParts (v : Visible) (w : Ways) (old : Draft) (all : List (ExprTre
   pub waiting : List ℕ
   pub after_is : after ≡ before ++ waiting
   pub emits : EmitsOpen (AreParts w all) v w 0 old (elsifs_bound v.scope (elsifs_of all)) (elsifs_within (elsifs_of all)) waiting new
-
--- an `if` with one part alone
-abbrev pub only_if : ℕ → ExprTree → StmtTrees → StmtTree
-only_if place condition body = If place condition body NoElsifs NoStmts
 
 -- ---- bodies
 

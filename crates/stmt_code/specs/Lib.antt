@@ -1,5 +1,11 @@
 pub mod CodeTables
 pub mod Placing
+pub mod SimpleCode
+pub mod Drafting
+pub mod StatementCode
+pub mod Declaring
+pub mod Joining
+pub mod Timely
 pub mod Emitting
 pub mod Alternatives
 pub mod Covering

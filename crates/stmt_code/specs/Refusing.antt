@@ -1,15 +1,14 @@
 -- When code of statements isn't made: memory was refused, or a limit of images may be passed.
-use Rattle.std.specs.Prelude.{ℕ, ◌+◌, ◌*◌, Bool, false, List, Option, Some, None, ◌⊎◌}
+use Rattle.std.specs.Prelude.{ℕ, ◌+◌, false, List, Option, Some, None, ◌⊎◌}
 use Rattle.ada_tree.specs.declared.expression.Identifier.{Identifier}
-use Rattle.ada_tree.specs.ExpressionTree.{ExprTree, NameTree}
+use Rattle.ada_tree.specs.ExpressionTree.{ExprTree}
 use Rattle.ada_tree.specs.StatementTree.{AlternativeTrees, Assignment, Block, Call, Case, DeclarationTree, DelayUntil, ElsifTrees, Exit, For, Forever, HandlerTrees, If, IterationTree, Loop, MoreAlternatives, MoreElsifs, MoreHandlers, MoreStmts, NoAlternatives, NoElsifs, NoHandlers, NoStmts, Null, RangeTree, Raise, StmtTree, StmtTrees, While}
-use Rattle.ada_tree.specs.Size.{expr_size}
 use Rattle.declaration_rules.specs.BodyNames.{loop_scope}
 use Rattle.expr_code.specs.Code.{here}
 use Rattle.expr_code.specs.declared.refusal.Refusal.{Refusal}
 use Rattle.expr_code.specs.declared.visible.Visible.{Visible}
-use Rattle.part_code.specs.Bounds.{alternatives_bound, declarations_bound, elsifs_bound, handlers_bound, locals_words, run_bound, sequence_bound, stmt_bound, stmts_bound}
-use Rattle.part_code.specs.Labels.{alternatives_labels, elsifs_labels, handlers_labels, stmt_labels, stmts_labels}
+use Rattle.part_code.specs.Bounds.{locals_words, run_bound}
+use Rattle.part_code.specs.Labels.{handlers_labels, stmts_labels}
 use Rattle.stmt_code.specs.declared.draft.Draft.{Draft}
 use Rattle.part_code.specs.Needs.{Needs, nothing, framed, stacked, both, needs_above, value_needs, with_object, locals_visible, locals_needs, assignment_needs, call_needs, choices_needs, IsNeeding, HasManyLabels}
 
@@ -25,9 +24,6 @@ needs_if_any v (Some e) = value_needs v e
 pub record Standpoint : Type 0 where
   pub visible : Visible
   pub taken : ℕ
-
-abbrev pub around : Visible → Draft → Standpoint
-around v d = record { visible = v; taken = d.words.taken }
 
 -- in a loop over a range, which takes two words: those of its parameter and of the parameter's last value
 abbrev pub counted_visible : Standpoint → Identifier → RangeTree → Visible
@@ -102,46 +98,6 @@ sequence_needs a body all = both (stmts_needs a body) (handlers_needs a all)
 -- Why code isn't added to a draft behind which there would be these labels.
 abbrev pub Refuses : (old : Draft) → (labels : List (List ℕ)) → (bound : ℕ) → Needs → Refusal → Type 0
 Refuses old labels bound n why = IsNeeding (here old.code + bound) n why ⊎ HasManyLabels labels why
-
-abbrev pub RefusesStatement : Visible → (old : Draft) → StmtTree → Refusal → Type 0
-RefusesStatement v old x why = Refuses old (stmt_labels old.labels x) (stmt_bound v.scope x) (stmt_needs (around v old) x) why
-
--- the refusal of a call, which needs this much
-abbrev pub RefusesCall : Visible → (old : Draft) → NameTree → Needs → Refusal → Type 0
-RefusesCall v old name n why = Refuses old (stmt_labels old.labels (Call name)) (stmt_bound v.scope (Call name)) n why
-
-abbrev pub RefusesStatements : Visible → (old : Draft) → StmtTrees → Refusal → Type 0
-RefusesStatements v old body why = Refuses old (stmts_labels old.labels body) (stmts_bound v.scope body) (stmts_needs (around v old) body) why
-
-abbrev pub RefusesParts : Visible → (old : Draft) → ElsifTrees → Refusal → Type 0
-RefusesParts v old all why = Refuses old (elsifs_labels old.labels all) (elsifs_bound v.scope all) (elsifs_needs (around v old) all) why
-
-abbrev pub RefusesAlternatives : Visible → (old : Draft) → AlternativeTrees → Refusal → Type 0
-RefusesAlternatives v old all why =
-    Refuses old (alternatives_labels old.labels all) (alternatives_bound v.scope all) (alternatives_needs (around v old) all) why
-
-abbrev pub RefusesHandlers : Visible → (old : Draft) → HandlerTrees → Refusal → Type 0
-RefusesHandlers v old all why = Refuses old (handlers_labels old.labels all) (handlers_bound v.scope all) (handlers_needs (around v old) all) why
-
--- statements with their handlers, if they have any, and a jump over these
-abbrev pub RefusesSequence : Visible → (old : Draft) → StmtTrees → HandlerTrees → Refusal → Type 0
-RefusesSequence v old body all why =
-    Refuses old (handlers_labels (stmts_labels old.labels body) all) (sequence_bound v.scope body all + 1) (sequence_needs (around v old) body all) why
-
--- statements that handlers cover, and a jump over these
-abbrev pub RefusesCovered : Visible → (old : Draft) → StmtTrees → Refusal → Type 0
-RefusesCovered v old body why = Refuses old (stmts_labels old.labels body) (stmts_bound v.scope body + 1) (stmts_needs (around v old) body) why
-
-abbrev pub RefusesDeclarations : Visible → (old : Draft) → List DeclarationTree → Refusal → Type 0
-RefusesDeclarations v old ds why = IsNeeding (here old.code + declarations_bound v.scope ds) (locals_needs v old.words.taken ds) why
-
--- ---- code that is added by parts
-
--- the head of a loop over a range
-abbrev pub RefusesRange : Visible → (old : Draft) → Identifier → (reversed : Bool) → RangeTree → Refusal → Type 0
-RefusesRange v old parameter reversed range why =
-    IsNeeding (here old.code + (6 + 20 * (expr_size range.first + expr_size range.last)))
-    (head_needs (around v old) (For parameter reversed range)) why
 
 -- ---- bodies
 

@@ -9,12 +9,9 @@ ghost use Rattle.stmt_code.specs.Refusing.{RefusesRun};
 ghost use Rattle.expr_soundness.specs.SoundScopes.{SoundScope};
 
 use crate::draft::Draft;
-use crate::leaves::body_returns;
+use crate::laws::body_laws;
 use ada_tree::{Declaration, Handler, Stmt};
-use declaration_rules::laws::names_are_added;
 use expr_code::{Refusal, Visible};
-use image::Operation;
-use part_code::{Extent, Leaving, begin_way};
 
 impl Draft {
     /// Adds the code of a body up to its end: its declarations, a jump over the way out and the way out, if a return is in it, and its statements with
@@ -38,29 +35,18 @@ impl Draft {
             (handler_trees all.now) self.new) }
         ensures same { OnOk result (visible.new ≡ visible.old) }
     {
-        names_are_added();
-        let extent = Extent::of(visible, self.words);
-        self.declarations(visible, declarations)?;
-        if !body_returns(statements, all) {
-            let plain = Leaving {
-                exit: None,
-                return_: None,
-                handled: None,
-            };
-            self.sequence(visible, plain, statements, all)?;
-            extent.restore(visible, &mut self.words);
-            return Ok(());
-        }
-        let out = begin_way(&mut self.code)?;
-        let leaving = Leaving {
-            exit: None,
-            return_: Some(out),
-            handled: None,
-        };
-        self.sequence(visible, leaving, statements, all)?;
-        let end = self.code.end()?;
-        self.code.patch(usize::from(out), Operation::Jump(end));
-        extent.restore(visible, &mut self.words);
+        body_laws();
+        let taken = usize::from(self.words.taken);
+        let mut sketch = self.sketch();
+        sketch.run(
+            visible,
+            taken,
+            &self.exceptions,
+            declarations,
+            statements,
+            all,
+        )?;
+        self.join(sketch)?;
         Ok(())
     }
 }

@@ -1,9 +1,10 @@
 //! Code as statements add to it, with the labels of its lines.
-ghost use Rattle.std.specs.Prelude.{◌≡◌, ◌⊎◌, [], false, Some, slice_get, IfErr, IfOk, OnOk};
+ghost use Rattle.std.specs.Prelude.{◌≡◌, ◌⊎◌, [], false, length, Some, slice_get, IfErr, IfOk, OnOk};
 ghost use Rattle.expr_code.specs.Code.{StandsFrom};
 ghost use Rattle.expr_code.specs.Refusing.{IsRefused};
 ghost use Rattle.part_code.specs.Labels.{with_label};
 ghost use Rattle.part_code.specs.Needs.{HasManyLabels};
+ghost use Rattle.stmt_code.specs.Drafting.{label_number};
 
 use crate::tables::CodeTables;
 use base::limits::LABELS;
@@ -11,7 +12,7 @@ use expr_code::{Code, ImageLimit, Refusal};
 use indexmap::IndexSet;
 use lexer::Text;
 use part_code::FrameWords;
-use std::alloc::Global;
+use std::alloc::{AllocError, Global};
 use std::marker::Model;
 
 /// The labels of lines, each once. The number of a label is its place. Contracts see a list.
@@ -38,18 +39,26 @@ impl Labels {
         }
     }
 
-    /// The number of a label, which is added where it is new. An image has at most 1,024 (docs/FORMATS.md).
-    pub fn number(&mut self, label: &Text) -> Result<u16, Refusal>
-        ensures stay { OnOk result (StandsFrom 0 self.old self.new) }
-        ensures number { IfOk result (λ number. slice_get self.new number ≡ Some label.now) }
+    /// The place of a label among all, after which it is one of them.
+    ///
+    /// # Errors
+    /// Where memory was refused.
+    pub fn place(&mut self, label: &Text) -> Result<usize, AllocError>
+        ensures place { IfOk result (λ place. place ≡ label_number self.old label.now) }
         ensures labels { OnOk result (self.new ≡ with_label self.old label.now) }
-        ensures refused { IfErr result (λ why. IsRefused 0 0 why ⊎ HasManyLabels (with_label self.old label.now) why) }
     {
-        let (number, _) = self.labels.insert_full(label.clone()?)?;
-        if LABELS <= number {
-            return Err(Refusal::Limit(ImageLimit::Labels));
-        }
-        Ok(number as u16)
+        let label = label.clone()?;
+        let Ok((place, _)) = self.labels.insert_full(label) else {
+            return Err(AllocError);
+        };
+        Ok(place)
+    }
+
+    /// How many there are.
+    pub fn many(&self) -> usize
+        ensures { result ≡ length self.now }
+    {
+        self.labels.len()
     }
 
     /// The labels by their numbers, as an image has them (docs/FORMATS.md).

@@ -1,25 +1,28 @@
 //! The code of statements.
 #![tactic(auto)]
 
-mod assignment;
 mod body;
-mod call;
-mod case;
-mod declaration;
-mod delay;
 mod draft;
 mod formals;
-mod handler;
+pub mod initial_values;
+mod joining;
 pub mod laws;
 mod leaves;
 mod marking;
-mod moving;
-mod put;
-mod raise;
-mod range_loop;
-mod statement;
+pub mod returning;
+pub mod selection;
+pub mod simple;
+pub mod sketch;
+mod sketch_alternatives;
+mod sketch_bodies;
+mod sketch_declarations;
+mod sketch_handlers;
+mod sketch_loops;
+mod sketch_parts;
+mod sketch_statements;
 mod subprogram;
 mod tables;
+pub mod turning;
 
 pub use draft::{Draft, Labels};
 pub use marking::stmt_place;

@@ -1,15 +1,10 @@
 //! Where the code of statements is, for what is reported of the instruction that raised an exception.
-ghost use Rattle.std.specs.Prelude.{◌≡◌, ◌∷◌, ◌++◌, [], IfErr, OnOk};
+ghost use Rattle.std.specs.Prelude.{◌≡◌};
 ghost use Rattle.ada_tree.specs.StatementTree.{stmt_tree};
-ghost use Rattle.expr_code.specs.Code.{here};
-ghost use Rattle.expr_code.specs.Refusing.{IsRefused};
 ghost use Rattle.stmt_code.specs.Placing.{stmt_place};
 
-use crate::draft::Draft;
-use crate::tables::PlaceRow;
 use ada_tree::Stmt;
 use ada_tree::laws::statements_by_parts;
-use expr_code::Refusal;
 
 /// The place of a statement in the source: that of its first token.
 pub fn stmt_place(statement: &Stmt) -> u32
@@ -33,25 +28,5 @@ pub fn stmt_place(statement: &Stmt) -> u32
         Stmt::Requeue(place, _, _) => *place,
         Stmt::Accept(place, _) => *place,
         Stmt::Select(place) => *place,
-    }
-}
-
-impl Draft {
-    /// Adds the row of a statement whose code begins at `first` and ends here.
-    pub(crate) fn mark(&mut self, first: usize, statement: &Stmt) -> Result<(), Refusal>
-        ensures marks { OnOk result (self.new ≡ record self.old {
-          rows = record self.old.rows {
-            places = self.old.rows.places ++ (record
-                { first = first; behind = here self.old.code; place = stmt_place (stmt_tree statement.now) }) ∷ [];
-          };
-        }) }
-        ensures refused { IfErr result (λ why. IsRefused 0 0 why) }
-    {
-        let behind = self.code.instructions.len();
-        self.rows.mark(PlaceRow {
-            first,
-            behind,
-            place: stmt_place(statement),
-        })
     }
 }

@@ -1,0 +1,118 @@
+//! Declarations of objects and parameters of loops, as they are added to what is put together (RM 3.3.1, 5.5).
+ghost use Rattle.std.specs.Prelude.{◌≡◌, ◌∷◌, [], map, IfOk, OnOk};
+ghost use Rattle.ada_tree.specs.StatementTree.{declaration_tree, LocalObject, object_tree, range_tree};
+ghost use Rattle.declaration_rules.specs.BodyNames.{loop_scope};
+ghost use Rattle.declaration_rules.specs.LocalRules.{local_scope};
+ghost use Rattle.part_code.specs.Needs.{with_object};
+ghost use Rattle.stmt_code.specs.Declaring.{AddsLocals};
+
+use crate::selection::narrow;
+use crate::sketch::Sketch;
+use ada_tree::{Declaration, Identifier, ObjectDeclaration, Range};
+use declaration_rules::declare_loop_parameter;
+use expr_code::fragment::raised;
+use expr_code::{Slot, Visible};
+use image::Region;
+use std::alloc::AllocError;
+use type_rules::{declare_local_object, subtype_of};
+
+// Gives the next name words of the frame from an offset on.
+fn place_words(visible: &mut Visible, offset: u16) -> Result<(), AllocError>
+    ensures shown { OnOk result (visible.new ≡ with_object visible.old visible.old.scope offset) }
+{
+    let slot = Slot {
+        region: Region::Locals,
+        offset,
+    };
+    let Ok(()) = visible.slots.push(Some(slot)) else {
+        return Err(AllocError);
+    };
+    let Ok(()) = visible.subprograms.push(None) else {
+        return Err(AllocError);
+    };
+    Ok(())
+}
+
+/// Makes a loop parameter visible whose word is at this offset of the frame (RM 5.5).
+pub(crate) fn show_parameter(
+    visible: &mut Visible,
+    parameter: &Identifier,
+    range: &Range,
+    offset: u16,
+) -> Result<(), AllocError>
+    ensures shown { OnOk result (visible.new ≡ with_object visible.old (loop_scope visible.old.scope parameter.now (range_tree range.now)) offset) }
+{
+    place_words(visible, offset)?;
+    declare_loop_parameter(&mut visible.scope, parameter, range)?;
+    Ok(())
+}
+
+// Makes an object visible whose words are at this offset of the frame.
+fn show_object(
+    visible: &mut Visible,
+    object: &ObjectDeclaration,
+    offset: u16,
+) -> Result<(), AllocError>
+    ensures shown { OnOk result (visible.new ≡ with_object visible.old (local_scope visible.old.scope (LocalObject (object_tree object.now))) offset) }
+{
+    place_words(visible, offset)?;
+    declare_local_object(&mut visible.scope, object)?;
+    Ok(())
+}
+
+impl Sketch {
+    /// Adds the code of declarations, one after another, and makes their names visible, each after its own; returns how many words of the frame are taken then.
+    pub fn declarations(
+        &mut self,
+        visible: &mut Visible,
+        taken: usize,
+        all: &[Declaration],
+    ) -> Result<usize, AllocError>
+        ensures declares { IfOk result (λ more. AddsLocals visible.old taken self.old (map declaration_tree all.now) visible.new more self.new) }
+    {
+        let mut more = taken;
+        for declaration in all {
+            more = self.declaration(visible, more, declaration)?;
+        }
+        Ok(more)
+    }
+
+    // Adds the code of a declaration.
+    fn declaration(
+        &mut self,
+        visible: &mut Visible,
+        taken: usize,
+        declaration: &Declaration,
+    ) -> Result<usize, AllocError>
+        ensures declares { IfOk result (λ more. AddsLocals visible.old taken self.old (declaration_tree declaration.now ∷ []) visible.new more self.new) }
+    {
+        match declaration {
+            Declaration::Object(object) => self.declare(visible, taken, object),
+            Declaration::Task(_) => Ok(taken),
+            Declaration::Protected(_) => Ok(taken),
+        }
+    }
+
+    // Adds the code of the declaration of an object.
+    fn declare(
+        &mut self,
+        visible: &mut Visible,
+        taken: usize,
+        object: &ObjectDeclaration,
+    ) -> Result<usize, AllocError>
+        ensures declares { IfOk result (λ more. AddsLocals visible.old taken self.old (LocalObject (object_tree object.now) ∷ []) visible.new more self.new) }
+    {
+        match subtype_of(&visible.scope, &object.subtype) {
+            Some(subtype) => {
+                let more = raised(taken, visible.scope.words(subtype))?;
+                self.object(visible, taken, subtype, &object.value)?;
+                show_object(visible, object, narrow(taken))?;
+                Ok(more)
+            }
+            None => {
+                show_object(visible, object, narrow(taken))?;
+                Ok(taken)
+            }
+        }
+    }
+}
