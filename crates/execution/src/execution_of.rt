@@ -16,7 +16,7 @@ use crate::state::State;
 use clock::{Delays, Schedule};
 use dispatch::Ready;
 use image::Image;
-use image_laws::{effects_named, lines_unread, steps_whole};
+use image_laws::steps_whole;
 use kernel::laws::somebody_runs;
 use processor::Steps;
 use std::alloc::{AllocError, Global};
@@ -24,12 +24,11 @@ use std::marker::Model;
 use std::sync::ledger::Ledger;
 use task_steps::{Asking, Memory, Raising};
 use tasking::Tasking;
-use tasking::laws::{kept_with_lines, lines_apart};
 
 /// A run of an image, between two steps. Memory is taken by `start` alone.
 #[derive(Drop)]
 pub struct Execution<'a, 's, R: Ready, D: Delays> {
-    pub(crate) state: State<'a, 's, R, D>,
+    pub(crate) state: Box<State<'a, 's, R, D>>,
 }
 
 impl<'a, 's, R: Ready, D: Delays> Model for Execution<'a, 's, R, D> {
@@ -38,9 +37,9 @@ impl<'a, 's, R: Ready, D: Delays> Model for Execution<'a, 's, R, D> {
 
     ghost Value = { HeldWorld };
 
-    ghost view = { λ e. e.state };
+    ghost view = { λ e. e.state.value };
 
-    ghost invariant = { λ e. IsWhole e.state.image (world_of e.state) };
+    ghost invariant = { λ e. IsWhole e.state.value.image (world_of e.state.value) };
 }
 
 /// How far steps have led.
@@ -53,25 +52,6 @@ pub struct Advance {
 }
 
 impl<'a, 's, R: Ready, D: Delays> Execution<'a, 's, R, D> {
-    /// The start of a run: the world of code after 0 steps.
-    ///
-    /// # Errors
-    /// Where memory was refused.
-    pub fn start(
-        alloc: Global,
-        image: &'a Image,
-        schedule: &'s Schedule,
-    ) -> Result<Self, AllocError>
-        ensures image { IfOk result (λ e. e.image ≡ image.now) }
-        ensures schedule { IfOk result (λ e. e.schedule ≡ schedule.now) }
-        ensures world { IfOk result (λ e. world_of e ≡ start image.now schedule.now) }
-    {
-        steps_whole();
-        let _instructions = image.instructions();
-        let state = State::new(alloc, image, schedule)?;
-        Ok(Execution { state })
-    }
-
     /// Goes on up to a line or an outcome, `limit` steps at most. Nothing is done once there is an outcome.
     pub fn advance<L: Ledger>(&mut self, limit: u64, steps: &mut Steps<L>) -> Advance
         ensures leads { Leads (limit - result.left) self.old self.new (lines_of self.old.image result.line) }
@@ -117,20 +97,7 @@ impl<'a, 's, R: Ready, D: Delays> Execution<'a, 's, R, D> {
         ensures count { steps.new ≡ steps.old + (limit - result.left) }
         ensures going { IfSome result.line (λ line. (kernel_of self.new.tasking).outcome ≡ None) }
     {
-        steps_whole();
-        effects_named();
-        lines_unread();
-        lines_apart();
-        kept_with_lines();
-        let went = self.state.go(task, limit, steps);
-        let line = match went.act {
-            None => None,
-            Some(act) => self.state.settle(task, act),
-        };
-        Advance {
-            left: went.left,
-            line,
-        }
+        self.state.advance_task(task, limit, steps)
     }
 
     // The running task, unless there is an outcome.
@@ -151,7 +118,7 @@ impl<'a, 's, R: Ready, D: Delays> Execution<'a, 's, R, D> {
         ensures { (lines : List KernelLine) → result ≡ next_raising self.now.image self.now.schedule (world_with lines self.now) }
     {
         let task = self.runner()?;
-        self.state.raising_ahead(task)
+        self.state().raising_ahead(task)
     }
 
     /// What the next step asks for beside the operation of an object, if it asks for anything and raises nothing; nothing changes.
@@ -159,7 +126,7 @@ impl<'a, 's, R: Ready, D: Delays> Execution<'a, 's, R, D> {
         ensures { (lines : List KernelLine) → result ≡ next_asking self.now.image self.now.schedule (world_with lines self.now) }
     {
         let task = self.runner()?;
-        self.state.asking_ahead(task)
+        self.state().asking_ahead(task)
     }
 
     /// The address of the instruction that the next step does, unless there is an outcome; nothing changes.
@@ -167,7 +134,7 @@ impl<'a, 's, R: Ready, D: Delays> Execution<'a, 's, R, D> {
         ensures { result ≡ next_address (world_of self.now) }
     {
         let task = self.runner()?;
-        Some(self.state.address(task))
+        Some(self.state().address(task))
     }
 
     /// A copy of the words and the frames.
@@ -177,14 +144,22 @@ impl<'a, 's, R: Ready, D: Delays> Execution<'a, 's, R, D> {
     pub fn contents(&self, alloc: Global) -> Result<Contents, AllocError>
         ensures { IfOk result (λ contents. AreContentsOf self.now contents) }
     {
-        self.state.contents(alloc)
+        self.state().contents(alloc)
+    }
+
+    // What it holds.
+    fn state(&self) -> &State<'a, 's, R, D>
+        ensures same { result.now ≡ self.now }
+        ensures whole { IsWhole self.now.image (world_of self.now) }
+    {
+        &self.state
     }
 
     /// The image that runs.
     pub fn image(&self) -> &'a Image
         ensures { result.now ≡ self.now.image }
     {
-        self.state.program.image()
+        self.state().image()
     }
 
     /// Its tasks and protected objects, and virtual time.
@@ -192,22 +167,44 @@ impl<'a, 's, R: Ready, D: Delays> Execution<'a, 's, R, D> {
         ensures same { result.now ≡ self.now.tasking }
         ensures whole { IsWhole self.now.image (world_of self.now) }
     {
-        &self.state.tasking
+        self.state().tasking()
     }
 
     /// The words that its tasks share.
     pub fn memory(&self) -> &Memory
         ensures { result.now ≡ self.now.memory }
     {
-        &self.state.memory
+        self.state().memory()
     }
 }
 
 impl<'a, 's, R: Ready + Drop, D: Delays + Drop> Execution<'a, 's, R, D> {
+    /// The start of a run: the world of code after 0 steps.
+    ///
+    /// # Errors
+    /// Where memory was refused.
+    #[inline(never)]
+    pub fn start(
+        alloc: Global,
+        image: &'a Image,
+        schedule: &'s Schedule,
+    ) -> Result<Self, AllocError>
+        ensures image { IfOk result (λ e. e.image ≡ image.now) }
+        ensures schedule { IfOk result (λ e. e.schedule ≡ schedule.now) }
+        ensures world { IfOk result (λ e. world_of e ≡ start image.now schedule.now) }
+    {
+        steps_whole();
+        let _instructions = image.instructions();
+        let state = State::new(alloc, image, schedule)?;
+        let state = Box::new(alloc, state)?;
+        Ok(Execution { state })
+    }
+
     /// Its memory, for another run.
+    #[inline(never)]
     pub fn into_rooms(self) -> Rooms<'a>
         ensures { result ≡ self.entry.image }
     {
-        self.state.into_rooms()
+        Box::into_inner(self.state).into_rooms()
     }
 }

@@ -1,5 +1,5 @@
 //! The memory of runs, which one run after the other may have.
-ghost use Rattle.std.specs.Prelude.{◌≡◌, ◌<◌, ◌≤◌, ℕ, drop, length, slice_set};
+ghost use Rattle.std.specs.Prelude.{◌≡◌, ◌<◌, ◌≤◌, ℕ, IfOk, drop, length, slice_set};
 ghost use Rattle.execution.specs.Held.{RowsAreWide, world_of};
 ghost use Rattle.execution.specs.Saving.{HasAllRows, world_in};
 ghost use Rattle.image.specs.Attachments.{interrupts};
@@ -17,9 +17,10 @@ use dispatch::Ready;
 use image::Image;
 use image_laws::{code_leads_on, steps_whole};
 use processor::{Program, SavedTask, TaskState};
+use std::alloc::{AllocError, Global};
 use std::marker::Model;
 use task_steps::Memory;
-use tasking::{Pause, Tasking};
+use tasking::{Pause, Tables, Tasking};
 
 /// The memory of a run of an image, for another one. Contracts see the image.
 #[derive(Drop)]
@@ -28,6 +29,7 @@ pub struct Rooms<'a> {
     pub(crate) memory: Memory,
     pub(crate) tasks: Vec<TaskState>,
     pub(crate) parameters: Parameters,
+    pub(crate) tables: Tables,
 }
 
 impl<'a> Model for Rooms<'a> {
@@ -47,22 +49,28 @@ impl<'a> Model for Rooms<'a> {
 
 impl<'a> Rooms<'a> {
     /// A run that goes on from these words and frames and this pause, on a schedule of which so many lines have passed.
-    pub fn resume<'s, R: Ready, D: Delays>(
+    ///
+    /// # Errors
+    /// Where memory was refused.
+    #[inline(never)]
+    pub fn resume<'s, R: Ready + Drop, D: Delays + Drop>(
         self,
+        alloc: Global,
         contents: &Contents,
         pause: &Pause,
         schedule: &'s Schedule,
         passed: usize,
-    ) -> Execution<'a, 's, R, D>
+    ) -> Result<Execution<'a, 's, R, D>, AllocError>
         requires fits { HasAllRows self contents.now }
         requires passed { passed ≤ length schedule.now }
         requires whole { IsWhole self (world_in self contents.now pause.now (interrupts self (drop passed schedule.now))) }
-        ensures image { result.image ≡ self.entry }
-        ensures schedule { result.schedule ≡ schedule.now }
-        ensures world { world_of result ≡ world_in self.entry contents.now pause.now (interrupts self.entry (drop passed schedule.now)) }
+        ensures image { IfOk result (λ e. e.image ≡ self.entry) }
+        ensures schedule { IfOk result (λ e. e.schedule ≡ schedule.now) }
+        ensures world { IfOk result (λ e. world_of e ≡ world_in self.entry contents.now pause.now (interrupts self.entry (drop passed schedule.now))) }
     {
         let state = self.resume_state(contents, pause, schedule, passed);
-        Execution { state }
+        let state = Box::new(alloc, state)?;
+        Ok(Execution { state })
     }
 
     // What such a run holds.
@@ -85,11 +93,12 @@ impl<'a> Rooms<'a> {
             mut memory,
             mut tasks,
             parameters,
+            tables,
         } = self;
         let image = program.image();
         memory.restore(image, contents.words.as_slice());
         restore_rows(&mut tasks, contents.tasks.as_slice());
-        let tasking = resume_tasking(image, pause, schedule, passed);
+        let tasking = resume_tasking(image, pause, tables, schedule, passed);
         State {
             program,
             schedule,
@@ -126,10 +135,11 @@ fn restore_row(rows: &mut Vec<TaskState>, at: usize, saved: &SavedTask)
     row.restore(saved);
 }
 
-// The tasks and objects of a pause, with the interrupts of the schedule whose lines have not passed.
+// The tasks and objects of a pause, in these tables, with the interrupts of the schedule whose lines have not passed.
 fn resume_tasking<'s, R: Ready, D: Delays>(
     image: &Image,
     pause: &Pause,
+    tables: Tables,
     schedule: &'s Schedule,
     passed: usize,
 ) -> Tasking<'s, R, D>
@@ -142,7 +152,7 @@ fn resume_tasking<'s, R: Ready, D: Delays>(
     let _instructions = image.instructions();
     let attached = handling_objects(image);
     let lines = lines_from(schedule.lines(), passed);
-    Tasking::resume(pause, attached, lines)
+    Tasking::resume(pause, tables, attached, lines)
 }
 
 // The lines after so many first ones.

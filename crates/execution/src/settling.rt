@@ -1,18 +1,24 @@
 //! What the kernel makes of the step of a task: its effect, and what that comes to in other tasks.
-ghost use Rattle.std.specs.Prelude.{◌≡◌, [], IfSome, None, length};
+ghost use Rattle.std.specs.Prelude.{◌≡◌, ◌<◌, ◌+◌, ◌-◌, [], IfSome, None, length};
+ghost use Rattle.image_laws.specs.Whole.{IsWhole};
+ghost use Rattle.kernel.specs.Calm.{IsRunner};
 ghost use Rattle.tasking.specs.Held.{kernel_of};
-ghost use Rattle.execution.specs.Held.{lines_of};
+ghost use Rattle.execution.specs.Held.{Leads, lines_of, world_of};
 ghost use Rattle.execution.specs.Settling.{HasPassed, KernelDoes, Owes, Settles};
 ghost use Rattle.task_steps.specs.declared.acts.Effect.TheVariants as effects;
 
+use crate::execution_of::Advance;
 use crate::line::Line;
 use crate::state::State;
 use clock::Delays;
 use dispatch::Ready;
-use image_laws::{code_leads_on, steps_whole};
+use image_laws::{code_leads_on, effects_named, lines_unread, steps_whole};
 use kernel::laws::{quiet_stays, reaches_callers, runner_is_calm, says_on};
+use processor::Steps;
+use std::sync::ledger::Ledger;
 use task_steps::{Act, Effect, Given};
 use tasking::Ending;
+use tasking::laws::{kept_with_lines, lines_apart};
 
 // What came of a step: the line that it wrote, if any, and whether the handler that took it is over.
 #[derive(Clone, Copy)]
@@ -22,6 +28,38 @@ struct Settlement {
 }
 
 impl<'a, 's, R: Ready, D: Delays> State<'a, 's, R, D> {
+    /// Steps of the running task, up to the first that asks something of the kernel, and what comes of that.
+    pub(crate) fn advance_task<L: Ledger>(
+        &mut self,
+        task: u8,
+        limit: u64,
+        steps: &mut Steps<L>,
+    ) -> Advance
+        requires whole { IsWhole self.old.image (world_of self.old) }
+        requires runs { IsRunner (kernel_of self.old.tasking) task }
+        requires some { 0 < limit }
+        ensures whole { IsWhole self.new.image (world_of self.new) }
+        ensures leads { Leads (limit - result.left) self.old self.new (lines_of self.old.image result.line) }
+        ensures left { result.left < limit }
+        ensures count { steps.new ≡ steps.old + (limit - result.left) }
+        ensures going { IfSome result.line (λ line. (kernel_of self.new.tasking).outcome ≡ None) }
+    {
+        steps_whole();
+        effects_named();
+        lines_unread();
+        lines_apart();
+        kept_with_lines();
+        let went = self.go(task, limit, steps);
+        let line = match went.act {
+            None => None,
+            Some(act) => self.settle(task, act),
+        };
+        Advance {
+            left: went.left,
+            line,
+        }
+    }
+
     /// Does what the step of the running task asks of the kernel, and returns the line that it writes, if any.
     pub(crate) fn settle(&mut self, task: u8, act: Act) -> Option<Line>
         requires owes { Owes self.old task act }

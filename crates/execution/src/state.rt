@@ -222,6 +222,27 @@ impl<'a, 's, R: Ready, D: Delays> State<'a, 's, R, D> {
         Ok(Contents { words, tasks })
     }
 
+    /// The image that runs.
+    pub(crate) fn image(&self) -> &'a Image
+        ensures { result.now ≡ self.now.image }
+    {
+        self.program.image()
+    }
+
+    /// Its tasks and protected objects, and virtual time.
+    pub(crate) fn tasking(&self) -> &Tasking<'s, R, D>
+        ensures { result.now ≡ self.now.tasking }
+    {
+        &self.tasking
+    }
+
+    /// The words that its tasks share.
+    pub(crate) fn memory(&self) -> &Memory
+        ensures { result.now ≡ self.now.memory }
+    {
+        &self.memory
+    }
+
     /// The address of the running frame's instruction, of the task that runs.
     pub(crate) fn address(&self, task: u8) -> u16
         requires whole { IsWhole self.now.image (world_of self.now) }
@@ -248,13 +269,15 @@ impl<'a, 's, R: Ready + Drop, D: Delays + Drop> State<'a, 's, R, D> {
             memory,
             tasks,
             parameters,
-            tasking: _,
+            tasking,
         } = self;
+        let tables = tasking.into_tables();
         Rooms {
             program,
             memory,
             tasks,
             parameters,
+            tables,
         }
     }
 }

@@ -15,13 +15,13 @@ use Rattle.machine.specs.declared.bound.Cut.TheVariants.{Steps, Time}
 abbrev pub at_most : ℕ → Bound
 at_most steps = record { steps = steps; cut = Steps }
 
--- Of a run that a time cuts: with the next step the clock would pass that time, and it hasn't passed it yet.
+-- A time cuts a run here: its clock hasn't passed that time, and would with the next step.
 pub record IsCutByTime (i : Sections) (schedule : List ScheduleLine) (until : ℤ) (limit steps : ℕ) : Type 0 where
   pub earlier : steps < limit
   pub within : pos 0 ≤ℤ until → (code i schedule steps).kernel.now ≤ℤ until
   pub passes : until <ℤ (code i schedule (suc steps)).kernel.now
 
--- Of a run that its limit on steps cuts, or that has come to an outcome by then: the clock hasn't passed the time.
+-- The limit on steps cuts a run here, or it has come to an outcome by then: its clock hasn't passed the time.
 pub record IsCutBySteps (i : Sections) (schedule : List ScheduleLine) (until : ℤ) (limit steps : ℕ) : Type 0 where
   pub whole : steps ≡ limit
   pub within : pos 0 ≤ℤ until → (code i schedule steps).kernel.now ≤ℤ until

@@ -60,6 +60,9 @@ impl<'a, R: Ready, D: Delays> Machine<'a, R, D> {
     /// # Errors
     /// `Memory` where memory was refused.
     pub fn start(alloc: Global, image: &'a Image, schedule: &'a Schedule) -> Result<Self, RunFault>
+    where
+        R: Drop,
+        D: Drop,
         ensures stands { IfOk result (λ machine. HoldsWorld machine (code image.now schedule.now 0)) }
         ensures image { IfOk result (λ machine. machine.image ≡ image.now) }
         ensures schedule { IfOk result (λ machine. machine.schedule ≡ schedule.now) }

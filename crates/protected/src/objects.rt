@@ -69,6 +69,16 @@ impl Objects {
         }
     }
 
+    /// Becomes as others are.
+    pub fn restore(&mut self, others: &Objects)
+        ensures { self.new ≡ others.now }
+    {
+        self.bases = copied(others.bases.as_slice());
+        self.ceilings = copied(others.ceilings.as_slice());
+        restore_rows(&mut self.opened, &others.opened);
+        self.queued = others.queued;
+    }
+
     /// The number of tasks.
     pub fn task_count(&self) -> u8
         ensures { result ≡ length self.now.bases }
@@ -228,10 +238,20 @@ fn copied_rows(rows: &[ArrayVec<u8, OBJECTS>; TASKS + 1]) -> [ArrayVec<u8, OBJEC
     ensures { map (λ l. l.items) result ≡ map (λ l. l.items) rows.now }
 {
     let mut copies: [ArrayVec<u8, OBJECTS>; TASKS + 1] = Default::default();
-    for row in 0..TASKS + 1 {
-        put_row(&mut copies, row, rows[row].as_slice());
-    }
+    restore_rows(&mut copies, rows);
     copies
+}
+
+// Rows become as others are.
+fn restore_rows(
+    rows: &mut [ArrayVec<u8, OBJECTS>; TASKS + 1],
+    others: &[ArrayVec<u8, OBJECTS>; TASKS + 1],
+)
+    ensures { map (λ l. l.items) rows.new ≡ map (λ l. l.items) others.now }
+{
+    for row in 0..TASKS + 1 {
+        put_row(rows, row, others[row].as_slice());
+    }
 }
 
 // A row becomes this list.
@@ -240,7 +260,12 @@ fn put_row(rows: &mut [ArrayVec<u8, OBJECTS>; TASKS + 1], row: usize, list: &[u8
     requires few { length list.now ≤ OBJECTS }
     ensures { map (λ l. l.items) rows.new ≡ set (map (λ l. l.items) rows.old) row list.now }
 {
-    rows[row] = copied(list);
+    let place = &mut rows[row];
+    place.clear();
+    match place.try_extend_from_slice(list) {
+        Ok(()) => {}
+        Err(_) => unreachable!(),
+    }
 }
 
 // Priorities, or the numbers of objects, in a fixed list.

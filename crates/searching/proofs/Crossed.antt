@@ -11,12 +11,12 @@ use Rattle.choices.specs.Places.{AreWithin}
 use Rattle.choices.specs.Slots.{Slot}
 use Rattle.choices.specs.declared.part.Part.{Part}
 use Rattle.image.specs.Sections.{Sections}
-use Rattle.tasking.specs.Held.{kernel_of}
+use Rattle.tasking.specs.Held.{Held, kernel_of}
 use Rattle.tasking.specs.Orderly.{time_ahead}
 use Rattle.execution.specs.Held.{HeldWorld, world_of}
 use Rattle.likeness.specs.Schedules.{AgreeAt}
 use Rattle.likeness.specs.Worlds.{IsEarly, IsLastBefore, NoneSooner}
-use Rattle.searching.specs.Following.{AreCheckpoints, AreKeptRows, AreValues, CrossesAt, CrossesFrom, HasMetAfter, HasMetQuietly, IsCheckpoint, IsMomentOf, IsRow, IsSeenIn, IsSomeRow, KeptCheckpoint, KeptMoment, KeptRow, MeetsRow, NoneBefore, Standing, StepsOn}
+use Rattle.searching.specs.Following.{AreCheckpoints, AreKeptRows, AreValues, CrossesAt, CrossesFrom, HasMetAfter, HasMetQuietly, IsCheckpoint, IsMomentOf, IsPauseOf, IsRow, IsSeenIn, IsSomeRow, KeptCheckpoint, KeptMoment, KeptRow, MeetsRow, NoneBefore, Standing, StepsOn}
 use Rattle.searching.specs.Meeting.{MeetThere, StandsAfter, schedule_of}
 use Rattle.searching.specs.declared.sight.Wanted.{Wanted}
 use Rattle.searching.proofs.Alike.{worlds_like}
@@ -124,14 +124,14 @@ module _ (slots : List Slot) (part : Part) (places : List ℕ) (until : ℤ) (li
 
 -- the world of a moment is kept as a checkpoint
 pub checkpoint_of : (slots : List Slot) (until : ℤ) (limit : ℕ) (wanted : Wanted) (places : List ℕ) (h : HeldWorld) (m : KeptMoment) (now : ℤ) (left : ℕ)
-    (next : HeldWorld) (front : ℕ) (time : ℤ) → IsMomentOf h m → AreWithin slots places → Standing h.image (schedule_of slots places) until limit wanted h now left
-    → CrossesAt slots m next front time
-    → IsCheckpoint h.image slots until limit wanted (record { choice = places; front = front; time = time; left = left; world = m.world; pause = m.pause })
-checkpoint_of slots until limit wanted places h m now left next front time is within stands at = record {
+    (next : HeldWorld) (front : ℕ) (time : ℤ) (pause : Held) → IsMomentOf h m → AreWithin slots places
+    → Standing h.image (schedule_of slots places) until limit wanted h now left → CrossesAt slots m next front time → m.pause ≡ Some pause
+    → IsCheckpoint h.image slots until limit wanted (record { choice = places; front = front; time = time; left = left; world = m.world; pause = pause })
+checkpoint_of slots until limit wanted places h m now left next front time pause is within stands at copied = record {
   held = h;
   stands = subst (λ z. Standing h.image (schedule_of slots places) until limit wanted h z left) (stands.now_is ∙ sym is.seen.time) stands;
   seen = is.seen;
-  pause = is.pause;
+  pause = subst (λ o. IfSome o (IsPauseOf h)) copied is.pause;
   within = within;
   parted = at.parted;
   early = record { now = subst (λ z. int_lt z time ≡ true) is.seen.time at.early; on = is.seen.on };

@@ -1,5 +1,5 @@
 -- What the search keeps of the worlds on its way, and what it says of the run that goes on from them; nobody has to believe this.
-use Rattle.std.specs.Prelude.{◌≡◌, ◌≢◌, ℕ, ◌+◌, ◌-◌, ◌<◌, ◌≤◌, ℤ, pos, ◌<ℤ◌, ◌≤ℤ◌, int_le, int_lt, List, [], ◌∷◌, Option, Some, None, true, get_or, length, take}
+use Rattle.std.specs.Prelude.{◌≡◌, ◌≢◌, ℕ, ◌+◌, ◌-◌, ◌<◌, ◌≤◌, ℤ, pos, ◌<ℤ◌, ◌≤ℤ◌, int_le, int_lt, List, [], ◌∷◌, Option, Some, None, true, get_or, IfSome, length, take}
 use Rattle.base.specs.Schedule.{input}
 use Rattle.base.specs.declared.limits.TheConstants.{CHANNELS}
 use Rattle.base.specs.declared.schedule.ScheduleLine.{ScheduleLine}
@@ -166,15 +166,15 @@ pub record MeetsRow (r : KeptRow) (choice : List ℕ) (front : ℕ) (time : ℤ)
 
 -- ---- a step that passes the times of slots
 
--- a world, a copy of its tasks and objects, and the time of its next interrupt
+-- a world, a copy of its tasks and objects if one was made, and the time of its next interrupt
 pub record KeptMoment : Type 0 where
   pub world : SeenWorld
-  pub pause : Held
+  pub pause : Option Held
   pub next : Option ℤ
 
 pub record IsMomentOf (h : HeldWorld) (m : KeptMoment) : Type 0 where
   pub seen : IsSeenIn h m.world
-  pub pause : IsPauseOf h m.pause
+  pub pause : IfSome m.pause (IsPauseOf h)
   pub next : m.next ≡ time_ahead (kernel_of h.tasking).pending
   pub blind : ReadsNothing h.image (world_of h)
 

@@ -5,7 +5,9 @@ use Rattle.choices.specs.Places.{AreWithin, IsBefore, left, taken}
 use Rattle.choices.specs.Slots.{Slot, lines_of}
 use Rattle.choices.specs.declared.part.Part.{Part}
 use Rattle.image.specs.Sections.{Sections}
+use Rattle.searching.specs.Following.{ComesAlong}
 use Rattle.searching.specs.Searches.{AnswersRun, FindsFirst, Searches}
+use Rattle.searching.specs.declared.following.Followed.{Followed}
 use Rattle.searching.specs.declared.one.Answer.TheVariants as answers
 use Rattle.searching.specs.declared.sight.Wanted.{Wanted}
 use Rattle.searching.specs.declared.whole.Searched.{Searched}
@@ -23,6 +25,13 @@ abbrev pub Through : Sections → List Slot → Part → (until : ℤ) → (limi
 Through i slots part until limit wanted true places =
     AreWithin slots places × ((others : List ℕ) → AreWithin slots others → IsBefore others places → IsQuiet i slots part until limit wanted others)
 Through i slots part until limit wanted false places = (others : List ℕ) → AreWithin slots others → IsQuiet i slots part until limit wanted others
+
+-- nothing is found under the choices before this one of the part, and the run on it comes to this
+pub record RunComesTo (i : Sections) (slots : List Slot) (part : Part) (until : ℤ) (limit : ℕ) (wanted : Wanted) (places : List ℕ)
+    (followed : Followed) : Type 0 where
+  pub through : Through i slots part until limit wanted true places
+  pub is_of : is_of_part part slots places ≡ true
+  pub comes : ComesAlong i slots part until limit wanted places followed
 
 -- the search may go on behind a choice
 pub record MayGoOn (i : Sections) (slots : List Slot) (part : Part) (until : ℤ) (limit : ℕ) (wanted : Wanted) (before after : List ℕ) : Type 0 where

@@ -50,7 +50,9 @@ pub(crate) fn begin<'a, 's>(
         let begun = begin_first(alloc, image, schedule, limit)?;
         return Ok(begun);
     };
-    let execution = resume(image, choices, choice, schedule, limit, checkpoint, rooms);
+    let execution = resume(
+        alloc, image, choices, choice, schedule, limit, checkpoint, rooms,
+    )?;
     let left = checkpoint.left();
     let front = checkpoint.front();
     Ok((execution, Midst { left, front }))
@@ -80,6 +82,7 @@ fn begin_first<'a, 's>(
 
 // The run on a choice at a checkpoint on its way.
 fn resume<'a, 's>(
+    alloc: Global,
     image: &Image,
     choices: &Choices,
     choice: &Choice,
@@ -87,15 +90,15 @@ fn resume<'a, 's>(
     limit: u64,
     checkpoint: &Checkpoint,
     rooms: Rooms<'a>,
-) -> Execution<'a, 's, RingReady, HeapDelays>
+) -> Result<Execution<'a, 's, RingReady, HeapDelays>, AllocError>
     requires schedule { schedule.now ≡ schedule_of choices.now choice.now }
     requires within { AreWithin choices.now choice.now }
     requires rooms { rooms ≡ image.now }
     requires on_way { take checkpoint.now.front choice.now ≡ take checkpoint.now.front checkpoint.now.choice }
     requires checkpoint { (until : ℤ) × (wanted : Asked) × IsCheckpoint image.now choices.now until limit wanted checkpoint.now }
-    ensures image { result.image ≡ image.now }
-    ensures stands { (until : ℤ) (wanted : Asked) → IsCheckpoint image.now choices.now until limit wanted checkpoint.now
-        → Standing image.now schedule.now until limit wanted result (kernel_of result.tasking).now checkpoint.now.left }
+    ensures image { IfOk result (λ e. e.image ≡ image.now) }
+    ensures stands { IfOk result (λ e. (until : ℤ) (wanted : Asked) → IsCheckpoint image.now choices.now until limit wanted checkpoint.now
+        → Standing image.now schedule.now until limit wanted e (kernel_of e.tasking).now checkpoint.now.left) }
 {
     outcome_stays();
     steps_whole();
@@ -103,7 +106,14 @@ fn resume<'a, 's>(
     let _instructions = image.instructions();
     let _slots = choices.slots();
     let passed = count_before(schedule.lines(), checkpoint.time());
-    rooms.resume(checkpoint.contents(), checkpoint.pause(), schedule, passed)
+    let execution = rooms.resume(
+        alloc,
+        checkpoint.contents(),
+        checkpoint.pause(),
+        schedule,
+        passed,
+    )?;
+    Ok(execution)
 }
 
 // How many lines come before the first that isn't before a time.

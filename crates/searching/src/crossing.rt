@@ -10,6 +10,7 @@ use crate::moment::Moment;
 use crate::parting::{has_come_to, last_before, parting_time};
 use crate::path::{Checkpoint, Path};
 use crate::table::{Row, Table};
+use crate::world::World;
 use base::limits::CHANNELS;
 use choices::{Choice, Choices, Part, Slot};
 use clock::{Delays, Schedule};
@@ -60,7 +61,7 @@ pub(crate) fn cross<R: Ready, D: Delays>(
     if met.is_some() {
         return Ok(met);
     }
-    keep_checkpoint(alloc, execution, choices, choice, moment, front, left, path)?;
+    keep_checkpoint(execution, choices, choice, moment, front, left, path)?;
     Ok(None)
 }
 
@@ -133,7 +134,7 @@ fn is_met<R: Ready, D: Delays>(
     };
     let last = last_before(time);
     let values = values_at(alloc, schedule, last)?;
-    let own = digest_with(digest_of_values(digest, &values), front as u64);
+    let own = row_digest(digest, &values, front);
     if table.has_met(own, choice, front, time, &values, moment.world()) {
         return Ok(true);
     }
@@ -166,7 +167,6 @@ fn crossed_time<R: Ready, D: Delays>(
 
 // Keeps the world of a moment for runs on later choices to go on from, if it stands before the times of the slots after the first `front` ones.
 fn keep_checkpoint<R: Ready, D: Delays>(
-    alloc: Global,
     execution: &Execution<'_, '_, R, D>,
     choices: &Choices,
     choice: &Choice,
@@ -188,9 +188,43 @@ fn keep_checkpoint<R: Ready, D: Delays>(
     let Some(time) = crossed_time(execution, choices, &moment, front) else {
         return Ok(());
     };
-    let checkpoint = Checkpoint::new(alloc, choice, front, time, left, moment)?;
+    let (world, pause) = moment.into_parts();
+    let Some(pause) = pause else {
+        return Ok(());
+    };
+    let checkpoint = Checkpoint::new(choice, front, time, left, world, pause)?;
     path.push(checkpoint)?;
     Ok(())
+}
+
+/// Whether the table has a world that the run meets, if its next step leads to the time of the slot after the first `front` ones.
+///
+/// # Errors
+/// Where memory was refused.
+pub(crate) fn is_known(
+    alloc: Global,
+    slots: &[Slot],
+    choice: &Choice,
+    schedule: &Schedule,
+    front: usize,
+    world: &World,
+    table: &Table,
+) -> Result<bool, AllocError> {
+    let Some(slot) = slots.get(front) else {
+        return Ok(false);
+    };
+    let time = slot.time();
+    if time <= 0 {
+        return Ok(false);
+    }
+    let values = values_at(alloc, schedule, last_before(time))?;
+    let own = row_digest(world.digest(), &values, front);
+    Ok(table.has_met(own, choice, front, time, &values, world))
+}
+
+// The digest of a row, by that of its world.
+fn row_digest(world: u64, values: &[i64], front: usize) -> u64 {
+    digest_with(digest_of_values(world, values), front as u64)
 }
 
 // The values of all channels at a time.

@@ -1,12 +1,15 @@
 //! Worlds just before a step that may be the last one before the clock moves on.
-ghost use Rattle.std.specs.Prelude.{◌≡◌, IfOk, IfSome, false, true};
+ghost use Rattle.std.specs.Prelude.{◌≡◌, IfOk, IfSome, false, option_map, true};
 ghost use Rattle.execution.specs.Held.{world_of};
 ghost use Rattle.likeness.specs.Schedules.{reads_input};
 ghost use Rattle.likeness.specs.Worlds.{ReadsNothing};
-ghost use Rattle.searching.specs.Following.{IsMomentOf, NoneBefore};
+ghost use Rattle.searching.specs.Following.{IsMomentOf, IsPauseOf, NoneBefore};
 
+use crate::crossing::is_known;
+use crate::table::Table;
 use crate::world::World;
-use clock::Delays;
+use choices::{Choice, Choices, Slot};
+use clock::{Delays, Schedule};
 use dispatch::Ready;
 use execution::Execution;
 use image::Operation;
@@ -14,46 +17,57 @@ use std::alloc::{AllocError, Global};
 use std::marker::Model;
 use tasking::Pause;
 
-/// A world in which a run is, a copy of its tasks and objects, and the time of its next interrupt, before a step that reads no input.
+/// A world in which a run is, a copy of its tasks and objects unless the table has the world, and the time of its next interrupt, before a step that reads no
+/// input.
 #[derive(Drop)]
 pub(crate) struct Moment {
     world: World,
-    pause: Pause,
+    pause: Option<Box<Pause>>,
     next: Option<i64>,
 }
 
 impl Model for Moment {
+    ghost use Rattle.std.specs.Prelude.{option_map};
     ghost use Rattle.searching.specs.Following.{KeptMoment};
 
     ghost Value = { KeptMoment };
 
-    ghost view = { λ m. record { world = m.world; pause = m.pause; next = m.next } };
+    ghost view = { λ m. record { world = m.world; pause = option_map (λ b. b.value) m.pause; next = m.next } };
 
     ghost invariant = { λ m. Unit {0} };
 }
 
 impl Moment {
-    /// The world in which a run is, if its next step may be the last one before the clock moves on: no task is ready, and the step may leave the processor.
+    /// The world in which a run is, if its next step may be the last one before the time of the slot after the first `front` ones: no task is ready, nobody
+    /// wakes sooner, and the step may leave the processor.
     ///
     /// # Errors
     /// Where memory was refused.
     pub(crate) fn of<R: Ready, D: Delays>(
         alloc: Global,
         execution: &Execution<'_, '_, R, D>,
+        choices: &Choices,
+        choice: &Choice,
+        schedule: &Schedule,
+        front: usize,
+        table: &Table,
     ) -> Result<Option<Moment>, AllocError>
         ensures { IfOk result (λ moment. IfSome moment (IsMomentOf execution.now)) }
     {
         if !may_leave(execution) {
             return Ok(None);
         }
+        let slots = choices.slots();
+        if !may_pass(execution, slots, front) {
+            return Ok(None);
+        }
         let world = World::of(alloc, execution)?;
         let Some(world) = world else {
             return Ok(None);
         };
+        let is_known = is_known(alloc, slots, choice, schedule, front, &world, table)?;
+        let pause = pause_of(alloc, execution, is_known)?;
         let tasking = execution.tasking();
-        let Some(pause) = tasking.pause() else {
-            return Ok(None);
-        };
         let next = tasking.next_interrupt();
         Ok(Some(Moment { world, pause, next }))
     }
@@ -65,10 +79,10 @@ impl Moment {
         &self.world
     }
 
-    /// The world, and the copy of its tasks and objects.
-    pub(crate) fn into_parts(self) -> (World, Pause)
+    /// The world, and the copy of its tasks and objects, if one was made.
+    pub(crate) fn into_parts(self) -> (World, Option<Box<Pause>>)
         ensures world { result.0 ≡ self.world }
-        ensures pause { result.1 ≡ self.pause }
+        ensures pause { option_map (λ b. b.value) result.1 ≡ self.pause }
     {
         let Moment {
             world,
@@ -87,6 +101,44 @@ impl Moment {
             Some(next) => next < time,
         }
     }
+}
+
+// Whether the next step may lead to the time of the slot after the first `front` ones or past it: nobody wakes sooner.
+fn may_pass<R: Ready, D: Delays>(
+    execution: &Execution<'_, '_, R, D>,
+    slots: &[Slot],
+    front: usize,
+) -> bool {
+    let Some(slot) = slots.get(front) else {
+        return false;
+    };
+    let time = slot.time();
+    let sleepers = execution.tasking().sleepers();
+    for sleeper in sleepers.as_slice() {
+        if sleeper.wake < time {
+            return false;
+        }
+    }
+    true
+}
+
+// A copy of the tasks and objects of a run, for later runs to go on from, if nothing is known of its world.
+fn pause_of<R: Ready, D: Delays>(
+    alloc: Global,
+    execution: &Execution<'_, '_, R, D>,
+    is_known: bool,
+) -> Result<Option<Box<Pause>>, AllocError>
+    ensures { IfOk result (λ pause. IfSome (option_map (λ b. b.value) pause) (IsPauseOf execution.now)) }
+{
+    if is_known {
+        return Ok(None);
+    }
+    let tasking = execution.tasking();
+    let Some(pause) = tasking.pause() else {
+        return Ok(None);
+    };
+    let pause = Box::new(alloc, pause)?;
+    Ok(Some(pause))
 }
 
 // Whether the next step is one by which a task or a handler may leave the processor. Such a step reads no input.

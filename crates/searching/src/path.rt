@@ -5,7 +5,6 @@ ghost use Rattle.image.specs.Sections.{Sections};
 ghost use Rattle.searching.specs.Following.{AreCheckpoints, IsCheckpoint};
 ghost use Rattle.searching.specs.declared.sight.Wanted.{Wanted as Asked};
 
-use crate::moment::Moment;
 use crate::world::World;
 use choices::Choice;
 use execution::Contents;
@@ -38,24 +37,21 @@ impl Model for Checkpoint {
 }
 
 impl Checkpoint {
-    /// The world of a moment on the way of the run on a choice.
+    /// A world on the way of the run on a choice, and a copy of its tasks and objects.
     ///
     /// # Errors
     /// Where memory was refused.
     pub(crate) fn new(
-        alloc: Global,
         choice: &Choice,
         front: usize,
         time: i64,
         left: u64,
-        moment: Moment,
+        world: World,
+        pause: Box<Pause>,
     ) -> Result<Checkpoint, AllocError>
-        ensures { IfOk result (λ c. c ≡
-            record { choice = choice.now; front = front; time = time; left = left; world = moment.world; pause = moment.pause }) }
+        ensures { IfOk result (λ c. c ≡ record { choice = choice.now; front = front; time = time; left = left; world = world; pause = pause.value }) }
     {
         let choice = choice.copy()?;
-        let (world, pause) = moment.into_parts();
-        let pause = Box::new(alloc, pause)?;
         Ok(Checkpoint {
             choice,
             front,

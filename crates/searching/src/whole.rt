@@ -1,8 +1,16 @@
 //! The search through all schedules of a part of a set.
-ghost use Rattle.std.specs.Prelude.{◌≡◌, IfOk, IfSome, None, OnOk, true};
-ghost use Rattle.searching.specs.Following.{AreCheckpoints, AreKeptRows};
-ghost use Rattle.searching.specs.Passing.{ComesOut, MayGoOn, Through};
+ghost use Rattle.std.specs.Prelude.{◌≡◌, ℕ, ℤ, IfOk, IfSome, IsTrue, None, OnOk, true};
+ghost use Rattle.base.specs.Schedule.{is_schedule};
+ghost use Rattle.choices.specs.Parts.{is_of_part};
+ghost use Rattle.choices.specs.Places.{AreWithin, taken};
+ghost use Rattle.choices.specs.Slots.{lines_of};
+ghost use Rattle.choices.specs.declared.part.Part.{Part as SetPart};
+ghost use Rattle.image.specs.Sections.{Sections};
+ghost use Rattle.searching.specs.Following.{AreCheckpoints, AreKeptRows, ComesAlong};
+ghost use Rattle.searching.specs.Meeting.{schedule_of};
+ghost use Rattle.searching.specs.Passing.{ComesOut, MayGoOn, RunComesTo, Through};
 ghost use Rattle.searching.specs.Searches.{FindsFirst, Searches};
+ghost use Rattle.searching.specs.declared.sight.Wanted.{Wanted as Asked};
 
 use crate::beginning::begin;
 use crate::following::{Followed, follow};
@@ -113,11 +121,6 @@ fn pass<'a, L: Ledger>(
     ensures rows { OnOk result (AreKeptRows image.now choices.now part table.new) }
     ensures rooms { OnOk result (IfSome rooms.new (λ r. r ≡ image.now)) }
 {
-    left_unmoved();
-    outcome_stays();
-    lines_apart();
-    lines_unread();
-    let _slots = choices.slots();
     if !choice.is_of_part(choices, part) {
         choice.go_to_last(choices, part.front(choices));
         return Ok(None);
@@ -125,44 +128,84 @@ fn pass<'a, L: Ledger>(
     *runs = runs.saturating_add(1);
     let schedule = choice.schedule(alloc, choices)?;
     path.keep_those_of(choice);
-    let begun = begin(
-        alloc,
-        image,
-        choices,
-        choice,
-        &schedule,
-        limit,
-        path,
-        rooms.take(),
-    )?;
-    let (mut execution, midst) = begun;
-    let followed = follow(
-        alloc,
-        &mut execution,
-        choices,
-        part,
-        choice,
-        &schedule,
-        midst,
-        until,
-        limit,
-        wanted,
-        path,
-        table,
+    let followed = run_on(
+        alloc, image, choices, part, choice, &schedule, until, limit, wanted, path, table, rooms,
         steps,
     )?;
-    *rooms = Some(execution.into_rooms());
+    Ok(conclude(choices, choice, schedule, followed))
+}
+
+// What the run on a choice of the part comes to, in these rooms, where the checkpoints are on its way.
+fn run_on<'a, L: Ledger>(
+    alloc: Global,
+    image: &'a Image,
+    choices: &Choices,
+    part: Part,
+    choice: &Choice,
+    schedule: &Schedule,
+    until: i64,
+    limit: u64,
+    wanted: Wanted<'_>,
+    path: &mut Path,
+    table: &mut Table,
+    rooms: &mut Option<Rooms<'a>>,
+    steps: &mut Steps<L>,
+) -> Result<Followed, AllocError>
+    requires schedule { schedule.now ≡ schedule_of choices.now choice.now }
+    requires lawful { IsTrue (is_schedule schedule.now) }
+    requires within { AreWithin choices.now choice.now }
+    requires is_of { is_of_part part choices.now choice.now ≡ true }
+    requires checkpoints { AreCheckpoints image.now choices.now until limit wanted path.old }
+    requires rows { AreKeptRows image.now choices.now part table.old }
+    requires rooms { IfSome rooms.old (λ r. r ≡ image.now) }
+    ensures comes { IfOk result (ComesAlong image.now choices.now part until limit wanted.entry choice.now) }
+    ensures checkpoints { OnOk result (AreCheckpoints image.now choices.now until limit wanted.entry path.new) }
+    ensures rows { OnOk result (AreKeptRows image.now choices.now part table.new) }
+    ensures rooms { OnOk result (IfSome rooms.new (λ r. r ≡ image.now)) }
+{
+    let taken = rooms.take();
+    let begun = begin(alloc, image, choices, choice, schedule, limit, path, taken)?;
+    let (mut run, midst) = begun;
+    let followed = follow(
+        alloc, &mut run, choices, part, choice, schedule, midst, until, limit, wanted, path, table,
+        steps,
+    )?;
+    *rooms = Some(run.into_rooms());
+    Ok(followed)
+}
+
+// What the search comes to by the run on a choice, if to anything. If it comes to nothing, the choice becomes the last one under whose schedule nothing is
+// found, by this run.
+fn conclude(
+    choices: &Choices,
+    choice: &mut Choice,
+    schedule: Schedule,
+    followed: Followed,
+) -> Option<Searched>
+    requires within { AreWithin choices.now choice.old }
+    requires schedule { schedule ≡ lines_of choices.now (taken choices.now choice.old) }
+    ensures found { (i : Sections) (part : SetPart) (until : ℤ) (limit : ℕ) (wanted : Asked)
+        → RunComesTo i choices.now part until limit wanted choice.old followed → IfSome result (ComesOut i choices.now part until limit wanted) }
+    ensures passed { (i : Sections) (part : SetPart) (until : ℤ) (limit : ℕ) (wanted : Asked)
+        → RunComesTo i choices.now part until limit wanted choice.old followed → result ≡ None
+        → MayGoOn i choices.now part until limit wanted choice.old choice.new }
+{
+    left_unmoved();
+    outcome_stays();
+    lines_apart();
+    lines_unread();
+    let _slots = choices.slots();
     match followed {
-        Followed::Found(finding) => Ok(Some(Searched::Found(schedule, finding))),
-        Followed::TooLong(time) => Ok(Some(Searched::TooLong(schedule, time))),
-        Followed::Nothing => Ok(None),
+        Followed::Found(finding) => Some(Searched::Found(schedule, finding)),
+        Followed::TooLong(time) => Some(Searched::TooLong(schedule, time)),
+        Followed::Nothing => None,
         Followed::Met(front) => {
             choice.go_to_last(choices, front);
-            Ok(None)
+            None
         }
         Followed::Over(front) => {
             choice.go_to_last(choices, front);
-            Ok(None)
+            None
         }
     }
 }

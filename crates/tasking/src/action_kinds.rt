@@ -59,10 +59,20 @@ pub(crate) fn copied_kinds(
     ensures { map (λ l. l.items) result ≡ map (λ l. l.items) kinds.now }
 {
     let mut copies: [ArrayVec<Kind, OBJECTS>; TASKS + 1] = Default::default();
-    for row in 0..TASKS + 1 {
-        put_kinds(&mut copies, row, kinds[row].as_slice());
-    }
+    restore_kinds(&mut copies, kinds);
     copies
+}
+
+// The kinds of all rows become as others are.
+pub(crate) fn restore_kinds(
+    kinds: &mut [ArrayVec<Kind, OBJECTS>; TASKS + 1],
+    others: &[ArrayVec<Kind, OBJECTS>; TASKS + 1],
+)
+    ensures { map (λ l. l.items) kinds.new ≡ map (λ l. l.items) others.now }
+{
+    for row in 0..TASKS + 1 {
+        put_kinds(kinds, row, others[row].as_slice());
+    }
 }
 
 // The kinds of a row become these.
@@ -71,17 +81,10 @@ fn put_kinds(kinds: &mut [ArrayVec<Kind, OBJECTS>; TASKS + 1], row: usize, list:
     requires few { length list.now ≤ OBJECTS }
     ensures { map (λ l. l.items) kinds.new ≡ set (map (λ l. l.items) kinds.old) row list.now }
 {
-    kinds[row] = copied(list);
-}
-
-// Kinds in a fixed list.
-fn copied(kinds: &[Kind]) -> ArrayVec<Kind, OBJECTS>
-    requires { length kinds.now ≤ OBJECTS }
-    ensures { result.items ≡ kinds.now }
-{
-    let mut list = ArrayVec::new();
-    for kind in kinds {
-        list.push(*kind);
+    let place = &mut kinds[row];
+    place.clear();
+    match place.try_extend_from_slice(list) {
+        Ok(()) => {}
+        Err(_) => unreachable!(),
     }
-    list
 }

@@ -8,7 +8,7 @@ mod pause;
 mod reports;
 mod tasking;
 
-pub use pause::Pause;
+pub use pause::{Pause, Tables};
 pub use protected::Refusal;
 pub use reports::{Ended, Ending, Outcome, Place};
 pub use tasking::{ACTORS, Attached, Tasking};

@@ -30,3 +30,10 @@ impl Model for Pause {
     ghost invariant = { λ p. Kept (held p.running p.handler (λ priority. []) p.sleepers.items p.objects (map (λ l. l.items) p.kinds) p.places p.time None
         [] []) };
 }
+
+/// The memory of the tables of open actions, for another run.
+#[derive(Drop)]
+pub struct Tables {
+    pub(crate) objects: Objects,
+    pub(crate) kinds: [ArrayVec<Kind, OBJECTS>; TASKS + 1],
+}

@@ -13,8 +13,10 @@ ghost use Rattle.tasking.specs.Held.{action_of, ending_as, index_in, innermost, 
 ghost use Rattle.tasking.specs.Waits.{wake_time};
 ghost use Rattle.tasking.specs.Orderly.{AreAwoken, BeginsAttached, IsNowhere, IsOfObject, IsOrderly, IsTask, StandsThere, MayEnd, due, inside_of, is_above, is_gone, least_of, time_ahead, waiting};
 
-use crate::action_kinds::{close_kind, copied_kinds, innermost_kind, open_kind, serve_kind};
-use crate::pause::Pause;
+use crate::action_kinds::{
+    close_kind, copied_kinds, innermost_kind, open_kind, restore_kinds, serve_kind,
+};
+use crate::pause::{Pause, Tables};
 use crate::reports::{Ending, Kind, Outcome, Place};
 use arrayvec::ArrayVec;
 use base::ScheduleLine;
@@ -200,20 +202,31 @@ impl<'a, R: Ready, D: Delays> Tasking<'a, R, D> {
         }
     }
 
-    /// What there is a copy of, with these lines of a schedule as pending interrupts where their channel has a handler (RM C.3).
-    pub fn resume(pause: &Pause, attached: Attached, lines: &'a [ScheduleLine]) -> Self
+    /// What there is a copy of, in these tables, with these lines of a schedule as pending interrupts where their channel has a handler (RM C.3).
+    pub fn resume(
+        pause: &Pause,
+        tables: Tables,
+        attached: Attached,
+        lines: &'a [ScheduleLine],
+    ) -> Self
         requires channels { length attached ≤ CHANNELS + 1 }
         requires attached { AreAttached (kernel_of pause.now).partition (pending_of attached lines.now) }
         ensures kernel { kernel_of result ≡ record (kernel_of pause.now) { pending = pending_of attached lines.now } }
         ensures handler { result.handler ≡ pause.now.handler }
     {
+        let Tables {
+            mut objects,
+            mut kinds,
+        } = tables;
+        objects.restore(&pause.objects);
+        restore_kinds(&mut kinds, &pause.kinds);
         Tasking {
             running: pause.running,
             handler: pause.handler,
             ready: R::new(),
             delays: sleeping(pause.sleepers.as_slice()),
-            objects: pause.objects.copy(),
-            kinds: copied_kinds(&pause.kinds),
+            objects,
+            kinds,
             places: pause.places,
             time: pause.time,
             outcome: None,
@@ -844,5 +857,25 @@ impl<'a, R: Ready, D: Delays> Tasking<'a, R, D> {
         ensures { kernel_of self.new ≡ record (kernel_of self.old) { outcome = Some (outcome_of outcome) } }
     {
         self.outcome = Some(outcome);
+    }
+}
+
+impl<'a, R: Ready + Drop, D: Delays + Drop> Tasking<'a, R, D> {
+    /// The memory of its tables of open actions, for another run.
+    pub fn into_tables(self) -> Tables {
+        let Tasking {
+            running: _,
+            handler: _,
+            ready: _,
+            delays: _,
+            objects,
+            kinds,
+            places: _,
+            time: _,
+            outcome: _,
+            attached: _,
+            ahead: _,
+        } = self;
+        Tables { objects, kinds }
     }
 }

@@ -44,7 +44,7 @@ resume-requires-clause-whole c =
     c.instructions-instructions.ensures.well_formed c.steps_whole.ensures.starts c.steps_whole.ensures.steps))))
 
 pub returns-clause-image : goal.returns-clause-image
-returns-clause-image c = c.resume.ensures.image ∙ c.requires.rooms
+returns-clause-image c = c.in_ok-execution.ensures.image ∙ c.requires.rooms
 
 pub returns-clause-stands : goal.returns-clause-stands
 returns-clause-stands c = λ until wanted is.
@@ -54,15 +54,15 @@ returns-clause-stands c = λ until wanted is.
     let cp = c.args.checkpoint.now in
     let stays = c.outcome_stays.ensures in
     let lawful = c.slots-slots.ensures.lawful in
-    let h = c.resume.result in
+    let h = c.in_ok-execution.execution in
     let t : to_z w64 (of_z w64 c.time.result) ≡ cp.time = search (rules, c.time.ensures) in
     let count : c.count_before-passed.result ≡ prefix_len (λ l. int_lt l.time cp.time) c.args.schedule.now =
     c.count_before-passed.ensures.same ∙ (λ j. prefix_len (λ l. int_lt l.time (t j)) (c.lines.ensures j)) in
     let left = passed_is stays i slots lawful until c.args.limit wanted cp is places c.requires.within c.requires.on_way c.args.schedule.now c.count_before-passed.result
     c.requires.schedule count in
-    let world = c.resume.ensures.world
+    let world = c.in_ok-execution.ensures.world
     ∙ (λ j. world_in (c.requires.rooms j) (c.contents.ensures j) (c.pause.ensures j) (interrupts (c.requires.rooms j) (left j))) in
-    let stands = resumed_stands stays i slots lawful until c.args.limit wanted cp is places c.requires.within c.requires.on_way h (c.resume.ensures.image ∙ c.requires.rooms)
-    (c.resume.ensures.schedule ∙ c.requires.schedule) world in
+    let stands = resumed_stands stays i slots lawful until c.args.limit wanted cp is places c.requires.within c.requires.on_way h (c.in_ok-execution.ensures.image ∙ c.requires.rooms)
+    (c.in_ok-execution.ensures.schedule ∙ c.requires.schedule) world in
     subst (λ s. Standing i s until c.args.limit wanted h (kernel_of h.tasking).now cp.left) (sym c.requires.schedule)
     (subst (λ n. Standing i (schedule_of slots places) until c.args.limit wanted h n cp.left) stands.now_is stands)

@@ -10,5 +10,5 @@ returns g c =
     let w : CodeWorld = world_of h in
     let task = c.in_ok-task.task in
     let runs = c.in_ok-task.ensures.runs in
-    ap Some (c.address.ensures ∙ ap {A = HeldWorld} (λ q. (tasks_of q task).frame.place) c.self.view_is)
+    ap Some (c.address.ensures ∙ ap {A = HeldWorld} (λ q. (tasks_of q task).frame.place) c.state.ensures.same)
     ∙ sym (ap (λ o. address_by w o w.kernel.running) runs.on ∙ ap (address_by w None) runs.running)

@@ -14,5 +14,5 @@ returns g c = λ lines.
     let task = c.in_ok-task.task in
     let runs = c.in_ok-task.ensures.runs in
     c.asking_ahead.ensures lines
-    ∙ (ap {A = HeldWorld} (λ q. asking_ahead q.image q.schedule (record (kernel_of q.tasking) { lines = lines }) task (solo_of task (rest_of q)).task) c.self.view_is
+    ∙ (ap {A = HeldWorld} (λ q. asking_ahead q.image q.schedule (record (kernel_of q.tasking) { lines = lines }) task (solo_of task (rest_of q)).task) c.state.ensures.same
     ∙ sym (ap (λ o. asking_by h.image h.schedule w o w.kernel.running) runs.on ∙ ap (asking_by h.image h.schedule w None) runs.running))

@@ -14,5 +14,5 @@ returns g c = λ lines.
     let task = c.in_ok-task.task in
     let runs = c.in_ok-task.ensures.runs in
     c.raising_ahead.ensures lines
-    ∙ (ap {A = HeldWorld} (λ q. raising_ahead q.image q.schedule (record (kernel_of q.tasking) { lines = lines }) task (solo_of task (rest_of q))) c.self.view_is
+    ∙ (ap {A = HeldWorld} (λ q. raising_ahead q.image q.schedule (record (kernel_of q.tasking) { lines = lines }) task (solo_of task (rest_of q))) c.state.ensures.same
     ∙ sym (ap (λ o. raising_by h.image h.schedule w o w.kernel.running) runs.on ∙ ap (raising_by h.image h.schedule w None) runs.running))

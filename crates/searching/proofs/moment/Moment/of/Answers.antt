@@ -1,4 +1,4 @@
-use Rattle.std.proofs.Common.{ap, rules, subst, ◌∙◌, []}
+use Rattle.std.proofs.Common.{ap, rules, subst, ◌∙◌}
 use Rattle.std.specs.Prelude.{IfSome}
 use Rattle.tasking.specs.Held.{kernel_of}
 use Rattle.tasking.specs.Orderly.{time_ahead}
@@ -10,10 +10,7 @@ returns g c =
     let same = c.tasking-tasking.ensures.same in
     record {
       seen = subst (λ o. IfSome o (IsSeenIn c.args.execution.now)) c.in-Some.is c.in_ok-world.ensures;
-      pause = record {
-        handler = c.in-Some-pause.ensures.handler ∙ ap (λ t. t.handler) same;
-        kernel = c.in-Some-pause.ensures.kernel ∙ ap (λ t. record (kernel_of t) { pending = [] }) same;
-      };
+      pause = c.in_ok-pause.ensures;
       next = c.next_interrupt-next.ensures ∙ ap (λ t. time_ahead (kernel_of t).pending) same;
       blind = c.may_leave.ensures (search (rules, c.if-not-may_leave.false));
     }
