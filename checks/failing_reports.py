@@ -5,8 +5,8 @@ a pipe that nobody reads: standard output, the files and the exit status are wha
     failing_reports.py PROGRAM WRITING SCRATCH
 
 WRITING is what makes a write go wrong, and tells that it did (streams.c). The status says the cause (docs/FORMATS.md, "Exit statuses"), whatever standard error takes,
-but for `check`, whose status is 1 where it takes no more ("Commands"). Of what is reported parts are left out, all in its order, and nothing else is written; where
-writes take one byte, all of it is there.
+but for `check`, whose status is 1 where it takes no more ("Commands"). What is reported then is a beginning of what it is otherwise; where writes take one byte,
+all of it is there.
 """
 import os
 import subprocess
@@ -44,12 +44,6 @@ CALLS = [
 ]
 # What is written where nothing is reported.
 SILENT = [["go", "ends.adb", "empty", "100000"], ["simulate", "ends.adb"], ["check", "ends.adb"], ["compile", "ends.adb", "new.img"], ["version"]]
-
-
-def is_part(some, whole):
-    """Whether these bytes are some of those, in their order."""
-    rest = iter(whole)
-    return all(byte in rest for byte in some)
 
 
 class Call:
@@ -90,7 +84,7 @@ class Call:
             if not is_reached:
                 self.expect(left == self.ample, f"no write {number}, {how}", left)
                 return number - 1
-            is_less = is_part(left[1], self.ample[1]) and left[1] != self.ample[1]
+            is_less = self.ample[1].startswith(left[1]) and left[1] != self.ample[1]
             self.expect(is_less and (left[0], left[2]) == (self.ample[0], self.status), f"write {number}, {how}", left)
         return MOST
 

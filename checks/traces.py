@@ -66,12 +66,18 @@ def objects_of(source):
     return [name for name in re.findall(r"\bPROTECTED\s+(\w+)", text) if name != "BODY"]
 
 
-def world_of(program, folder, source, schedule, names=()):
+def bodies_of(source):
+    """The names of the bodies that a source has, in their order, in upper case, which is that of the image's subprograms."""
+    text = re.sub(r"--[^\n]*|\"[^\"\n]*\"", " ", source.decode("latin-1")).upper()
+    return re.findall(r"\b(?:PROCEDURE|FUNCTION|ENTRY|TASK\s+BODY)\s+(\w+)\s*(?:\([^()]*\)\s*)?(?:RETURN\s+\w+\s+)?(?:WHEN\s+\w+\s+)?IS\b", text)
+
+
+def world_of(program, folder, source, schedule, names=(), bodies=()):
     """The reference's world at the start of what the program compiles of a source."""
     write(os.path.join(folder, "main.adb"), source)
     subprocess.run([program, "compile", "main.adb", "main.img"], cwd=folder, capture_output=True, check=False)
     lines = [tuple(map(int, line.split())) for line in schedule.decode().splitlines()]
-    return World(read(os.path.join(folder, "main.img")), lines, names)
+    return World(read(os.path.join(folder, "main.img")), lines, names, bodies)
 
 
 def write(path, content):
@@ -100,7 +106,7 @@ class Comparer:
             write(os.path.join(self.folder, file), content)
 
     def reference_of(self, source, schedule, until=None):
-        return world_of(self.program, self.folder, source, schedule, objects_of(source)).trace(STEPS, until)
+        return world_of(self.program, self.folder, source, schedule, objects_of(source), bodies_of(source)).trace(STEPS, until)
 
     def compare_timed(self, name, source, schedule, whole):
         """Traces and simulates the source that was written up to the half of the last time of its whole trace."""

@@ -1,5 +1,5 @@
 -- The layers of compiling, one behind another.
-use Rattle.std.proofs.Common.{◌≡◌, ◌<◌, ◌⊎◌, arith, ℕ, List, [], None, Result, Ok, Err, ap, inl, inr, subst, sym}
+use Rattle.std.proofs.Common.{◌≡◌, ◌<◌, ◌⊎◌, ◌∙◌, arith, ℕ, List, [], None, Result, Ok, Err, ap, inl, inr, subst, sym}
 use Rattle.std.proofs.lemmas.List.Elements.{All-contains}
 use Rattle.std.specs.List.{Contains}
 use Rattle.std.specs.Prelude.{IfOk, IfErr}
@@ -24,6 +24,7 @@ use Rattle.compiler.specs.expr_code.specs.Coming.{most_steps}
 use Rattle.compiler.specs.Compiled.{IsBounded, KeepsTokenCounts}
 use Rattle.source_laws.specs.Limits.{SmallIsUnlimited}
 use Rattle.adarun.specs.Naming.{CompilesNamed, objects_of}
+use Rattle.adarun.specs.Operations.{subprogram_names}
 use Rattle.adarun.specs.declared.compilation.Named.{Named}
 use Rattle.adarun.specs.Accepted.{CompilesAccepted, IsJudged, IsTextFault, IsTreeOf, RefusesAccepted, RefusesText, RefusesTree}
 
@@ -55,6 +56,13 @@ compiles (Ok n) text tokens list read spells same derives checked is legal restr
       placed = placed;
     }
 compiles (Err e) text tokens list read spells same derives checked is legal restricted means counted bounded within well_formed names placed = tt
+
+-- the names of bodies are those of each tree of the text
+pub named_bodies : {E : Type 0} (r : Result Named E) (text : List ℕ) (made : ProgramTree) → ((tree : ProgramTree) → IsTreeOf tree text → made ≡ tree)
+    → IfOk r (λ n. n.subprograms.items ≡ subprogram_names made)
+    → IfOk r (λ n. (tree : ProgramTree) → IsTreeOf tree text → n.subprograms.items ≡ subprogram_names tree)
+named_bodies (Ok n) text made only bodies = λ tree is_tree. bodies ∙ ap subprogram_names (only tree is_tree)
+named_bodies (Err e) text made only bodies = tt
 
 -- what is told of an accepted text where its tree is refused, by the laws of source texts
 abbrev Tells : List ℕ → ProgramTree → Type 0

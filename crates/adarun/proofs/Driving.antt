@@ -24,7 +24,7 @@ use Rattle.adarun.specs.Accepted.{RefusesText}
 use Rattle.adarun.specs.Headline.{Runs}
 use Rattle.adarun.specs.Stopping.{RefusesRunning}
 use Rattle.adarun.specs.Driving.{HasLoaded, HasRun, HasRunImage, HasRunUntil, HasTraced, KeepsSink, LeavesGo, LeavesRun, LeavesTrace, LeavesUntil, number_of, status_of, text_of}
-use Rattle.adarun.specs.Origins.{origin_in}
+use Rattle.adarun.specs.Origins.{known_in}
 use Rattle.adarun.specs.Reading.{Contents, IsBeginningRead}
 use Rattle.adarun.specs.Timed.{WritesItsMeaningUntil}
 use Rattle.adarun.specs.declared.going.GoFault.{GoFault}
@@ -160,11 +160,12 @@ asked_nothing command error is answers = sym (subst (λ e. AnswersWords command 
 -- ---- `trace`: what is told of equal names and texts is the same
 
 pub told_alike : (form : TraceForm) (W : List ℕ → Type 0) (image : Sections) (places : List PlaceRow) (lines : List ScheduleLine) (bound : Bound)
-    → (lent names : List (List ℕ)) (shown text : List ℕ) → lent ≡ names → shown ≡ text
-    → W (text_of form image lent (origin_in shown places) lines bound) → W (text_of form image names (origin_in text places) lines bound)
-told_alike form W image places lines bound lent names shown text same_names same_text told =
-    subst (λ n. W (text_of form image n (origin_in text places) lines bound)) same_names
-    (subst (λ t. W (text_of form image lent (origin_in t places) lines bound)) same_text told)
+    → (lent names own bodies : List (List ℕ)) (shown text : List ℕ) → lent ≡ names → own ≡ bodies → shown ≡ text
+    → W (text_of form image lent (known_in shown image places own) lines bound) → W (text_of form image names (known_in text image places bodies) lines bound)
+told_alike form W image places lines bound lent names own bodies shown text same_names same_bodies same_text told =
+    subst (λ n. W (text_of form image n (known_in text image places bodies) lines bound)) same_names
+    (subst (λ o. W (text_of form image lent (known_in text image places o) lines bound)) same_bodies
+    (subst (λ t. W (text_of form image lent (known_in t image places own) lines bound)) same_text told))
 
 -- a schedule that is refused leaves what it leaves to `go`
 

@@ -4,6 +4,7 @@ mod Calling
 mod Reaching
 mod Compiling
 mod CodeTold
+mod BodyNames
 mod Named
 mod Reported
 mod Running

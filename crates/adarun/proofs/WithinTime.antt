@@ -20,7 +20,6 @@ use Rattle.image.specs.Code.{code, partition_of, start}
 use Rattle.image.specs.Rules.{IsWellFormed}
 use Rattle.image.specs.Sections.{Sections}
 use Rattle.image.specs.Steps.{behaviour, is_open}
-use Rattle.image.specs.Texts.{names_of}
 use Rattle.image_laws.specs.Laws.{KernelKept}
 use Rattle.compiler.specs.ada_tree.specs.ProgramTree.{ProgramTree}
 use Rattle.compiler.specs.expr_code.specs.Coming.{most_steps}
@@ -32,7 +31,7 @@ use Rattle.compiler.specs.meaning.specs.Works.{Store, TaskWork}
 use Rattle.compiler.specs.Compiled.{IsBounded}
 use Rattle.likeness.proofs.Late.{AreFrom, Late, WritesAtOnce, run_late, step_at_once}
 use Rattle.likeness.proofs.Onward.{IsAhead, begins_ahead, run_onward}
-use Rattle.machine.specs.Bounds.{IsCutByTime, IsTimeBound, bounded_text, cut_line}
+use Rattle.machine.specs.Bounds.{IsTimeBound, bounded_text, cut_line}
 use Rattle.machine.specs.Stands.{EndsBy}
 use Rattle.machine.specs.declared.bound.Bound.{Bound}
 use Rattle.machine.specs.declared.bound.Cut.{Cut}
@@ -40,7 +39,7 @@ use Rattle.machine.specs.declared.bound.Cut.TheVariants as cuts
 use Rattle.machine.specs.declared.reports.Outcome as machine
 use Rattle.machine.proofs.Runs.{starts_without_lines}
 use Rattle.adarun.specs.Accepted.{Compiles}
-use Rattle.adarun.specs.Timed.{AreAfter, AreUpTo, StopsAtTime, StopsBy, WritesItsMeaningUntil, WritesUntil, cut_text}
+use Rattle.adarun.specs.Timed.{AreAfter, AreUpTo, StopsBy, WritesItsMeaningUntil, WritesUntil, cut_text}
 use Rattle.adarun.proofs.Between.{IsReached, ShowsAs, grows, reached, shown}
 use Rattle.adarun.proofs.Reaching.{ImageLaws, source_far}
 use Rattle.adarun.proofs.Running.{same_names}

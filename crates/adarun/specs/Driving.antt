@@ -31,8 +31,8 @@ use Rattle.machine.specs.declared.reports.Outcome.{Outcome}
 use Rattle.machine.specs.declared.reports.Outcome.TheVariants as outcomes
 use Rattle.searching.specs.declared.sight.Wanted.{Wanted}
 use Rattle.searching.specs.declared.sight.Wanted.TheVariants as sights
+use Rattle.tracing.specs.Known.{Known}
 use Rattle.tracing.specs.Traces.{trace_text}
-use Rattle.tracing.specs.declared.origin.Origin.{Origin}
 use Rattle.waveforms.specs.Waves.{waves_text}
 use Rattle.command_line.specs.Words.{CheckText, Command, CompileText, DumpText, DumpUntil, ExplainFault, ExplainText, GoText, ListImage, Nothing, RunImage, ShowManual, ShowVersion, SearchText, SimulateText, SimulateUntil, TraceText, TraceUntil, asked, is_told}
 use Rattle.command_line.specs.Words as words_of
@@ -40,7 +40,8 @@ use Rattle.adarun.specs.Accepted.{Compiles, RefusesText}
 use Rattle.adarun.specs.CodeTold.{IsCodeTold}
 use Rattle.adarun.specs.Headline.{Runs, WritesBeginning, WritesItsMeaning}
 use Rattle.adarun.specs.Naming.{object_names}
-use Rattle.adarun.specs.Origins.{origin_in}
+use Rattle.adarun.specs.Operations.{subprogram_names}
+use Rattle.adarun.specs.Origins.{known_in}
 use Rattle.adarun.specs.Reading.{Contents, IsBeginningRead, IsContentRead, with_input}
 use Rattle.adarun.specs.Searching.{BeginsReport, WritesReport}
 use Rattle.adarun.specs.Stopping.{HasImage}
@@ -165,11 +166,11 @@ input_of contents (Some name) = contents name
 
 -- ---- `trace`
 
--- in which form a run is told, by its image, the names of its objects, where its instructions come from, its schedule and its bound: rows, or a value change
+-- in which form a run is reported, by its image, the names of its objects, what is known of its source, its schedule and its bound: rows, or a value change
 -- dump
-abbrev pub text_of : TraceForm → Sections → List (List ℕ) → (origin : ℕ → Option Origin) → List ScheduleLine → Bound → List ℕ
+abbrev pub text_of : TraceForm → Sections → List (List ℕ) → Known → List ScheduleLine → Bound → List ℕ
 text_of forms.Rows = trace_text
-text_of forms.Dump = λ i objects origin. waves_text i objects
+text_of forms.Dump = λ i objects known. waves_text i objects
 
 -- the file was read, and its lines are a schedule
 pub record HasSchedule (contents : Contents) (name : List ℕ) : Type 0 where
@@ -180,7 +181,8 @@ pub record HasSchedule (contents : Contents) (name : List ℕ) : Type 0 where
 
 -- The source was read and compiled, the second file is a schedule, and the trace of the image's run, up to a time if one is given, was written in this form,
 -- with an outcome of this status.
--- Objects have their names in the source, and an instruction comes from the line and the column of the innermost statement whose code it is.
+-- Objects and their operations have their names in the source, and an instruction comes from the line and the column of the innermost statement whose code it
+-- is.
 pub record HasTraced (form : TraceForm) (contents : Contents) (source schedule : List ℕ) (until : Option ℤ) (limit : ℕ) (status : Status)
     (old new : Option (List ℕ)) : Type 0 where
   pub text : List ℕ
@@ -194,7 +196,8 @@ pub record HasTraced (form : TraceForm) (contents : Contents) (source schedule :
   pub bounded : IsBound image given.lines until limit bound
   pub outcome : Outcome
   pub status_is : status ≡ status_of outcome
-  pub written : Appends old new (text_of form image (object_names compiles.tree) (origin_in text places) given.lines bound)
+  pub written : Appends old new (text_of form image (object_names compiles.tree) (known_in text image places (subprogram_names compiles.tree))
+      given.lines bound)
   pub ends : EndsBy outcome (code image given.lines bound.steps)
 
 -- a beginning of that trace was written
@@ -209,7 +212,8 @@ pub record HasBegunTrace (form : TraceForm) (contents : Contents) (source schedu
   pub placed : PlacesTell compiles.tree image places
   pub bound : Bound
   pub bounded : IsBound image given.lines until limit bound
-  pub begins : AppendsBeginning old new (text_of form image (object_names compiles.tree) (origin_in text places) given.lines bound)
+  pub begins : AppendsBeginning old new (text_of form image (object_names compiles.tree) (known_in text image places (subprogram_names compiles.tree))
+      given.lines bound)
 
 -- what `trace` wrote to standard output, by the exit status
 abbrev pub LeavesTrace : TraceForm → Contents → (source schedule : List ℕ) → (until : Option ℤ) → (limit : ℕ) → Status → Option (List ℕ) → Option (List ℕ)

@@ -1,5 +1,6 @@
 pub mod Accepted
 pub mod Naming
+pub mod Operations
 pub mod Origins
 pub mod Progress
 pub mod Headline

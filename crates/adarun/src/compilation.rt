@@ -7,28 +7,32 @@ ghost use Rattle.compiler.specs.meaning.specs.SameMeaning.{KeepsCount, SameMeani
 ghost use Rattle.compiler.specs.package_code.specs.Places.{PlacesTell};
 ghost use Rattle.adarun.specs.Accepted.{Compiles, IsAccepted, CompilesAccepted, IsJudged, IsTextFault, IsTreeOf, RefusesText, RefusesTree};
 ghost use Rattle.adarun.specs.Naming.{CompilesNamed, imaged, objects_of};
+ghost use Rattle.adarun.specs.Operations.{subprogram_names};
 ghost use Rattle.legality.specs.ProgramRules.{IsLegal};
 ghost use Rattle.image.specs.Rules.{IsWellFormed};
 ghost use Rattle.ravenscar.specs.ProgramRules.{IsRestricted};
 
 use crate::naming::{ObjectNames, objects_of};
+use crate::operations::subprograms_of;
 use ada_tree::Parsed;
 use base::faults::LIMIT_PASSED;
 use compiler::{Compiled, Places, Refusal, compile_tree};
 use fault_numbers::{grammar_numbers, legality_numbers, restriction_numbers, spelling_numbers};
 use image::Image;
 use legality::check;
-use lexer::{Fault, tokens};
+use lexer::{Fault, Text, tokens};
 use parser::parse;
 use ravenscar::{Accepted, restrict};
 use source_laws::laws::small_is_unlimited;
 use std::alloc::Global;
 
-/// The image of a program, the names of its protected objects and their entries, in the order of the objects' numbers, and the places of its statements.
+/// The image of a program, the names of its protected objects and their entries and those of its subprograms, in the order of their numbers, and the places of
+/// its statements.
 #[derive(Drop)]
 pub(crate) struct Named {
     pub(crate) image: Image,
     pub(crate) objects: Vec<ObjectNames>,
+    pub(crate) subprograms: Vec<Text>,
     pub(crate) places: Places,
 }
 
@@ -55,7 +59,7 @@ fn compiled_of(alloc: Global, accepted: &Accepted) -> Result<Compiled, Fault>
     }
 }
 
-// The image of an accepted program with the names of its protected objects and their entries, and the places of its statements.
+// The image of an accepted program with the names of its protected objects, their entries and its subprograms, and the places of its statements.
 fn named_of(alloc: Global, accepted: &Accepted) -> Result<Named, Fault>
     ensures means { IfOk result (λ named. SameMeaning (program_tree accepted.now) named.image) }
     ensures counted { IfOk result (λ named. KeepsCount (program_tree accepted.now) named.image (most_steps named.image)) }
@@ -63,28 +67,34 @@ fn named_of(alloc: Global, accepted: &Accepted) -> Result<Named, Fault>
     ensures within { IfOk result (λ named. KeepsTokenCounts (program_tree accepted.now) named.image) }
     ensures well_formed { IfOk result (λ named. IsWellFormed named.image) }
     ensures names { IfOk result (λ named. named.objects.items ≡ objects_of (program_tree accepted.now)) }
+    ensures bodies { IfOk result (λ named. named.subprograms.items ≡ subprogram_names (program_tree accepted.now)) }
     ensures places { IfOk result (λ named. PlacesTell (program_tree accepted.now) named.image named.places) }
     ensures refused { IfErr result (λ fault. RefusesTree (program_tree accepted.now) fault) }
     ensures legal { IsLegal (program_tree accepted.now) }
     ensures restricted { IsRestricted (program_tree accepted.now) }
 {
     let Compiled { image, places } = compiled_of(alloc, accepted)?;
-    match objects_of(alloc, accepted.program()) {
-        Ok(objects) => Ok(Named {
+    let Ok(objects) = objects_of(alloc, accepted.program()) else {
+        return Err(Fault::memory());
+    };
+    match subprograms_of(alloc, accepted.program()) {
+        Ok(subprograms) => Ok(Named {
             image,
             objects,
+            subprograms,
             places,
         }),
         Err(_) => Err(Fault::memory()),
     }
 }
 
-/// Compiles a source text as `compile` does, and gives the names of its protected objects and their entries, and the places of its statements.
+/// Compiles a source text as `compile` does, and gives the names of its protected objects, their entries and its subprograms, and the places of its statements.
 ///
 /// # Errors
 /// As `compile`.
 pub(crate) fn compile_named(alloc: Global, source: &[u8]) -> Result<Named, Fault>
     ensures means { IfOk result (λ named. CompilesNamed source.now named.image named.objects.items named.places) }
+    ensures bodies { IfOk result (λ named. (tree : ProgramTree) → IsTreeOf tree source.now → named.subprograms.items ≡ subprogram_names tree) }
     ensures accepted { (tree : ProgramTree) → IsAccepted tree source.now → CompilesAccepted source.now tree (imaged result) }
     ensures judged { (tree : ProgramTree) → IsTreeOf tree source.now → IsJudged source.now tree (imaged result) }
     ensures refused { IfErr result (λ fault. RefusesText source.now fault) }

@@ -10,6 +10,7 @@ mod inputs;
 mod last_reports;
 pub mod laws;
 mod naming;
+mod operations;
 mod origins;
 mod program;
 mod progress;

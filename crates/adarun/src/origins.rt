@@ -1,9 +1,11 @@
-//! Where in a source the instructions of its image come from.
+//! What is known of a source by the instructions of its image: where they come from, and whose operations they call.
 ghost use Rattle.std.specs.Prelude.{◌≡◌};
-ghost use Rattle.adarun.specs.Origins.{origin_in, position_in};
+ghost use Rattle.adarun.specs.Origins.{known_in, position_in};
 
+use crate::operations::called_at;
 use compiler::Places;
 use diagnostics::{column_after, line_after};
+use image::{Image, Text};
 use tracing::{Origin, Origins};
 
 /// The line and the column of a place of a text, both from 1 and in bytes.
@@ -17,20 +19,27 @@ pub(crate) fn position(text: &[u8], place: u32) -> Origin
     }
 }
 
-/// The statements of a text, by the instructions of its image.
+/// The statements of a text and the names of its subprograms, by the instructions of its image.
 #[derive(Drop)]
 pub(crate) struct Statements<'a> {
     pub(crate) text: &'a [u8],
+    pub(crate) image: &'a Image,
     pub(crate) places: &'a Places,
+    pub(crate) subprograms: &'a [Text],
 }
 
 impl<'a> Origins for Statements<'a> {
-    ghost origin = { λ s. origin_in s.text.now s.places.now };
+    ghost known = { λ s. known_in s.text.now s.image.now s.places.now s.subprograms.now };
 
     fn origin_of(&self, address: u16) -> Option<Origin> {
         match self.places.place_of(usize::from(address)) {
             Some(place) => Some(position(self.text, place)),
             None => None,
         }
+    }
+
+    fn operation_of(&self, address: u16) -> Option<&Text> {
+        let number = called_at(self.image, address)?;
+        self.subprograms.get(usize::from(number))
     }
 }

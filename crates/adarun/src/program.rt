@@ -22,6 +22,7 @@ use crate::reporting::{fault_report, outcome_report, schedule_refusal, source_re
 use crate::rules::text_faults;
 use crate::search_command::drive_search;
 use crate::timed::{Ending, go_until};
+use arrayvec::ArrayVec;
 use base::faults::MEMORY_REFUSED;
 use clock::{Schedule, ScheduleFault};
 use command_line::{Request, WordsError, request_of};
@@ -32,12 +33,17 @@ use image_format::{encode, list};
 use image_loading::load;
 use itoa::Buffer;
 use lexer::Fault;
-use machine::{Bound, Cut, Outcome, RunFault, Sink, Steps, bound_of, run, write_all};
+use machine::{Bound, Cut, Outcome, RunFault, Sink, SinkError, Steps, bound_of, run, write_all};
 use manual::{MANUAL, VERSION};
 use std::alloc::{AllocError, Global};
 use std::sync::ledger::Ledger;
 use tracing::{Origins, trace};
 use waveforms::waves;
+
+// The most bytes of a line that is reported in one write.
+const LINE_BYTES: usize = 256;
+
+type ReportLine = ArrayVec<u8, LINE_BYTES>;
 
 /// The program's exit statuses (docs/FORMATS.md, "Exit statuses").
 #[derive(Clone, Copy, PartialEq, Eq, Debug)]
@@ -515,7 +521,9 @@ fn drive_trace<F: FileStore, O: Sink, E: Sink, L: Ledger>(
     };
     let origins = Statements {
         text: &text,
+        image: &named.image,
         places: &named.places,
+        subprograms: &named.subprograms,
     };
     match write_trace(alloc, form, &named, &origins, &schedule, bound, out, steps) {
         Ok(outcome) => status_of(&outcome),
@@ -536,13 +544,13 @@ fn write_trace<P: Origins, O: Sink, L: Ledger>(
     steps: &mut Steps<L>,
 ) -> Result<Outcome, RunFault>
     ensures text { OnOk result (Appends (O.bytes out.old) (O.bytes out.new) (text_of form named.now.image (names_alone named.now.objects.items)
-        (P.origin origins.now) schedule.now bound)) }
+        (P.known origins.now) schedule.now bound)) }
     ensures ends { IfOk result (λ outcome. EndsBy outcome (code named.now.image schedule.now bound.steps)) }
     ensures kept { OnOk result (O.failures out.new ≡ O.failures out.old) }
     ensures memory { result ≡ Err RunFault.Memory → out.new ≡ out.old }
     ensures failed { result ≡ Err RunFault.Write → O.failures out.old < O.failures out.new }
     ensures beginning { AppendsBeginning (O.bytes out.old) (O.bytes out.new) (text_of form named.now.image (names_alone named.now.objects.items)
-        (P.origin origins.now) schedule.now bound) }
+        (P.known origins.now) schedule.now bound) }
 {
     let Ok(objects) = names_alone(alloc, &named.objects) else {
         return Err(RunFault::Memory);
@@ -666,14 +674,31 @@ fn status_of(outcome: &Outcome) -> Status
     }
 }
 
-// Writes the pieces and the end of the line. A failure isn't told anywhere else.
+// Appends a piece of a line, and writes the line before that if there is no room left.
+fn put<E: Sink>(err: &mut E, line: &mut ReportLine, piece: &[u8]) -> Result<(), SinkError> {
+    if line.try_extend_from_slice(piece).is_ok() {
+        return Ok(());
+    }
+    write_all(err, line.as_slice())?;
+    line.clear();
+    write_all(err, piece)
+}
+
+// Writes the pieces and the end of the line, in one write where they are short; nothing more after a write that fails.
+fn write_line<E: Sink>(err: &mut E, pieces: &[&[u8]]) -> Result<(), SinkError> {
+    let mut line = ArrayVec::new();
+    for piece in pieces {
+        put(err, &mut line, piece)?;
+    }
+    put(err, &mut line, b"\n")?;
+    write_all(err, line.as_slice())
+}
+
+// Reports a line. That it can't be written is reported nowhere else.
 fn tell<E: Sink>(err: &mut E, status: Status, pieces: &[&[u8]]) -> Status
     ensures { result ≡ status }
 {
-    for piece in pieces {
-        let _ = write_all(err, piece);
-    }
-    let _ = write_all(err, b"\n");
+    let _ = write_line(err, pieces);
     status
 }
 

@@ -1,5 +1,5 @@
 -- Traces of images worked by computation: a preemption, delays, an entry with queue and service, handlers of interrupts, exceptions, and what is refused.
-use Rattle.std.proofs.Common.{◌≡◌, ℕ, List, [], ◌∷◌, ◌++◌, pos, Option, None, Some, refl}
+use Rattle.std.proofs.Common.{◌≡◌, ℕ, List, [], ◌∷◌, ◌++◌, pos, None, Some, refl}
 use Rattle.std.specs.Prelude.{codes, if◌then◌else◌, nat_eq}
 use Rattle.std.specs.Fmt.{digits}
 use Rattle.base.specs.Names.{predefined}
@@ -15,12 +15,12 @@ use Rattle.image.specs.declared.subprograms.Kind.TheVariants.{EntryBody, Protect
 use Rattle.image.specs.declared.subprograms.Subprogram.{Subprogram}
 use Rattle.image.specs.declared.tasks.Task.{Task}
 use Rattle.machine.specs.Bounds.{at_most}
+use Rattle.tracing.specs.Known.{Known}
 use Rattle.tracing.specs.Traces.{trace_text}
-use Rattle.tracing.specs.declared.origin.Origin.{Origin}
 
--- no instruction's place is known
-abbrev nowhere : ℕ → Option Origin
-nowhere address = None
+-- nothing is known of the source
+abbrev nowhere : Known
+nowhere = record { origin = λ address. None; operation = λ address. None }
 
 abbrev at : ℕ → Operation → Instr
 at depth operation = record { depth = depth; operation = operation }
@@ -56,7 +56,7 @@ served_trace : trace_text served (codes "DOOR" ∷ []) nowhere [] (at_most 100)
     ++ codes "0 1 CONS queues at DOOR\n0 1 MAIN runs at 5\n"
     ++ codes "0 2 MAIN enters DOOR at 10\n"
     ++ codes "0 5 CONS is served at DOOR by MAIN\n"
-    ++ codes "0 6 MAIN leaves DOOR at 5\n0 6 CONS has been served at DOOR\n0 6 MAIN is preempted by CONS\n0 6 CONS runs at 10\n"
+    ++ codes "0 6 MAIN leaves DOOR at 5\n0 6 CONS has been served at DOOR\n0 6 CONS has waited 0 at DOOR\n0 6 MAIN is preempted by CONS\n0 6 CONS runs at 10\n"
     ++ codes "0 8 CONS writes 0 CONS got 7\n"
     ++ codes "0 9 CONS ends\n0 9 MAIN runs at 5\n"
     ++ codes "0 10 MAIN ends\nended at 0\n"
@@ -138,12 +138,13 @@ interrupted_trace = refl
 
 -- An exception is raised in an action, and again at the call once the action is over
 
--- of two instructions: the division, and the call
-abbrev marked : ℕ → Option Origin
-marked address =
-    if nat_eq address 2 then Some (record { line = 3; column = 7 })
-    else if nat_eq address 4 then Some (record { line = 12; column = 10 })
-    else None
+-- where two instructions come from, the division and the call, and whom the call calls
+abbrev marked : Known
+marked = record {
+  origin = λ address.
+      if nat_eq address 2 then Some (record { line = 3; column = 7 }) else if nat_eq address 4 then Some (record { line = 12; column = 10 }) else None;
+  operation = λ address. if nat_eq address 4 then Some (codes "SHUT") else None;
+}
 
 abbrev divides : Sections
 divides =
@@ -151,7 +152,7 @@ divides =
     (at 0 (op.Push (pos 1)) ∷ at 1 (op.Push (pos 0)) ∷ at 2 op.Divide ∷ at 1 op.Return ∷ at 0 (op.ProtectedCall 0) ∷ at 0 op.Return ∷ [])
 
 divides_trace : trace_text divides (codes "DOOR" ∷ []) marked [] (at_most 100)
-    ≡ codes "0 0 MAIN is ready\n0 0 MAIN runs at 5\n0 1 MAIN enters DOOR at 10 at 12:10\n"
+    ≡ codes "0 0 MAIN is ready\n0 0 MAIN runs at 5\n0 1 MAIN enters DOOR.SHUT at 10 at 12:10\n"
     ++ codes "0 4 MAIN raises CONSTRAINT_ERROR at 3:7\n0 4 MAIN leaves DOOR at 5 at 3:7\n"
     ++ codes "0 5 MAIN raises CONSTRAINT_ERROR at its call at 12:10\n0 5 MAIN is left by CONSTRAINT_ERROR\nunhandled CONSTRAINT_ERROR in MAIN at 0\n"
 unfolding digits
@@ -172,7 +173,7 @@ fails_trace : trace_text fails (codes "DOOR" ∷ []) nowhere [] (at_most 100)
     ≡ codes "0 0 CONS is ready\n0 0 MAIN is ready\n0 0 CONS runs at 10\n"
     ++ codes "0 1 CONS queues at DOOR\n0 1 MAIN runs at 5\n"
     ++ codes "0 2 MAIN enters DOOR at 10\n0 5 CONS is served at DOOR by MAIN\n"
-    ++ codes "0 7 MAIN raises CONSTRAINT_ERROR\n0 7 MAIN leaves DOOR at 5\n0 7 CONS has been served at DOOR\n0 7 MAIN is preempted by CONS\n0 7 CONS runs at 10\n"
+    ++ codes "0 7 MAIN raises CONSTRAINT_ERROR\n0 7 MAIN leaves DOOR at 5\n0 7 CONS has been served at DOOR\n0 7 CONS has waited 0 at DOOR\n0 7 MAIN is preempted by CONS\n0 7 CONS runs at 10\n"
     ++ codes "0 8 CONS raises CONSTRAINT_ERROR at its call\n"
     ++ codes "0 10 CONS ends\n0 10 MAIN runs at 5\n0 11 MAIN ends\nended at 0\n"
 unfolding digits

@@ -1,4 +1,6 @@
+mod CallTimes
 mod Examples
 mod Parts
 mod Rows
 mod Traced
+mod Words

@@ -11,6 +11,7 @@ use Rattle.image.specs.Sections.{Sections}
 use Rattle.image.specs.Steps.{behaviour}
 use Rattle.image_laws.specs.Laws.{LinesGrowOn, OutcomeStays}
 use Rattle.machine.proofs.Runs.{starts_without_lines}
+use Rattle.tracing.specs.Calls.{CallTimes, call_times}
 use Rattle.tracing.specs.Changes.{next_ahead, since_clock, starts, until_clock}
 use Rattle.tracing.specs.declared.ahead.Ahead.{Ahead}
 use Rattle.tracing.specs.Traces.{Comes, RowNames, TraceRow, came, has_come, line_of, lines_come, lines_told, row, row_text, rows, rows_of_step, rows_text, shown, wrote}
@@ -34,7 +35,7 @@ after_length xs ys = drop-append_seam xs ys
 
 module _ (i : Sections) (schedule : List ScheduleLine) where
   abbrev rows_at : ℕ → List TraceRow
-  rows_at n = let w = code i schedule n in rows_of_step schedule (next_ahead i schedule w) w.kernel (code i schedule (suc n)).kernel (suc n) w.kernel.outcome w.kernel.running
+  rows_at n = let w = code i schedule n in rows_of_step schedule (call_times i schedule n) (next_ahead i schedule w) w.kernel (code i schedule (suc n)).kernel (suc n) w.kernel.outcome w.kernel.running
 
   -- the rows of some steps begin those of more
   pub rows_grow : (n j : ℕ) → (more : List TraceRow) × (rows i schedule (n + j) ≡ rows i schedule n ++ more)
@@ -50,7 +51,7 @@ module _ (i : Sections) (schedule : List ScheduleLine) where
   rows_stay stays n (suc j) o is =
       let e : n + suc j ≡ suc (n + j) = omega arith in
       let over : (code i schedule (n + j)).kernel.outcome ≡ Some o = ap (λ w. w.kernel.outcome) (stays i schedule n j o is) ∙ is in
-      let none : rows_at (n + j) ≡ [] = ap (λ q. rows_of_step schedule (next_ahead i schedule (code i schedule (n + j))) (code i schedule (n + j)).kernel (code i schedule (suc (n + j))).kernel (suc (n + j)) q (code i schedule (n + j)).kernel.running) over in
+      let none : rows_at (n + j) ≡ [] = ap (λ q. rows_of_step schedule (call_times i schedule (n + j)) (next_ahead i schedule (code i schedule (n + j))) (code i schedule (n + j)).kernel (code i schedule (suc (n + j))).kernel (suc (n + j)) q (code i schedule (n + j)).kernel.running) over in
       ap (rows i schedule) e ∙ ap (λ v. rows i schedule (n + j) ++ v) none ∙ append-nil (rows i schedule (n + j)) ∙ rows_stay stays n j o is
 
 -- Lines
@@ -76,22 +77,22 @@ without_more : (rows more : List TraceRow) → lines_told more ≡ [] → lines_
 without_more rows more none = told-append rows more ∙ ap (λ v. lines_told rows ++ v) none ∙ append-nil (lines_told rows)
 
 -- the lines that a step has added are those that its rows tell
-step_tells : {D : Type 0} (f : Local D) (schedule : List ScheduleLine) (a : Ahead) (n : ℕ) (k : Kernel) (d : D) (o : Option Outcome) (r : Option ℕ) →
+step_tells : {D : Type 0} (f : Local D) (schedule : List ScheduleLine) (calls : CallTimes) (a : Ahead) (n : ℕ) (k : Kernel) (d : D) (o : Option Outcome) (r : Option ℕ) →
     (more : List Line) × ((step_of f k d o r).kernel.lines ≡ k.lines ++ more) →
-    (step_of f k d o r).kernel.lines ≡ k.lines ++ lines_told (rows_of_step schedule a k (step_of f k d o r).kernel n o r)
-step_tells f schedule a n k d (Some o) r grown = sym (append-nil k.lines)
-step_tells f schedule a n k d None None grown = sym (append-nil k.lines)
-step_tells f schedule a n k d None (Some t) grown =
+    (step_of f k d o r).kernel.lines ≡ k.lines ++ lines_told (rows_of_step schedule calls a k (step_of f k d o r).kernel n o r)
+step_tells f schedule calls a n k d (Some o) r grown = sym (append-nil k.lines)
+step_tells f schedule calls a n k d None None grown = sym (append-nil k.lines)
+step_tells f schedule calls a n k d None (Some t) grown =
     let l = (step_of f k d None (Some t)).kernel in
     let lines = drop (length k.lines) l.lines in
-    let until = shown k.now n (until_clock a k l t) in
+    let until = shown k.now n (until_clock calls a k l t) in
     let since = shown l.now n (since_clock k l t) in
     let inputs = came n (lines_come (Some k.now) l.now schedule) in
     let first = wrote k.now n t a.address lines in
     let told : lines_told (first ++ until ++ inputs ++ since) ≡ lines =
     without_more (first ++ until ++ inputs) since (told_shown l.now n (since_clock k l t))
     ∙ without_more (first ++ until) inputs (told_came n (lines_come (Some k.now) l.now schedule))
-    ∙ without_more first until (told_shown k.now n (until_clock a k l t))
+    ∙ without_more first until (told_shown k.now n (until_clock calls a k l t))
     ∙ told_wrote k.now n t a.address lines in
     let more : lines ≡ grown.0 = ap (drop (length k.lines)) grown.1 ∙ after_length k.lines grown.0 in
     grown.1 ∙ ap (λ v. k.lines ++ v) (sym (told ∙ more))
@@ -107,8 +108,8 @@ module _ (i : Sections) (schedule : List ScheduleLine) where
       let e : n + 1 ≡ suc n = omega arith in
       let g = grow i schedule n 1 in
       let grown : (step f w).kernel.lines ≡ w.kernel.lines ++ g.0 = ap (λ (v : CodeWorld). v.kernel.lines) (sym (ap (code i schedule) e ∙ next_code n)) ∙ g.1 in
-      subst (λ (v : CodeWorld). v.kernel.lines ≡ w.kernel.lines ++ lines_told (rows_of_step schedule (next_ahead i schedule w) w.kernel v.kernel (suc n) w.kernel.outcome w.kernel.running)) (sym (next_code n))
-      (step_tells f schedule (next_ahead i schedule w) (suc n) w.kernel w.rest w.kernel.outcome w.kernel.running (g.0, grown))
+      subst (λ (v : CodeWorld). v.kernel.lines ≡ w.kernel.lines ++ lines_told (rows_of_step schedule (call_times i schedule n) (next_ahead i schedule w) w.kernel v.kernel (suc n) w.kernel.outcome w.kernel.running)) (sym (next_code n))
+      (step_tells f schedule (call_times i schedule n) (next_ahead i schedule w) (suc n) w.kernel w.rest w.kernel.outcome w.kernel.running (g.0, grown))
 
   pub all_lines : LinesGrowOn → LeftUnmoved → (n : ℕ) → lines_told (rows i schedule n) ≡ (code i schedule n).kernel.lines
   all_lines grow unmoved zero =

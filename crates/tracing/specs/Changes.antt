@@ -11,9 +11,10 @@ use Rattle.task_steps.specs.declared.asking.Asking.{Asking}
 use Rattle.task_steps.specs.declared.asking.Asking.TheVariants as asks
 use Rattle.task_steps.specs.declared.foreseeing.Cause.{Cause}
 use Rattle.task_steps.specs.declared.foreseeing.Raising.{Raising}
+use Rattle.tracing.specs.Calls.{CallTimes, call_time}
 use Rattle.tracing.specs.declared.ahead.Ahead.{Ahead}
 use Rattle.tracing.specs.declared.event.Event.{Event}
-use Rattle.tracing.specs.declared.event.Event.TheVariants.{Ready, Runs, Refused, Raises, RaisesAtCall, Preempted, GivesWay, Waits, Late, Reads, Wakes, Enters, Leaves, Queues, Served, Returns, Ends, Unhandled, ClockMoves}
+use Rattle.tracing.specs.declared.event.Event.TheVariants.{Ready, Runs, Refused, Raises, RaisesAtCall, Preempted, GivesWay, Waits, Late, Reads, Wakes, Enters, Leaves, Queues, Served, Returns, HasWaited, Ends, Unhandled, ClockMoves}
 
 -- Throughout, a step leads from kernel k to kernel l, and t is the task that ran.
 
@@ -84,6 +85,15 @@ called t u _ _ = None
 abbrev pub calling : Kernel → Kernel → ℕ → ℕ → Option Event
 calling k l t u = called t u (k.place u) (l.place u)
 
+-- by the time since which u has waited, where it was, and where it is
+abbrev pub waited : (now since : ℤ) → ℕ → TaskPlace → TaskPlace → Option Event
+waited now since u (IsServed o) IsReady = Some (HasWaited u o (unsigned_abs (now -ℤ since)))
+waited now since u (IsServed o) IsRunning = Some (HasWaited u o (unsigned_abs (now -ℤ since)))
+waited now since u _ _ = None
+
+abbrev pub having_waited : CallTimes → Kernel → Kernel → ℕ → Option Event
+having_waited calls k l u = waited k.now (call_time calls u) u (k.place u) (l.place u)
+
 -- The task that ran
 
 -- by who runs, where t is ready again though the clock hasn't moved
@@ -115,12 +125,13 @@ abbrev pub place_left : Kernel → Kernel → ℕ → TaskPlace
 place_left k l t = if is_followed k l t then IsFinished else l.place t
 
 -- what has happened when the clock may move: what t raised, what it did, and what that made of callers
-abbrev pub until_clock : Ahead → Kernel → Kernel → ℕ → List Event
-until_clock ahead k l t =
+abbrev pub until_clock : CallTimes → Ahead → Kernel → Kernel → ℕ → List Event
+until_clock calls ahead k l t =
     raising t ahead.address ahead.raising
     ++ list_of (asked t ahead.address k.now ahead.asking)
     ++ each l.partition.objects (crossing k l t ahead.address)
     ++ each l.partition.tasks (calling k l t)
+    ++ each l.partition.tasks (having_waited calls k l)
     ++ list_of (gave_up l t ahead.address (is_later k l) (place_left k l t))
 
 -- The clock

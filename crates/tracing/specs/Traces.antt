@@ -11,10 +11,12 @@ use Rattle.machine.specs.Bounds.{cut_line}
 use Rattle.machine.specs.declared.bound.Bound.{Bound}
 use Rattle.task_steps.specs.declared.foreseeing.Cause.{Cause}
 use Rattle.task_steps.specs.declared.foreseeing.Cause.TheVariants as causes
+use Rattle.tracing.specs.Calls.{CallTimes, call_times}
 use Rattle.tracing.specs.Changes.{next_ahead, since_clock, starts, until_clock}
+use Rattle.tracing.specs.Known.{Known}
 use Rattle.tracing.specs.declared.ahead.Ahead.{Ahead}
 use Rattle.tracing.specs.declared.event.Event.{Event}
-use Rattle.tracing.specs.declared.event.Event.TheVariants.{Ready, Runs, Refused, Raises, RaisesAtCall, Preempted, GivesWay, Waits, Late, Reads, Wakes, Enters, Leaves, Queues, Served, Returns, Ends, Unhandled, ClockMoves}
+use Rattle.tracing.specs.declared.event.Event.TheVariants.{Ready, Runs, Refused, Raises, RaisesAtCall, Preempted, GivesWay, Waits, Late, Reads, Wakes, Enters, Leaves, Queues, Served, Returns, HasWaited, Ends, Unhandled, ClockMoves}
 use Rattle.tracing.specs.declared.origin.Origin.{Origin}
 
 -- what a row reports: a line that the task wrote, by the instruction of this address; a line of the schedule to which the clock has come; or an event
@@ -51,13 +53,14 @@ lines_come since now (x ∷ schedule) = if has_come since now x then x ∷ lines
 abbrev pub came : ℕ → List ScheduleLine → List TraceRow
 came step lines = map (λ x. row x.time step (Comes x)) lines
 
--- the rows of step n, which leads from kernel k to kernel l, and of which that is known before it is taken: none where there was an outcome, and so nobody ran
-abbrev pub rows_of_step : List ScheduleLine → Ahead → Kernel → Kernel → ℕ → Option Outcome → Option ℕ → List TraceRow
-rows_of_step schedule ahead k l n (Some o) running = []
-rows_of_step schedule ahead k l n None None = []
-rows_of_step schedule ahead k l n None (Some t) =
+-- the rows of step n, which leads from kernel k to kernel l, by the calls before it and what is known of it before it is taken: none where there was an
+-- outcome, and so nobody ran
+abbrev pub rows_of_step : List ScheduleLine → CallTimes → Ahead → Kernel → Kernel → ℕ → Option Outcome → Option ℕ → List TraceRow
+rows_of_step schedule calls ahead k l n (Some o) running = []
+rows_of_step schedule calls ahead k l n None None = []
+rows_of_step schedule calls ahead k l n None (Some t) =
     wrote k.now n t ahead.address (drop (length k.lines) l.lines)
-    ++ shown k.now n (until_clock ahead k l t)
+    ++ shown k.now n (until_clock calls ahead k l t)
     ++ came n (lines_come (Some k.now) l.now schedule)
     ++ shown l.now n (since_clock k l t)
 
@@ -66,24 +69,25 @@ abbrev pub rows : Sections → List ScheduleLine → ℕ → List TraceRow
 rows i schedule zero = let k = (code i schedule 0).kernel in came 0 (lines_come None k.now schedule) ++ shown k.now 0 (starts k)
 rows i schedule (suc n) =
     let w = code i schedule n in
-    rows i schedule n ++ rows_of_step schedule (next_ahead i schedule w) w.kernel (code i schedule (suc n)).kernel (suc n) w.kernel.outcome w.kernel.running
+    let l = (code i schedule (suc n)).kernel in
+    rows i schedule n ++ rows_of_step schedule (call_times i schedule n) (next_ahead i schedule w) w.kernel l (suc n) w.kernel.outcome w.kernel.running
 
 -- Text
 
--- the names of tasks and exceptions, as lines have them, those of protected objects, and where the instruction of an address comes from, where that is known
+-- the names of tasks and exceptions, as lines have them, those of protected objects, and what is known of the source
 pub record RowNames : Type 0 where
   pub line : Names
   pub object : ℕ → List ℕ
-  pub origin : ℕ → Option Origin
+  pub known : Known
 
 -- an image has no names of objects: one for which none is given is told by its number
 abbrev pub named_object : ℕ → Option (List ℕ) → List ℕ
 named_object o (Some name) = name
 named_object o None = codes "object " ++ decimal o
 
--- objects have these names, in the order of their numbers, and instructions come from there
-abbrev pub row_names : Sections → (objects : List (List ℕ)) → (origin : ℕ → Option Origin) → RowNames
-row_names i objects origin = record { line = names_of i; object = λ o. named_object o (slice_get objects o); origin = origin }
+-- objects have these names, in the order of their numbers
+abbrev pub row_names : Sections → (objects : List (List ℕ)) → Known → RowNames
+row_names i objects known = record { line = names_of i; object = λ o. named_object o (slice_get objects o); known = known }
 
 -- whom a row is of: nobody where the clock moves
 abbrev pub task_of : Names → Event → List ℕ
@@ -103,6 +107,7 @@ task_of names (Leaves t o p a) = names.task t
 task_of names (Queues t o a) = names.task t
 task_of names (Served t o u) = names.task t
 task_of names (Returns t o) = names.task t
+task_of names (HasWaited t o time) = names.task t
 task_of names (Ends t) = names.task t
 task_of names (Unhandled t x) = names.task t
 task_of names ClockMoves = codes "-"
@@ -126,7 +131,19 @@ origin_at origin None = None
 origin_at origin (Some a) = origin a
 
 abbrev pub place_text : RowNames → Option ℕ → List ℕ
-place_text names a = origin_text (origin_at names.origin a)
+place_text names a = origin_text (origin_at names.known.origin a)
+
+-- the operation or entry that the instruction of an address calls, after the name of its object; nothing where that isn't known
+abbrev pub operation_text : Option (List ℕ) → List ℕ
+operation_text None = []
+operation_text (Some name) = codes "." ++ name
+
+abbrev pub operation_at : (ℕ → Option (List ℕ)) → Option ℕ → Option (List ℕ)
+operation_at operation None = None
+operation_at operation (Some a) = operation a
+
+abbrev pub called_text : RowNames → Option ℕ → List ℕ
+called_text names a = operation_text (operation_at names.known.operation a)
 
 abbrev pub event_text : RowNames → Event → List ℕ
 event_text names (Ready t) = codes "is ready"
@@ -134,17 +151,18 @@ event_text names (Runs t p) = codes "runs at " ++ decimal p
 event_text names (Preempted t u) = codes "is preempted by " ++ names.line.task u
 event_text names (GivesWay t u) = codes "gives way to " ++ names.line.task u
 event_text names (Refused t cause a) = cause_text names.object cause ++ place_text names a
-event_text names (Raises t x s a) = (codes "raises " ++ names.line.exception x) ++ origin_text (names.origin a)
-event_text names (RaisesAtCall t x s a) = ((codes "raises " ++ names.line.exception x) ++ codes " at its call") ++ origin_text (names.origin a)
+event_text names (Raises t x s a) = (codes "raises " ++ names.line.exception x) ++ origin_text (names.known.origin a)
+event_text names (RaisesAtCall t x s a) = ((codes "raises " ++ names.line.exception x) ++ codes " at its call") ++ origin_text (names.known.origin a)
 event_text names (Waits t time a) = (codes "waits until " ++ signed_decimal time) ++ place_text names a
 event_text names (Late t by a) = (codes "is late by " ++ decimal by) ++ place_text names a
 event_text names (Reads t channel value a) = ((codes "reads " ++ signed_decimal value) ++ (codes " from " ++ signed_decimal channel)) ++ place_text names a
 event_text names (Wakes t) = codes "wakes"
-event_text names (Enters t o p a) = ((codes "enters " ++ names.object o) ++ (codes " at " ++ decimal p)) ++ place_text names a
+event_text names (Enters t o p a) = (((codes "enters " ++ names.object o) ++ called_text names a) ++ (codes " at " ++ decimal p)) ++ place_text names a
 event_text names (Leaves t o p a) = ((codes "leaves " ++ names.object o) ++ (codes " at " ++ decimal p)) ++ place_text names a
-event_text names (Queues t o a) = (codes "queues at " ++ names.object o) ++ place_text names a
+event_text names (Queues t o a) = ((codes "queues at " ++ names.object o) ++ called_text names a) ++ place_text names a
 event_text names (Served t o u) = (codes "is served at " ++ names.object o) ++ (codes " by " ++ names.line.task u)
 event_text names (Returns t o) = codes "has been served at " ++ names.object o
+event_text names (HasWaited t o time) = (codes "has waited " ++ decimal time) ++ (codes " at " ++ names.object o)
 event_text names (Ends t) = codes "ends"
 event_text names (Unhandled t x) = codes "is left by " ++ names.line.exception x
 event_text names ClockMoves = codes "the clock moves"
@@ -174,11 +192,11 @@ abbrev pub rows_text : RowNames → List TraceRow → List ℕ
 rows_text names [] = []
 rows_text names (r ∷ rs) = row_text names r ++ rows_text names rs
 
--- all that the trace of a run within a bound writes: its rows, where objects have these names and instructions come from there, and the last line of the run
-abbrev pub trace_text : Sections → (objects : List (List ℕ)) → (origin : ℕ → Option Origin) → List ScheduleLine → Bound → List ℕ
-trace_text i objects origin schedule bound =
+-- all that the trace of a run within a bound writes: its rows, where objects have these names and this is known of the source, and the last line of the run
+abbrev pub trace_text : Sections → (objects : List (List ℕ)) → Known → List ScheduleLine → Bound → List ℕ
+trace_text i objects known schedule bound =
     let k = (code i schedule bound.steps).kernel in
-    rows_text (row_names i objects origin) (rows i schedule bound.steps) ++ cut_line bound.cut (names_of i) k.outcome k.now
+    rows_text (row_names i objects known) (rows i schedule bound.steps) ++ cut_line bound.cut (names_of i) k.outcome k.now
 
 -- Lines
 

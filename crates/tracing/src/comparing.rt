@@ -1,12 +1,13 @@
 //! What a step has changed, by a machine before it and one after it.
-ghost use Rattle.std.specs.Prelude.{◌≡◌, ◌+◌, ◌<◌, ◌≤◌, ◌++◌, ◌||◌, ℕ, [], length, Some, int_lt};
+ghost use Rattle.std.specs.Prelude.{◌≡◌, ◌+◌, ◌*◌, ◌<◌, ◌≤◌, ◌++◌, ◌||◌, ℕ, [], length, Some, int_lt};
 ghost use Rattle.arrayvec.specs.ArrayVec.{array_vec_len};
 ghost use Rattle.base.specs.declared.limits.TheConstants.{OBJECTS, TASKS};
 ghost use Rattle.tasking.specs.Held.{kernel_of};
-ghost use Rattle.tracing.specs.Changes.{asked, calling, crossing, dispatched, each, first_runs, gave_up, is_followed, is_later, list_of, outranked, place_left, raises, raising, ready, refusal, since_clock, starts, stopped, until_clock, waits, waking};
+ghost use Rattle.tracing.specs.Changes.{asked, calling, crossing, dispatched, each, first_runs, gave_up, having_waited, is_followed, is_later, list_of, outranked, place_left, raises, raising, ready, refusal, since_clock, starts, stopped, until_clock, waits, waking};
 ghost use Rattle.tracing.specs.declared.comparing.TheConstants.{EVENTS};
 
 use crate::ahead::Ahead;
+use crate::calls::call_time;
 use crate::event::Event;
 use arrayvec::ArrayVec;
 use base::limits::{OBJECTS, TASKS};
@@ -15,7 +16,7 @@ use dispatch::Ready;
 use machine::{Asking, Machine, Outcome, Place, Raising};
 
 /// The most events of one step at one time.
-pub(crate) const EVENTS: usize = OBJECTS + TASKS + 4;
+pub(crate) const EVENTS: usize = OBJECTS + 2 * TASKS + 4;
 
 /// Events of one step at one time, in their order.
 pub(crate) type Events = ArrayVec<Event, EVENTS>;
@@ -97,6 +98,24 @@ fn calling<R: Ready, D: Delays>(
         (Place::Queued(object), Place::Served(_)) => Some(Event::Served { task, object, by }),
         (Place::Served(object), Place::Ready | Place::Running) => {
             Some(Event::Returns { task, object })
+        }
+        _ => None,
+    }
+}
+
+// How long a task has waited whose call is over, by the times of calls.
+fn having_waited<R: Ready, D: Delays>(
+    calls: &[i64],
+    before: &Machine<'_, R, D>,
+    after: &Machine<'_, R, D>,
+    task: u8,
+) -> Option<Event>
+    ensures { result ≡ having_waited calls.now (kernel_of before.now.tasking) (kernel_of after.now.tasking) task }
+{
+    match (before.place_of_actor(task), after.place_of_actor(task)) {
+        (Place::Served(object), Place::Ready | Place::Running) => {
+            let time = before.now().abs_diff(call_time(calls, task));
+            Some(Event::HasWaited { task, object, time })
         }
         _ => None,
     }
@@ -295,15 +314,37 @@ fn crossings<R: Ready, D: Delays>(
     }
 }
 
+// What the task that ran has made of callers, and how long those have waited whose calls are over.
+fn callers<R: Ready, D: Delays>(
+    events: &mut Events,
+    calls: &[i64],
+    before: &Machine<'_, R, D>,
+    after: &Machine<'_, R, D>,
+    ran: u8,
+)
+    requires room { array_vec_len events.old ≤ 3 + OBJECTS }
+    ensures items { let k = kernel_of before.now.tasking in let l = kernel_of after.now.tasking in
+        events.new.items ≡ (events.old.items ++ each l.partition.tasks (calling k l ran)) ++ each l.partition.tasks (having_waited calls.now k l) }
+    ensures few { array_vec_len events.new ≤ 3 + OBJECTS + 2 * TASKS }
+{
+    for task in 0..after.tasks() {
+        add(events, calling(before, after, ran, task));
+    }
+    for waiting in 0..after.tasks() {
+        add(events, having_waited(calls, before, after, waiting));
+    }
+}
+
 /// What has happened when the clock may move.
 pub(crate) fn until_clock<R: Ready, D: Delays>(
+    calls: &[i64],
     before: &Machine<'_, R, D>,
     after: &Machine<'_, R, D>,
     ran: u8,
     ahead: Ahead,
 ) -> Events
     requires image { before.now.image ≡ after.now.image }
-    ensures { result.items ≡ until_clock ahead (kernel_of before.now.tasking) (kernel_of after.now.tasking) ran }
+    ensures { result.items ≡ until_clock calls.now ahead (kernel_of before.now.tasking) (kernel_of after.now.tasking) ran }
 {
     let mut events = raising(ran, ahead.address, ahead.raising);
     add(
@@ -311,9 +352,7 @@ pub(crate) fn until_clock<R: Ready, D: Delays>(
         asked(ran, ahead.address, before.now(), ahead.asking),
     );
     crossings(&mut events, before, after, ran, ahead.address);
-    for task in 0..after.tasks() {
-        add(&mut events, calling(before, after, ran, task));
-    }
+    callers(&mut events, calls, before, after, ran);
     add(&mut events, gave_up(before, after, ran, ahead.address));
     events
 }

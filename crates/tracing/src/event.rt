@@ -99,6 +99,12 @@ pub enum Event {
         task: u8,
         object: u8,
     },
+    /// From its call of the entry to the end of the body it has waited so many microseconds.
+    HasWaited {
+        task: u8,
+        object: u8,
+        time: u64,
+    },
     /// It has finished (RM 9.3).
     Ends {
         task: u8,

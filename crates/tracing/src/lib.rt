@@ -2,6 +2,7 @@
 #![tactic(auto)]
 
 mod ahead;
+mod calls;
 mod comparing;
 mod event;
 pub mod laws;

@@ -1,10 +1,11 @@
 //! The text of rows (docs/FORMATS.md, "Traces").
-ghost use Rattle.std.specs.Prelude.{◌≡◌, ◌+◌, ◌≤◌, ◌++◌, length, codes, decimal, slice_get};
+ghost use Rattle.std.specs.Prelude.{◌≡◌, ◌+◌, ◌*◌, ◌≤◌, ◌++◌, length, codes, decimal, option_map, slice_get, true};
 ghost use Rattle.std.specs.Fmt.{signed_decimal};
 ghost use Rattle.arrayvec.specs.ArrayVec.{array_vec_len};
 ghost use Rattle.base.specs.declared.limits.TheConstants.{NAME_LIMIT};
 ghost use Rattle.image.specs.Texts.{names_of};
-ghost use Rattle.tracing.specs.Traces.{cause_text, event_text, heading, input_text, named_object, origin_at, origin_text, place_text, row_names, task_of, telling_text, without_end, Comes, Shows};
+ghost use Rattle.tracing.specs.Traces.{called_text, cause_text, event_text, heading, input_text, named_object, operation_at, origin_at, origin_text, place_text, row_names, task_of, telling_text, without_end, Comes, Shows};
+ghost use Rattle.tracing.specs.Writing.{is_crossing, is_request, is_service, is_trouble};
 ghost use Rattle.tracing.specs.declared.text.TheConstants.{ROW_BYTES};
 
 use crate::event::Event;
@@ -91,6 +92,7 @@ fn task_of(image: &Image, event: &Event) -> ActorName
         | Event::Queues { task, .. }
         | Event::Served { task, .. }
         | Event::Returns { task, .. }
+        | Event::HasWaited { task, .. }
         | Event::Ends { task }
         | Event::Unhandled { task, .. } => actor_name(image, *task),
     }
@@ -115,6 +117,15 @@ fn put_named(row: &mut RowText, words: &[u8], name: &[u8])
 {
     put(row, words);
     put(row, name);
+}
+
+// Appends words and the name of an exception behind them.
+fn put_exception(row: &mut RowText, words: &[u8], image: &Image, exception: u16)
+    requires { array_vec_len row.old + length words.now + NAME_LIMIT ≤ ROW_BYTES }
+    ensures items { row.new.items ≡ row.old.items ++ (words.now ++ (names_of image.now).exception exception) }
+    ensures len { array_vec_len row.new ≤ array_vec_len row.old + length words.now + NAME_LIMIT }
+{
+    put_named(row, words, exception_name(image.exceptions(), exception));
 }
 
 // Appends words and a time behind them.
@@ -214,7 +225,7 @@ fn put_origin(row: &mut RowText, origin: Option<Origin>)
 
 // Where the instruction of an address comes from, where that is known.
 fn origin_at<O: Origins>(origins: &O, address: Option<u16>) -> Option<Origin>
-    ensures { result ≡ origin_at (O.origin origins.now) address }
+    ensures { result ≡ origin_at (O.known origins.now).origin address }
 {
     origins.origin_of(address?)
 }
@@ -228,62 +239,55 @@ fn put_place<O: Origins>(
     address: Option<u16>,
 )
     requires { array_vec_len row.old + 45 ≤ ROW_BYTES }
-    ensures items { row.new.items ≡ row.old.items ++ place_text (row_names image.now objects.now (O.origin origins.now)) address }
+    ensures items { row.new.items ≡ row.old.items ++ place_text (row_names image.now objects.now (O.known origins.now)) address }
     ensures len { array_vec_len row.new ≤ array_vec_len row.old + 45 }
 {
     put_origin(row, origin_at(origins, address));
 }
 
-// Appends what an event is.
-fn put_event<O: Origins>(
+// The name of the operation that the instruction of an address calls, where that is known.
+fn operation_at<O: Origins>(origins: &O, address: Option<u16>) -> Option<&Text>
+    ensures { option_map (λ name. name.now) result ≡ operation_at (O.known origins.now).operation address }
+{
+    origins.operation_of(address?)
+}
+
+// Appends words, an object, and the name of its operation that the instruction of an address calls, where that is known.
+fn put_called<O: Origins>(
+    row: &mut RowText,
+    words: &[u8],
+    image: &Image,
+    objects: &[Text],
+    origins: &O,
+    object: u8,
+    address: Option<u16>,
+)
+    requires { array_vec_len row.old + length words.now + 2 * NAME_LIMIT + 1 ≤ ROW_BYTES }
+    ensures items { row.new.items ≡ row.old.items ++ ((words.now ++ named_object object (slice_get objects.now object))
+        ++ called_text (row_names image.now objects.now (O.known origins.now)) address) }
+    ensures len { array_vec_len row.new ≤ array_vec_len row.old + length words.now + 2 * NAME_LIMIT + 1 }
+{
+    put_at(row, words, objects, object);
+    match operation_at(origins, address) {
+        Some(name) => put_named(row, b".", name.as_bytes()),
+        None => {}
+    }
+}
+
+// Appends what a task waits for or reads.
+fn put_request<O: Origins>(
     row: &mut RowText,
     image: &Image,
     objects: &[Text],
     origins: &O,
     event: &Event,
 )
-    requires { array_vec_len row.old ≤ 83 }
-    ensures items { row.new.items ≡ row.old.items ++ event_text (row_names image.now objects.now (O.origin origins.now)) event.now }
-    ensures len { array_vec_len row.new ≤ array_vec_len row.old + 153 }
+    requires room { array_vec_len row.old ≤ 83 }
+    requires kind { is_request event.now ≡ true }
+    ensures items { row.new.items ≡ row.old.items ++ event_text (row_names image.now objects.now (O.known origins.now)) event.now }
+    ensures len { array_vec_len row.new ≤ array_vec_len row.old + 160 }
 {
     match event {
-        Event::Ready { .. } => put(row, b"is ready"),
-        Event::Runs { priority, .. } => put_with(row, b"runs at ", *priority),
-        Event::Preempted { by, .. } => {
-            put_named(row, b"is preempted by ", actor_name(image, *by).as_slice());
-        }
-        Event::GivesWay { to, .. } => {
-            put_named(row, b"gives way to ", actor_name(image, *to).as_slice());
-        }
-        Event::Refused { cause, address, .. } => {
-            put_cause(row, objects, cause);
-            put_place(row, image, objects, origins, *address);
-        }
-        Event::Raises {
-            exception,
-            address,
-            ..
-        } => {
-            put_named(
-                row,
-                b"raises ",
-                exception_name(image.exceptions(), *exception),
-            );
-            put_origin(row, origins.origin_of(*address));
-        }
-        Event::RaisesAtCall {
-            exception,
-            address,
-            ..
-        } => {
-            put_named(
-                row,
-                b"raises ",
-                exception_name(image.exceptions(), *exception),
-            );
-            put(row, b" at its call");
-            put_origin(row, origins.origin_of(*address));
-        }
         Event::Waits { until, address, .. } => {
             put_until(row, b"waits until ", *until);
             put_place(row, image, objects, origins, *address);
@@ -303,14 +307,73 @@ fn put_event<O: Origins>(
             put_until(row, b" from ", *channel);
             put_place(row, image, objects, origins, *address);
         }
-        Event::Wakes { .. } => put(row, b"wakes"),
+        _ => unreachable!(),
+    }
+}
+
+// Appends what a task is refused, or the exception that it has.
+fn put_trouble<O: Origins>(
+    row: &mut RowText,
+    image: &Image,
+    objects: &[Text],
+    origins: &O,
+    event: &Event,
+)
+    requires room { array_vec_len row.old ≤ 83 }
+    requires kind { is_trouble event.now ≡ true }
+    ensures items { row.new.items ≡ row.old.items ++ event_text (row_names image.now objects.now (O.known origins.now)) event.now }
+    ensures len { array_vec_len row.new ≤ array_vec_len row.old + 160 }
+{
+    match event {
+        Event::Refused { cause, address, .. } => {
+            put_cause(row, objects, cause);
+            put_place(row, image, objects, origins, *address);
+        }
+        Event::Raises {
+            exception,
+            address,
+            ..
+        } => {
+            put_exception(row, b"raises ", image, *exception);
+            put_origin(row, origins.origin_of(*address));
+        }
+        Event::RaisesAtCall {
+            exception,
+            address,
+            ..
+        } => {
+            put_exception(row, b"raises ", image, *exception);
+            put(row, b" at its call");
+            put_origin(row, origins.origin_of(*address));
+        }
+        Event::Unhandled { exception, .. } => {
+            put_exception(row, b"is left by ", image, *exception);
+        }
+        _ => unreachable!(),
+    }
+}
+
+// Appends which object a task enters or leaves.
+fn put_crossing<O: Origins>(
+    row: &mut RowText,
+    image: &Image,
+    objects: &[Text],
+    origins: &O,
+    event: &Event,
+)
+    requires room { array_vec_len row.old ≤ 83 }
+    requires kind { is_crossing event.now ≡ true }
+    ensures items { row.new.items ≡ row.old.items ++ event_text (row_names image.now objects.now (O.known origins.now)) event.now }
+    ensures len { array_vec_len row.new ≤ array_vec_len row.old + 160 }
+{
+    match event {
         Event::Enters {
             object,
             priority,
             address,
             ..
         } => {
-            put_at(row, b"enters ", objects, *object);
+            put_called(row, b"enters ", image, objects, origins, *object, *address);
             put_with(row, b" at ", *priority);
             put_place(row, image, objects, origins, *address);
         }
@@ -324,12 +387,38 @@ fn put_event<O: Origins>(
             put_with(row, b" at ", *priority);
             put_place(row, image, objects, origins, *address);
         }
+        _ => unreachable!(),
+    }
+}
+
+// Appends what comes of the call of a task.
+fn put_service<O: Origins>(
+    row: &mut RowText,
+    image: &Image,
+    objects: &[Text],
+    origins: &O,
+    event: &Event,
+)
+    requires room { array_vec_len row.old ≤ 83 }
+    requires kind { is_service event.now ≡ true }
+    ensures items { row.new.items ≡ row.old.items ++ event_text (row_names image.now objects.now (O.known origins.now)) event.now }
+    ensures len { array_vec_len row.new ≤ array_vec_len row.old + 160 }
+{
+    match event {
         Event::Queues {
             object,
             address,
             ..
         } => {
-            put_at(row, b"queues at ", objects, *object);
+            put_called(
+                row,
+                b"queues at ",
+                image,
+                objects,
+                origins,
+                *object,
+                *address,
+            );
             put_place(row, image, objects, origins, *address);
         }
         Event::Served { object, by, .. } => {
@@ -337,15 +426,53 @@ fn put_event<O: Origins>(
             put_named(row, b" by ", actor_name(image, *by).as_slice());
         }
         Event::Returns { object, .. } => put_at(row, b"has been served at ", objects, *object),
-        Event::Ends { .. } => put(row, b"ends"),
-        Event::Unhandled { exception, .. } => {
-            put_named(
-                row,
-                b"is left by ",
-                exception_name(image.exceptions(), *exception),
-            );
+        Event::HasWaited { object, time, .. } => {
+            put(row, b"has waited ");
+            put_count(row, *time);
+            put_at(row, b" at ", objects, *object);
         }
+        _ => unreachable!(),
+    }
+}
+
+// Appends what an event is.
+fn put_event<O: Origins>(
+    row: &mut RowText,
+    image: &Image,
+    objects: &[Text],
+    origins: &O,
+    event: &Event,
+)
+    requires room { array_vec_len row.old ≤ 83 }
+    ensures items { row.new.items ≡ row.old.items ++ event_text (row_names image.now objects.now (O.known origins.now)) event.now }
+    ensures len { array_vec_len row.new ≤ array_vec_len row.old + 160 }
+{
+    match event {
+        Event::Ready { .. } => put(row, b"is ready"),
+        Event::Runs { priority, .. } => put_with(row, b"runs at ", *priority),
+        Event::Preempted { by, .. } => {
+            put_named(row, b"is preempted by ", actor_name(image, *by).as_slice());
+        }
+        Event::GivesWay { to, .. } => {
+            put_named(row, b"gives way to ", actor_name(image, *to).as_slice());
+        }
+        Event::Wakes { .. } => put(row, b"wakes"),
+        Event::Ends { .. } => put(row, b"ends"),
         Event::ClockMoves => put(row, b"the clock moves"),
+        Event::Waits { .. } | Event::Late { .. } | Event::Reads { .. } => put_request(
+            row, image, objects, origins, event,
+        ),
+        Event::Refused { .. }
+        | Event::Raises { .. }
+        | Event::RaisesAtCall { .. }
+        | Event::Unhandled { .. } => put_trouble(row, image, objects, origins, event),
+        Event::Enters { .. } | Event::Leaves { .. } => put_crossing(
+            row, image, objects, origins, event,
+        ),
+        Event::Queues { .. }
+        | Event::Served { .. }
+        | Event::Returns { .. }
+        | Event::HasWaited { .. } => put_service(row, image, objects, origins, event),
     }
 }
 
@@ -358,7 +485,7 @@ pub(crate) fn event_row<O: Origins>(
     step: u64,
     event: &Event,
 ) -> RowText
-    ensures { result.items ≡ telling_text (row_names image.now objects.now (O.origin origins.now)) time step (Shows event.now) }
+    ensures { result.items ≡ telling_text (row_names image.now objects.now (O.known origins.now)) time step (Shows event.now) }
 {
     let mut row = heading(time, step, task_of(image, event).as_slice());
     put_event(&mut row, image, objects, origins, event);
@@ -374,7 +501,7 @@ pub(crate) fn input_row<O: Origins>(
     step: u64,
     line: &ScheduleLine,
 ) -> RowText
-    ensures { result.items ≡ telling_text (row_names image.now objects.now (O.origin origins.now)) line.now.time step (Comes line.now) }
+    ensures { result.items ≡ telling_text (row_names image.now objects.now (O.known origins.now)) line.now.time step (Comes line.now) }
 {
     let mut row = heading(line.time, step, b"-");
     put_with(&mut row, b"line ", line.channel);
@@ -390,7 +517,7 @@ pub(crate) fn line_end<O: Origins>(
     origins: &O,
     address: Option<u16>,
 ) -> RowText
-    ensures { result.items ≡ place_text (row_names image.now objects.now (O.origin origins.now)) address ++ codes "\n" }
+    ensures { result.items ≡ place_text (row_names image.now objects.now (O.known origins.now)) address ++ codes "\n" }
 {
     let mut row = ArrayVec::new();
     put_place(&mut row, image, objects, origins, address);

@@ -5,11 +5,14 @@ ghost use Rattle.image.specs.Code.{code};
 ghost use Rattle.machine.specs.Stands.{EndsBy, HoldsWorld};
 ghost use Rattle.machine.specs.Written.{AppendsBeginning};
 ghost use Rattle.tasking.specs.Held.{kernel_of};
+ghost use Rattle.tracing.specs.Calls.{no_calls};
+ghost use Rattle.tracing.specs.declared.calls.TheConstants.{ACTORS};
 ghost use Rattle.tracing.specs.Changes.{since_clock, starts, until_clock};
 ghost use Rattle.tracing.specs.Traces.{came, has_come, lines_come, row_names, rows, rows_text, shown, trace_text};
 ghost use Rattle.tracing.specs.Writing.{line_text_of, start_text, step_text};
 
 use crate::ahead::{Ahead, ahead_of};
+use crate::calls::{no_calls, note_call};
 use crate::comparing::{since_clock, starts, until_clock};
 use crate::event::Event;
 use crate::origin::Origins;
@@ -34,11 +37,11 @@ fn write_events<O: Origins, S: Sink>(
     sink: &mut S,
 ) -> Result<(), SinkError>
     ensures whole { OnOk result (Appends (S.bytes sink.old) (S.bytes sink.new)
-        (rows_text (row_names image.now objects.now (O.origin origins.now)) (shown time step events.now))) }
+        (rows_text (row_names image.now objects.now (O.known origins.now)) (shown time step events.now))) }
     ensures kept { OnOk result (S.failures sink.new ≡ S.failures sink.old) }
     ensures failed { OnErr result (S.failures sink.old < S.failures sink.new) }
     ensures beginning { OnErr result (AppendsBeginning (S.bytes sink.old) (S.bytes sink.new)
-        (rows_text (row_names image.now objects.now (O.origin origins.now)) (shown time step events.now))) }
+        (rows_text (row_names image.now objects.now (O.known origins.now)) (shown time step events.now))) }
 {
     for event in events {
         let row = event_row(image, objects, origins, time, step, event);
@@ -72,11 +75,11 @@ fn write_inputs<O: Origins, S: Sink>(
     sink: &mut S,
 ) -> Result<(), SinkError>
     ensures whole { OnOk result (Appends (S.bytes sink.old) (S.bytes sink.new)
-        (rows_text (row_names image.now objects.now (O.origin origins.now)) (came step (lines_come since now lines.now)))) }
+        (rows_text (row_names image.now objects.now (O.known origins.now)) (came step (lines_come since now lines.now)))) }
     ensures kept { OnOk result (S.failures sink.new ≡ S.failures sink.old) }
     ensures failed { OnErr result (S.failures sink.old < S.failures sink.new) }
     ensures beginning { OnErr result (AppendsBeginning (S.bytes sink.old) (S.bytes sink.new)
-        (rows_text (row_names image.now objects.now (O.origin origins.now)) (came step (lines_come since now lines.now)))) }
+        (rows_text (row_names image.now objects.now (O.known origins.now)) (came step (lines_come since now lines.now)))) }
 {
     for line in lines {
         if has_come(since, now, line) {
@@ -103,11 +106,11 @@ fn write_line<O: Origins, S: Sink>(
     sink: &mut S,
 ) -> Result<(), SinkError>
     ensures whole { OnOk result (Appends (S.bytes sink.old) (S.bytes sink.new)
-        (line_text_of (row_names image.now objects.now (O.origin origins.now)) time step task address shown.now)) }
+        (line_text_of (row_names image.now objects.now (O.known origins.now)) time step task address shown.now)) }
     ensures kept { OnOk result (S.failures sink.new ≡ S.failures sink.old) }
     ensures failed { OnErr result (S.failures sink.old < S.failures sink.new) }
     ensures beginning { OnErr result (AppendsBeginning (S.bytes sink.old) (S.bytes sink.new)
-        (line_text_of (row_names image.now objects.now (O.origin origins.now)) time step task address shown.now)) }
+        (line_text_of (row_names image.now objects.now (O.known origins.now)) time step task address shown.now)) }
 {
     let machine::Event::Line(line) = shown else {
         return Ok(());
@@ -134,26 +137,27 @@ fn write_step<R: Ready, D: Delays, O: Origins, S: Sink>(
     before: &Machine<'_, R, D>,
     after: &Machine<'_, R, D>,
     lines: &[ScheduleLine],
+    calls: &[i64],
     ahead: Ahead,
     shown: &machine::Event,
     step: u64,
     sink: &mut S,
 ) -> Result<(), SinkError>
     requires { before.now.image ≡ after.now.image }
-    ensures whole { OnOk result (Appends (S.bytes sink.old) (S.bytes sink.new) (step_text (row_names image.now objects.now (O.origin origins.now)) lines.now
-        ahead (kernel_of before.now.tasking) (kernel_of after.now.tasking) step shown.now (kernel_of before.now.tasking).running)) }
+    ensures whole { OnOk result (Appends (S.bytes sink.old) (S.bytes sink.new) (step_text (row_names image.now objects.now (O.known origins.now)) lines.now
+        calls.now ahead (kernel_of before.now.tasking) (kernel_of after.now.tasking) step shown.now (kernel_of before.now.tasking).running)) }
     ensures kept { OnOk result (S.failures sink.new ≡ S.failures sink.old) }
     ensures failed { OnErr result (S.failures sink.old < S.failures sink.new) }
     ensures beginning { OnErr result (AppendsBeginning (S.bytes sink.old) (S.bytes sink.new)
-        (step_text (row_names image.now objects.now (O.origin origins.now)) lines.now ahead (kernel_of before.now.tasking) (kernel_of after.now.tasking) step
-        shown.now (kernel_of before.now.tasking).running)) }
+        (step_text (row_names image.now objects.now (O.known origins.now)) lines.now calls.now ahead (kernel_of before.now.tasking)
+        (kernel_of after.now.tasking) step shown.now (kernel_of before.now.tasking).running)) }
 {
     let Some(ran) = before.actor() else {
         return Ok(());
     };
     let time = before.now();
     let now = after.now();
-    let until = until_clock(before, after, ran, ahead);
+    let until = until_clock(calls, before, after, ran, ahead);
     let since = since_clock(before, after, ran);
     match write_line(
         image,
@@ -189,12 +193,12 @@ fn write_start<R: Ready, D: Delays, O: Origins, S: Sink>(
     lines: &[ScheduleLine],
     sink: &mut S,
 ) -> Result<(), SinkError>
-    ensures whole { OnOk result (Appends (S.bytes sink.old) (S.bytes sink.new) (start_text (row_names image.now objects.now (O.origin origins.now)) lines.now
+    ensures whole { OnOk result (Appends (S.bytes sink.old) (S.bytes sink.new) (start_text (row_names image.now objects.now (O.known origins.now)) lines.now
         (kernel_of machine.now.tasking))) }
     ensures kept { OnOk result (S.failures sink.new ≡ S.failures sink.old) }
     ensures failed { OnErr result (S.failures sink.old < S.failures sink.new) }
     ensures beginning { OnErr result (AppendsBeginning (S.bytes sink.old) (S.bytes sink.new)
-        (start_text (row_names image.now objects.now (O.origin origins.now)) lines.now (kernel_of machine.now.tasking))) }
+        (start_text (row_names image.now objects.now (O.known origins.now)) lines.now (kernel_of machine.now.tasking))) }
 {
     let now = machine.now();
     match write_inputs(image, objects, origins, lines, None, now, 0, sink) {
@@ -219,11 +223,13 @@ fn trace_on<R: Ready, D: Delays, O: Origins, S: Sink, L: Ledger>(
     origins: &O,
     before: &mut Machine<'_, R, D>,
     after: &mut Machine<'_, R, D>,
+    calls: &mut [i64],
     schedule: &Schedule,
     limit: u64,
     sink: &mut S,
     steps: &mut Steps<L>,
 ) -> Result<Outcome, RunFault>
+    requires calls { calls.old ≡ no_calls ACTORS }
     requires image { after.old.image ≡ image.now }
     requires image_before { before.old.image ≡ image.now }
     requires schedule { after.old.schedule ≡ schedule.now }
@@ -231,13 +237,13 @@ fn trace_on<R: Ready, D: Delays, O: Origins, S: Sink, L: Ledger>(
     requires stands { HoldsWorld after.old (code after.old.image after.old.schedule 0) }
     requires stands_before { HoldsWorld before.old (code before.old.image before.old.schedule 0) }
     ensures rows { OnOk result (Appends (S.bytes sink.old) (S.bytes sink.new)
-        (rows_text (row_names image.now objects.now (O.origin origins.now)) (rows image.now schedule.now limit))) }
+        (rows_text (row_names image.now objects.now (O.known origins.now)) (rows image.now schedule.now limit))) }
     ensures ends { IfOk result (λ outcome. EndsBy outcome (code image.now schedule.now limit)) }
     ensures kept { OnOk result (S.failures sink.new ≡ S.failures sink.old) }
     ensures fault { IfErr result (λ fault. fault ≡ RunFault.Write) }
     ensures failed { OnErr result (S.failures sink.old < S.failures sink.new) }
     ensures beginning { OnErr result (AppendsBeginning (S.bytes sink.old) (S.bytes sink.new)
-        (rows_text (row_names image.now objects.now (O.origin origins.now)) (rows image.now schedule.now limit))) }
+        (rows_text (row_names image.now objects.now (O.known origins.now)) (rows image.now schedule.now limit))) }
     ensures count { steps.new ≤ steps.old + 2 * limit }
 {
     outcome_stays();
@@ -260,6 +266,7 @@ fn trace_on<R: Ready, D: Delays, O: Origins, S: Sink, L: Ledger>(
             before,
             after,
             schedule.lines(),
+            calls,
             ahead,
             &shown,
             step,
@@ -268,6 +275,7 @@ fn trace_on<R: Ready, D: Delays, O: Origins, S: Sink, L: Ledger>(
             Ok(()) => {}
             Err(_) => return Err(RunFault::Write),
         }
+        note_call(calls, before, after);
         before.step(steps);
     }
     Ok(after.outcome_or_limit())
@@ -291,22 +299,26 @@ pub fn trace<O: Origins, S: Sink, L: Ledger>(
     sink: &mut S,
     steps: &mut Steps<L>,
 ) -> Result<Outcome, RunFault>
-    ensures text { OnOk result (Appends (S.bytes sink.old) (S.bytes sink.new) (trace_text image.now objects.now (O.origin origins.now) schedule.now bound)) }
+    ensures text { OnOk result (Appends (S.bytes sink.old) (S.bytes sink.new) (trace_text image.now objects.now (O.known origins.now) schedule.now bound)) }
     ensures ends { IfOk result (λ outcome. EndsBy outcome (code image.now schedule.now bound.steps)) }
     ensures kept { OnOk result (S.failures sink.new ≡ S.failures sink.old) }
     ensures memory { result ≡ Err RunFault.Memory → sink.new ≡ sink.old }
     ensures failed { result ≡ Err RunFault.Write → S.failures sink.old < S.failures sink.new }
-    ensures beginning { AppendsBeginning (S.bytes sink.old) (S.bytes sink.new) (trace_text image.now objects.now (O.origin origins.now) schedule.now bound) }
+    ensures beginning { AppendsBeginning (S.bytes sink.old) (S.bytes sink.new) (trace_text image.now objects.now (O.known origins.now) schedule.now bound) }
     ensures count { steps.new ≤ steps.old + 2 * bound.steps }
 {
     let mut before: Machine<'_, RingReady, HeapDelays> = Machine::start(alloc, image, schedule)?;
     let mut after: Machine<'_, RingReady, HeapDelays> = Machine::start(alloc, image, schedule)?;
+    let Ok(mut calls) = no_calls(alloc) else {
+        return Err(RunFault::Memory);
+    };
     let outcome = trace_on(
         image,
         objects,
         origins,
         &mut before,
         &mut after,
+        &mut calls,
         schedule,
         bound.steps,
         sink,

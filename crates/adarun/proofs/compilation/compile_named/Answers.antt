@@ -7,7 +7,7 @@ use Rattle.parser.specs.Parsing.{Derives}
 use Rattle.adarun.specs.Accepted.{CompilesAccepted, IsJudged, RefusesText, RefusesTree}
 use Rattle.adarun.specs.Naming.{imaged}
 use Rattle.adarun.proofs.Named.{of_fault, of_image}
-use Rattle.adarun.proofs.Compiling.{compiles, given, judged, judged_accepted, judged_legal, legal_given, misspelled, no_tree, numbered, parsed, refused_text, restricted_given, tells, unrestricted_text}
+use Rattle.adarun.proofs.Compiling.{compiles, given, judged, judged_accepted, judged_legal, legal_given, misspelled, named_bodies, no_tree, numbered, parsed, refused_text, restricted_given, tells, unrestricted_text}
 use Rattle.adarun.proofs.compilation.compile_named.Goals as goal
 
 pub returns-in_err-list-clause-refused : goal.returns-in_err-list-clause-refused
@@ -129,3 +129,12 @@ returns-clause-numbered c =
 
 pub new-requires : goal.new-requires
 new-requires c = record { parsed = parsed _ _ _ c.in_ok-program.program c.in_ok-list.ensures.sound c.deref.ensures.value c.in_ok-program.ensures.found }
+
+pub returns-clause-bodies : goal.returns-clause-bodies
+returns-clause-bodies c =
+    let lent = ap program_tree (c.in_ok-accepted.ensures.same ∙ c.in_ok-checked.ensures.same ∙ c.new.ensures.same) in
+    named_bodies _ _ _
+    (λ tree is_tree.
+    let same = c.deref.ensures.value ∙ c.in_ok-list.ensures.complete is_tree.tokens is_tree.spells in
+    lent ∙ c.in_ok-program.ensures.only tree (subst (Derives tree) (sym same) is_tree.derives))
+    c.named_of.ensures.bodies

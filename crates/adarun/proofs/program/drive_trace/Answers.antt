@@ -23,8 +23,10 @@ returns-in-Ok-write_trace-clause-leaves g c =
       outcome = c.in-Ok-write_trace.outcome;
       status_is = refl;
       written = told_alike c.args.form (Appends (g.O.Sink.bytes c.args.out.now) (g.O.Sink.bytes c.write_trace.new.out)) c.in-Ok-compile_named.named.image
-          c.in-Ok-compile_named.named.places c.in-Ok-read-2.schedule c.in-Ok-bound_of.bound _ _ _ _
-          (ap names_alone c.in-Ok-compile_named.ensures.means.names) (c.deref-3.ensures.value ∙ sym c.deref.ensures.value) c.in-Ok-write_trace.ensures.text;
+          c.in-Ok-compile_named.named.places c.in-Ok-read-2.schedule c.in-Ok-bound_of.bound _ _ _ _ _ _
+          (ap names_alone c.in-Ok-compile_named.ensures.means.names)
+          (c.deref-4.ensures.value ∙ c.in-Ok-compile_named.ensures.bodies c.in-Ok-compile_named.ensures.means.compiles.tree c.in-Ok-compile_named.ensures.means.compiles.accepted.is_tree)
+          (c.deref-3.ensures.value ∙ sym c.deref.ensures.value) c.in-Ok-write_trace.ensures.text;
       ends = c.in-Ok-write_trace.ensures.ends;
     })
 
@@ -48,8 +50,10 @@ returns-clause-leaves g c =
       bound = c.in-Ok-bound_of.bound;
       bounded = c.in-Ok-bound_of.ensures.bound;
       begins = told_alike c.args.form (AppendsBeginning (g.O.Sink.bytes c.args.out.now) (g.O.Sink.bytes c.write_trace.new.out)) c.in-Ok-compile_named.named.image
-          c.in-Ok-compile_named.named.places c.in-Ok-read-2.schedule c.in-Ok-bound_of.bound _ _ _ _
-          (ap names_alone c.in-Ok-compile_named.ensures.means.names) (c.deref-3.ensures.value ∙ sym c.deref.ensures.value) c.in-Err-Write.ensures.beginning;
+          c.in-Ok-compile_named.named.places c.in-Ok-read-2.schedule c.in-Ok-bound_of.bound _ _ _ _ _ _
+          (ap names_alone c.in-Ok-compile_named.ensures.means.names)
+          (c.deref-4.ensures.value ∙ c.in-Ok-compile_named.ensures.bodies c.in-Ok-compile_named.ensures.means.compiles.tree c.in-Ok-compile_named.ensures.means.compiles.accepted.is_tree)
+          (c.deref-3.ensures.value ∙ sym c.deref.ensures.value) c.in-Err-Write.ensures.beginning;
     }))
 
 pub returns-clause-sink : goal.returns-clause-sink

@@ -13,7 +13,7 @@ returns-in-Rows-clause-text g c =
     rw c.in-Rows.is
     (subst
     (λ objects. OnOk c.trace.result (Appends (g.O.Sink.bytes c.args.out.now) (g.O.Sink.bytes c.trace.new.sink)
-    (trace_text c.args.named.now.image objects (g.P.Origins.origin c.args.origins.now) c.args.schedule.now c.args.bound)))
+    (trace_text c.args.named.now.image objects (g.P.Origins.known c.args.origins.now) c.args.schedule.now c.args.bound)))
     same c.trace.ensures.text)
 
 pub returns-in-Rows-clause-beginning : goal.returns-in-Rows-clause-beginning
@@ -23,5 +23,5 @@ returns-in-Rows-clause-beginning g c =
     rw c.in-Rows.is
     (subst
     (λ objects. AppendsBeginning (g.O.Sink.bytes c.args.out.now) (g.O.Sink.bytes c.trace.new.sink)
-    (trace_text c.args.named.now.image objects (g.P.Origins.origin c.args.origins.now) c.args.schedule.now c.args.bound))
+    (trace_text c.args.named.now.image objects (g.P.Origins.known c.args.origins.now) c.args.schedule.now c.args.bound))
     same c.trace.ensures.beginning)

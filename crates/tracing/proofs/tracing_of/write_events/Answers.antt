@@ -14,7 +14,7 @@ loop-event-init g c = nothing_written _ _ _
 
 pub loop-event-preserved : goal.loop-event-preserved
 loop-event-preserved g c =
-    let text : List Event → List ℕ = λ events. rows_text (row_names c.args.image.now c.args.objects.now (g.O.Origins.origin c.args.origins.now)) (shown (to_z w64 (of_z w64 c.args.time)) c.args.step events) in
+    let text : List Event → List ℕ = λ events. rows_text (row_names c.args.image.now c.args.objects.now (g.O.Origins.known c.args.origins.now)) (shown (to_z w64 (of_z w64 c.args.time)) c.args.step events) in
     let rest = text (drop (c.loop-event.event-index + 1) c.args.events.now) in
     let left = at_drop_more text c.args.events.now c.loop-event.event-index (Ready 0) c.loop-event-test.true in
     let row = c.as_slice.ensures.value ∙ c.event_row-row.ensures in
@@ -22,17 +22,17 @@ loop-event-preserved g c =
 
 pub returns-in-Err-clause-beginning : goal.returns-in-Err-clause-beginning
 returns-in-Err-clause-beginning g c =
-    let text : List Event → List ℕ = λ events. rows_text (row_names c.args.image.now c.args.objects.now (g.O.Origins.origin c.args.origins.now)) (shown (to_z w64 (of_z w64 c.args.time)) c.args.step events) in
+    let text : List Event → List ℕ = λ events. rows_text (row_names c.args.image.now c.args.objects.now (g.O.Origins.known c.args.origins.now)) (shown (to_z w64 (of_z w64 c.args.time)) c.args.step events) in
     let rest = text (drop (c.loop-event.event-index + 1) c.args.events.now) in
     let left = at_drop_more text c.args.events.now c.loop-event.event-index (Ready 0) c.loop-event-test.true in
     let row = c.as_slice.ensures.value ∙ c.event_row-row.ensures in
     let time : to_z w64 (of_z w64 c.args.time) ≡ c.args.time = search rules in
-    subst (λ t. AppendsBeginning (g.S.Sink.bytes c.args.sink.now) (g.S.Sink.bytes c.write_all.new.sink) (rows_text (row_names c.args.image.now c.args.objects.now (g.O.Origins.origin c.args.origins.now)) (shown t c.args.step c.args.events.now))) time
+    subst (λ t. AppendsBeginning (g.S.Sink.bytes c.args.sink.now) (g.S.Sink.bytes c.write_all.new.sink) (rows_text (row_names c.args.image.now c.args.objects.now (g.O.Origins.known c.args.origins.now)) (shown t c.args.step c.args.events.now))) time
     (broken _ _ _ _ _ _ c.loop-event.invariant c.as_slice.result.now rest (left ∙ ap (λ v. v ++ rest) (sym row)) _ c.in-Err.ensures.beginning)
 
 pub returns-clause-whole : goal.returns-clause-whole
 returns-clause-whole g c =
-    let text : List Event → List ℕ = λ events. rows_text (row_names c.args.image.now c.args.objects.now (g.O.Origins.origin c.args.origins.now)) (shown (to_z w64 (of_z w64 c.args.time)) c.args.step events) in
+    let text : List Event → List ℕ = λ events. rows_text (row_names c.args.image.now c.args.objects.now (g.O.Origins.known c.args.origins.now)) (shown (to_z w64 (of_z w64 c.args.time)) c.args.step events) in
     let time : to_z w64 (of_z w64 c.args.time) ≡ c.args.time = search rules in
-    subst (λ t. Appends (g.S.Sink.bytes c.args.sink.now) (g.S.Sink.bytes c.loop-event.sink) (rows_text (row_names c.args.image.now c.args.objects.now (g.O.Origins.origin c.args.origins.now)) (shown t c.args.step c.args.events.now))) time
+    subst (λ t. Appends (g.S.Sink.bytes c.args.sink.now) (g.S.Sink.bytes c.loop-event.sink) (rows_text (row_names c.args.image.now c.args.objects.now (g.O.Origins.known c.args.origins.now)) (shown t c.args.step c.args.events.now))) time
     (all_written _ _ _ _ _ _ c.loop-event.invariant (ap text (drop_of_length-le c.args.events.now c.loop-event-test.false)))

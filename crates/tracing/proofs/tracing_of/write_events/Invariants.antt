@@ -7,5 +7,5 @@ use Rattle.tracing.proofs.tracing_of.write_events.Given as goal
 abbrev pub invariant-loop-event : goal.invariant-loop-event
 invariant-loop-event g l =
     Parts (g.S.Sink.bytes l.fn.sink) (g.S.Sink.bytes l.sink) (g.S.Sink.failures l.fn.sink) (g.S.Sink.failures l.sink)
-    (rows_text (row_names l.fn.image l.fn.objects (g.O.Origins.origin l.fn.origins)) (shown l.fn.time l.fn.step l.fn.events))
-    (rows_text (row_names l.fn.image l.fn.objects (g.O.Origins.origin l.fn.origins)) (shown l.fn.time l.fn.step (drop l.event-index l.fn.events)))
+    (rows_text (row_names l.fn.image l.fn.objects (g.O.Origins.known l.fn.origins)) (shown l.fn.time l.fn.step l.fn.events))
+    (rows_text (row_names l.fn.image l.fn.objects (g.O.Origins.known l.fn.origins)) (shown l.fn.time l.fn.step (drop l.event-index l.fn.events)))

@@ -13,7 +13,7 @@ no_line = record { time = pos 0; channel = 0; value = pos 0 }
 
 pub loop-line-preserved : goal.loop-line-preserved
 loop-line-preserved g c =
-    let names = (row_names c.args.image.now c.args.objects.now (g.O.Origins.origin c.args.origins.now)) in
+    let names = (row_names c.args.image.now c.args.objects.now (g.O.Origins.known c.args.origins.now)) in
     let now = to_z w64 (of_z w64 c.args.now) in
     let text : List ScheduleLine → List ℕ = λ lines. rows_text names (came c.args.step (lines_come c.args.since now lines)) in
     let later = drop (c.loop-line.line-index + 1) c.args.lines.now in
@@ -32,7 +32,7 @@ loop-line-preserved g c =
 
 pub returns-in-Err-clause-beginning : goal.returns-in-Err-clause-beginning
 returns-in-Err-clause-beginning g c =
-    let names = (row_names c.args.image.now c.args.objects.now (g.O.Origins.origin c.args.origins.now)) in
+    let names = (row_names c.args.image.now c.args.objects.now (g.O.Origins.known c.args.origins.now)) in
     let now = to_z w64 (of_z w64 c.args.now) in
     let text : List ScheduleLine → List ℕ = λ lines. rows_text names (came c.args.step (lines_come c.args.since now lines)) in
     let later = drop (c.loop-line.line-index + 1) c.args.lines.now in

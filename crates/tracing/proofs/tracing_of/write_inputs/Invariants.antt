@@ -7,5 +7,5 @@ use Rattle.tracing.proofs.tracing_of.write_inputs.Given as goal
 abbrev pub invariant-loop-line : goal.invariant-loop-line
 invariant-loop-line g l =
     Parts (g.S.Sink.bytes l.fn.sink) (g.S.Sink.bytes l.sink) (g.S.Sink.failures l.fn.sink) (g.S.Sink.failures l.sink)
-    (rows_text (row_names l.fn.image l.fn.objects (g.O.Origins.origin l.fn.origins)) (came l.fn.step (lines_come l.fn.since l.fn.now l.fn.lines)))
-    (rows_text (row_names l.fn.image l.fn.objects (g.O.Origins.origin l.fn.origins)) (came l.fn.step (lines_come l.fn.since l.fn.now (drop l.line-index l.fn.lines))))
+    (rows_text (row_names l.fn.image l.fn.objects (g.O.Origins.known l.fn.origins)) (came l.fn.step (lines_come l.fn.since l.fn.now l.fn.lines)))
+    (rows_text (row_names l.fn.image l.fn.objects (g.O.Origins.known l.fn.origins)) (came l.fn.step (lines_come l.fn.since l.fn.now (drop l.line-index l.fn.lines))))

@@ -6,7 +6,7 @@ use Rattle.tracing.proofs.tracing_of.write_line.Goals as goal
 
 pub returns-clause-whole : goal.returns-clause-whole
 returns-clause-whole g c =
-    let names = (row_names c.args.image.now c.args.objects.now (g.O.Origins.origin c.args.origins.now)) in
+    let names = (row_names c.args.image.now c.args.objects.now (g.O.Origins.known c.args.origins.now)) in
     let time : to_z w64 (of_z w64 c.args.time) ≡ c.args.time = search rules in
     let head = c.as_slice.ensures.value ∙ c.line_heading-heading.ensures ∙ ap (λ t. heading t c.args.step (names.line.task c.args.task) ++ codes "writes ") time in
     let word = c.without_end.ensures ∙ ap without_end c.as_slice-2.ensures.value in
@@ -16,7 +16,7 @@ returns-clause-whole g c =
 
 pub returns-clause-beginning : goal.returns-clause-beginning
 returns-clause-beginning g c =
-    let names = (row_names c.args.image.now c.args.objects.now (g.O.Origins.origin c.args.origins.now)) in
+    let names = (row_names c.args.image.now c.args.objects.now (g.O.Origins.known c.args.origins.now)) in
     let time : to_z w64 (of_z w64 c.args.time) ≡ c.args.time = search rules in
     let head = c.as_slice.ensures.value ∙ c.line_heading-heading.ensures ∙ ap (λ t. heading t c.args.step (names.line.task c.args.task) ++ codes "writes ") time in
     let word = c.without_end.ensures ∙ ap without_end c.as_slice-2.ensures.value in
@@ -26,7 +26,7 @@ returns-clause-beginning g c =
 
 pub returns-in-Err-write_all-clause-beginning : goal.returns-in-Err-write_all-clause-beginning
 returns-in-Err-write_all-clause-beginning g c =
-    let names = (row_names c.args.image.now c.args.objects.now (g.O.Origins.origin c.args.origins.now)) in
+    let names = (row_names c.args.image.now c.args.objects.now (g.O.Origins.known c.args.origins.now)) in
     let time : to_z w64 (of_z w64 c.args.time) ≡ c.args.time = search rules in
     let head = c.as_slice.ensures.value ∙ c.line_heading-heading.ensures ∙ ap (λ t. heading t c.args.step (names.line.task c.args.task) ++ codes "writes ") time in
     let word = c.without_end.ensures ∙ ap without_end c.as_slice-2.ensures.value in
@@ -36,7 +36,7 @@ returns-in-Err-write_all-clause-beginning g c =
 
 pub returns-in-Err-clause-beginning : goal.returns-in-Err-clause-beginning
 returns-in-Err-clause-beginning g c =
-    let names = (row_names c.args.image.now c.args.objects.now (g.O.Origins.origin c.args.origins.now)) in
+    let names = (row_names c.args.image.now c.args.objects.now (g.O.Origins.known c.args.origins.now)) in
     let time : to_z w64 (of_z w64 c.args.time) ≡ c.args.time = search rules in
     let head = c.as_slice.ensures.value ∙ c.line_heading-heading.ensures ∙ ap (λ t. heading t c.args.step (names.line.task c.args.task) ++ codes "writes ") time in
     let word = without_end c.in-Line.line.items in
