@@ -7,7 +7,7 @@ use declaration_rules::laws::names_are_added;
 use size_rules::laws::words_add_up;
 use types::laws::shapes_stay;
 
-/// Of two faults the one at the lesser place is reported first, and at one place the one with the lesser number.
+/// The order of a program's faults: by their places in the text, and at one place by their numbers; the first of them is reported.
 pub fn order_is_by_place_and_number()
     ensures { OrderIsByPlaceAndNumber }
 {}
