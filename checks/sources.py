@@ -6,7 +6,7 @@ import resource
 
 from shared import CHECKS, EMPTY_SCHEDULE, STEPS, Called, call, lines_of_trace, make_by, place_of, text_of
 
-STACK, REPORTING_STACK, SEARCHING_STACK = 192 * 1024, 320 * 1024, 512 * 1024
+STACK, TRACING_STACK, SEARCHING_STACK = 192 * 1024, 256 * 1024, 320 * 1024
 FAULT = re.compile(r"fault (\d+) at (\d+:\d+)")
 
 
@@ -75,14 +75,14 @@ def reported(called, fault):
 
 
 def by_other_commands(checks, name, path, status, out, err):
-    """The text by the commands that report more than `go`: `check` with the same stack, those that keep more than one run with larger ones."""
+    """The text by the commands that report more than `go`: `check` and `simulate` with the same stack, those that keep more than one run with larger ones."""
 
-    def called(*words, stack=REPORTING_STACK):
+    def called(*words, stack=STACK):
         return call(checks.program, *words, env={}, preexec_fn=with_stack(stack))
 
     run = [path, EMPTY_SCHEDULE, STEPS]
-    checked = called("check", path, stack=STACK)
-    traced, simulated, dumped = called("trace", *run), called("simulate", *run), called("trace", "--vcd", *run)
+    checked, simulated = called("check", path), called("simulate", *run)
+    traced, dumped = (called("trace", *form, *run, stack=TRACING_STACK) for form in ((), ("--vcd",)))
     searched = called("search", path, EMPTY_SCHEDULE, "0", STEPS, stack=SEARCHING_STACK)
     checks.expect(f"{name}: trace", Called(traced.status, lines_of_trace(traced.out), traced.err), status, out, err)
     if status == 2:
@@ -98,7 +98,7 @@ def by_other_commands(checks, name, path, status, out, err):
 
 
 def with_a_small_stack(checks):
-    """The longest and the deepest texts of each kind (checks/large_texts.py), with a stack of 192 KiB, 320 for the commands that run them twice and 512 for
+    """The longest and the deepest texts of each kind (checks/large_texts.py), with a stack of 192 KiB, 256 for `trace` and 320 for
     `search`: what a long text needs doesn't grow with its length, and what a deep one needs is bounded by the 40 levels. The environment is on the stack too, so
     it is empty."""
     folder = checks.path("large")

@@ -116,6 +116,7 @@ class Judge:
     def __init__(self, program):
         self.program, self.faults = program, set()
         self.scope = dict(PREDEFINED)
+        self.own_types = {}  # of each expression that was met, with it
         self.own = None  # the protected object within whose body it is
         self.words, self.frame = 0, 0  # those of the package, and of the body in which it is, up to here
 
@@ -254,10 +255,7 @@ class Judge:
     def expected(self, expression, kind):
         """Judges an expression that is to be of this type; whether nothing is broken in it."""
         before = len(self.faults)
-        if isinstance(expression, (tree.IfExpression,)):
-            self.if_type(expression, kind)
-        else:
-            self.matches(expression, self.type_of(expression, kind), kind)
+        self.matches(expression, self.type_of(expression, kind), kind)
         return len(self.faults) == before
 
     def matches(self, expression, found, kind):
@@ -289,27 +287,36 @@ class Judge:
         if isinstance(expression, tree.Unary):
             return self.unary_type(expression, kind)
         if isinstance(expression, tree.Binary):
-            return self.binary_type(expression, kind)
+            return self.binary_type(expression)
         return self.name_type(expression)
+
+    def own_type(self, expression):
+        """The type that an expression has by itself; nothing of it is reported."""
+        if id(expression) not in self.own_types:
+            kept = set(self.faults)
+            self.own_types[id(expression)] = (self.type_of(expression), expression)
+            self.faults = kept
+        return self.own_types[id(expression)][0]
 
     def if_type(self, expression, kind):
         for condition, _ in expression.branches:
             self.expected(condition, BOOLEAN)
         parts = [value for _, value in expression.branches] + [expression.otherwise]
-        types = [self.type_of(part, kind) for part in parts]
+        types = [self.own_type(part) for part in parts]
         known = [it for it in types if it is not ANY and it is not BROKEN]
-        if len({id(it) for it in known}) <= 1 and not (known and ANY in types and known[0].kind != "integer"):
-            found = known[0] if known else BROKEN if BROKEN in types else ANY
-            if kind is not None:
-                self.matches(expression, found, kind)
-            return kind if kind is not None else found
-        wanted = kind if kind is not None and kind is not ANY else known[0]
-        for part, found in zip(parts, types):
-            self.matches(part, found, wanted)
-        return BROKEN if kind is None else wanted
+        if BROKEN not in types and len({id(it) for it in known}) <= 1 and not (known and ANY in types and known[0].kind != "integer"):
+            found, wanted = known[0] if known else ANY, None
+        else:
+            found, wanted = BROKEN, kind if kind is not None and kind not in (ANY, BROKEN) else known[0] if known else None
+        for part, own in zip(parts, types):
+            self.type_of(part, wanted)
+            if wanted is not None:
+                self.matches(part, own, wanted)
+        return found
 
     def unary_type(self, expression, kind):
-        found = self.type_of(expression.operand)
+        found = self.own_type(expression.operand)
+        self.type_of(expression.operand, BOOLEAN if expression.operator == "not" else kind)
         if expression.operator == "not":
             if found not in (BOOLEAN, BROKEN):
                 self.fault(12, expression.at)
@@ -319,10 +326,20 @@ class Judge:
         self.fault(12, expression.at)
         return BROKEN
 
-    def binary_type(self, expression, kind):
+    @staticmethod
+    def beside(operator, other):
+        """What is expected of an operand beside one of this type."""
+        if operator in LOGICAL:
+            return BOOLEAN
+        if other is BROKEN or other is ANY:
+            return None
+        return other if operator in RELATIONS or other.kind == "integer" else None
+
+    def binary_type(self, expression):
         operator = expression.operator
-        left = self.type_of(expression.left)
-        right = self.type_of(expression.right, left if left.kind == "integer" and operator not in LOGICAL else None)
+        left, right = self.own_type(expression.left), self.own_type(expression.right)
+        self.type_of(expression.left, self.beside(operator, right))
+        self.type_of(expression.right, self.beside(operator, left))
         if operator in LOGICAL or operator in RELATIONS:
             has_meaning = left is BOOLEAN and right is BOOLEAN if operator in LOGICAL else self.are_compared(left, right)
             if BROKEN not in (left, right) and not has_meaning:
