@@ -170,7 +170,8 @@ def trace_case(caller, seed):
     caller.tracer.wrong.clear()
     caller.waver.wrong.clear()
     caller.tracer.write(source, given)
-    caller.tracer.compare("trace", TRACED, traces.world_of(caller.program, caller.tracer.folder, source, given, traces.objects_of(source)).trace(TRACED), False)
+    world = traces.world_of(caller.program, caller.tracer.folder, source, given, traces.objects_of(source), traces.bodies_of(source))
+    caller.tracer.compare("trace", TRACED, world.trace(TRACED), False)
     caller.waver.check("dump", source, given, TRACED)
     told = caller.tracer.wrong + caller.waver.wrong
     return "traced", Difference("; ".join(told[:3]), source, schedule) if told else None
