@@ -1,3 +1,4 @@
+-- What statements that break no rule and no restriction have where they stand in loops, handlers and bodies: ways out; and exceptions with numbers.
 use Rattle.std.proofs.Common.{◌≡◌, ◌++◌, ℕ, [], ◌∷◌, List, Bool, true, ◌||◌, ◌&&◌, not, Option, Some, None, refl}
 use Rattle.std.specs.Prelude.{◌≢◌, is_some}
 use Rattle.std.proofs.lemmas.Bool.{and_from, or_left, or_right}

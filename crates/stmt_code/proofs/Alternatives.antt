@@ -1,3 +1,4 @@
+-- Code of alternatives that was added, one behind another, and that of a whole `case`.
 use Rattle.std.proofs.Common.{◌≡◌, ℕ, ◌+◌, ◌++◌, []}
 use Rattle.ada_tree.specs.ExpressionTree.{ExprTree}
 use Rattle.ada_tree.specs.StatementTree as statements

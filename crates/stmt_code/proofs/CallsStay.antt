@@ -1,3 +1,4 @@
+-- Calls of procedures stay within bounds, and add no labels.
 use Rattle.std.proofs.Common.{◌≡◌, Some, None, refl}
 use Rattle.ada_tree.specs.ExpressionTree.{Arguments, Component, MoreSelectors, NoSelectors, SelectorTrees}
 use Rattle.part_code.specs.Lines.{line_behind}

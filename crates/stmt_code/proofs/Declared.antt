@@ -1,3 +1,4 @@
+-- Code of declarations that was added: the initial value of an object of one word, its store, and what is visible behind it; and one declaration behind another.
 use Rattle.std.proofs.Common.{◌≡◌, ℕ, ◌+◌, [], ◌++◌, Option, Some, None, refl, sym, ap, ◌∙◌}
 use Rattle.ada_tree.specs.ExpressionTree.{ExprTree}
 use Rattle.ada_tree.specs.StatementTree.{ObjectTree}

@@ -1,3 +1,4 @@
+-- What refuses a part of a statement refuses the whole: needs of parts, and those of lists of statements, of parts of an `if`, of alternatives and of declarations.
 use Rattle.std.proofs.Common.{◌≡◌, ◌+◌, ◌∷◌, ℕ, List, [], refl}
 use Rattle.ada_tree.specs.StatementTree.{DeclarationTree}
 use Rattle.declaration_rules.specs.LocalRules.{locals_scope}

@@ -1,3 +1,4 @@
+-- The code of a body up to its end: its declarations, the way out, if its statements return, and these.
 use Rattle.std.proofs.Common.{◌≡◌, List, map, subst}
 use Rattle.ada_tree.specs.declared.declaration.Declaration.{Declaration}
 use Rattle.ada_tree.specs.declared.statement.Handler.{Handler}

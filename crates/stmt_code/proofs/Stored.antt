@@ -1,3 +1,4 @@
+-- Code of assignments that was added: the value of a whole object of one word, and what stores it.
 use Rattle.std.proofs.Common.{◌≡◌, not, refl, sym, ap, ◌∙◌}
 use Rattle.ada_tree.specs.ExpressionTree.{ExprTree, NameTree, NoSelectors}
 use Rattle.ada_tree.specs.StatementTree as statements
