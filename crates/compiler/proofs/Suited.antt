@@ -4,7 +4,7 @@ use Rattle.std.specs.Prelude.{is_none, nat_lt, slice_get}
 use Rattle.std.proofs.lemmas.Bool.{eq-eqb, lt-ltb}
 use Rattle.ada_tree.specs.declared.declaration.Formal.{Formal}
 use Rattle.ada_tree.specs.declared.expression.Identifier.{Identifier}
-use Rattle.ada_tree.specs.ProgramTree.{BodyItemTree, EntryBody, OperationBody, ProgramTree, ProtectedBody, ProtectedItemTree}
+use Rattle.ada_tree.specs.ProgramTree.{EntryBody, OperationBody, ProgramTree, ProtectedBody, ProtectedItemTree}
 use Rattle.image.specs.Code as sections
 use Rattle.image.specs.ObjectTable.{ObjectRow}
 use Rattle.image.specs.Rules.{calls_inside, has_region, has_word, is_external, is_plain, object_row, some_and, writes_region}
@@ -104,9 +104,6 @@ subprogram_before b p (inr h) = h
 module _ (laws : LawsOfNames) (t : ProgramTree) (legal : IsLegal t) (restricted : IsRestricted t) (i : Sections) (h : HasProgram t i) where
   abbrev program : Program
   program = program_of t
-
-  abbrev all : List BodyItemTree
-  all = declared_in t.package_
 
   -- a frame with these names alone
   abbrev seeing : Option ℕ → Visible → Framed

@@ -200,10 +200,6 @@ module _ (scopes : ScopesAreSound) (known : NamesAreKnown) (premises : PremisesH
       (back_empty (formals_faults before [] d.formals) (result_faults before d.result) (front_empty _ _ profile_legal))) in
       (known_here.0, known_here.1, subtype_kept before program.scope (kept program start all w k) r known_here.0 known_here.1)
 
-  pub value_legal : (r : Identifier) (value : ExprTree) → d.result ≡ Some r → returned b.statements ≡ Some value
-      → faults_of inside (OfType (subtype_named program.scope r).type_number) value ≡ []
-  value_legal r value some is = result_legal program.scope before behind d b head body_legal told r value some is
-
   pub body_added : IsSoundBody t (front t (suc k)) d b
   body_added = record {
     front = fronts (suc k);

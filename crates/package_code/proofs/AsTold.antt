@@ -57,14 +57,6 @@ entries_next v mid name has (inr grown) slots subprograms =
 
 -- ---- what is refused for no limit, and what it keeps
 
-pub plain_keeps : (old new : List Subprogram) (why : Refusal) → IsRefused 0 0 why → KeepsMade why old new
-plain_keeps old new refusal.Memory r = tt
-plain_keeps old new (refusal.Limit limit) r = absurd (no_limit limit r)
-
-pub same_keeps : (old new : List Subprogram) (why : Refusal) → new ≡ old → KeepsMade why old new
-same_keeps old new refusal.Memory same = tt
-same_keeps old new (refusal.Limit limit) same = same
-
 module _ (t : ProgramTree) where
   abbrev start : Scope
   start = start_in t.package_
@@ -84,9 +76,6 @@ module _ (t : ProgramTree) where
     labels = begins.labels ∙ ap (items_labels []) (sym (ap (λ n. take n all) begins.place ∙ none_taken all));
     rows = ap length begins.rows ∙ ap (items_rows 0) (sym (ap (λ n. take n all) begins.place ∙ none_taken all));
   }
-
-  last_bound : (a b : ℕ) → a ≤ a + b
-  last_bound a b = omega arith
 
   -- ---- behind a declaration
 

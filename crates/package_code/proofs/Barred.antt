@@ -135,7 +135,7 @@ always_open program m o name none =
 
 -- ---- ... and where it is one
 
-component_worth : (program : Program) (m : Store) (o : ℕ) (name : Identifier) (x : Object) → object_of (m.components o) name.name ≡ Some x
+pub component_worth : (program : Program) (m : Store) (o : ℕ) (name : Identifier) (x : Object) → object_of (m.components o) name.name ≡ Some x
     → val (barrier_place program m o) (Named name NoSelectors) ≡ Gives x.value
 component_worth program m o name x found =
     let s = program.scope in
@@ -179,7 +179,7 @@ word_there words a b h = by_test (nat_le (a + 1) (length words)) h
 
 -- ---- the barrier of an object's entry
 
-barrier_found : (qs : List Procedure) (o : ℕ) → barrier_of qs o ≡ elim (entry_of qs o) [ Some q ↦ q.barrier | None ↦ None ]
+pub barrier_found : (qs : List Procedure) (o : ℕ) → barrier_of qs o ≡ elim (entry_of qs o) [ Some q ↦ q.barrier | None ↦ None ]
 barrier_found [] o = refl
 barrier_found (q ∷ qs) o = by_test (is_of_entry q) (barrier_found qs o)
   where
@@ -211,7 +211,7 @@ module _ (laws : LawsOfNames) (t : ProgramTree) (legal : IsLegal t) (restricted 
   abbrev w : IsPackage program start all
   w = whole laws t legal restricted
 
-  bare_there : (o : ℕ) (q : Procedure) (y : IsEntryBody laws t legal restricted o q) → entry_of program.procedures o ≡ Some q
+  pub bare_there : (o : ℕ) (q : Procedure) (y : IsEntryBody laws t legal restricted o q) → entry_of program.procedures o ≡ Some q
       → (name : Identifier) × (y.barrier ≡ Named name NoSelectors)
   bare_there o q y found =
       let is : barrier_of program.procedures o ≡ Some y.barrier =

@@ -1,9 +1,9 @@
 -- The attachments of a program's image are those of its handlers, channel by channel.
-use Rattle.std.proofs.Common.{◌≡◌, ◌≢◌, ◌⊎◌, ◌+◌, ◌<◌, ◌≤◌, ℕ, zero, suc, pos, negsuc, List, [], ◌∷◌, ◌++◌, map, Bool, true, false, cond, Option, Some, None, inl, inr, refl, sym, ap, ◌∙◌, subst, arith, ⊎_elim}
+use Rattle.std.proofs.Common.{◌≡◌, ◌⊎◌, ◌+◌, ◌<◌, ◌≤◌, ℕ, zero, suc, pos, negsuc, List, [], ◌∷◌, ◌++◌, Bool, true, false, cond, Option, Some, None, inl, inr, refl, sym, ap, ◌∙◌, subst, arith, ⊎_elim}
 use Rattle.std.specs.Prelude.{nat_eq, nat_le, ◌&&◌}
 use Rattle.std.proofs.lemmas.Bool.{and_parts, eq-eqb, eqb-true, leb-true}
 use Rattle.base.specs.declared.limits.TheConstants.{CHANNELS}
-use Rattle.ada_tree.specs.StatementTree.{AspectTree, OperationTree}
+use Rattle.ada_tree.specs.StatementTree.{OperationTree}
 use Rattle.ada_tree.specs.StatementTree as operation
 use Rattle.ada_tree.specs.ProgramTree.{BodyItemTree, ItemTree, OfException, OfItem, OfObject, OfProtected, OfSubprogram, OfTask, OfType, PackageTree, ProgramTree, ProtectedBody, SubprogramBody, TaskBody}
 use Rattle.image.specs.Attachments.{attached_to}
@@ -18,7 +18,7 @@ use Rattle.expr_soundness.specs.expr_rules.specs.declared.own.Wanted.TheVariants
 use Rattle.expr_soundness.specs.meaning.specs.Programs.{Attached, attached_by, attached_operation, attached_operations, handler_at, handlers_among, items_among, object_numbered, package_items, program_of}
 use Rattle.program_soundness.proofs.Listing.{same_some}
 use Rattle.package_code.specs.Directory.{number_told}
-use Rattle.package_code.specs.Handlers.{attachments_from, attachments_of, handler_among, handler_in, handler_in_body, handler_of_bodies, handler_of_items, handler_of_package, handler_told, number_or_none, with_attachment}
+use Rattle.package_code.specs.Handlers.{attachments_from, attachments_of, handler_among, handler_of_bodies, handler_of_items, handler_of_package, handler_told, number_or_none, with_attachment}
 use Rattle.package_code.specs.declared.directory.Directory.{Directory}
 
 -- ---- the handler of a channel
@@ -215,9 +215,6 @@ module _ (s : Scope) (d : Directory) (p : Option PackageTree) where
 
 -- the procedure that is attached to a channel is that of the channel's handler
 module _ (t : ProgramTree) (d : Directory) where
-  abbrev number_at : ℕ → Option ℕ
-  number_at channel = number_or_none (handler_told (program_of t).scope d (handler_at channel (program_of t).handlers))
-
   -- where there is one
   pub attached_some : (channel : ℕ) (a : Attached) → handler_at channel (program_of t).handlers ≡ Some a
       → attached_to channel (attachments_of t d) ≡ number_told (program_of t).scope d (Some a.object) a.name

@@ -1,11 +1,11 @@
 -- Protected objects one behind another: their rows, and where their components stand, as the text tells it.
-use Rattle.std.proofs.Common.{◌≡◌, ℕ, zero, suc, ◌+◌, ◌<◌, List, [], ◌∷◌, ◌++◌, append-nil, append_assoc, drop, get_or, length, length-append, map, take, Bool, true, false, ◌&&◌, Option, Some, None, refl, sym, ap, ◌∙◌, subst, arith}
+use Rattle.std.proofs.Common.{◌≡◌, ℕ, zero, suc, ◌+◌, ◌<◌, List, [], ◌∷◌, ◌++◌, append_assoc, drop, get_or, length, length-append, map, take, Bool, true, false, ◌&&◌, Option, Some, None, refl, sym, ap, ◌∙◌, subst, arith}
 use Rattle.std.specs.Prelude.{bytes_eq, if◌then◌else◌, nat_eq, option_map, nat_le, slice_get}
 use Rattle.std.proofs.lemmas.List.{map-append}
 use Rattle.ada_tree.specs.declared.declaration.Item.{Item}
 use Rattle.ada_tree.specs.declared.declaration.ProtectedComponent.{ProtectedComponent}
 use Rattle.ada_tree.specs.declared.program.BodyItem.{BodyItem}
-use Rattle.ada_tree.specs.StatementTree.{ProtectedComponentTree, ProtectedTree, protected_component_tree}
+use Rattle.ada_tree.specs.StatementTree.{ProtectedComponentTree, protected_component_tree}
 use Rattle.ada_tree.specs.ProgramTree.{BodyItemTree, ItemTree, OfException, OfObject, OfProtected, OfSubprogram, OfTask, OfType, ProgramTree, body_item_tree, item_tree}
 use Rattle.image.specs.declared.instruction.Region.TheVariants as regions
 use Rattle.types.specs.declared.entity.Subtype.{Subtype}
@@ -92,10 +92,6 @@ bare_both s (OfObject d ∷ xs) ys = bare_both s xs ys
 bare_both s (OfException name ∷ xs) ys = bare_both s xs ys
 bare_both s (OfSubprogram d ∷ xs) ys = bare_both s xs ys
 bare_both s (OfTask d ∷ xs) ys = bare_both s xs ys
-
--- nothing was added, and one part behind another
-pub adds_none : (s : Scope) (a : ProtectedObjects) → AddsObjects s a [] a
-adds_none s a = record { declared = sym (append-nil a.declared.items); components = sym (append-nil a.components.items); made = refl }
 
 made_both : (s : Scope) (xs ys : List ItemTree) → objects_have_words s xs ≡ true → objects_have_words s ys ≡ true → objects_have_words s (xs ++ ys) ≡ true
 made_both s [] ys h k = k
@@ -232,11 +228,6 @@ part_refused s all n x words why less is many r =
         ∙ length-append (first_words_of (map (component s) front)) (first_words_of (map (component s) one)) in
         omega (arith, a, b, c, many, h))
     by_reason r h = absurd h
-
-pub parts_refused : (s : Scope) (d : ProtectedTree) (why : Refusal) → RefusesComponents s d.components why → RefusesObjects s (OfProtected d ∷ []) why
-parts_refused s d refusal.Memory r = tt
-parts_refused s d (refusal.Limit limits.Words) r = omega (arith, r)
-parts_refused s d why r = absurd r
 
 -- ---- what is told
 

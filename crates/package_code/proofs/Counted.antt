@@ -6,7 +6,7 @@ use Rattle.ada_tree.specs.declared.declaration.Formal.{Formal}
 use Rattle.ada_tree.specs.declared.expression.Identifier.{Identifier}
 use Rattle.ada_tree.specs.ExpressionTree.{ExprTree}
 use Rattle.ada_tree.specs.StatementTree as tree
-use Rattle.ada_tree.specs.StatementTree.{MoreStmts, NoStmts, StmtTree, StmtTrees, SubprogramTree}
+use Rattle.ada_tree.specs.StatementTree.{MoreStmts, NoStmts, StmtTrees, SubprogramTree}
 use Rattle.ada_tree.specs.ProgramTree.{BodyItemTree, BodyTree, ProgramTree}
 use Rattle.ada_tree.specs.Size.{expr_size, size_if_any, stmts_size}
 use Rattle.types.specs.Scopes.{Scope}

@@ -7,7 +7,6 @@ use Rattle.ada_tree.specs.StatementTree.{SubprogramTree}
 use Rattle.ada_tree.specs.ProgramTree.{BodyTree, ProgramTree}
 use Rattle.types.specs.declared.entity.Subtype.{Subtype}
 use Rattle.types.specs.Entities as entity
-use Rattle.types.specs.Entities.{TypeForm}
 use Rattle.types.specs.Laws.{InitialValuesHaveShape}
 use Rattle.types.specs.Layouts.{words_of}
 use Rattle.types.specs.Places.{Object, Place, is_among}

@@ -129,9 +129,6 @@ module _ (v : Visible) (old : Draft) (b : BodyTree) (sizes : SubprogramWords) (n
   bare : (adds.placed.formals.items ≡ []) × (adds.placed.passed ≡ 0) × (adds.framed.taken ≡ 0)
   bare = no_formals v.scope adds.placed.formals.items adds.placed.passed adds.framed.taken adds.places.stand
 
-  pub nothing_passed : sizes.passed ≡ 0
-  nothing_passed = adds.passed ∙ bare.1
-
   pub nothing_returned : sizes.results ≡ 0
   nothing_returned = adds.returns.high ∙ ap (words_returned adds.later.scope) bare.0
 

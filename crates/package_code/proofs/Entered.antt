@@ -43,9 +43,9 @@ use Rattle.step_simulation.specs.part_code.specs.Statements.{parameter_subtype}
 use Rattle.stmt_code.proofs.Beginning.{Enters, EntersOne}
 use Rattle.stmt_code.proofs.Bodies.{body_rests}
 use Rattle.stmt_code.proofs.Functions.{EntersFormals, function_sees, AreScalarFormals}
-use Rattle.package_code.specs.Package.{FindsNames, HoldsAll, IsPackageOf}
-use Rattle.package_code.proofs.BodyFronts.{IsEntrance, body_suits, formals_in, front_finds, parameters_new, formals_simple}
-use Rattle.package_code.proofs.HeldParameters.{Reached, all_enter, all_long, end_reached, holds_serves, reserved_same}
+use Rattle.package_code.specs.Package.{HoldsAll, IsPackageOf}
+use Rattle.package_code.proofs.BodyFronts.{IsEntrance, body_suits, formals_in, parameters_new, formals_simple}
+use Rattle.package_code.proofs.HeldParameters.{Reached, all_enter, all_long, reserved_same}
 use Rattle.package_code.proofs.InFront.{LawsOfNames, known, memory}
 use Rattle.package_code.proofs.NewParameters.{AreCopiedIn, distinct_names}
 use Rattle.expr_soundness.specs.Lying.{are_between}
@@ -171,23 +171,12 @@ module _ (laws : LawsOfNames) (t : ProgramTree) (legal : IsLegal t) (restricted 
     all_entered =
         all_enter laws.stay laws.sized laws.scopes program g v.names.scope suited ps v last 0 top v.reserved room holds reached
 
-    -- behind the parameters the places are laid out, and end at the top
-    pub body_reached : AreReached last top [] []
-    body_reached =
-        end_reached laws.stay laws.sized laws.scopes program g v.names.scope suited ps v last 0 top v.reserved room holds reached
-
     words_long : (args : List Value) (addresses : List ℕ) → AreOf program.scope (taken_types ps) args → length addresses ≡ length (results ps)
         → length (passed_words ps args addresses) ≡ top
     words_long args addresses of many =
         let k =
         all_long laws.stay laws.sized laws.scopes program g v.names.scope suited ps v last 0 top v.reserved room holds reached args addresses of many in
         omega (arith, k)
-
-    -- what is visible in the body names what the program has
-    pub body_serves : FindsNames program owner last
-    body_serves =
-        holds_serves program owner ps v last 0 top v.reserved holds
-        (record { finds = front_finds laws.scopes t owner v.names.scope d b before.front (memory laws t legal restricted) })
 
     -- ---- a procedure
 

@@ -1,5 +1,5 @@
 -- Why what declarations tell is not found: what refuses one of them refuses all.
-use Rattle.std.proofs.Common.{◌≡◌, ℕ, ◌+◌, ◌<◌, ◌≤◌, List, [], ◌∷◌, ◌++◌, append-nil, append_assoc, drop, get_or, length, length-append, map, take, sym, ap, ◌∙◌, subst, arith}
+use Rattle.std.proofs.Common.{◌≡◌, ℕ, ◌+◌, ◌<◌, ◌≤◌, List, [], ◌∷◌, ◌++◌, append_assoc, drop, get_or, length, length-append, map, take, sym, ap, ◌∙◌, subst, arith}
 use Rattle.std.proofs.lemmas.List.{map-append, take-append-drop}
 use Rattle.base.specs.declared.limits.TheConstants.{WORDS}
 use Rattle.ada_tree.specs.declared.declaration.Item.{Item}
@@ -8,11 +8,9 @@ use Rattle.ada_tree.specs.StatementTree.{ObjectTree}
 use Rattle.ada_tree.specs.ProgramTree.{BodyItemTree, ItemTree, OfObject, body_item_tree, item_tree}
 use Rattle.types.specs.Scopes.{Scope}
 use Rattle.expr_soundness.specs.meaning.specs.Programs.{items_among, variables_among}
-use Rattle.expr_code.specs.Refusing.{IsRefused}
 use Rattle.expr_code.specs.declared.refusal.ImageLimit.TheVariants as limits
 use Rattle.expr_code.specs.declared.refusal.Refusal.{Refusal}
 use Rattle.expr_code.specs.declared.refusal.Refusal.TheVariants as refusal
-use Rattle.expr_code.proofs.Refusals.{no_limit}
 use Rattle.step_simulation.specs.part_code.proofs.Lists.{mapped_next}
 use Rattle.package_code.specs.Globals.{AddsItems, RefusesAdding, RefusesGlobals}
 use Rattle.package_code.specs.Package.{first_words_of}
@@ -86,20 +84,6 @@ body_item_refuses s a b all n x why less is h r =
     (adding_left s a (items_among front ++ items_among one) (items_among behind) why (adding_right s a b (items_among front) (items_among one) why h r))
 
 -- ---- a variable
-
--- what is refused for want of memory alone
-pub memory_refused : (s : Scope) (a : Globals) (items : List ItemTree) (why : Refusal) → IsRefused 0 0 why → RefusesAdding s a items why
-memory_refused s a items refusal.Memory r front are placed = tt
-memory_refused s a items (refusal.Limit limit) h front are placed = absurd (no_limit limit h)
-
--- the words in front are more than an offset tells
-pub many_refused : (s : Scope) (a : Globals) (n : ℕ) → n ≡ length a.words.items → 65535 < n → RefusesAdding s a [] (refusal.Limit limits.Words)
-many_refused s a n is more front are placed =
-    (let e = ap length (are.words ∙ ap (λ l. first_words_of (variables_among s l)) (sym (append-nil front))) in
-    under n (length a.words.items) (length (first_words_of (variables_among s (front ++ [])))) is more e)
-  where
-    under : (n m k : ℕ) → n ≡ m → 65535 < n → m ≡ k → WORDS < k
-    under n m k is more e = omega (arith, is, more, e)
 
 pub variable_refused : (s : Scope) (a : Globals) (d : ObjectTree) (why : Refusal) → RefusesAdding s a [] why → RefusesAdding s a (OfObject d ∷ []) why
 variable_refused s a d why r = adding_left s a [] (OfObject d ∷ []) why r

@@ -1,5 +1,5 @@
 -- The procedures of handlers: where the body of each stands, and its number (RM C.3.1).
-use Rattle.std.proofs.Common.{◌≡◌, ℕ, ◌+◌, List, [], ◌∷◌, map, Option, Some, None, inl, inr, refl, sym, ap, ◌∙◌, subst, arith}
+use Rattle.std.proofs.Common.{◌≡◌, ℕ, ◌+◌, List, [], ◌∷◌, map, Some, None, inl, inr, refl, sym, ap, ◌∙◌}
 use Rattle.std.specs.Prelude.{is_some, slice_get}
 use Rattle.ada_tree.specs.declared.declaration.Formal.{Formal}
 use Rattle.ada_tree.specs.declared.expression.Identifier.{Identifier}
@@ -9,11 +9,11 @@ use Rattle.types.specs.Places.{is_of}
 use Rattle.types.specs.Scopes.{Scope}
 use Rattle.program_soundness.specs.legality.specs.ProgramRules.{IsLegal}
 use Rattle.ravenscar.specs.ProgramRules.{IsRestricted}
-use Rattle.expr_soundness.specs.meaning.specs.Programs.{Attached, Parameter, Procedure, Program, parameter, program_of}
+use Rattle.expr_soundness.specs.meaning.specs.Programs.{Attached, Procedure, Program, parameter, program_of}
 use Rattle.expr_soundness.specs.meaning.specs.Calls.{procedure_among}
 use Rattle.program_soundness.specs.Fronts.{declared_in}
 use Rattle.program_soundness.specs.step_soundness.specs.Starting.{IsSoundHandler}
-use Rattle.program_soundness.proofs.Callables.{FoundProcedure, bodies_among, found_procedure, operation_body, procedure_by, procedures_are}
+use Rattle.program_soundness.proofs.Callables.{FoundProcedure, bodies_among, found_procedure, procedures_are}
 use Rattle.package_code.specs.Bodies.{bodies_before, number_in}
 use Rattle.package_code.proofs.CodedPackage.{IsOne, StandsAt, unit_stands}
 use Rattle.package_code.proofs.EntryRows.{owner_numbered}

@@ -34,16 +34,6 @@ module _ {X : Type 0} (s : Scope) (d : Directory) (found : List X → Option Att
       by_one (Some a) there h = cc
       by_one None there h = sym (step ∙ ap (λ o. handler_told s d (or_else o (found (drop (n + 1) all)))) there)
 
--- where none is told there is no handler
-pub told_either : (s : Scope) (d : Directory) (a b : Option Attached) → handler_told s d a ≡ None → handler_told s d (or_else a b) ≡ handler_told s d b
-told_either s d (Some h) b none = cc
-told_either s d None b none = refl
-
-pub told_first : (s : Scope) (d : Directory) (a b : Option Attached) (number : Option ℕ) → handler_told s d a ≡ Some number
-    → handler_told s d (or_else a b) ≡ Some number
-told_first s d (Some h) b number is = is
-told_first s d None b number is = cc
-
 -- ---- all channels
 
 -- the next one has a handler, or has none

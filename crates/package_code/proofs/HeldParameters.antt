@@ -1,5 +1,5 @@
 -- Parameters whose words stand one behind the other: what is visible behind each, and how many words are passed.
-use Rattle.std.proofs.Common.{◌≡◌, ℕ, ◌+◌, ◌<◌, ◌≤◌, ◌⊎◌, inl, inr, ℤ, List, [], ◌∷◌, ◌++◌, append_assoc, length, Bool, true, false, Option, refl, sym, ap, ◌∙◌, subst, arith, rules}
+use Rattle.std.proofs.Common.{◌≡◌, ℕ, ◌+◌, ◌<◌, ◌≤◌, ◌⊎◌, inl, inr, ℤ, List, [], ◌∷◌, ◌++◌, append_assoc, length, Bool, true, false, refl, sym, ap, ◌∙◌, subst, arith, rules}
 use Rattle.std.specs.Prelude.{drop, nat_eq, if◌then◌else◌, ◌||◌}
 use Rattle.std.proofs.lemmas.List.{length-append}
 use Rattle.ada_tree.specs.declared.declaration.Mode.{Mode}
@@ -30,8 +30,7 @@ use Rattle.step_simulation.specs.part_code.specs.Resting.{Framed}
 use Rattle.stmt_code.proofs.Beginning.{Begins, Enters, EntersOne}
 use Rattle.stmt_code.proofs.Laying.{AddsObject, ends_wider, free_wider, laid_wider, widens_behind}
 use Rattle.step_simulation.specs.part_code.specs.Formals.{AddsParameter}
-use Rattle.package_code.specs.Package.{FindsNames, HoldsAll, HoldsOne}
-use Rattle.package_code.proofs.InFront.{serves_more}
+use Rattle.package_code.specs.Package.{HoldsAll, HoldsOne}
 
 -- ---- places of addresses
 
@@ -102,23 +101,6 @@ reserved_same (f ∷ fs) v last from top places h = by_mode f.mode h (λ w start
     by_mode mode.In h later = later h.0 (from + words_of v.names.scope f.subtype) places h.2 ∙ h.1.reserved
     by_mode mode.Out h later = later v (from + 1) h.0 h.2
     by_mode mode.InOut h later = later h.0 ((from + 1) + words_of v.names.scope f.subtype) h.1 h.4 ∙ h.3.reserved
-
--- what is visible behind parameters names what the program has, where it does in front of them
-pub holds_serves : (program : Program) (owner : Option ℕ) (fs : List Parameter) (v last : Framed) (from top : ℕ) (places : List ℕ) → HoldsAll v from places fs last top
-    → FindsNames program owner v → FindsNames program owner last
-holds_serves program owner [] v last from top places h serves = subst (FindsNames program owner) (sym h.0) serves
-holds_serves program owner (f ∷ fs) v last from top places h serves =
-    by_mode f.mode h (λ w start others. holds_serves program owner fs w last start top others)
-  where
-    by_mode : (m : Mode) → HoldsOne m f v from places (λ next after others. HoldsAll next after others fs last top)
-        → ((w : Framed) (start : ℕ) (others : List ℕ) → HoldsAll w start others fs last top → FindsNames program owner w → FindsNames program owner last)
-        → FindsNames program owner last
-    by_mode mode.In h later =
-        later h.0 (from + words_of v.names.scope f.subtype) places h.2 (serves_more program owner v h.0 f.name (formal_role f.mode) f.subtype serves h.1.scope)
-    by_mode mode.Out h later = later v (from + 1) h.0 h.2 serves
-    by_mode mode.InOut h later =
-        later h.0 ((from + 1) + words_of v.names.scope f.subtype) h.1 h.4
-        (serves_more program owner v h.0 f.name (formal_role f.mode) f.subtype serves h.3.scope)
 
 plain_role : (m : Mode) → IsPlainRole (formal_role m)
 plain_role mode.In = tt

@@ -22,11 +22,9 @@ use Rattle.types.specs.Entities as entity
 use Rattle.types.specs.Laws.{ShapesStay, ValuesHaveWords}
 use Rattle.types.specs.Layouts.{words_of}
 use Rattle.types.specs.Places.{or_else}
-use Rattle.types.specs.Scopes.{Named, Scope, base_range_of, entity_of, form_of, with_name}
-use Rattle.types.specs.Shapes.{has_shape, shape_of, words}
+use Rattle.types.specs.Scopes.{Named, Scope, entity_of, form_of, with_name}
+use Rattle.types.specs.Shapes.{words}
 use Rattle.types.specs.Statics.{static_place}
-use Rattle.types.specs.Values.{Value}
-use Rattle.expr_soundness.specs.expr_rules.specs.Laws.{type_shape}
 use Rattle.declaration_rules.specs.Laws.{StandsFirst}
 use Rattle.declaration_rules.specs.PackageNames.{body_items_scope}
 use Rattle.program_soundness.specs.legality.specs.ProgramRules.{IsLegal}
@@ -34,12 +32,11 @@ use Rattle.ravenscar.specs.ProgramRules.{IsRestricted}
 use Rattle.expr_soundness.specs.Laws.{ScopesAreSound}
 use Rattle.expr_soundness.specs.SoundScopes.{IsKnown, SoundScope}
 use Rattle.expr_soundness.proofs.Goods.{object_known}
-use Rattle.expr_soundness.proofs.Parts.{subtype_values}
 use Rattle.expr_soundness.proofs.Positions.{entity_number, same_some}
 use Rattle.expr_soundness.specs.meaning.specs.Programs.{Program, program_of}
 use Rattle.program_soundness.specs.step_soundness.specs.Fitting.{IsFound}
 use Rattle.program_soundness.specs.step_soundness.specs.Laws.{Premises}
-use Rattle.program_soundness.specs.step_soundness.specs.Objects.{IsOf, first_store}
+use Rattle.program_soundness.specs.step_soundness.specs.Objects.{first_store}
 use Rattle.program_soundness.specs.Fronts.{declared_in, front, start_in}
 use Rattle.program_soundness.specs.BodyLaws.{FrontsFit, IsSoundMemory, BodyNamesAreSound, NamesAreKnown, PremisesHold}
 use Rattle.program_soundness.proofs.Assembled as assembled
@@ -221,13 +218,6 @@ module _ (laws : LawsOfNames) (t : ProgramTree) (legal : IsLegal t) (restricted 
 
     pub front_words : (u : Subtype) → IsKnown s u → words_of program.scope u ≡ words_of s u
     front_words u there = ap (λ l. words_of l u) longer ∙ ap words (laws.stay s more u (known_inside s u there))
-
-    -- a value of a type of the program is one where the type is visible
-    pub front_suits : (u : Subtype) → IsKnown s u → (x : Value) → IsOf program.scope u.type_number x → has_shape (shape_of s u) x ≡ true
-    front_suits u there x h =
-        let same : type_shape program.scope u.type_number ≡ type_shape s u.type_number =
-        ap (λ l. type_shape l u.type_number) longer ∙ laws.stay s more (base_range_of u.type_number) (known_inside s u there) in
-        subtype_values s u x ∙ ap (λ z. has_shape z x) (sym same) ∙ h
 
     object_words : (name : List ℕ) (r : Role) (u : Subtype) → NamesObject s name r u → words_of g.scope u ≡ words_of s u
     object_words name r u n =

@@ -19,7 +19,7 @@ mod MadeFrames
 mod CodedBodies
 pub mod CodedPackage
 pub mod EntryRows
-mod Barred
+pub mod Barred
 mod LinkedMain
 pub mod Coded
 pub mod TaskNames

@@ -6,7 +6,7 @@ use Rattle.stmt_code.specs.CodeTables.{TablesValue}
 use Rattle.stmt_code.specs.Subprograms.{KeepsRules}
 use Rattle.stmt_code.specs.declared.draft.Draft.{Draft}
 use Rattle.stmt_code.specs.declared.subprogram.SubprogramWords.{SubprogramWords}
-use Rattle.stmt_code.proofs.RowsAdded.{marked, rows_marked}
+use Rattle.stmt_code.proofs.RowsAdded.{rows_marked}
 
 -- with these rows
 abbrev with_rows : Draft → TablesValue → Draft

@@ -1,8 +1,7 @@
 -- The parameters of a body that breaks no rule have new names, each its own; those of a function are copied in (RM 6.1, 8.3).
-use Rattle.std.proofs.Common.{◌≡◌, ℕ, suc, List, [], ◌∷◌, ◌++◌, inl, inr, map, cond, not, Bool, true, false, ◌||◌, Some, None, refl, sym, ap, ◌∙◌, subst}
+use Rattle.std.proofs.Common.{◌≡◌, ℕ, suc, List, [], ◌∷◌, map, cond, not, Bool, true, false, ◌||◌, Some, None, refl, sym, ap, ◌∙◌, subst}
 use Rattle.std.specs.Prelude.{bytes_eq, slice_get, ⊤}
 use Rattle.std.specs.List.{list_any}
-use Rattle.ada_tree.specs.declared.expression.Identifier.{Identifier}
 use Rattle.ada_tree.specs.declared.declaration.Formal.{Formal}
 use Rattle.ada_tree.specs.declared.declaration.Mode.{Mode}
 use Rattle.ada_tree.specs.declared.declaration.Mode.TheVariants as mode
@@ -10,27 +9,24 @@ use Rattle.ada_tree.specs.StatementTree.{SubprogramTree}
 use Rattle.ada_tree.specs.ProgramTree.{BodyItemTree, BodyTree, SubprogramBody}
 use Rattle.types.specs.Entities.{Doubtful}
 use Rattle.types.specs.Places.{or_else}
-use Rattle.types.specs.Scopes.{Scope, with_name}
-use Rattle.expr_soundness.specs.expr_rules.proofs.TypedLaw.{back_empty, front_empty, unbroken}
-use Rattle.type_rules.specs.ObjectRules.{object_entity}
-use Rattle.type_rules.specs.SubtypeNames.{end_rule, named_entity, subtype_faults, subtype_of}
-use Rattle.declaration_rules.specs.BodyNames.{formal_role, formal_scope, formals_scope}
-use Rattle.type_rules.specs.ProfileRules.{formal_and, formal_faults, formal_parameters, formals_faults, function_faults, has_wrong_formal, is_in, is_wrong_formal, profile_faults, result_faults, subprogram_scope}
+use Rattle.types.specs.Scopes.{Scope}
+use Rattle.expr_soundness.specs.expr_rules.proofs.TypedLaw.{back_empty, front_empty}
+use Rattle.type_rules.specs.SubtypeNames.{end_rule}
+use Rattle.declaration_rules.specs.BodyNames.{formals_scope}
+use Rattle.type_rules.specs.ProfileRules.{formals_faults, is_in, is_wrong_formal, profile_faults, subprogram_scope}
 use Rattle.unit_rules.specs.BodyRules.{body_faults, head_faults, kind_of, own_name_faults}
 use Rattle.expr_soundness.specs.Laws.{ScopesAreSound}
 use Rattle.expr_soundness.specs.SoundScopes.{SoundScope}
-use Rattle.expr_soundness.specs.meaning.specs.Programs.{Parameter, Program, parameter, subtype_named}
-use Rattle.program_soundness.specs.step_soundness.specs.Fitting.{formal_of}
+use Rattle.expr_soundness.specs.meaning.specs.Programs.{Parameter, Program, parameter}
 use Rattle.program_soundness.specs.Fronts.{scope_at}
-use Rattle.program_soundness.proofs.Beginning.{keeps_same, keeps_then, keeps_with}
+use Rattle.program_soundness.proofs.Beginning.{keeps_same, keeps_with}
 use Rattle.program_soundness.proofs.Called.{body_legal, head_legal}
 use Rattle.program_soundness.proofs.WiderScopes.{bytes_same, found_in, same_bytes, stands, with_all}
 use Rattle.program_soundness.proofs.FormalTrees.{new_formals, text_formals, unseen_first, unseen_own}
 use Rattle.program_soundness.proofs.Formals.{AreNew, all_named, named_formal}
-use Rattle.program_soundness.proofs.Listing.{Has}
-use Rattle.program_soundness.proofs.BodyProfiles.{Keeps, named_is, subtype_kept}
+use Rattle.program_soundness.proofs.BodyProfiles.{subtype_kept}
 use Rattle.program_soundness.proofs.Walked.{scope_next}
-use Rattle.program_soundness.proofs.Whole.{IsPackage, kept, legal_subtype, no_doubt}
+use Rattle.program_soundness.proofs.Whole.{IsPackage, kept, no_doubt}
 use Rattle.stmt_code.proofs.Bodies.{AreDistinct, IsOther}
 
 -- ---- names of parameters
@@ -108,17 +104,7 @@ module _ (scopes : ScopesAreSound) (program : Program) (s : Scope) (all : List B
       (λ name t h. subtype_kept before program.scope (kept program s all w k) name t h) [] d.formals formals_legal
       (unseen_own before d.name _ d.formals own_legal (unseen_first before [] d.formals formals_legal)))
 
-  -- a function's are copied in
-  pub formals_in : (r : Identifier) → d.result ≡ Some r → AreCopiedIn d.formals
-  formals_in r some =
-      let rules_ : function_faults before d.name d.formals (Some r) ≡ [] =
-      subst (λ o. function_faults before d.name d.formals o ≡ []) some (back_empty _ (function_faults before d.name d.formals d.result) profile_legal) in
-      all_copied_in before d.formals (either_false _ (has_wrong_formal before d.formals) (unbroken _ d.name.place _ rules_)).1
-
   -- ---- the scope of the body, as its text is judged
-
-  keeps_own : Keeps before (scope_at s all (suc k))
-  keeps_own = subst (Keeps before) (sym behind_is) (keeps_with before d.name.name _)
 
   pub formals_text : formals_scope (scope_at s all (suc k)) d.formals
       ≡ with_all (scope_at s all (suc k)) (all_named (map (parameter program.scope) d.formals))
@@ -131,46 +117,3 @@ module _ (scopes : ScopesAreSound) (program : Program) (s : Scope) (all : List B
   body_unbroken =
       subst (λ u. body_faults (formals_scope u d.formals) (kind_of before d.result) b ≡ []) (sym behind_is)
       (back_empty (head_faults before d b) _ (front_empty _ (end_rule d.name b.end_name) (body_legal program s all w k d b at)))
-
-  known_subtype : (earlier fs : List Formal) (f : Formal) → formals_faults before earlier fs ≡ [] → Has fs f → subtype_faults before f.subtype ≡ []
-  known_subtype earlier [] f h has = absurd has
-  known_subtype earlier (x ∷ fs) f h (inl e) =
-      subst (λ y. subtype_faults before y.subtype ≡ []) e
-      (back_empty _ (subtype_faults before x.subtype) (front_empty (formal_faults before earlier x) (formals_faults before (earlier ++ x ∷ []) fs) h))
-  known_subtype earlier (x ∷ fs) f h (inr has) =
-      known_subtype (earlier ++ x ∷ []) fs f (back_empty (formal_faults before earlier x) (formals_faults before (earlier ++ x ∷ []) fs) h) has
-
-  -- behind any of these names a formal's subtype is told as it is in a run
-  pub formal_told : (f : Formal) → Has d.formals f → (u : Scope) → Keeps (scope_at s all (suc k)) u
-      → subtype_of u f.subtype ≡ Some (subtype_named program.scope f.subtype)
-  formal_told f has u keeps =
-      let legal = known_subtype [] d.formals f formals_legal has in
-      let t = legal_subtype f.subtype.place (named_entity before f.subtype) legal (doubt f.subtype.name) in
-      let named = named_is program.scope f.subtype t.0 (subtype_kept before program.scope (kept program s all w k) f.subtype t.0 t.1) in
-      subtype_kept before u (keeps_then before (scope_at s all (suc k)) u keeps_own keeps) f.subtype t.0 t.1 ∙ ap Some (sym named)
-
-  -- so are all of them
-  formals_told_from : (fs : List Formal) → ((f : Formal) → Has fs f → subtype_of (scope_at s all (suc k)) f.subtype ≡ Some (subtype_named program.scope f.subtype))
-      → formal_parameters (scope_at s all (suc k)) fs ≡ Some (map formal_of (map (parameter program.scope) fs))
-  formals_told_from [] told = refl
-  formals_told_from (f ∷ fs) told =
-      ap (λ o. formal_and f o (formal_parameters (scope_at s all (suc k)) fs)) (told f (inl refl))
-      ∙ ap (formal_and f (Some (subtype_named program.scope f.subtype))) (formals_told_from fs (λ g has. told g (inr has)))
-
-  pub formals_told : formal_parameters (scope_at s all (suc k)) d.formals ≡ Some (map formal_of (map (parameter program.scope) d.formals))
-  formals_told = formals_told_from d.formals (λ f has. formal_told f has (scope_at s all (suc k)) (keeps_same (scope_at s all (suc k))))
-
-  -- and the subtype of a function's result
-  pub result_told : (r : Identifier) → d.result ≡ Some r → subtype_of (scope_at s all (suc k)) r ≡ Some (subtype_named program.scope r)
-  result_told r some =
-      let legal : subtype_faults before r ≡ [] =
-      subst (λ o. result_faults before o ≡ []) some
-      (back_empty (formals_faults before [] d.formals) (result_faults before d.result) (front_empty _ _ profile_legal)) in
-      let t = legal_subtype r.place (named_entity before r) legal (doubt r.name) in
-      let named = named_is program.scope r t.0 (subtype_kept before program.scope (kept program s all w k) r t.0 t.1) in
-      subtype_kept before (scope_at s all (suc k)) keeps_own r t.0 t.1 ∙ ap Some (sym named)
-
-  -- and it is declared with that
-  pub formal_step : (f : Formal) → Has d.formals f → (u : Scope) → Keeps (scope_at s all (suc k)) u
-      → formal_scope u f ≡ with_name u f.name.name (named_formal (parameter program.scope f)).entity
-  formal_step f has u keeps = ap (λ o. with_name u f.name.name (object_entity (formal_role f.mode) o)) (formal_told f has u keeps)

@@ -1,7 +1,6 @@
 -- Which number is told of the name of a body: how many bodies stand in front of it, since no two bodies of an accepted program have one name.
 use Rattle.std.proofs.Common.{◌≡◌, ℕ, zero, suc, ◌+◌, ◌<◌, List, [], ◌∷◌, ◌++◌, append_assoc, drop, get_or, length, map, take, Bool, true, false, ◌&&◌, Option, Some, None, refl, sym, ap, ◌∙◌, subst, arith}
-use Rattle.std.specs.Prelude.{bytes_eq, if◌then◌else◌, nat_eq, replicate, slice_get, slice_set}
-use Rattle.std.proofs.lemmas.List.{length-replicate}
+use Rattle.std.specs.Prelude.{bytes_eq, if◌then◌else◌, nat_eq, slice_get, slice_set}
 use Rattle.std.proofs.lemmas.Option.{slice_get_within}
 use Rattle.ada_tree.specs.declared.program.BodyItem.{BodyItem}
 use Rattle.ada_tree.specs.ProgramTree.{BodyItemTree, EntryBody, OfItem, OperationBody, ProgramTree, ProtectedBody, ProtectedItemTree, SubprogramBody, TaskBody, body_item_tree}
@@ -30,7 +29,7 @@ use Rattle.package_code.proofs.Coded.{IsBodyOf, among_joined, body_at, body_of, 
 use Rattle.package_code.proofs.GlobalsRefused.{split_at}
 use Rattle.package_code.proofs.OperationsAdded.{in_object, one_operation}
 use Rattle.package_code.proofs.TaskNames.{name_numbered, one_place}
-use Rattle.package_code.proofs.Variables.{long_set, none_told, set_other, set_told, was_none}
+use Rattle.package_code.proofs.Variables.{long_set, set_other, set_told, was_none}
 
 -- ---- tables of numbers
 
@@ -136,12 +135,6 @@ long_once numbers k one None = refl
 long_with : (numbers : List (Option ℕ)) (o : Option ℕ) (one : ℕ) → length (numbered_with numbers o one) ≡ length numbers
 long_with numbers None one = refl
 long_with numbers (Some k) one = long_once numbers k one (slice_get numbers k)
-
-pub none_numbered : (s : Scope) (n : ℕ) (numbers : List (Option ℕ)) → n ≡ length s → numbers ≡ replicate n None → HaveBodyNumbers s [] numbers
-none_numbered s n numbers long is = record {
-  many = ap length is ∙ length-replicate n None ∙ long;
-  told = λ name k seen. ap (λ l. told_of s l name) is ∙ none_told s n name;
-}
 
 pub one_numbered : (s : Scope) (items : List BodyItemTree) (x : BodyItemTree) (old new : List (Option ℕ)) (one : ℕ) → one ≡ bodies_among items
     → HaveBodyNumbers s items old → new ≡ numbered_item s old one x → HaveBodyNumbers s (items ++ x ∷ []) new

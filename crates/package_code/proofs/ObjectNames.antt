@@ -1,5 +1,5 @@
 -- The names of a protected object's own, its components and operations, are none that are visible in front of its body (RM 8.3, 9.4).
-use Rattle.std.proofs.Common.{◌≡◌, ℕ, ◌+◌, List, [], ◌∷◌, ◌++◌, map, cond, ◌<◌, ◌⊎◌, inl, inr, Bool, true, false, Option, Some, None, refl, sym, ap, ◌∙◌, arith}
+use Rattle.std.proofs.Common.{◌≡◌, ℕ, ◌+◌, List, [], ◌∷◌, map, cond, ◌<◌, ◌⊎◌, inl, inr, Bool, true, false, Option, Some, None, refl, sym, ap, ◌∙◌, arith}
 use Rattle.std.specs.Prelude.{bytes_eq, if◌then◌else◌, length, option_map, slice_get}
 use Rattle.ada_tree.specs.declared.expression.Identifier.{Identifier}
 use Rattle.ada_tree.specs.StatementTree.{ProtectedTree}
@@ -8,7 +8,7 @@ use Rattle.image.specs.declared.instruction.Region.TheVariants as regions
 use Rattle.types.specs.Entities.{Doubtful, Entity, Protected, ProtectedObject}
 use Rattle.types.specs.Places as places
 use Rattle.types.specs.Places.{object_of}
-use Rattle.types.specs.Scopes.{Scope, number_of}
+use Rattle.types.specs.Scopes.{Scope}
 use Rattle.types.specs.Shapes.{value_words}
 use Rattle.declaration_rules.specs.ProtectedRules.{object_components, protected_entity}
 use Rattle.unit_rules.specs.PackageBodyRules.{body_item_faults}

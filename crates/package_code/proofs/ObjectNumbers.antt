@@ -7,7 +7,7 @@ use Rattle.std.proofs.lemmas.List.{length-append}
 use Rattle.std.proofs.lemmas.List.Sums.{sum_by-cons}
 use Rattle.ada_tree.specs.StatementTree.{ProtectedTree}
 use Rattle.ada_tree.specs.ProgramTree.{BodyItemTree, ItemTree, OfException, OfItem, OfObject, OfProtected, OfSubprogram, OfTask, OfType, ProgramTree, ProtectedBody, SubprogramBody, TaskBody}
-use Rattle.base.specs.declared.limits.TheConstants.{CEILING, TASK_PRIORITY}
+use Rattle.base.specs.declared.limits.TheConstants.{CEILING}
 use Rattle.image.specs.Code as sections
 use Rattle.image.specs.ObjectTable.{ObjectRow}
 use Rattle.types.specs.declared.entity.RecordComponent.{RecordComponent}

@@ -1,7 +1,7 @@
 -- Names that stand for the same in another order: what a frame knows of the ones it knows of the others.
 use Rattle.std.proofs.Common.{◌≡◌, ℕ, List, Some, sym, ◌∙◌, arith}
 use Rattle.types.specs.declared.entity.Role.TheVariants as role
-use Rattle.types.specs.Entities.{Entity, Profile, Subprogram}
+use Rattle.types.specs.Entities.{Entity, Subprogram}
 use Rattle.types.specs.Entities as entity
 use Rattle.types.specs.Places.{Place}
 use Rattle.types.specs.Scopes.{Scope, entity_at}

@@ -1,5 +1,5 @@
 -- The rows of places of a whole program tell of the statements of its bodies.
-use Rattle.std.proofs.Common.{◌≡◌, ℕ, zero, suc, ◌+◌, List, [], ◌∷◌, ◌++◌, length, All, ◌≤◌, ◌⊎◌, inl, inr, Option, None, Some, refl, sym, ap, ◌∙◌, subst, arith, append-nil, append_assoc}
+use Rattle.std.proofs.Common.{◌≡◌, ℕ, zero, suc, ◌+◌, List, [], ◌∷◌, ◌++◌, All, ◌⊎◌, inl, inr, Option, None, Some, refl, sym, ap, ◌∙◌, subst, arith, append_assoc}
 use Rattle.std.proofs.lemmas.List.Elements.{All-get_or, All-weaker}
 use Rattle.std.proofs.lemmas.Option.{get_or_from_slice_get, slice_get_within}
 use Rattle.std.specs.Prelude.{slice_get}
@@ -17,7 +17,7 @@ use Rattle.types.specs.Laws.{InitialValuesHaveShape}
 use Rattle.program_soundness.specs.legality.specs.ProgramRules.{IsLegal}
 use Rattle.ravenscar.specs.ProgramRules.{IsRestricted}
 use Rattle.expr_soundness.specs.meaning.specs.Programs.{Program, program_of, returned}
-use Rattle.program_soundness.proofs.Listing.{front_at, same_some}
+use Rattle.program_soundness.proofs.Listing.{same_some}
 use Rattle.program_soundness.specs.Fronts.{declared_in, front}
 use Rattle.expr_code.specs.Code.{here}
 use Rattle.expr_code.specs.Seeing.{Package}
@@ -33,13 +33,13 @@ use Rattle.package_code.specs.Places.{HasBodyRows, LiesInSubprogram, PlacesAreTo
 use Rattle.package_code.specs.Program.{HasProgram}
 use Rattle.package_code.specs.Walking.{AddsValueFunction, HasBody, IsOfBody, first_statement_place, row_of}
 use Rattle.package_code.proofs.BodyFronts.{IsEntrance}
-use Rattle.package_code.proofs.Coded.{body_of, coded_many, get_behind}
+use Rattle.package_code.proofs.Coded.{body_of, coded_many}
 use Rattle.package_code.proofs.CodedPackage.{IsOperation}
 use Rattle.package_code.proofs.EmittedBodies.{procedure_tells}
 use Rattle.package_code.proofs.EmittedTasks.{task_tells}
 use Rattle.package_code.proofs.EntryRows.{element}
 use Rattle.package_code.proofs.InFront.{LawsOfNames}
-use Rattle.package_code.proofs.Linking.{as_function, as_procedure, begins_there, body_there, called_front, handled_there, holds_there, in_front, labels_there, numbers_of, of_program, operation_code, operation_enters, own_code, package_enters, package_of, sections_linked}
+use Rattle.package_code.proofs.Linking.{as_function, as_procedure, begins_there, body_there, called_front, handled_there, holds_there, in_front, labels_there, numbers_of, of_program, operation_code, operation_enters, package_enters, package_of, sections_linked}
 use Rattle.package_code.proofs.NamedExceptions.{exceptions_are_named}
 use Rattle.package_code.proofs.OperationBodies.{code_of, coded, object}
 

@@ -7,7 +7,6 @@ use Rattle.ada_tree.specs.declared.declaration.Item.{Item}
 use Rattle.ada_tree.specs.declared.program.Package.{Package}
 use Rattle.ada_tree.specs.StatementTree.{optional_tree}
 use Rattle.ada_tree.specs.ProgramTree.{BodyItemTree, ItemTree, OfItem, ProgramTree, body_item_tree, item_tree, package_tree}
-use Rattle.image.specs.Sections.{end_of}
 use Rattle.image.specs.declared.subprograms.Subprogram.{Subprogram}
 use Rattle.program_soundness.specs.Fronts.{declared_in}
 use Rattle.expr_code.specs.Code.{here}
@@ -24,14 +23,6 @@ use Rattle.package_code.specs.declared.directory.Directory.{Directory}
 use Rattle.package_code.specs.declared.stopping.Stop.{Stop}
 use Rattle.package_code.specs.declared.walk.Walk.{Walk}
 use Rattle.package_code.proofs.ItemsTold.{none_taken}
-
--- ---- the last subprogram
-
-pub begins_last : (all : List Subprogram) (n : ℕ) (s : Subprogram) → length all ≡ suc n → slice_get all n ≡ Some s → begins_at all (length all) ≡ s.end_
-begins_last all n s long at = ap (begins_at all) long ∙ ap end_of at
-
-pub begins_none : (all : List Subprogram) → length all ≡ 0 → begins_at all (length all) ≡ 0
-begins_none all none = ap (begins_at all) none
 
 -- ---- rows
 

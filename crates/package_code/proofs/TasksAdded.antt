@@ -1,19 +1,13 @@
 -- The rows of tasks, added one by one, are those of the tasks among declarations.
-use Rattle.std.proofs.Common.{◌≡◌, ℕ, suc, ◌+◌, ◌<◌, List, [], ◌∷◌, ◌++◌, append-nil, append_assoc, drop, get_or, length, map, take, Option, Some, None, true, refl, sym, ap, ◌∙◌, subst}
-use Rattle.std.specs.Prelude.{is_some}
+use Rattle.std.proofs.Common.{◌≡◌, ℕ, suc, ◌+◌, ◌<◌, List, [], ◌∷◌, ◌++◌, append-nil, append_assoc, drop, get_or, length, map, take, refl, sym, ap, ◌∙◌, subst}
 use Rattle.ada_tree.specs.declared.declaration.Item.{Item}
 use Rattle.ada_tree.specs.declared.program.BodyItem.{BodyItem}
-use Rattle.ada_tree.specs.StatementTree.{TaskTree}
 use Rattle.ada_tree.specs.ProgramTree.{BodyItemTree, ItemTree, OfTask, ProgramTree, body_item_tree, item_tree}
 use Rattle.image.specs.declared.tasks.Task as rows
-use Rattle.types.specs.Scopes.{Scope, number_of}
-use Rattle.expr_soundness.specs.meaning.specs.Programs.{Task, base_priority, body_among, items_among, package_bodies, program_of, task_with, tasks_among}
-use Rattle.expr_code.specs.Seeing.{told_of}
+use Rattle.types.specs.Scopes.{Scope}
+use Rattle.expr_soundness.specs.meaning.specs.Programs.{Task, body_among, items_among, package_bodies, program_of, task_with, tasks_among}
 use Rattle.step_simulation.specs.part_code.proofs.Lists.{mapped_next}
-use Rattle.package_code.specs.Directory.{IsDirectory}
-use Rattle.package_code.specs.Bodies.{number_in}
-use Rattle.package_code.specs.Tasks.{AddsTasks, AreKnownTasks, HaveTasks, IsKnownTask}
-use Rattle.package_code.specs.declared.directory.Directory.{Directory}
+use Rattle.package_code.specs.Tasks.{AddsTasks, AreKnownTasks, HaveTasks}
 use Rattle.package_code.proofs.Declared.{among_both}
 use Rattle.package_code.proofs.GlobalsRefused.{split_at}
 use Rattle.program_soundness.proofs.Listing.{front_at}
@@ -51,26 +45,6 @@ module _ (t : ProgramTree) where
     have = subst (λ l. HaveTasks t l (h.added ++ k.added)) (sym (tasks_both (program_of t).scope (package_bodies t.package_) xs ys))
         (have_both (Of xs) (Of ys) h.added k.added h.have k.have);
   }
-
-  pub adds_one : (old new : List rows.Task) (d : TaskTree) (row : rows.Task) → IsKnownTask t d → row.name ≡ d.name.name
-      → row.priority ≡ base_priority (program_of t).scope d.aspect → number_in t None d.name.name ≡ Some row.subprogram → new ≡ old ++ row ∷ []
-      → AddsTasks t old (OfTask d ∷ []) new
-  adds_one old new d row known name priority number appended = record {
-    added = row ∷ [];
-    appended = appended;
-    have = subst (λ l. HaveTasks t (map (task_with (program_of t).scope d) l ++ []) (row ∷ [])) (sym known.alone)
-        (record { name = name; priority = priority; duty = number }, tt);
-  }
-
-  -- the number that the directory tells of a task's name is that of its body
-  pub told_number : (directory : Directory) → IsDirectory t directory → (d : TaskTree) → IsKnownTask t d
-      → told_of (program_of t).scope directory.numbers.items d.name.name ≡ number_in t None d.name.name
-  told_number directory is d known = by_number (number_of (program_of t).scope d.name.name) refl known.visible
-    where
-      by_number : (o : Option ℕ) → number_of (program_of t).scope d.name.name ≡ o → is_some o ≡ true
-          → told_of (program_of t).scope directory.numbers.items d.name.name ≡ number_in t None d.name.name
-      by_number (Some n) e h = is.numbers d.name.name n e
-      by_number None e h = cc
 
   pub item_next : (a b c : List rows.Task) (all : List Item) (n : ℕ) (x : Item) → n < length all → x ≡ get_or all n x
       → AddsTasks t a (map item_tree (take n all)) b → AddsTasks t b (item_tree x ∷ []) c → AddsTasks t a (map item_tree (take (n + 1) all)) c

@@ -11,11 +11,9 @@ use Rattle.program_soundness.proofs.Listing.{Has, same_some}
 use Rattle.program_soundness.proofs.WiderScopes.{bytes_same, number_stands, same_bytes, stands, stands_with, unseen_none, with_all}
 use Rattle.expr_code.specs.Entries.{entry_at}
 use Rattle.expr_code.specs.Seeing.{told_of}
-use Rattle.expr_code.specs.declared.visible.Visible.{Visible}
-use Rattle.package_code.specs.Directory.{entry_if, is_next, number_told, seen_inside, slot_told, told_each}
-use Rattle.package_code.specs.Owners.{objects_at, one_protected, protected_objects, told_behind_objects, told_inside, told_operation, told_slot}
+use Rattle.package_code.specs.Directory.{entry_if, is_next, told_each}
+use Rattle.package_code.specs.Owners.{objects_at, one_protected, protected_objects, told_behind_objects, told_operation}
 use Rattle.package_code.specs.Refusing.{told_behind}
-use Rattle.package_code.specs.declared.directory.Directory.{Directory}
 use Rattle.package_code.proofs.Reordered.{longer}
 use Rattle.package_code.proofs.Seen.{behind_long}
 
@@ -126,12 +124,6 @@ module _ {X : Type 0} (tell : List ℕ → Option X) where
   first_stay [] (y ∷ more) = refl
   first_stay (x ∷ all) more = ap (λ l. x ∷ l) (first_stay all more)
 
-  pub each_taken : (s : Scope) (xs : List Named) (all : List (Option X)) → length all ≡ length s
-      → take (length s) (told_each tell (with_all s xs) all (names_of xs)) ≡ all
-  each_taken s xs all long =
-      ap (λ n. take n (told_each tell (with_all s xs) all (names_of xs))) (sym long) ∙ ap (take (length all)) (each_added s xs all long)
-      ∙ first_stay all (tell_all tell (added s xs))
-
   -- ---- as the text tells them
 
   pub behind_joined : (first : ℕ) (s more : Scope) → first ≤ length s → told_behind first tell (s ++ more) ≡ told_behind first tell s ++ tell_all tell more
@@ -177,21 +169,6 @@ behind_same f g zero (x ∷ s) (y ∷ u) names same =
     (λ j. (same x (inl refl) ∙ ap g one) j ∷ behind_same f g zero s u (ap tail_of names) (λ m has. same m (inr has)) j)
 behind_same f g (suc first) (x ∷ s) (y ∷ u) names same =
     ap (λ l. None ∷ l) (behind_same f g first s u (ap tail_of names) (λ m has. same m (inr has)))
-
--- ---- one name more
-
-pub each_joined : {X : Type 0} (tell : List ℕ → Option X) (s : Scope) (all : List (Option X)) (ns ms : List (List ℕ))
-    → told_each tell s all (ns ++ ms) ≡ told_each tell s (told_each tell s all ns) ms
-each_joined tell s all [] ms = refl
-each_joined tell s all (n ∷ ns) ms = each_joined tell s (entry_if (is_next (number_of s n) (length all)) (tell n) all) ns ms
-
-pub inside_more : (whole : Scope) (d : Directory) (o : ℕ) (v : Visible) (ns ms : List (List ℕ))
-    → seen_inside whole d o (seen_inside whole d o v ns) ms ≡ seen_inside whole d o v (ns ++ ms)
-inside_more whole d o v ns ms =
-    λ j. record v {
-      slots = sym (each_joined (told_slot (slot_told whole d) (number_told whole d) (Some o)) v.scope v.slots ns ms) j;
-      subprograms = sym (each_joined (told_inside (number_told whole d) (Some o)) v.scope v.subprograms ns ms) j;
-    }
 
 -- ---- the protected objects among names
 

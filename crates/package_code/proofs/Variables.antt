@@ -3,7 +3,6 @@ use Rattle.std.proofs.Common.{◌≡◌, ℕ, zero, suc, ◌+◌, ◌<◌, List,
 use Rattle.std.specs.Prelude.{bytes_eq, get_or, if◌then◌else◌, is_none, is_some, replicate, slice_get, slice_set, ◌&&◌, ◌||◌}
 use Rattle.std.proofs.lemmas.Bool.{and_parts}
 use Rattle.std.proofs.lemmas.Option.{slice_get-get_or, slice_get_within}
-use Rattle.std.proofs.lemmas.List.{length-replicate}
 use Rattle.base.specs.Names.{predefined}
 use Rattle.ada_tree.specs.declared.expression.Identifier.{Identifier}
 use Rattle.ada_tree.specs.StatementTree.{ObjectTree}
@@ -289,15 +288,4 @@ pub adds_variable : (s : Scope) (d : ObjectTree) (old new : Globals) → d.const
 adds_variable s d old new variable h = record {
   are = λ front are placed. added_variable s front d old new variable h
       (variable_free s front d variable (and_parts (is_placed s front (OfObject d)) true placed).0) are;
-}
-
--- none at all
-pub no_globals : (s : Scope) (g : Globals) → g.slots.items ≡ replicate (length s) None → g.words.items ≡ [] → g.exceptions.items ≡ predefined
-    → AreGlobals s [] g
-no_globals s g slots words exceptions = record {
-  slots = λ name. ap (λ l. told_of s l name) slots ∙ none_told s (length s) name;
-  many = ap length slots ∙ length-replicate (length s) None;
-  words = words;
-  within = λ name x h. (let none = sym (ap (λ l. told_of s l name) slots ∙ none_told s (length s) name) ∙ h in cc);
-  exceptions = exceptions ∙ sym (append-nil predefined);
 }

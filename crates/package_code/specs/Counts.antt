@@ -1,8 +1,7 @@
 -- How many instructions the code of each subprogram of a program has at most, and how many steps of one step of the program its frames take: by the text of the
 -- subprogram alone.
-use Rattle.std.specs.Prelude.{ℕ, suc, ◌*◌, List, [], ◌∷◌, ◌++◌, map, slice_get}
+use Rattle.std.specs.Prelude.{ℕ, suc, List, [], ◌∷◌, ◌++◌, map, slice_get}
 use Rattle.ada_tree.specs.ProgramTree.{BodyItemTree, ProgramTree}
-use Rattle.image.specs.Frames.{TaskState}
 use Rattle.program_soundness.specs.Fronts.{declared_in}
 use Rattle.step_simulation.specs.part_code.specs.Bounds.{main_bound, procedure_bound}
 use Rattle.package_code.specs.Bodies.{Coded, coded_at, or_zero}
@@ -22,7 +21,3 @@ bounds_from t place (x ∷ rest) = bounds_at t place x ++ bounds_from t (suc pla
 -- the most instructions of the subprogram with this number: bodies in the order of the text, and main after them
 abbrev pub instructions_bound : ProgramTree → (number : ℕ) → ℕ
 instructions_bound t number = or_zero (slice_get (bounds_from t 0 (declared_in t.package_) ++ main_bound t.main.statements ∷ []) number)
-
--- the most steps that a frame takes within one step of the program, or one call within it: twice these, and one
-abbrev pub steps_bound : ProgramTree → TaskState → ℕ
-steps_bound t s = suc (2 * instructions_bound t s.frame.subprogram)

@@ -4,7 +4,7 @@ ghost use Rattle.ada_tree.specs.StatementTree.{optional_tree, protected_componen
 ghost use Rattle.ada_tree.specs.ProgramTree.{OfProtected, body_item_tree, item_tree, package_tree};
 ghost use Rattle.expr_soundness.specs.meaning.specs.Programs.{component, items_among, package_items};
 ghost use Rattle.expr_soundness.specs.SoundScopes.{SoundScope};
-ghost use Rattle.package_code.specs.Objects.{AddsObjects, RefusesComponent, RefusesComponents, RefusesObjects, bare_object, bare_objects, ceiling_named, component_slots, have_words, objects_have_words, slots_of};
+ghost use Rattle.package_code.specs.Objects.{AddsObjects, RefusesComponent, RefusesComponents, RefusesObjects, bare_objects, ceiling_named, component_slots, have_words, objects_have_words, slots_of};
 ghost use Rattle.package_code.specs.Package.{first_words_of};
 ghost use Rattle.package_code.specs.Providing.{component_tells, items_tell};
 ghost use Rattle.std.specs.List.{list_all};

@@ -1,5 +1,5 @@
 //! The numbers of the bodies of protected objects' operations and entries, by the objects and the names (RM 9.4).
-ghost use Rattle.std.specs.Prelude.{◌≡◌, ◌+◌, ◌++◌, ◌∷◌, [], false, length, map, IfErr, IfOk, OnOk};
+ghost use Rattle.std.specs.Prelude.{◌≡◌, ◌+◌, ◌++◌, ◌∷◌, [], length, map, IfErr, IfOk, OnOk};
 ghost use Rattle.ada_tree.specs.StatementTree.{optional_tree};
 ghost use Rattle.ada_tree.specs.ProgramTree.{body_item_tree, package_tree, protected_item_tree};
 ghost use Rattle.expr_soundness.specs.meaning.specs.Programs.{package_bodies};

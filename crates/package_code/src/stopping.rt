@@ -1,5 +1,5 @@
 //! Where the code of a package passes a limit of images: with one of its bodies, or with the rows of handlers up to the end of one of its items.
-ghost use Rattle.std.specs.Prelude.{◌≡◌, ◌-◌, ◌≤◌, ◌+◌, length, map, slice_get, None, Some, IfOk};
+ghost use Rattle.std.specs.Prelude.{◌≡◌, ◌-◌, ◌≤◌, ◌+◌, length, map, None, Some, IfOk};
 ghost use Rattle.ada_tree.specs.ProgramTree.{body_item_tree, program_tree, protected_item_tree};
 ghost use Rattle.base.specs.declared.limits.TheConstants.{OBJECTS, ROWS};
 ghost use Rattle.program_soundness.specs.legality.specs.ProgramRules.{IsLegal};

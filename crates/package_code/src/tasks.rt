@@ -1,10 +1,8 @@
 //! The rows of a program's tasks in the table of an image, in the order of their declarations (RM 9.1, D.1).
-ghost use Rattle.std.specs.Prelude.{◌≡◌, ◌∷◌, [], Some, false, is_some, map, true, IfErr, IfOk, OnOk};
+ghost use Rattle.std.specs.Prelude.{◌≡◌, ◌∷◌, [], Some, is_some, map, true, IfErr, IfOk, OnOk};
 ghost use Rattle.ada_tree.specs.StatementTree.{aspect_tree, optional_tree, task_tree};
 ghost use Rattle.ada_tree.specs.ProgramTree.{OfTask, body_item_tree, item_tree, package_tree, program_tree};
 ghost use Rattle.expr_soundness.specs.meaning.specs.Programs.{base_priority, items_among, package_items, program_of};
-ghost use Rattle.program_soundness.specs.legality.specs.ProgramRules.{IsLegal};
-ghost use Rattle.ravenscar.specs.ProgramRules.{IsRestricted};
 ghost use Rattle.expr_code.specs.Refusing.{IsRefused};
 ghost use Rattle.expr_code.specs.Seeing.{told_of};
 ghost use Rattle.package_code.specs.Directory.{IsDirectory};

@@ -1,14 +1,12 @@
 -- The code of all actual parameters, wherever it stands (RM 6.4.1).
-use Rattle.std.proofs.Common.{◌≡◌, ℕ, suc, ◌+◌, ◌*◌, ◌≤◌, take, List, [], ◌∷◌, ◌++◌, length, map, cond, Option, Some, None, Result, Ok, Err, refl, sym, ap, ◌∙◌, subst, arith}
+use Rattle.std.proofs.Common.{◌≡◌, ℕ, suc, ◌+◌, ◌*◌, ◌≤◌, List, [], ◌∷◌, ◌++◌, length, map, cond, Option, Some, None, refl, sym, ap, ◌∙◌, subst, arith}
 use Rattle.std.specs.Prelude.{max}
 use Rattle.std.specs.List.{All}
-use Rattle.std.specs.Result.{OnOk}
 use Rattle.std.proofs.lemmas.List.Elements.{All-cons, All-nil}
 use Rattle.ada_tree.specs.declared.declaration.Mode.{Mode}
 use Rattle.ada_tree.specs.declared.declaration.Mode.TheVariants as mode
 use Rattle.ada_tree.specs.ExpressionTree as tree
-use Rattle.ada_tree.specs.declared.expression.Argument.{Argument}
-use Rattle.ada_tree.specs.ExpressionTree.{ArgumentTree, ArgumentTrees, ExprTree, MoreArguments, NoArguments, argument_tree, argument_trees}
+use Rattle.ada_tree.specs.ExpressionTree.{ArgumentTree, ArgumentTrees, ExprTree, MoreArguments, NoArguments}
 use Rattle.ada_tree.specs.Size.{argument_size, total}
 use Rattle.image.specs.Sections.{Sections}
 use Rattle.types.specs.declared.entity.FormalParameter.{FormalParameter}
@@ -21,25 +19,18 @@ use Rattle.expr_soundness.specs.meaning.specs.Calls.{is_in}
 use Rattle.expr_soundness.specs.meaning.specs.Programs.{Parameter, Program}
 use Rattle.step_soundness.specs.Fitting.{formal_of}
 use Rattle.expr_code.specs.Actuals.{ArePassedLegally, IsPassedLegally, arguments_in_front}
-use Rattle.expr_code.specs.Appending.{Appends, Misfits}
-use Rattle.expr_code.specs.Code.{IsShallow, here}
 use Rattle.expr_code.specs.Computing.{ComputesChecked}
 use Rattle.expr_code.specs.Emitting.{IsFit}
 use Rattle.expr_code.specs.Pieces.{Piece, nothing, ◌▸◌}
 use Rattle.expr_code.specs.Providing.{HasWhatExpressionsNeed}
 use Rattle.expr_code.specs.Seeing.{Package, Sees, Suits, library_of}
-use Rattle.expr_code.specs.declared.code.Code.{Code}
-use Rattle.expr_code.specs.declared.refusal.Refusal.{Refusal}
 use Rattle.expr_code.specs.declared.visible.Visible.{Visible}
-use Rattle.expr_code.specs.Refusing.{IsRefused}
-use Rattle.expr_code.proofs.Actuals.{trees_are}
 use Rattle.expr_code.proofs.Checking.{shaped}
-use Rattle.expr_code.proofs.ExpressionWorks.{appends_extends, placed}
 use Rattle.expr_code.proofs.StandingPieces.{Between, both_stand, fits_none, fits_then}
 use Rattle.part_code.specs.Needs as needs
-use Rattle.part_code.specs.Needs.{IsNeeding, IsPartFit, Needs, actual_needs, actuals_needs, destinations_named, destinations_of, in_needs, in_out_needs, target_needs}
+use Rattle.part_code.specs.Needs.{IsPartFit, Needs, actual_needs, actuals_needs, destinations_named, destinations_of, in_needs, in_out_needs, target_needs}
 use Rattle.part_code.specs.PartCode.{actuals_code, actuals_height, actuals_targets, copied_in, fitting_code, moded_code, moded_height, moded_target, target_code, target_of, target_words, with_target, words_in}
-use Rattle.part_code.specs.Passing.{AddsActuals, ArePassedInFront, EmitsPassedActuals, copied_width}
+use Rattle.part_code.specs.Passing.{ArePassedInFront, copied_width}
 use Rattle.part_code.specs.Resting.{Framed}
 use Rattle.part_code.specs.Suiting.{passed_width, returned_width}
 use Rattle.part_code.specs.declared.call.Destination.{Destination}
@@ -49,12 +40,11 @@ use Rattle.part_code.proofs.CoveredObjects.{known_taken}
 use Rattle.part_code.proofs.Declaring.{IsTypedAs}
 use Rattle.part_code.proofs.FittingWorks.{fitting_works}
 use Rattle.part_code.proofs.InTurn.{alone, front_none, front_one, front_then, split}
-use Rattle.part_code.proofs.Lists.{take_all}
 use Rattle.part_code.proofs.LegalTargets.{actual_object, both_takes, name_legal, out_takes}
 use Rattle.part_code.proofs.PassingWell.{passes_in}
-use Rattle.part_code.proofs.PieceNeeds.{Keeps, Laws, added_flows, added_refused, added_shallow, added_stands, bare, keeps_within}
+use Rattle.part_code.proofs.PieceNeeds.{Keeps, Laws, keeps_within}
 use Rattle.part_code.proofs.TargetWorks.{ActualWorks, both_works, out_works, target_works}
-use Rattle.part_code.proofs.Within.{Within, in_left, in_right, plain_needing, within_self, within_then}
+use Rattle.part_code.proofs.Within.{Within, in_left, in_right, within_self, within_then}
 
 none_stand : (i : Sections) (from to : ℕ) → Between i from to nothing → from ≡ to
 unfolding nothing
@@ -269,94 +259,3 @@ module _ (laws : Laws) (v : Visible) (sound : SoundScope v.scope) (covered : Has
       let most = p.most in
       one_more d k up f fs e all (moded_target v f e) _ (moded_height v d f e) _ (moded_code v d f e) _ p
       (actuals_work (moded_height v d f e) (k + passed_width v.scope f) (omega (arith, most, up)) fs all (omega (arith, many)) known.1 (λ n. legal (suc n)))
-
--- ---- code to which they were added
-
-module _ (v : Visible) (old new : Code) (fs : List FormalParameter) (all : List ArgumentTree) (ds : List Destination) (height : ℕ) (a : Piece)
-    (w : ActualsWork v 0 0 fs all ds height a) where
-  abbrev need : Needs
-  need = actuals_needs 0 v fs (arguments_in_front all NoArguments)
-
-  pub actuals_emit : Appends old (a (here old)) new → EmitsPassedActuals v old 0 fs all ds height new
-  actuals_emit h =
-      let at = placed old new a h in
-      let long = at.long in
-      record {
-        extends = appends_extends old new (a (here old)) h;
-        sized = (let few = w.keeps.sized (here old) in let most = w.few in omega (arith, long, few, most));
-        stands = λ i holds. w.stands i (here old) (here new) (at.stands i holds);
-        high = w.high (bare new.instructions.items) (here old) (here new) (added_stands old new a h);
-        back = w.back;
-        flows = added_flows (Suits v) old new w.long need.stack 0 height a w.keeps h;
-      }
-
-  pub actuals_shallow : Appends old (a (here old)) new → IsShallow old new need.stack
-  actuals_shallow h = added_shallow (Suits v) old new w.long need.stack 0 height a w.keeps h
-
-  pub actuals_refused : (why : Refusal) → Misfits old (a (here old)) why → IsNeeding (here old + 20 * total argument_size all) need why
-  actuals_refused why h =
-      let most = w.few in
-      added_refused (Suits v) old w.long (here old + 20 * total argument_size all) 0 height need a why (omega (arith, most)) w.keeps h
-
--- ---- as they are written
-
-mapped_long : (all : List Argument) → length (map argument_tree all) ≡ length all
-mapped_long [] = refl
-mapped_long (x ∷ all) = ap suc (mapped_long all)
-
-pub all_passed : (laws : Laws) (v : Visible) (sound : SoundScope v.scope) (covered : HasWhatExpressionsNeed v) (fs : List FormalParameter) (args : List Argument)
-    → length args ≡ length fs → AreKnown v.scope fs → ArePassedLegally v.scope fs (map argument_tree args)
-    → ActualsWork v 0 0 fs (map argument_tree args) (actuals_targets v fs (argument_trees args)) (actuals_height v 0 fs (argument_trees args))
-    (actuals_code v 0 fs (argument_trees args))
-all_passed laws v sound covered fs args many known legal =
-    subst (λ t. ActualsWork v 0 0 fs (map argument_tree args) (actuals_targets v fs t) (actuals_height v 0 fs t) (actuals_code v 0 fs t)) (trees_are args)
-    (actuals_work laws v sound covered 0 0 (omega arith) fs (map argument_tree args) (mapped_long args ∙ many) known legal)
-
-module _ (v : Visible) (old new : Code) (fs : List FormalParameter) (args : List Argument) (many : length args ≡ length fs) (ds : List Destination) (height : ℕ)
-    (a : Piece) (w : ActualsWork v 0 0 fs (map argument_tree args) ds height a) where
-  abbrev needed : Needs
-  needed = actuals_needs 0 v fs (argument_trees args)
-
-  same : actuals_needs 0 v fs (arguments_in_front (map argument_tree args) NoArguments) ≡ needed
-  same = ap (actuals_needs 0 v fs) (trees_are args)
-
-  all_taken : take (length args) fs ≡ fs
-  all_taken = take_all fs (length args) (omega (arith, many))
-
-  there : destinations_of v (take (length args) fs) (argument_trees args) ≡ ds
-  there = (λ j. destinations_of v (all_taken j) (sym (trees_are args) j)) ∙ w.destinations
-
-  pub passed_emit : (before after : List Destination) → after ≡ before ++ ds → (h : ℕ) → h ≡ height → Appends old (a (here old)) new
-      → AddsActuals v old 0 (take (length args) fs) (map argument_tree args) before after h new
-  passed_emit before after after_is h is p =
-      subst (λ l. AddsActuals v old 0 l (map argument_tree args) before after h new) (sym all_taken)
-      (subst (λ n. AddsActuals v old 0 fs (map argument_tree args) before after n new) (sym is)
-      (record { destinations = ds; after_is = after_is; emits = actuals_emit v old new fs (map argument_tree args) ds height a w p }))
-
-  pub passed_destinations : (before after : List Destination) → after ≡ before ++ ds
-      → after ≡ before ++ destinations_of v (take (length args) fs) (argument_trees args)
-  passed_destinations before after after_is = after_is ∙ ap (λ l. before ++ l) (sym there)
-
-  pub passed_fits : All (IsPartFit v) (destinations_of v (take (length args) fs) (argument_trees args))
-  passed_fits = subst (All (IsPartFit v)) (sym there) w.fits
-
-  pub passed_shallow : Appends old (a (here old)) new → IsShallow old new needed.stack
-  passed_shallow p = subst (λ n. IsShallow old new n.stack) same (actuals_shallow v old new fs (map argument_tree args) ds height a w p)
-
-  pub passed_refused : (why : Refusal) → Misfits old (a (here old)) why → IsNeeding (here old + 20 * total argument_size (map argument_tree args)) needed why
-  passed_refused why p =
-      subst (λ n. IsNeeding (here old + 20 * total argument_size (map argument_tree args)) n why) same
-      (actuals_refused v old new fs (map argument_tree args) ds height a w why p)
-
-  -- more words than a frame may have
-  pub passed_wide : (why : Refusal) → IsRefused 0 height why → IsNeeding (here old + 20 * total argument_size (map argument_tree args)) needed why
-  passed_wide why r =
-      plain_needing 0 (here old + 20 * total argument_size (map argument_tree args)) height needed why (omega arith)
-      (over needed.stack needed.frame (subst (λ n. height ≤ max 0 n.stack) same w.low)) r
-    where
-      over : (n m : ℕ) → height ≤ max 0 n → height ≤ max n m
-      over n m up = omega (arith, up)
-
-pub on_ok_always : {T E P : Type 0} (r : Result T E) → P → OnOk r P
-on_ok_always (Ok x) p = p
-on_ok_always (Err y) p = tt

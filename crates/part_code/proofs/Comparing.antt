@@ -109,9 +109,6 @@ module _ (quiet : QuietStays) (i : Sections) (program : Program) (g : Package) (
       abbrev Goes : (n : ℕ) → (f g : Frame) → Type 0
       Goes n f g = Walks i schedule k t m fs n f g
 
-      abbrev before_label : Frame
-      before_label = placed f (suc to) (word x ∷ [])
-
       abbrev ended : Bool → Frame
       ended b = if b then placed f (suc (suc to)) [] else placed f next (word x ∷ [])
 

@@ -15,17 +15,11 @@ use Rattle.types.specs.Layouts.{words_of}
 use Rattle.types.specs.Scopes.{form_at}
 use Rattle.expr_soundness.specs.Laws.{AgreementIsKept}
 use Rattle.expr_soundness.specs.meaning.specs.Programs.{Program}
-use Rattle.expr_code.specs.Appending.{Appends, Misfits}
-use Rattle.expr_code.specs.Code.{IsShallow, here}
 use Rattle.expr_code.specs.Coming.{on}
-use Rattle.expr_code.specs.Flows.{AreKeptBetween}
 use Rattle.expr_code.specs.Pieces.{Piece, nothing, one, ◌▸◌}
 use Rattle.expr_code.specs.Seeing.{Package}
 use Rattle.expr_code.specs.Views.{At}
-use Rattle.expr_code.specs.declared.code.Code.{Code}
-use Rattle.expr_code.specs.declared.refusal.Refusal.{Refusal}
 use Rattle.expr_code.specs.declared.visible.Visible.{Visible}
-use Rattle.expr_code.proofs.ExpressionWorks.{appends_extends, placed}
 use Rattle.expr_code.proofs.FitShapes.{no_block}
 use Rattle.expr_code.proofs.Flowing.{Changes}
 use Rattle.expr_code.proofs.Going.{block_words}
@@ -33,14 +27,14 @@ use Rattle.expr_code.proofs.StandingPieces.{Between, both_stand, fits_load, fits
 use Rattle.part_code.specs.Copying.{AreCopies}
 use Rattle.part_code.specs.Emitting.{stored_at}
 use Rattle.part_code.specs.Layout.{IsLaidOut}
-use Rattle.part_code.specs.Needs.{IsNeeding, IsPartFit, check_words, copies_needs, copy_needs, has_unfit}
+use Rattle.part_code.specs.Needs.{IsPartFit, check_words, copies_needs, copy_needs, has_unfit}
 use Rattle.part_code.specs.PartCode.{copies_code, copy_code, given_words, range_code, words_in}
-use Rattle.part_code.specs.Passing.{EmitsCopies, copied_width}
+use Rattle.part_code.specs.Passing.{copied_width}
 use Rattle.part_code.specs.Resting.{Framed}
 use Rattle.part_code.specs.Suiting.{SuitsStatements}
 use Rattle.part_code.specs.declared.call.Destination.{Destination}
 use Rattle.part_code.proofs.CopyingBack.{ChecksValue, copies_by, copies_more}
-use Rattle.part_code.proofs.PieceNeeds.{Keeps, added_flows, added_refused, added_shallow, keeps_within}
+use Rattle.part_code.proofs.PieceNeeds.{Keeps, keeps_within}
 use Rattle.part_code.proofs.RangeWorks.{RangeWorks, range_works, taken_form}
 use Rattle.part_code.proofs.StoresAt.{stores_at, writes}
 use Rattle.part_code.proofs.StoringCode.{StoresIn, block_in, word_in}
@@ -202,34 +196,3 @@ module _ (v : Visible) where
               copies_one kept sized quiet v x fit h left high i from two.mid two.first program g f names laid xs to
               (rest.copies i two.mid to two.second program g f names laid);
         }
-
-  -- ---- code to which they were added
-
-  module _ (old new : Code) (ds : List Destination) (a : Piece) (w : CopiesWork ds a) where
-    pub copies_emit : Appends old (a (here old)) new → EmitsCopies v old ds 0 new
-    copies_emit h =
-        let at = placed old new a h in
-        let long = at.long in
-        record {
-          extends = appends_extends old new (a (here old)) h;
-          sized = (let few = w.keeps.sized (here old) in omega (arith, long, few));
-          stands = λ i holds. w.copies i (here old) (here new) (at.stands i holds);
-          flows = record {
-            flows = λ i s holds suits deep up ends.
-                let same = w.words i (here old) (here new) (at.stands i holds) in
-                subst (λ k. AreKeptBetween i s (here old) (here new) (here old) (here new) k) (all_words same)
-                ((added_flows (SuitsStatements v) old new (4 * length ds) (copies_needs v ds).stack (total (given_words v.scope) ds) 0 a w.keeps h).flows
-                i s holds suits deep up ends);
-          };
-        }
-      where
-        all_words : total (copied_width v.scope) ds ≡ total (given_words v.scope) ds → total (given_words v.scope) ds ≡ 0 + total (copied_width v.scope) ds
-        all_words same = omega (arith, same)
-
-    pub copies_shallow : Appends old (a (here old)) new → IsShallow old new (copies_needs v ds).stack
-    copies_shallow h = added_shallow (SuitsStatements v) old new (4 * length ds) (copies_needs v ds).stack (total (given_words v.scope) ds) 0 a w.keeps h
-
-    pub copies_refused : (why : Refusal) → Misfits old (a (here old)) why → IsNeeding (here old + 4 * length ds) (copies_needs v ds) why
-    copies_refused why h =
-        added_refused (SuitsStatements v) old (4 * length ds) (here old + 4 * length ds) (total (given_words v.scope) ds) 0 (copies_needs v ds) a why (omega arith)
-        w.keeps h

@@ -129,9 +129,6 @@ module _ (kept : AgreementIsKept) (sized : ValuesHaveWords) (quiet : QuietStays)
 -- ---- one behind the other
 
 module _ (i : Sections) (program : Program) (g : Package) (v : Framed) where
-  pub copies_none : (from : ℕ) → AreCopies i program g v from from []
-  copies_none from = refl
-
   pub copies_up : (ds : List Destination) (from to : ℕ) → AreCopies i program g v from to ds → from ≤ to
   copies_up [] from to h = omega (arith, h)
   copies_up (d ∷ ds) from to h = let low = h.1 in let high = h.2 in omega (arith, low, high)

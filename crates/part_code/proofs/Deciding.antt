@@ -1,19 +1,17 @@
--- What legality tells of `case`: its expression comes to a number or a truth value, and its static choices to the same values wherever they are seen.
-use Rattle.std.proofs.Common.{◌≡◌, ℕ, [], Bool, true, Option, Some, None, refl, sym, ap, ◌∙◌, subst, inl, inr}
+-- What legality tells of `case`: its expression comes to a number or a truth value; and where fixed values of names are those that are visible.
+use Rattle.std.proofs.Common.{◌≡◌, ℕ, [], true, Option, Some, None, refl, sym, ap, ◌∙◌, subst, inl, inr}
 use Rattle.image.specs.Sections.{Sections}
 use Rattle.kernel.specs.Laws.{QuietStays}
 use Rattle.ada_tree.specs.ExpressionTree.{ExprTree}
-use Rattle.types.specs.declared.entity.Value.TheVariants as scalar
 use Rattle.types.specs.declared.standing.Standing.{Standing}
 use Rattle.types.specs.declared.standing.Standing.TheVariants as standing
-use Rattle.types.specs.declared.statics.StaticForm.TheVariants.{Static}
-use Rattle.types.specs.Evaluating.{call, fixed_name, fixed_value, val}
+use Rattle.types.specs.Evaluating.{fixed_name, fixed_value, val}
 use Rattle.types.specs.Evaluations.{Gives}
 use Rattle.types.specs.Places.{Place}
 use Rattle.types.specs.Scopes.{Scope, number_of}
 use Rattle.types.specs.Standings.{select_all, stands_first, stands_for}
-use Rattle.types.specs.Statics.{Keeps, StaticIsValue, static_form, static_value}
-use Rattle.types.specs.Values.{Truth, Value}
+use Rattle.types.specs.Statics.{Keeps, StaticIsValue}
+use Rattle.types.specs.Values.{Value}
 use Rattle.expr_soundness.specs.expr_rules.specs.declared.own.Wanted.{Wanted}
 use Rattle.expr_soundness.specs.expr_rules.specs.ExpressionRules.{faults_in}
 use Rattle.expr_soundness.specs.expr_rules.specs.Laws.{is_value_of, suits}
@@ -29,7 +27,7 @@ use Rattle.expr_code.specs.Seeing.{Package, Sees}
 use Rattle.expr_code.specs.Views.{View}
 use Rattle.part_code.specs.Resting.{Framed}
 use Rattle.part_code.specs.Statements.{Numbers}
-use Rattle.part_code.proofs.Comparing.{AreAlike, IsScalar, IsSingle, IsStatic}
+use Rattle.part_code.proofs.Comparing.{IsScalar, IsSingle}
 
 -- a place that agrees with the visible names keeps the fixed values of names
 pub fixed_kept : (s : Scope) (p : Place) → Agrees s p → Keeps s p
@@ -61,11 +59,6 @@ module _ (calls : CallsAreTyped) (statics : StaticIsValue) (quiet : QuietStays) 
   suited : (p : Place) (view : View) → Sees g v.names p view → (x : Value) → val p e ≡ Gives x → is_value_of s (own_of s e) x ≡ true
   suited p view sees x is = ap (suits s (own_of s e)) (sym is) ∙ (calls.typed s p sees.names.agrees sees.unit.sound e w unbroken).suited
 
-  -- a static expression has the same value at each place that is seen
-  told : (c : ExprTree) (x : Value) → static_form s c ≡ Static → static_value s c ≡ Gives x → (p : Place) (view : View) → Sees g v.names p view
-      → val p c ≡ Gives x
-  told c x form value p view sees = statics s p (call p.frames_left) (fixed_kept s p sees.names.agrees) c form ∙ value
-
   -- of an integer type
   module _ (integral : is_integral s (own_of s e) ≡ true) where
     pub number_scalar : IsScalar quiet i program g numbers v e
@@ -76,11 +69,3 @@ module _ (calls : CallsAreTyped) (statics : StaticIsValue) (quiet : QuietStays) 
   module _ (boolean : is_boolean s (own_of s e) ≡ true) where
     pub truth_scalar : IsScalar quiet i program g numbers v e
     truth_scalar p view sees x is = let b = as_truth s (own_of s e) x boolean (suited p view sees x is) in subst IsSingle (sym b.1) tt
-
-    pub truth_static : (c : ExprTree) (b : Bool) → static_form s c ≡ Static → static_value s c ≡ Gives (Truth b)
-        → IsStatic quiet i program g numbers v e c (scalar.Truth b)
-    truth_static c b form value = record {
-      told = told c (Truth b) form value;
-      alike = λ p view sees x is.
-          (let y = as_truth s (own_of s e) x boolean (suited p view sees x is) in subst (λ q. AreAlike q (scalar.Truth b)) (sym y.1) tt);
-    }

@@ -1,6 +1,6 @@
 -- The words of formal parameters, one after the other: those that are passed, where each stands, and what gives `out` parameters their first values and returns those
 -- that are copied back.
-use Rattle.std.proofs.Common.{◌≡◌, ℕ, suc, ◌+◌, ◌*◌, ◌<◌, ◌≤◌, ◌⊎◌, ◌++◌, List, [], ◌∷◌, length, map, take, drop, Bool, true, false, Option, Some, None, refl, sym, ap, ◌∙◌, subst, arith, inl, inr}
+use Rattle.std.proofs.Common.{◌≡◌, ℕ, suc, ◌+◌, ◌*◌, ◌<◌, ◌≤◌, ◌⊎◌, ◌++◌, List, [], ◌∷◌, length, map, drop, Bool, true, false, Option, Some, None, refl, sym, ap, ◌∙◌, subst, arith, inl, inr}
 use Rattle.std.specs.Prelude.{get_or, pos}
 use Rattle.std.proofs.lemmas.List.{at_drop_more, drop_all, length-append}
 use Rattle.ada_tree.specs.declared.declaration.Formal.{Formal}
@@ -39,7 +39,6 @@ use Rattle.part_code.specs.declared.formals.PlacedFormals.{PlacedFormals}
 use Rattle.part_code.specs.Emitting.{AddsInitial, EmitsObject, HasEntries, Pushes}
 use Rattle.part_code.specs.Storing.{ArePushed}
 use Rattle.part_code.specs.MainCalls.{AddsCalls, AddsMainCall, AreCalls, CallBare}
-use Rattle.part_code.proofs.Lists.{take_all}
 use Rattle.part_code.proofs.FormalFlows.{address_flows, call_flows, first_block_flows, first_word_flows, flows_under, return_kept, room_at}
 use Rattle.part_code.proofs.Initials.{are_pushed, pushed_extends, pushed_here}
 use Rattle.part_code.proofs.Lists.{append_again, append_none}
@@ -319,13 +318,6 @@ returned_all s old now next xs height so_far q = record {
 
 -- ---- one value
 
-pub loads_single : (old new : Code) (depth offset many : ℕ) → many ≡ 1 → Adds old depth (op.LoadLocal offset) new → AddsLoaded old offset many new
-loads_single old new depth offset many single q = record {
-  extends = added_extends old new depth (op.LoadLocal offset) q;
-  sized = (let e = added_here old new depth (op.LoadLocal offset) q in omega (arith, e));
-  loads = λ i h. inl (single, added_at old new depth (op.LoadLocal offset) q i (here old) (omega arith) h, added_here old new depth (op.LoadLocal offset) q);
-}
-
 pub loads_several : (old pushed new : Code) (depth above offset many : ℕ) → Adds old depth (op.Push (pos offset)) pushed
     → Adds pushed above (op.LoadBlock regions.Locals many) new → AddsLoaded old offset many new
 loads_several old pushed new depth above offset many p q = record {
@@ -374,12 +366,6 @@ returns_some s old new depth address height x there adds high runs = record {
   some = λ a is. (subst (λ n. AddsReturned s old n x new) (same_some address a (sym there ∙ is)) adds, high);
   flows = address_flows s old new depth address height x there runs;
 }
-
--- ---- places that are shown, one behind the other
-
-pub shown_all : {X : Type 0} (f : PlacedFormal → X) (front now : List X) (xs : List PlacedFormal) (n : ℕ) → length xs ≤ n → now ≡ front ++ map f (take n xs)
-    → now ≡ front ++ map f xs
-shown_all f front now xs n up before = before ∙ ap (λ l. front ++ map f l) (take_all xs n up)
 
 -- ---- the calls of main
 

@@ -50,7 +50,8 @@ out_next : (s : Scope) (fs : List Formal) (n : ℕ) (f : Formal) → n < length 
     → total (out_for s) (drop n fs) ≡ out_for s f + total (out_for s) (drop (n + 1) fs)
 out_next s fs n f less is = at_drop_more (total (out_for s)) fs n f less ∙ ap (λ y. out_for s y + total (out_for s) (drop (n + 1) fs)) (sym is)
 
-out_named : (s : Scope) (f : Formal) (t : Subtype) (m : Mode) → subtype_of s f.subtype ≡ Some t → f.mode ≡ m
+-- the words of those that are not copied in
+pub out_named : (s : Scope) (f : Formal) (t : Subtype) (m : Mode) → subtype_of s f.subtype ≡ Some t → f.mode ≡ m
     → out_for s f ≡ elim m [ mode.In ↦ 0 | mode.Out ↦ words_of s t | mode.InOut ↦ 0 ]
 out_named s f t m named is =
     ap (λ q. elim q [ mode.In ↦ 0 | mode.Out ↦ words_named s f.subtype | mode.InOut ↦ 0 ]) is

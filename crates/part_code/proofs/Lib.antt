@@ -31,10 +31,9 @@ pub mod Initials
 pub mod Selecting
 mod InTurn
 pub mod Lacking
-mod FormalsRefused
+pub mod FormalsRefused
 pub mod CallsRefused
 mod BodiesRefused
-pub mod Choosable
 mod Moves
 mod CodeExamples
 pub mod PieceNeeds
@@ -56,7 +55,6 @@ mod InitialsStay
 pub mod Jumping
 pub mod Jumps
 pub mod Lists
-mod NumberedChoices
 pub mod FullWords
 mod ObjectBounds
 pub mod ObjectNames

@@ -13,9 +13,7 @@ use Rattle.image.specs.declared.instruction.Region.{Region}
 use Rattle.types.specs.Evaluating.{fixed_value}
 use Rattle.types.specs.Shapes.{shape_of}
 use Rattle.expr_soundness.specs.SoundScopes.{SoundScope}
-use Rattle.expr_code.specs.Appending.{Appends, Misfits}
 use Rattle.expr_code.specs.Branches.{AreLegalBranches}
-use Rattle.expr_code.specs.Code.{IsShallow, here}
 use Rattle.expr_code.specs.Emitting.{IsLegalExpression}
 use Rattle.expr_code.specs.ExpressionCode.{expr_code, fork_code, path_code, path_part, whole_of}
 use Rattle.expr_code.specs.Locating.{IsPath}
@@ -25,12 +23,10 @@ use Rattle.expr_code.specs.Refusing.{HasUnfitObject, IsUnfit}
 use Rattle.expr_code.specs.Seeing.{Package, Sees, Suits, library_of}
 use Rattle.expr_code.specs.Views.{At}
 use Rattle.expr_code.specs.Widths.{AreWide, width_of}
-use Rattle.expr_code.specs.declared.code.Code.{Code}
-use Rattle.expr_code.specs.declared.refusal.Refusal.{Refusal}
 use Rattle.expr_code.specs.declared.visible.Visible.{Visible}
 use Rattle.expr_code.proofs.CalledWorks.{as_wide}
 use Rattle.expr_code.proofs.Emissions.{address_fits, address_stands}
-use Rattle.expr_code.proofs.ExpressionWorks.{Works, appends_extends, branches_of, branches_same, placed}
+use Rattle.expr_code.proofs.ExpressionWorks.{Works, branches_of, branches_same}
 use Rattle.expr_code.proofs.Flowing.{Changes}
 use Rattle.expr_code.proofs.Going.{whole_path}
 use Rattle.expr_code.proofs.Legal.{legal_parts}
@@ -38,16 +34,15 @@ use Rattle.expr_code.proofs.NamesWork.{address_works, all_work}
 use Rattle.expr_code.proofs.Refusals.{peak_some, selectors_some}
 use Rattle.expr_code.proofs.StandingPieces.{Between, both_stand, fits_fork, fits_one, fits_then, fits_under, fits_unless, one_stands, over_end, over_stands}
 use Rattle.expr_code.proofs.Widths.{conditional_wide}
-use Rattle.part_code.specs.Moves.{EmitsMove}
 use Rattle.part_code.specs.Moving.{IsMoved, IsMovedElse, are_moved, is_moved, source_at}
-use Rattle.part_code.specs.Needs.{Needs, RefusesMove, address_needs, both, move_needs, moves_needs, needs_above, nothing}
+use Rattle.part_code.specs.Needs.{Needs, address_needs, both, move_needs, moves_needs, needs_above, nothing}
 use Rattle.part_code.specs.PartCode.{address_at, move_code, moved_from, moves_code}
 use Rattle.part_code.specs.Suiting.{HasPlaceIn, SuitsStatements}
 use Rattle.part_code.specs.declared.moving.Moved.{Moved}
 use Rattle.part_code.specs.declared.moving.Source.{Source}
 use Rattle.part_code.proofs.AssignmentsRefused.{unfit_whole}
 use Rattle.part_code.proofs.MovesRefused.{source_is}
-use Rattle.part_code.proofs.PieceNeeds.{Keeps, Laws, added_flows, added_refused, added_shallow, expression_keeps, keeps_within, some_then}
+use Rattle.part_code.proofs.PieceNeeds.{Keeps, Laws, expression_keeps, keeps_within, some_then}
 use Rattle.part_code.proofs.StoresAt.{writes}
 use Rattle.part_code.proofs.Within.{Within, both_within, in_left, in_right, of_left, of_right}
 
@@ -274,26 +269,3 @@ module _ (laws : Laws) (v : Visible) (sound : SoundScope v.scope) (covered : Has
         let both = both_true (is_moved v value) (are_moved v rest) h in
         branch_work condition value last rest _ _ _ (condition_works condition wide.0 legal.0) (move_works value legal.1 both.0)
         (elsifs_move w rest last a legal.2 wide.2 both.1 p)
-
--- ---- code to which it was added
-
-module _ (v : Visible) (to : Moved) (old new : Code) (e : ExprTree) (a : Piece) (w : MoveWorks v to e a) where
-  pub move_emits : Appends old (a (here old)) new → EmitsMove v to old e new
-  move_emits h =
-      let at = placed old new a h in
-      let long = at.long in
-      record {
-        extends = appends_extends old new (a (here old)) h;
-        longer = (let some = w.some (here old) in omega (arith, long, some));
-        sized = (let few = w.keeps.sized (here old) in let most = w.few in omega (arith, long, few, most));
-        stands = λ i holds g. w.moves i (here old) (here new) (at.stands i holds) g;
-        flows = added_flows (SuitsStatements v) old new w.long (move_needs v e).stack 1 0 a w.keeps h;
-      }
-
-  pub move_shallow : Appends old (a (here old)) new → IsShallow old new (move_needs v e).stack
-  move_shallow h = added_shallow (SuitsStatements v) old new w.long (move_needs v e).stack 1 0 a w.keeps h
-
-  pub move_refused : (why : Refusal) → Misfits old (a (here old)) why → RefusesMove v old e why
-  move_refused why h =
-      let few = w.few in
-      added_refused (SuitsStatements v) old w.long (here old + 20 * expr_size e) 1 0 (move_needs v e) a why (omega (arith, few)) w.keeps h

@@ -1,10 +1,6 @@
--- What is moved by an assignment, and what refuses its code: of both addresses, and of what moves the words.
-use Rattle.std.proofs.Common.{◌≡◌, ◌≤◌, ◌+◌, ◌*◌, ◌⊎◌, inl, inr, ℕ, List, true, Option, Some, refl, subst, arith}
-use Rattle.std.specs.Prelude.{max}
-use Rattle.std.proofs.lemmas.Bool.{or_left}
-use Rattle.ada_tree.specs.ExpressionTree.{ExprTree, NameTree}
-use Rattle.ada_tree.specs.StatementTree.{Assignment}
-use Rattle.ada_tree.specs.Size.{expr_size, selectors_size}
+-- The variable from which an array or a record is moved.
+use Rattle.std.proofs.Common.{◌≡◌, Option, Some, refl, subst}
+use Rattle.ada_tree.specs.ExpressionTree.{NameTree}
 use Rattle.types.specs.declared.entity.Role.{Role}
 use Rattle.types.specs.declared.entity.Role.TheVariants as role
 use Rattle.types.specs.declared.entity.Subtype.{Subtype}
@@ -12,22 +8,12 @@ use Rattle.types.specs.declared.standing.Standing.{Standing}
 use Rattle.types.specs.declared.standing.Standing.TheVariants as standing
 use Rattle.types.specs.Scopes.{number_of}
 use Rattle.types.specs.Standings.{standing_of, stands_first}
-use Rattle.expr_code.specs.Code.{here}
-use Rattle.expr_code.specs.Refusing.{IsRefusedBeside, IsUnfit, RefusesAddress}
 use Rattle.expr_code.specs.Seeing.{slot_of}
-use Rattle.expr_code.specs.declared.code.Code.{Code}
-use Rattle.expr_code.specs.declared.refusal.Refusal.{Refusal}
 use Rattle.expr_code.specs.declared.visible.Slot.{Slot}
 use Rattle.expr_code.specs.declared.visible.Visible.{Visible}
-use Rattle.part_code.specs.Bounds.{stmt_bound}
 use Rattle.part_code.specs.Layout.{IsVariable}
 use Rattle.part_code.specs.Moving.{IsSource, source_at, source_by, variable_at}
-use Rattle.part_code.specs.Needs.{HasManyLabels, IsNeeding, Needs, RefusesMove, address_needs, has_unfit, move_needs, moved_needs}
 use Rattle.part_code.specs.declared.moving.Source.{Source}
-use Rattle.part_code.proofs.AssignmentsRefused.{address_refused, unfit_whole}
-use Rattle.part_code.proofs.Within.{code_refused, in_right, needing_refused}
-
--- ---- the source
 
 some_is : {A : Type 0} (x y : A) → Some x ≡ Some y → x ≡ y
 some_is x y h = cc
@@ -74,39 +60,3 @@ source_is v name x h = by_standing (standing_of v.scope name.first name.selector
           names = e;
         }
     by_standing w e k = cc
-
--- ---- refusals of assignments
-
-module _ (v : Visible) (name : NameTree) (e : ExprTree) (old : Code) (labels : List (List ℕ)) where
-  abbrev needs : Needs
-  needs = moved_needs v name e
-
-  abbrev bound : ℕ
-  bound = here old + stmt_bound v.scope (Assignment name e)
-
-  abbrev Refused : Refusal → Type 0
-  Refused why = IsNeeding bound needs why ⊎ HasManyLabels labels why
-
-  low : (p q : ℕ) → p ≤ max p q
-  low p q = omega arith
-
-  module _ (slot : Slot) (r : Role) (whole : Subtype) (stands : stands_first v.scope (number_of v.scope name.first.name) ≡ standing.Part r whole)
-      (there : slot_of v name.first.name ≡ Some slot) where
-    unfit_target : has_unfit v ≡ true → needs.unfit ≡ true
-    unfit_target h = or_left (has_unfit v) (move_needs v e).unfit h
-
-    pub target_refuses : (why : Refusal) → RefusesAddress v old 0 whole name.selectors why → Refused why
-    target_refuses why refused =
-        inl (address_refused v 0 name.first name.selectors slot r whole stands there old bound needs why (omega arith) (low _ _) unfit_target refused)
-
-    -- values of the target have no words, or too many
-    pub words_refuse : (last : Subtype) (why : Refusal) → (IsUnfit v.scope last → IsUnfit v.scope whole)
-        → IsRefusedBeside (IsUnfit v.scope last) 0 0 why → Refused why
-    words_refuse last why keeps refused =
-        inl (code_refused (IsUnfit v.scope last) 0 bound 0 needs (omega arith) (omega arith)
-        (λ u. unfit_target (unfit_whole v 0 name.first name.selectors slot r whole stands there (inr (keeps u)))) why refused)
-
-  pub move_refuses : (mid : Code) (why : Refusal) → here mid ≤ here old + (20 * selectors_size name.selectors + 1) → RefusesMove v mid e why → Refused why
-  move_refuses mid why up refused =
-      inl (needing_refused (here mid + 20 * expr_size e) bound (move_needs v e) needs (omega (arith, up))
-      (in_right (address_needs 0 v name.selectors) (move_needs v e)) why refused)

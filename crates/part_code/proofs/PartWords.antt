@@ -81,10 +81,6 @@ part_fits x (part ∷ parts) h =
 
 -- ---- words put in parts of lists
 
-all : (xs ys : List ℤ) → length (xs ++ ys) ≡ length xs + length ys
-all [] ys = omega arith
-all (x ∷ xs) ys = let h = all xs ys in omega (arith, h)
-
 next_with : (a : ℕ) (new : List ℤ) (w : ℤ) (ws : List ℤ) → with_words (suc a) new (w ∷ ws) ≡ w ∷ with_words a new ws
 next_with a new w ws = ap (λ n. w ∷ (take a ws ++ new ++ drop n (w ∷ ws))) (up a (length new))
   where

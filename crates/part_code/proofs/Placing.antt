@@ -83,9 +83,6 @@ package_alone g laid p view objects words small lying h = record {
 
 module _ (kept : AgreementIsKept) (sized : ValuesHaveWords) (g : Package) (v : Framed) (laid : IsLaidOut g v) (a : Activation) (before after : List ℤ)
     (rests : Rests g v a before) (x : Object) (offset : ℕ) (put : IsWritten before after offset x.value) where
-  abbrev now : Activation
-  now = record a { locals = x ∷ a.locals }
-
   -- an object whose words stand apart from those that were put
   apart_lies : (view : View) → view.words regions.Locals ≡ after → (slot : Slot) (u : Value)
       → ((slot.region ≡ regions.Locals) → AreApart offset (length (value_words x.value)) slot.offset (length (value_words u)))

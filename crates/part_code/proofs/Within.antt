@@ -1,10 +1,8 @@
 -- What a part needs within what the whole needs, and its refusals.
-use Rattle.std.proofs.Common.{◌≡◌, ◌≤◌, ◌+◌, ◌*◌, ◌∷◌, ◌⊎◌, inl, inr, ℕ, zero, suc, List, [], length, Bool, true, false, ◌||◌, Option, Some, None, refl, sym, ap, ◌∙◌, arith}
+use Rattle.std.proofs.Common.{◌≡◌, ◌≤◌, ◌∷◌, ℕ, zero, suc, List, [], length, Bool, true, false, ◌||◌, Option, Some, None, refl, sym, ap, ◌∙◌, arith}
 use Rattle.std.specs.Prelude.{max, not, slice_get}
 use Rattle.std.proofs.lemmas.Bool.{or_left, or_right}
 use Rattle.std.proofs.Math.Nat.{le-max_left, le-max_right}
-use Rattle.ada_tree.specs.ExpressionTree.{ExprTree}
-use Rattle.ada_tree.specs.Size.{expr_size}
 use Rattle.types.specs.declared.entity.Role.{Role}
 use Rattle.types.specs.declared.entity.Subtype.{Subtype}
 use Rattle.types.specs.declared.standing.Standing.TheVariants as standing
@@ -13,15 +11,13 @@ use Rattle.types.specs.Scopes.{Scope, entity_at, entity_of, number_of}
 use Rattle.types.specs.Shapes.{shape_of}
 use Rattle.types.specs.Standings.{stands_first, stands_for}
 use Rattle.expr_soundness.proofs.Positions.{same_some}
-use Rattle.expr_code.specs.Code.{here}
-use Rattle.expr_code.specs.Refusing.{HasUnfitObject, IsRefused, IsRefusedBeside, RefusesExpression, is_fit, peak}
-use Rattle.expr_code.specs.declared.code.Code.{Code}
+use Rattle.expr_code.specs.Refusing.{HasUnfitObject, IsRefused, IsRefusedBeside, is_fit}
 use Rattle.expr_code.specs.declared.refusal.ImageLimit.TheVariants as limits
 use Rattle.expr_code.specs.declared.refusal.Refusal.{Refusal}
 use Rattle.expr_code.specs.declared.refusal.Refusal.TheVariants as refusal
 use Rattle.expr_code.specs.declared.visible.Visible.{Visible}
 use Rattle.expr_code.proofs.Refusals.{refused_beside}
-use Rattle.part_code.specs.Needs.{HasManyLabels, IsNeeding, Needs, are_unfit, both, has_unfit, is_unfit, needs_above, nothing}
+use Rattle.part_code.specs.Needs.{HasManyLabels, IsNeeding, Needs, are_unfit, both, has_unfit, is_unfit}
 
 -- ---- what a part needs
 
@@ -53,12 +49,6 @@ of_left m a b p = within_then m a (both a b) p (in_left a b)
 pub of_right : (m a b : Needs) → Within m b → Within m (both a b)
 of_right m a b p = within_then m b (both a b) p (in_right a b)
 
-never : (b : Bool) → false ≡ true → b ≡ true
-never b h = cc
-
-pub none_within : (n : Needs) → Within nothing n
-none_within n = record { stack = omega arith; frame = omega arith; unfit = never n.unfit }
-
 either : (a b c : Bool) → (a ≡ true → c ≡ true) → (b ≡ true → c ≡ true) → (a || b) ≡ true → c ≡ true
 either true b c p q h = p refl
 either false b c p q h = q h
@@ -72,16 +62,6 @@ both_within a b n p q = record {
   frame = larger a.frame b.frame n.frame p.frame q.frame;
   unfit = either a.unfit b.unfit n.unfit p.unfit q.unfit;
 }
-
--- one part in front of others
-pub front_within : (a b rest : Needs) → Within (both a (both b nothing)) (both a (both b rest))
-front_within a b rest =
-    both_within a (both b nothing) (both a (both b rest)) (in_left a (both b rest))
-    (both_within b nothing (both a (both b rest)) (of_right b a (both b rest) (in_left b rest)) (none_within (both a (both b rest))))
-
--- ... behind them
-pub behind_within : (m a b rest : Needs) → Within m rest → Within m (both a (both b rest))
-behind_within m a b rest p = of_right m a (both b rest) (of_right m b rest p)
 
 -- ---- objects that are unfit
 
@@ -124,11 +104,6 @@ pub labelled : (few many : List (List ℕ)) → length few ≤ length many → (
 labelled few many less (refusal.Limit limits.Labels) h = omega (arith, h, less)
 labelled few many less why h = absurd h
 
-pub part_refused : (m n : ℕ) (a b : Needs) (few many : List (List ℕ)) (why : Refusal) → m ≤ n → Within a b → length few ≤ length many
-    → (IsNeeding m a why ⊎ HasManyLabels few why) → (IsNeeding n b why ⊎ HasManyLabels many why)
-part_refused m n a b few many why up within less (inl r) = inl (needing_refused m n a b up within why r)
-part_refused m n a b few many why up within less (inr h) = inr (labelled few many less why h)
-
 -- of code that says what it needs in the words of expressions
 pub code_refused : (a : Type 0) (m n h : ℕ) (b : Needs) → m ≤ n → h ≤ max b.stack b.frame → (a → b.unfit ≡ true) → (why : Refusal)
     → IsRefusedBeside a m h why → IsNeeding n b why
@@ -138,27 +113,9 @@ code_refused a m n h b up high unfit why r = refused_beside m n h (max b.stack b
 pub plain_needing : (m n h : ℕ) (b : Needs) (why : Refusal) → m ≤ n → h ≤ max b.stack b.frame → IsRefused m h why → IsNeeding n b why
 plain_needing m n h b why up high r = code_refused ⊥ m n h b up high (λ x. absurd x) why r
 
-pub plain_refused : (m n h : ℕ) (b : Needs) (labels : List (List ℕ)) (why : Refusal) → m ≤ n → h ≤ max b.stack b.frame → IsRefused m h why
-    → (IsNeeding n b why ⊎ HasManyLabels labels why)
-plain_refused m n h b labels why up high r = inl (plain_needing m n h b why up high r)
-
 -- ... one behind another
 pub plain_more : (m n h k : ℕ) → m ≤ n → h ≤ k → (why : Refusal) → IsRefused m h why → IsRefused n k why
 plain_more m n h k up high why r = refused_beside m n h k (λ x. x) up high why r
-
--- of a value
-pub value_needing : (v : Visible) (old : Code) (depth : ℕ) (e : ExprTree) (n : ℕ) (b : Needs) (why : Refusal)
-    → here old + 20 * expr_size e ≤ n → Within (needs_above depth v e) b → RefusesExpression v old depth e why → IsNeeding n b why
-value_needing v old depth e n b why up within r =
-    code_refused (HasUnfitObject v) (here old + 20 * expr_size e) n (depth + peak v.scope e) b up
-    (over (depth + peak v.scope e) b.stack b.frame within.stack) (λ u. within.unfit (unfit_there v u)) why r
-  where
-    over : (p k l : ℕ) → p ≤ k → p ≤ max k l
-    over p k l h = omega (arith, h)
-
-pub value_refused : (v : Visible) (old : Code) (depth : ℕ) (e : ExprTree) (n : ℕ) (b : Needs) (labels : List (List ℕ)) (why : Refusal)
-    → here old + 20 * expr_size e ≤ n → Within (needs_above depth v e) b → RefusesExpression v old depth e why → (IsNeeding n b why ⊎ HasManyLabels labels why)
-value_refused v old depth e n b labels why up within r = inl (value_needing v old depth e n b why up within r)
 
 pub stack_within : (h : ℕ) (b : Needs) → h ≤ b.stack → h ≤ max b.stack b.frame
 stack_within h b p = over h b.stack b.frame p

@@ -87,10 +87,6 @@ alternatives_bound s all = 20 * alternatives_size all + 2 * alternatives_words s
 abbrev pub handlers_bound : Scope → HandlerTrees → ℕ
 handlers_bound s all = 20 * handlers_size all + 2 * handlers_words s all
 
--- statements with their handlers
-abbrev pub sequence_bound : Scope → StmtTrees → HandlerTrees → ℕ
-sequence_bound s body all = stmts_bound s body + handlers_bound s all
-
 abbrev pub declarations_bound : Scope → List DeclarationTree → ℕ
 declarations_bound s ds = 20 * total declaration_size ds + 2 * locals_words s ds
 

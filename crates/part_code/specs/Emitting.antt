@@ -1,4 +1,4 @@
--- What methods that add parts of the code of statements promise: stores, initial values, the words of a frame, loops.
+-- What methods that add parts of the code of statements promise: stores, initial values, the words of a frame.
 use Rattle.std.specs.Prelude.{◌≡◌, ℕ, ◌+◌, ◌≤◌, ◌⊎◌, true, List, [], ◌∷◌, cond, length, nat_eq, Option, Some, None, pos, ⊤, ℤ}
 use Rattle.ada_tree.specs.ExpressionTree.{ExprTree}
 use Rattle.image.specs.Sections.{Sections}
@@ -12,7 +12,7 @@ use Rattle.types.specs.Entities.{Booleans, Integers, Spans, Times, TypeForm}
 use Rattle.types.specs.Layouts.{words_of}
 use Rattle.types.specs.Scopes.{Scope, form_at}
 use Rattle.types.specs.Shapes.{initial, value_words}
-use Rattle.expr_code.specs.Code.{Adds, Patches, here}
+use Rattle.expr_code.specs.Code.{Adds}
 use Rattle.expr_code.specs.Emitting.{EmitsChecked, EmitsFitting, IsFit}
 use Rattle.expr_code.specs.declared.code.Code.{Code}
 use Rattle.expr_code.specs.declared.visible.Slot.{Slot}
@@ -120,27 +120,3 @@ FitsIfAny s t None = ⊤
 pub record HasEntries (v : Visible) : Type 0 where
   pub slots : length v.slots ≡ length v.scope
   pub subprograms : length v.subprograms ≡ length v.scope
-
--- ---- loops
-
--- a jump over the way out, and the way out, whose place waits for the end
-pub record SkipsWay (old : Code) (new : Code) : Type 0 where
-  pub skipped : Code
-  pub skips : Adds old 0 (op.Jump (here old + 2)) skipped
-  pub leaves : Adds skipped 0 (op.Jump 0) new
-
--- a loop begins: with a way out, or without one where no statement of the loop leads there
-abbrev pub BeginsLoop : (old : Code) → (exit : Option ℕ) → (new : Code) → Type 0
-BeginsLoop old (Some out) new = SkipsWay old new × (out ≡ here old + 1)
-BeginsLoop old None new = new ≡ old
-
--- the way out, if there is one, leads to the end
-abbrev pub EndsWay : (old : Code) → (exit : Option ℕ) → (new : Code) → Type 0
-EndsWay old (Some out) new = Patches old out (op.Jump (here old)) new
-EndsWay old None new = new ≡ old
-
--- the jump back, and the way out leads behind it
-pub record EndsLoop (old : Code) (exit : Option ℕ) (back : ℕ) (new : Code) : Type 0 where
-  pub turned : Code
-  pub turns : Adds old 0 (op.Jump back) turned
-  pub ends : EndsWay turned exit new

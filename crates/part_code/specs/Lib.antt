@@ -23,7 +23,6 @@ pub mod Bounds
 pub mod Emitting
 pub mod Passing
 pub mod Moving
-pub mod Moves
 pub mod PartCode
 pub mod ObjectCode
 pub mod Formals

@@ -341,10 +341,6 @@ HasManyLabels labels why = ⊥
 
 -- ---- code that is added by parts
 
--- what moves a value
-abbrev pub RefusesMove : Visible → (old : Code) → ExprTree → Refusal → Type 0
-RefusesMove v old e why = IsNeeding (here old + 20 * expr_size e) (move_needs v e) why
-
 -- the instructions of an object's initial value, and so many more
 abbrev pub initial_bound : Scope → Subtype → Option ExprTree → ℕ
 initial_bound s t None = words_of s t
@@ -364,10 +360,6 @@ RefusesSingle v old value more why = IsNeeding (here old + (more + single_bound 
 -- the words of an object without initial value, one by one, above so many others
 abbrev pub RefusesWords : Scope → (old : Code) → (height : ℕ) → Subtype → Refusal → Type 0
 RefusesWords s old height t why = IsRefused (here old + words_of s t) (height + words_of s t) why
-
--- choices of an alternative, by so many instructions
-abbrev pub RefusesChoices : (old : Code) → ChoicesTree → (bound : ℕ) → Refusal → Type 0
-RefusesChoices old choices bound why = IsNeeding (here old + bound) (choices_needs choices) why
 
 -- ---- formal parameters
 

@@ -1,5 +1,5 @@
--- The code of initial values and of what bodies give back, as pieces (docs/CODEGEN.md). What no legal text has some code is given too.
-use Rattle.std.specs.Prelude.{◌≡◌, ℕ, zero, suc, ◌+◌, nat_eq, nat_le, cond, ℤ, pos, List, [], ◌∷◌, ◌++◌, length, Option, Some, None}
+-- The code of initial values, as pieces (docs/CODEGEN.md). What no legal text has some code is given too.
+use Rattle.std.specs.Prelude.{◌≡◌, ℕ, zero, suc, ◌+◌, nat_le, cond, ℤ, pos, List, [], ◌∷◌, ◌++◌, length, Option, Some, None}
 use Rattle.base.specs.declared.limits.TheConstants.{FRAME_WORDS}
 use Rattle.ada_tree.specs.ExpressionTree.{ExprTree}
 use Rattle.image.specs.declared.instruction.Operation.TheVariants as op
@@ -14,7 +14,6 @@ use Rattle.expr_code.specs.Pieces.{Made, Piece, adds, nothing, one, ◌▸◌}
 use Rattle.expr_code.specs.declared.visible.Visible.{Visible}
 use Rattle.part_code.specs.Emitting.{first_word}
 use Rattle.part_code.specs.PartCode.{fitting_code, words_in}
-use Rattle.part_code.specs.declared.formals.PlacedFormal.{PlacedFormal}
 
 -- A piece that puts so many words on the operand stack; where a frame never has as many, an instruction in its place that finds them all, which no image may
 -- have.
@@ -78,31 +77,3 @@ block_code v offset t (Some e) =
 abbrev pub object_code : Visible → (offset : ℕ) → Subtype → Option ExprTree → Piece
 object_code v offset t value =
     cond (is_composite (form_at v.scope t.type_number)) (block_code v offset t value) (first_value v t value ▸ one 1 (op.StoreLocal offset))
-
--- ---- what a body gives back, from the last parameter to the first, and its return (RM 6.4.1)
-
--- the words of a value in the frame
-abbrev pub loaded_code : (depth offset words : ℕ) → Piece
-loaded_code d offset n =
-    cond (nat_eq n 1) (one d (op.LoadLocal offset))
-    (within_frame (d + n) (one d (op.Push (pos offset)) ▸ one (d + 1) (op.LoadBlock regions.Locals n)))
-
--- the address to which a parameter is copied back, and its value; of one that isn't, nothing
-abbrev pub given_code : (depth : ℕ) → (address : Option ℕ) → (offset words : ℕ) → Piece
-given_code d None offset n = nothing
-given_code d (Some address) offset n = one d (op.LoadLocal address) ▸ loaded_code (d + 1) offset n
-
-abbrev pub given_height : (depth : ℕ) → (address : Option ℕ) → (words : ℕ) → ℕ
-given_height d None n = d
-given_height d (Some address) n = d + 1 + n
-
-abbrev pub all_height : Scope → List PlacedFormal → ℕ
-all_height s [] = 0
-all_height s (x ∷ xs) = given_height (all_height s xs) x.address (words_in s x.subtype)
-
-abbrev pub all_code : Scope → List PlacedFormal → Piece
-all_code s [] = nothing
-all_code s (x ∷ xs) = all_code s xs ▸ given_code (all_height s xs) x.address x.offset (words_in s x.subtype)
-
-abbrev pub returned_code : Scope → List PlacedFormal → Piece
-returned_code s xs = all_code s xs ▸ one (all_height s xs) op.Return

@@ -1,10 +1,8 @@
 -- What code promises that passes actual parameters to a procedure and copies back (RM 6.4.1).
-use Rattle.std.specs.Prelude.{◌≡◌, ℕ, suc, ◌+◌, ◌*◌, ◌≤◌, List, ◌++◌, length, map, Option, Some, None}
+use Rattle.std.specs.Prelude.{◌≡◌, ℕ, suc, ◌+◌, ◌≤◌, List, ◌++◌, length, map, Option, Some, None}
 use Rattle.ada_tree.specs.declared.expression.Identifier.{Identifier}
 use Rattle.ada_tree.specs.ExpressionTree.{ArgumentTree, ArgumentTrees, Arguments, MoreSelectors, NoArguments, NoSelectors, SelectorTrees, Component}
-use Rattle.ada_tree.specs.Size.{argument_size, total}
 use Rattle.image.specs.Sections.{Sections}
-use Rattle.types.specs.declared.entity.FormalParameter.{FormalParameter}
 use Rattle.types.specs.Evaluating.{Calls}
 use Rattle.types.specs.Evaluations.{Gives}
 use Rattle.types.specs.Layouts.{words_of}
@@ -13,21 +11,15 @@ use Rattle.types.specs.Scopes.{Scope}
 use Rattle.types.specs.Shapes.{shape_of}
 use Rattle.expr_soundness.specs.meaning.specs.Calls.{Actuals, results}
 use Rattle.expr_soundness.specs.meaning.specs.Programs.{Parameter, Program}
-use Rattle.step_soundness.specs.Fitting.{formal_of, taken_types}
+use Rattle.step_soundness.specs.Fitting.{taken_types}
 use Rattle.step_soundness.specs.Objects.{AreOf}
 use Rattle.expr_code.specs.Actuals.{arguments_in_front}
-use Rattle.expr_code.specs.Code.{Extends, Holds, here}
 use Rattle.expr_code.specs.Computing.{ArePassed, Everywhere}
-use Rattle.expr_code.specs.Flows.{Flows}
-use Rattle.expr_code.specs.Seeing.{Package, Sees, Suits, library_of}
+use Rattle.expr_code.specs.Seeing.{Package, Sees, library_of}
 use Rattle.expr_code.specs.Views.{View}
-use Rattle.expr_code.specs.declared.code.Code.{Code}
-use Rattle.expr_code.specs.declared.visible.Visible.{Visible}
-use Rattle.part_code.specs.Copying.{AreCopies, ArePlaced, actuals_on, passed_actuals, taken}
-use Rattle.part_code.specs.Layout.{IsLaidOut}
+use Rattle.part_code.specs.Copying.{ArePlaced, actuals_on, passed_actuals, taken}
 use Rattle.part_code.specs.Resting.{Framed, Knows}
 use Rattle.part_code.specs.Statements.{parameter_subtype}
-use Rattle.part_code.specs.Suiting.{passed_width, returned_width, SuitsStatements}
 use Rattle.part_code.specs.declared.call.Destination.{Destination}
 
 -- ---- actual parameters
@@ -73,33 +65,3 @@ module _ (i : Sections) (program : Program) (g : Package) (v : Framed) where
     pub passes : (qs : List Parameter) (rest : ArgumentTrees) (es : List Destination) → ArePassedAndPlaced qs rest es
         → ArePassedAndPlaced (ps ++ qs) (arguments_in_front all rest) (ds ++ es)
     pub many : length ds ≡ length (results ps)
-
--- The code of actual parameters was added, from left to right. It leaves the words that are passed on the operand stack, and tells where it is copied back to;
--- there is room for the code of these copies.
-pub record EmitsPassedActuals (v : Visible) (old : Code) (depth : ℕ) (fs : List FormalParameter) (all : List ArgumentTree) (ds : List Destination) (height : ℕ)
-    (new : Code) : Type 0 where
-  pub extends : Extends old new
-  pub sized : here new + 4 * length ds ≤ here old + 20 * total argument_size all
-  pub stands : (i : Sections) → Holds i (here old) new → (program : Program) (g : Package) (f : Framed) → f.names ≡ v → program.scope ≡ g.scope
-      → (ps : List Parameter) → map formal_of ps ≡ fs
-      → ArePassedInFront i program g f (here old) (here new) ps all ds
-  pub high : height ≡ depth + total (passed_width v.scope) fs
-  pub back : total (returned_width v.scope) fs ≡ total (copied_width v.scope) ds
-  pub flows : Flows (Suits v) old depth new height
-
--- the code of actual parameters was added, and the variables that they are copied back to were added to a list
-pub record AddsActuals (v : Visible) (old : Code) (depth : ℕ) (fs : List FormalParameter) (all : List ArgumentTree) (before after : List Destination)
-    (height : ℕ) (new : Code) : Type 0 where
-  pub destinations : List Destination
-  pub after_is : after ≡ before ++ destinations
-  pub emits : EmitsPassedActuals v old depth fs all destinations height new
-
--- ---- copies
-
--- The code of copies was added, from the first one on, whose value and address it finds on top of the others' and of the rest of the operand stack.
-pub record EmitsCopies (v : Visible) (old : Code) (ds : List Destination) (rest : ℕ) (new : Code) : Type 0 where
-  pub extends : Extends old new
-  pub sized : here new ≤ here old + 4 * length ds
-  pub stands : (i : Sections) → Holds i (here old) new → (program : Program) (g : Package) (f : Framed) → f.names ≡ v → IsLaidOut g f
-      → AreCopies i program g f (here old) (here new) ds
-  pub flows : Flows (SuitsStatements v) old (rest + total (copied_width v.scope) ds) new rest

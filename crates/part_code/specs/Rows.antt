@@ -41,12 +41,3 @@ abbrev mutual
 -- how many rows there are after those of a body
 abbrev pub body_rows : (before : ℕ) → BodyTree → ℕ
 body_rows before b = handlers_rows (stmts_rows before b.statements) b.handlers
-
--- those of the statements of handlers alone, and those of their choices
-abbrev pub bodies_rows : (before : ℕ) → HandlerTrees → ℕ
-bodies_rows before NoHandlers = before
-bodies_rows before (MoreHandlers choices body rest) = bodies_rows (stmts_rows before body) rest
-
-abbrev pub choices_many : HandlerTrees → ℕ
-choices_many NoHandlers = 0
-choices_many (MoreHandlers choices body rest) = length choices + choices_many rest

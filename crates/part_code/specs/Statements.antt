@@ -68,9 +68,6 @@ within_handler word w = record w { handled = Some word }
 abbrev pub parameter_subtype : Parameter → Subtype
 parameter_subtype f = f.subtype
 
-abbrev pub parameter_type : Parameter → ℕ
-parameter_type f = f.subtype.type_number
-
 -- the procedures that code may call: which subprogram is whose
 abbrev pub Numbers : Type 0
 Numbers = Procedure → Option ℕ

@@ -1,38 +1,24 @@
 //! Actual parameters, what they name, and what is copied back (RM 6.4.1).
-ghost use Rattle.std.specs.Prelude.{◌≡◌, ◌++◌, ◌+◌, ◌-◌, ◌*◌, [], length, map, not, option_map, take, true, IfErr, IfOk, OnOk};
-ghost use Rattle.std.specs.List.{All};
+ghost use Rattle.std.specs.Prelude.{◌≡◌, ◌++◌, ◌+◌, ◌-◌, ◌*◌, [], not, option_map, IfOk, OnOk};
 ghost use Rattle.ada_tree.specs.ExpressionTree.{argument_tree, argument_trees, expr_tree, name_tree};
-ghost use Rattle.ada_tree.specs.Size.{argument_size, total};
-ghost use Rattle.expr_code.specs.Actuals.{ArePassedLegally};
-ghost use Rattle.expr_code.specs.Code.{here, IsShallow};
+ghost use Rattle.ada_tree.specs.Size.{total};
 ghost use Rattle.expr_code.specs.ExpressionCode.{misfit_code};
 ghost use Rattle.expr_code.specs.Pieces.{adds};
-ghost use Rattle.expr_code.specs.Providing.{HasWhatExpressionsNeed};
-ghost use Rattle.expr_code.specs.Refusing.{IsRefused, IsRefusedBeside, IsUnfit};
 ghost use Rattle.image.specs.Rules.{is_block};
 ghost use Rattle.part_code.specs.EntryNames.{entry_behind, is_own_entry};
-ghost use Rattle.part_code.specs.Passing.{actuals_behind, AddsActuals, EmitsCopies, operation_behind};
+ghost use Rattle.part_code.specs.Passing.{actuals_behind, operation_behind};
 ghost use Rattle.part_code.specs.PartCode.{actual_code, actual_height, actual_target, actuals_code, actuals_height, actuals_targets, copied_in, copies_code, copy_code, fitting_code, given_words, moded_code, moded_height, moded_target, object_at, object_named, range_code, target_address, target_at, target_code, target_of, target_words, with_target};
-ghost use Rattle.part_code.specs.Needs.{actuals_needs, copies_needs, destinations_of, IsNeeding, IsPartFit};
 ghost use Rattle.step_soundness.specs.Fitting.{entity_named};
-ghost use Rattle.types.specs.Layouts.{words_of};
-ghost use Rattle.expr_soundness.specs.SoundScopes.{AreKnown, SoundScope};
 
 use crate::moving::Source;
 use crate::storing::stored_at;
 use ada_tree::laws::{arguments_by_parts, chains_by_parts, conditional_by_parts, names_by_parts};
 use ada_tree::{Argument, Expr, Identifier, Mode, NameExpr, Selector};
-use base::limits::{FRAME_WORDS, WORDS};
 use expr_code::fragment::{Fragment, above, raised};
-use expr_code::{Code, ImageLimit, Refusal, Slot, Visible, has_numbers, loaded_at};
-use expr_soundness::laws::{
-    agreement_is_kept, all_values_lie, checks_are_spared, expressions_are_typed,
-};
+use expr_code::{Slot, Visible, has_numbers, loaded_at};
 use image::{Operation, Region};
-use kernel::laws::quiet_stays;
 use lexer::Text;
 use std::alloc::AllocError;
-use types::laws::{parts_have_places, values_have_words};
 use types::{Entity, FormalParameter, Standing, Subtype};
 
 /// Where a parameter is copied back to at the end of a call (RM 6.4.1): the region of the variable, and the subtype of the target.
@@ -102,22 +88,6 @@ pub fn is_own_entry(visible: &Visible, name: &Text) -> bool
         Some(number) => matches!(visible.scope.entity(number), Some(Entity::Entry(_))),
         None => false,
     }
-}
-
-/// How many words values of a subtype take, if they are as many as one instruction moves (docs/FORMATS.md).
-///
-/// # Errors
-/// `Block` where they take none, or more.
-pub fn words_of(visible: &Visible, subtype: Subtype) -> Result<u16, Refusal>
-    ensures words { IfOk result (λ words. words ≡ words_of visible.now.scope subtype) }
-    ensures block { IfOk result (λ words. is_block words ≡ true) }
-    ensures refused { IfErr result (λ why. IsRefusedBeside (IsUnfit visible.now.scope subtype) 0 0 why) }
-{
-    let words = visible.scope.words(subtype);
-    if words == 0 || WORDS < usize::from(words) {
-        return Err(Refusal::Limit(ImageLimit::Block));
-    }
-    Ok(words)
 }
 
 /// Adds the value of an expression, which is checked against a subtype; where this has no words, or more than one instruction moves, what no image may have.
@@ -331,52 +301,6 @@ pub fn actuals(
     Ok(height)
 }
 
-// The number of words, if a frame may have them.
-fn word_count(words: usize) -> Result<u16, Refusal>
-    ensures same { IfOk result (λ count. count ≡ words) }
-    ensures refused { IfErr result (λ why. IsRefused 0 words why) }
-{
-    if FRAME_WORDS < words {
-        return Err(Refusal::Limit(ImageLimit::Frame));
-    }
-    Ok(words as u16)
-}
-
-/// Adds the code of the actual parameters from left to right, and returns how many words are on the operand stack with theirs.
-pub fn add_actuals(
-    code: &mut Code,
-    visible: &Visible,
-    formals: &[FormalParameter],
-    arguments: &[Argument],
-    destinations: &mut Vec<Destination>,
-) -> Result<u16, Refusal>
-    requires sound { SoundScope visible.now.scope }
-    requires covered { HasWhatExpressionsNeed visible.now }
-    requires known { AreKnown visible.now.scope formals.now }
-    requires as_many { length arguments.now ≡ length formals.now }
-    requires legal { ArePassedLegally visible.now.scope formals.now (map argument_tree arguments.now) }
-    ensures emits { IfOk result (λ height. AddsActuals visible.now code.old 0 (take (length arguments.now) formals.now)
-        (map argument_tree arguments.now) destinations.old.items destinations.new.items height code.new) }
-    ensures told { OnOk result (destinations.new.items ≡ destinations.old.items ++ destinations_of visible.now
-        (take (length arguments.now) formals.now) (argument_trees arguments.now)) }
-    ensures fits { OnOk result (All (IsPartFit visible.now) (destinations_of visible.now (take (length arguments.now) formals.now)
-        (argument_trees arguments.now))) }
-    ensures refused { IfErr result (λ why. IsNeeding (here code.old + 20 * total argument_size (map argument_tree arguments.now))
-        (actuals_needs 0 visible.now formals.now (argument_trees arguments.now)) why) }
-    ensures shallow { OnOk result (IsShallow code.old code.new (actuals_needs 0 visible.now formals.now (argument_trees arguments.now)).stack) }
-{
-    quiet_stays();
-    expressions_are_typed();
-    checks_are_spared();
-    all_values_lie();
-    values_have_words();
-    parts_have_places();
-    let mut fragment = code.fragment();
-    let height = actuals(&mut fragment, visible, formals, arguments, destinations)?;
-    code.append(&fragment)?;
-    word_count(height)
-}
-
 // How many words come back with what is copied back.
 fn given_words(visible: &Visible, destinations: &[Destination]) -> Result<usize, AllocError>
     ensures words { IfOk result (λ words. words ≡ total (given_words visible.now.scope) destinations.now) }
@@ -443,23 +367,4 @@ pub fn copies(
         height = rest;
     }
     Ok(())
-}
-
-/// Adds the code of all that is copied back, from the first parameter on (RM 6.4.1).
-pub fn add_copies(
-    code: &mut Code,
-    visible: &Visible,
-    destinations: &[Destination],
-) -> Result<(), Refusal>
-    requires fits { All (IsPartFit visible.now) destinations.now }
-    ensures emits { OnOk result (EmitsCopies visible.now code.old destinations.now 0 code.new) }
-    ensures refused { IfErr result (λ why. IsNeeding (here code.old + 4 * length destinations.now) (copies_needs visible.now destinations.now) why) }
-    ensures shallow { OnOk result (IsShallow code.old code.new (copies_needs visible.now destinations.now).stack) }
-{
-    agreement_is_kept();
-    quiet_stays();
-    values_have_words();
-    let mut fragment = code.fragment();
-    copies(&mut fragment, visible, destinations)?;
-    code.append(&fragment)
 }

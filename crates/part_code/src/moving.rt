@@ -1,30 +1,19 @@
 //! What moves arrays and records from variables or parts of them (RM 5.2).
-ghost use Rattle.std.specs.Prelude.{◌≡◌, true, IfErr, OnOk};
+ghost use Rattle.std.specs.Prelude.{◌≡◌, true, OnOk};
 ghost use Rattle.ada_tree.specs.ExpressionTree.{elsif_value_trees, expr_tree, name_tree};
-ghost use Rattle.image.specs.Rules.{is_block};
 ghost use Rattle.types.specs.Scopes.{form_at};
 ghost use Rattle.types.specs.Standings.{standing_of};
-ghost use Rattle.expr_code.specs.Code.{IsShallow};
 ghost use Rattle.expr_code.specs.Emitting.{is_composite};
-ghost use Rattle.expr_code.specs.Emitting as expressions;
 ghost use Rattle.expr_code.specs.Pieces.{Opens, adds};
-ghost use Rattle.expr_code.specs.Providing.{HasWhatExpressionsNeed};
-ghost use Rattle.part_code.specs.Moves.{EmitsMove};
 ghost use Rattle.part_code.specs.Moving.{are_moved, is_moved, names_composite, source_at, variable_at};
-ghost use Rattle.part_code.specs.Suiting.{HasPlaceIn};
-ghost use Rattle.part_code.specs.Needs.{move_needs, RefusesMove};
 ghost use Rattle.part_code.specs.PartCode.{move_code, moved_from, moves_code};
-ghost use Rattle.expr_soundness.specs.SoundScopes.{SoundScope};
 
 use ada_tree::laws::{chains_by_parts, conditional_by_parts, names_by_parts};
 use ada_tree::{ElsifValue, Expr, NameExpr};
 use expr_code::fragment::Fragment;
-use expr_code::{Code, Refusal, Slot, Visible};
-use expr_soundness::laws::{all_values_lie, checks_are_spared, expressions_are_typed};
+use expr_code::{Slot, Visible};
 use image::{Operation, Region};
-use kernel::laws::quiet_stays;
 use std::alloc::AllocError;
-use types::laws::{parts_have_places, values_have_words};
 use types::{Role, Standing, Subtype, TypeForm};
 
 /// The variable from which an array or a record is moved, or a part of which is: where its words are, and its subtype.
@@ -117,29 +106,6 @@ fn are_moved(visible: &Visible, elsifs: &[ElsifValue]) -> bool
         }
     }
     true
-}
-
-/// Adds what moves the words of an array or a record to the address on the operand stack, which is taken off.
-pub fn add_move(code: &mut Code, visible: &Visible, to: Moved, e: &Expr) -> Result<(), Refusal>
-    requires sound { SoundScope visible.now.scope }
-    requires covered { HasWhatExpressionsNeed visible.now }
-    requires legal { expressions.IsLegalExpression visible.now.scope (expr_tree e.now) }
-    requires moved { is_moved visible.now (expr_tree e.now) ≡ true }
-    requires block { is_block to.words ≡ true }
-    requires holds { HasPlaceIn visible.now to.region }
-    ensures emits { OnOk result (EmitsMove visible.now to code.old (expr_tree e.now) code.new) }
-    ensures refused { IfErr result (λ why. RefusesMove visible.now code.old (expr_tree e.now) why) }
-    ensures shallow { OnOk result (IsShallow code.old code.new (move_needs visible.now (expr_tree e.now)).stack) }
-{
-    quiet_stays();
-    expressions_are_typed();
-    checks_are_spared();
-    all_values_lie();
-    values_have_words();
-    parts_have_places();
-    let mut fragment = code.fragment();
-    move_value(&mut fragment, visible, to, e)?;
-    code.append(&fragment)
 }
 
 /// Adds what moves the value of an expression.

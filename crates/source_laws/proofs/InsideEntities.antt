@@ -37,7 +37,7 @@ use Rattle.types.specs.Places.{or_else}
 use Rattle.package_code.specs.Bodies.{Coded, operation_front, IsBodyOf}
 use Rattle.package_code.proofs.Coded.{coded_by}
 use Rattle.package_code.proofs.OperationsAdded as added
-use Rattle.source_laws.proofs.InsideNames.{at_, front_is, here, is_function, object, seen_at}
+use Rattle.source_laws.proofs.InsideNames.{at_, front_is, here, object, seen_at}
 
 -- ---- what is so of each name of a scope
 
@@ -137,9 +137,6 @@ module _ (scopes : ScopesAreSound) (known : NamesAreKnown) (premises : PremisesH
 
     abbrev earlier : ℕ → Scope
     earlier j = at_ scopes known premises t legal restricted place k c x j
-
-    abbrev f : Bool
-    f = is_function scopes known premises t legal restricted place k c x
 
     abbrev there_is : (n : ℕ) × (number_of outer x.name.name ≡ Some n) × (entity_at outer n ≡ Some (Protected o))
     there_is =

@@ -8,7 +8,7 @@ use Rattle.ada_tree.specs.ExpressionTree.{ArgumentTrees, Arguments, Attribute, C
 use Rattle.ada_tree.specs.StatementTree.{AlternativeTrees, Block, Call, Case, DeclarationTree, ElsifTrees, HandlerTrees, If, LocalObject, Loop, MoreAlternatives, MoreElsifs, MoreHandlers, MoreStmts, NoAlternatives, NoElsifs, NoHandlers, NoStmts, StmtTree, StmtTrees, SubprogramTree}
 use Rattle.ada_tree.specs.ProgramTree.{BodyItemTree, BodyTree, EntryBody, ItemTree, OfItem, OperationBody, PackageTree, ProtectedBody, ProtectedItemTree, SubprogramBody, TaskBody}
 use Rattle.types.specs.Scopes.{Scope, standard}
-use Rattle.meaning.specs.expr_rules.proofs.TypedLaw.{back_empty, front_empty}
+use Rattle.meaning.specs.expr_rules.proofs.TypedLaw.{back_empty}
 use Rattle.declaration_rules.specs.PackageNames.{body_item_scope, specified_scope}
 use Rattle.program_soundness.specs.size_rules.specs.BodySizes.{alternatives_things, body_things, call_things, elsifs_things, first_argument, formals_things, handlers_things, locals_things, sized_object, stmt_things, stmts_things}
 use Rattle.program_soundness.specs.size_rules.specs.Limits.{Things, first_use, first_uses, is_among, over, used_with}

@@ -1,40 +1,22 @@
 -- The barrier of each entry of an accepted text is True or False, whatever values the components of its object have: it is the bare name of a component that is
 -- Boolean, or True or False by itself (RM 9.5.2, D.7).
-use Rattle.std.proofs.Common.{◌≡◌, ℕ, suc, inl, inr, List, [], ◌∷◌, ◌++◌, Bool, true, false, cond, ◌&&◌, Option, Some, None, refl, sym, ap, ◌∙◌, subst}
-use Rattle.std.specs.Prelude.{bytes_eq, codes, ◌||◌, ◌+◌, is_some, length, nat_eq, slice_get}
-use Rattle.std.proofs.lemmas.Bool.{eqb-true}
-use Rattle.ada_tree.specs.declared.declaration.Formal.{Formal}
+use Rattle.std.proofs.Common.{◌≡◌, ℕ, suc, List, [], ◌∷◌, Bool, true, false, cond, Option, Some, None, refl, sym, ap, ◌∙◌, subst}
+use Rattle.std.specs.Prelude.{bytes_eq, codes, ◌||◌, length, slice_get}
 use Rattle.ada_tree.specs.declared.expression.Identifier.{Identifier}
 use Rattle.ada_tree.specs.ExpressionTree.{ExprTree, Named, NoSelectors}
 use Rattle.ada_tree.specs.ProgramTree.{BodyItemTree, EntryBody, PackageTree, ProgramTree, ProtectedBody, ProtectedItemTree}
 use Rattle.types.specs.declared.entity.PredefinedOperation.TheVariants as predefined
-use Rattle.types.specs.declared.entity.Role.TheVariants as role
-use Rattle.types.specs.Entities.{Booleans, Entity, LibraryUnit, OfType, ProtectedObject, Put, Spans, Times}
+use Rattle.types.specs.Entities.{Entity, LibraryUnit, OfType, ProtectedObject, Put, Spans, Times}
 use Rattle.types.specs.Entities as entity
 use Rattle.types.specs.Evaluations.{Gives}
 use Rattle.types.specs.Evaluating.{call, ended, fixed_value, val}
-use Rattle.types.specs.Places.{Object, meaning_of_entity, is_of, meaning_in_scope, meaning_or, object_meaning, object_of, object_stands, or_else}
-use Rattle.types.specs.Scopes.{Scope, base_range_of, boolean_type, entity_at, from_integer, from_nothing, number_of, standard, with_control_io, with_name, with_real_time}
-use Rattle.types.specs.Shapes.{Logical, Shape, has_shape}
+use Rattle.types.specs.Places.{Object, meaning_of_entity, meaning_in_scope, meaning_or, object_meaning, object_of, object_stands, or_else}
+use Rattle.types.specs.Scopes.{Scope, base_range_of, from_integer, from_nothing, standard, with_control_io, with_name, with_real_time}
 use Rattle.types.specs.Standings.{settle, stands_first, stands_for}
-use Rattle.types.specs.Values.{Array, Number, Record, Truth, Value, value_of}
+use Rattle.types.specs.Values.{Truth, value_of}
 use Rattle.expr_soundness.specs.SoundScopes.{SoundScope}
-use Rattle.expr_soundness.specs.expr_rules.specs.declared.own.Own.TheVariants.{Typed}
-use Rattle.expr_soundness.specs.expr_rules.specs.ExpressionRules.{faults_in}
-use Rattle.expr_soundness.specs.expr_rules.specs.Typing.{boolean_wanted, own_of_standing}
-use Rattle.expr_soundness.specs.expr_rules.specs.NameRules.{mismatch}
-use Rattle.expr_soundness.specs.expr_rules.specs.Laws.{type_shape}
-use Rattle.expr_soundness.specs.expr_rules.proofs.TypedLaw.{back_empty, front_empty, unbroken}
+use Rattle.expr_soundness.specs.expr_rules.proofs.TypedLaw.{front_empty, unbroken}
 use Rattle.expr_soundness.proofs.Expressions.{not_false}
-use Rattle.expr_soundness.proofs.Parts.{shape_by_form}
-use Rattle.expr_soundness.specs.type_rules.specs.ObjectRules.{object_entity}
-use Rattle.expr_soundness.specs.type_rules.specs.SubtypeNames.{end_rule, subtype_of}
-use Rattle.expr_soundness.specs.type_rules.specs.ProfileRules.{formals_faults}
-use Rattle.program_soundness.specs.declaration_rules.specs.BodyNames.{components_scope, formal_role, formal_scope, formals_scope}
-use Rattle.program_soundness.specs.stmt_rules.specs.declared.around.BodyKind.TheVariants as kinds
-use Rattle.program_soundness.specs.stmt_rules.specs.SimpleRules.{condition_faults}
-use Rattle.program_soundness.specs.unit_rules.specs.BodyRules.{body_faults}
-use Rattle.program_soundness.specs.unit_rules.specs.ProtectedBodyRules.{entry_rule}
 use Rattle.legality.specs.ProgramRules.{IsLegal}
 use Rattle.program_soundness.specs.ravenscar.specs.ProgramRules.{IsRestricted}
 use Rattle.program_soundness.specs.ravenscar.specs.ProgramRules as restrictions
@@ -51,33 +33,21 @@ use Rattle.expr_soundness.specs.meaning.specs.Works.{Store}
 use Rattle.program_soundness.specs.step_soundness.specs.Fitting.{entry_of}
 use Rattle.program_soundness.specs.BodyLaws.{IsSoundMemory}
 use Rattle.program_soundness.specs.Fronts.{declared_in, scope_at, start_in}
-use Rattle.program_soundness.proofs.Agreed.{OffersAll, sound_object}
+use Rattle.program_soundness.proofs.Agreed.{OffersAll}
 use Rattle.program_soundness.proofs.Assembled as assembled
-use Rattle.program_soundness.proofs.Barriers.{IsBare, barrier_bare, program_bare}
 use Rattle.program_soundness.proofs.Listing.{same_some}
-use Rattle.program_soundness.proofs.Moved.{hidden_stands}
 use Rattle.program_soundness.proofs.ObjectBodies as bodies
 use Rattle.program_soundness.proofs.ObjectFits as fits
 use Rattle.program_soundness.proofs.ObjectTrees.{component_named, components_named}
 use Rattle.program_soundness.proofs.Whole.{IsPackage, kept}
-use Rattle.program_soundness.proofs.WiderScopes.{equal_bytes, found_in, same_bytes, number_stands, one_named, stands, stands_with}
+use Rattle.program_soundness.proofs.WiderScopes.{equal_bytes, found_in, same_bytes, number_stands, one_named, stands}
+use Rattle.package_code.proofs.Barred.{barrier_found, bare_there, component_worth, truth}
 use Rattle.package_code.proofs.EntryRows.{IsEntryBody, entry_body}
 use Rattle.package_code.proofs.InFront.{LawsOfNames, known, names, whole}
 use Rattle.package_code.proofs.OperationBodies.{object}
 use Rattle.package_code.proofs.OperationsAdded as added
-use Rattle.package_code.proofs.Seen.{either_some}
 
 -- ---- what a bare name is worth
-
-component_worth : (program : Program) (m : Store) (o : ℕ) (name : Identifier) (x : Object) → object_of (m.components o) name.name ≡ Some x
-    → val (barrier_place program m o) (Named name NoSelectors) ≡ Gives x.value
-component_worth program m o name x found =
-    let s = program.scope in
-    let k = number_of s name.name in
-    λ j. elim (fixed_value (settle s (object_stands (found j) (stands_first s k)))) [
-      | Some v ↦ Gives (value_of v)
-      | None ↦ ended (call 0) (barrier_place program m o) (meaning_or (or_else (object_meaning (found j)) None) (meaning_in_scope s k))
-    ]
 
 abbrev truth_name : Bool → List ℕ
 truth_name true = codes "TRUE"
@@ -123,16 +93,6 @@ times_keep s name e h =
 io_keep : (s : Scope) (name : List ℕ) (e : Entity) → stands s name ≡ Some e → stands (with_control_io s) name ≡ Some e
 io_keep s name e h = keeps_with (with_name s (codes "PUT") Put) (codes "READ") _ name e (keeps_with s (codes "PUT") Put name e h)
 
--- a value of a Boolean shape
-truth_there : (x : Shape) (v : Value) → x ≡ Logical → has_shape x v ≡ true → (b : Bool) × (v ≡ Truth b)
-truth_there x v is h = by_value v (ap (λ z. has_shape z v) (sym is) ∙ h)
-  where
-    by_value : (u : Value) → has_shape Logical u ≡ true → (b : Bool) × (u ≡ Truth b)
-    by_value (Truth b) k = (b, refl)
-    by_value (Number z) k = cc
-    by_value (Array vs) k = cc
-    by_value (Record fs) k = cc
-
 second_none : (a b : Option Entity) → or_else a b ≡ None → b ≡ None
 second_none None b h = h
 second_none (Some x) b h = cc
@@ -152,25 +112,6 @@ component_among f (c ∷ cs) name h none = by_test (bytes_eq c.name name) refl (
     by_test false is rest k l = rest k (second_none (one_named (component_named f c) name) (found_in (components_named f cs) name) l)
 
 -- ---- the barrier of an object's entry
-
-barrier_found : (qs : List Procedure) (o : ℕ) → barrier_of qs o ≡ elim (entry_of qs o) [ Some q ↦ q.barrier | None ↦ None ]
-barrier_found [] o = refl
-barrier_found (q ∷ qs) o = by_test (is_of_entry q) (barrier_found qs o)
-  where
-    is_of_entry : Procedure → Bool
-    is_of_entry x = is_of x.object (Some o) && is_some x.barrier
-
-    by_test : (b : Bool) → barrier_of qs o ≡ elim (entry_of qs o) [ Some z ↦ z.barrier | None ↦ None ]
-        → cond b q.barrier (barrier_of qs o) ≡ elim (cond b (Some q) (entry_of qs o)) [ Some z ↦ z.barrier | None ↦ None ]
-    by_test true later = refl
-    by_test false later = later
-
-formals_stay : (s : Scope) (fs : List Formal) (name : List ℕ) (e : Entity) → stands s name ≡ Some e → stands (formals_scope s fs) name ≡ Some e
-formals_stay s [] name e h = h
-formals_stay s (f ∷ fs) name e h =
-    let own : Entity = object_entity (formal_role f.mode) (subtype_of s f.subtype) in
-    formals_stay (formal_scope s f) fs name e
-    (stands_with s f.name.name own name ∙ ap (λ o. or_else o (one_named (record { name = f.name.name; entity = own }) name)) h)
 
 module _ (laws : LawsOfNames) (t : ProgramTree) (legal : IsLegal t) (restricted : IsRestricted t) where
   abbrev program : Program
@@ -195,20 +136,9 @@ module _ (laws : LawsOfNames) (t : ProgramTree) (legal : IsLegal t) (restricted 
   standard_stays : (name : List ℕ) (e : Entity) → stands standard name ≡ Some e → stands program.scope name ≡ Some e
   standard_stays name e h = kept program start all w 0 name e (in_front name e h t.package_)
 
-  bare_there : (o : ℕ) (q : Procedure) (y : IsEntryBody laws t legal restricted o q) → entry_of program.procedures o ≡ Some q
-      → (name : Identifier) × (y.barrier ≡ Named name NoSelectors)
-  bare_there o q y found =
-      let is : barrier_of program.procedures o ≡ Some y.barrier =
-      barrier_found program.procedures o ∙ ap (λ e. elim e [ Some z ↦ z.barrier | None ↦ None ]) found ∙ ap (λ z. z.barrier) y.is in
-      by_barrier (barrier_of program.procedures o) is (barrier_bare program.procedures o (program_bare t restricted))
-    where
-      by_barrier : (e : Option ExprTree) → e ≡ Some y.barrier → IsBare e → (name : Identifier) × (y.barrier ≡ Named name NoSelectors)
-      by_barrier (Some e) is h = (h.0, same_some y.barrier e (sym is) ∙ h.1)
-      by_barrier None is h = cc
-
-  -- a component that a barrier names is Boolean
+  -- a barrier that names no component is True or False by itself
   module _ (o : ℕ) (q : Procedure) (y : IsEntryBody laws t legal restricted o q) (name : Identifier) (bare : y.barrier ≡ Named name NoSelectors)
-      (m : Store) (sound : IsSoundMemory program m) where
+      (m : Store) (sound : IsSoundMemory program m) (none : object_of (m.components o) name.name ≡ None) where
     abbrev obj : ProtectedObject
     obj = object laws.scopes laws.names laws.premises t legal restricted y.place y.name y.items y.end_name y.at
 
@@ -221,127 +151,37 @@ module _ (laws : LawsOfNames) (t : ProgramTree) (legal : IsLegal t) (restricted 
     own : (j : ℕ) (i : ProtectedItemTree) → slice_get y.items j ≡ Some i → bodies.HasOwn program start all w y.place y.name y.items y.end_name y.at i
     own = added.owned laws.scopes laws.names laws.premises t legal restricted y.place y.name y.items y.end_name y.at
 
-    abbrev at_ : Scope
-    at_ = bodies.at_ program start all w y.place y.name y.items y.end_name y.at y.k
+    simple : (is_truth_value name.name || is_component obj.components name.name) ≡ true
+    simple =
+        let there : stands (scope_at start all y.place) y.name.name ≡ Some (entity.Protected obj) =
+        (bodies.there program start all w y.place y.name y.items y.end_name y.at).stands_ in
+        let rules_ = restricted_items laws t legal restricted (restrictions.components_named (scope_at start all y.place) y.name) y.items y.k
+        (EntryBody y.d y.barrier y.b)
+        (restricted_at start all w.list y.place (ProtectedBody y.name y.items y.end_name) y.at) y.there in
+        let barrier : barrier_rule obj.components (Named name NoSelectors) ≡ [] =
+        subst (λ cs. barrier_rule cs (Named name NoSelectors) ≡ []) (ap restrictions.components_in there)
+        (subst (λ e. barrier_rule (restrictions.components_named (scope_at start all y.place) y.name) e ≡ []) bare
+        (front_empty (barrier_rule (restrictions.components_named (scope_at start all y.place) y.name) y.barrier) _ rules_)) in
+        not_false (is_simple_name obj.components (Some name)) (unbroken _ name.place _ barrier)
 
-    abbrev front : Scope
-    front = components_scope at_ false obj.components
+    no_component : is_component obj.components name.name ≡ true → ⊥
+    no_component h = by_found (found_in (components_named false obj.components) name.name) refl
+      where
+        by_found : (e : Option Entity) → found_in (components_named false obj.components) name.name ≡ e → ⊥
+        by_found None is = component_among false obj.components name.name h is
+        by_found (Some e) is =
+            let x = fits.component_there program start all w
+            (known laws t legal restricted) laws.scopes m sound offers fronts y.place y.name y.items y.end_name
+            y.at own false name.name e is in
+            let bad = sym x.1 ∙ ap (λ n. object_of (m.components n) name.name) y.number ∙ none in cc
 
-    abbrev inside : Scope
-    inside = formals_scope front y.d.formals
-
-    -- a component
-    module _ (x : Object) (found : object_of (m.components o) name.name ≡ Some x) where
-      mine : object_of (m.components obj.number) name.name ≡ Some x
-      mine = ap (λ n. object_of (m.components n) name.name) y.number ∙ found
-
-      part_named : (e : Entity) × (found_in (components_named false obj.components) name.name ≡ Some e)
-      part_named = by_found (found_in (components_named false obj.components) name.name) refl
-        where
-          by_found : (e : Option Entity) → found_in (components_named false obj.components) name.name ≡ e
-              → (e : Entity) × (found_in (components_named false obj.components) name.name ≡ Some e)
-          by_found (Some e) is = (e, is)
-          by_found None is =
-              absurd (let bad = sym
-              (fits.component_none program start all w (known laws t legal restricted) laws.scopes m sound offers fronts y.place y.name y.items
-              y.end_name y.at own false name.name is) ∙ mine in cc)
-
-      visible : (e : Entity) × (stands front name.name ≡ Some e)
-      visible =
-          let e = either_some (stands at_ name.name) part_named.0 in (
-            e.0,
-            bodies.stands_seen program start all w y.place y.name y.items y.end_name y.at y.k false name.name
-                ∙ ap (or_else (stands at_ name.name)) part_named.1 ∙ e.1,
-          )
-
-      entity_is : visible.0 ≡ entity.Object role.Component x.subtype
-      entity_is =
-          elim (fits.came_seen program start all w (known laws t legal restricted) laws.scopes m sound offers fronts y.place y.name y.items y.end_name y.at own
-          (added.sounds laws.scopes laws.names laws.premises t legal restricted y.place y.name y.items y.end_name y.at) y.k
-          (EntryBody y.d y.barrier y.b) y.there
-          false name.name visible.0 visible.1) [
-            | inl hidden ↦ (let f = hidden_stands (scope_at start all y.place)
-                (bodies.named_n program start all w y.place y.name y.items y.end_name y.at).0 name.name visible.0 hidden in
-                let bad = sym (fits.none_here program start all w
-                (known laws t legal restricted) laws.scopes m sound offers fronts y.place y.name y.items y.end_name
-                y.at own name.name f.before f.stands_) ∙ mine in
-                cc)
-            | inr other ↦ elim other [
-              | inl op ↦ (let bad = sym
-                  (fits.component_none program start all w (known laws t legal restricted) laws.scopes m sound offers fronts y.place y.name
-                  y.items y.end_name y.at own false name.name
-                  (ap (found_in (components_named false obj.components)) (sym op.item.3) ∙ (own op.item.0 op.item.1 op.item.2).apart false)) ∙ mine in
-                  cc)
-              | inr c ↦ (let z = fits.component_there program start all w
-                  (known laws t legal restricted) laws.scopes m sound offers fronts y.place y.name y.items
-                  y.end_name y.at own false name.name visible.0 c in
-                  z.2 ∙ ap (λ u. entity.Object role.Component u.subtype) (same_some z.0 x (sym z.1 ∙ mine)))
-            ]
-          ]
-
-      -- what the rules say of the condition
-      condition : condition_faults inside (Named name NoSelectors) ≡ []
-      condition =
-          subst (λ e. condition_faults inside e ≡ []) bare
-          (back_empty (entry_rule front y.d.name ++ formals_faults front [] y.d.formals) (condition_faults inside y.barrier)
-          (front_empty _ (body_faults inside kinds.Entry y.b) (front_empty _ (end_rule y.d.name y.b.end_name)
-          (bodies.item_legal program start all w y.place y.name y.items y.end_name y.at y.k (EntryBody y.d y.barrier y.b) y.there))))
-
-      number : (n : ℕ) × (number_of inside name.name ≡ Some n) × (entity_at inside n ≡ Some (entity.Object role.Component x.subtype))
-      number =
-          number_stands inside name.name (entity.Object role.Component x.subtype)
-          (formals_stay front y.d.formals name.name (entity.Object role.Component x.subtype) (visible.1 ∙ ap Some entity_is))
-
-      own_type : own_of_standing (settle inside (stands_first inside (number_of inside name.name))) ≡ Typed x.subtype.type_number
-      own_type =
-          ap (λ k. own_of_standing (settle inside (stands_first inside k))) number.1
-          ∙ ap (λ e. own_of_standing (settle inside (stands_for number.0 e))) number.2
-
-      boolean_there : x.subtype.type_number ≡ boolean_type
-      boolean_there =
-          let wrong = back_empty (faults_in inside boolean_wanted (Named name NoSelectors)) _ condition in
-          let wanted = subst (λ own. mismatch inside boolean_wanted own name.place ≡ []) own_type wrong in
-          sym (eqb-true boolean_type x.subtype.type_number (not_false (nat_eq boolean_type x.subtype.type_number) (unbroken _ name.place _ wanted)))
-
-      pub truth : (b : Bool) × (x.value ≡ Truth b)
-      truth =
-          let found_shape = shape_by_form program.scope boolean_type Booleans (laws.premises t legal).sound.boolean in
-          truth_there (type_shape program.scope x.subtype.type_number) x.value (ap (type_shape program.scope) boolean_there ∙ found_shape.1)
-          (sound_object program.scope (m.components o) name.name x (sound.components o) found)
-
-    -- no component
-    module _ (none : object_of (m.components o) name.name ≡ None) where
-      simple : (is_truth_value name.name || is_component obj.components name.name) ≡ true
-      simple =
-          let there : stands (scope_at start all y.place) y.name.name ≡ Some (entity.Protected obj) =
-          (bodies.there program start all w y.place y.name y.items y.end_name y.at).stands_ in
-          let rules_ = restricted_items laws t legal restricted (restrictions.components_named (scope_at start all y.place) y.name) y.items y.k
-          (EntryBody y.d y.barrier y.b)
-          (restricted_at start all w.list y.place (ProtectedBody y.name y.items y.end_name) y.at) y.there in
-          let barrier : barrier_rule obj.components (Named name NoSelectors) ≡ [] =
-          subst (λ cs. barrier_rule cs (Named name NoSelectors) ≡ []) (ap restrictions.components_in there)
-          (subst (λ e. barrier_rule (restrictions.components_named (scope_at start all y.place) y.name) e ≡ []) bare
-          (front_empty (barrier_rule (restrictions.components_named (scope_at start all y.place) y.name) y.barrier) _ rules_)) in
-          not_false (is_simple_name obj.components (Some name)) (unbroken _ name.place _ barrier)
-
-      no_component : is_component obj.components name.name ≡ true → ⊥
-      no_component h = by_found (found_in (components_named false obj.components) name.name) refl
-        where
-          by_found : (e : Option Entity) → found_in (components_named false obj.components) name.name ≡ e → ⊥
-          by_found None is = component_among false obj.components name.name h is
-          by_found (Some e) is =
-              let x = fits.component_there program start all w
-              (known laws t legal restricted) laws.scopes m sound offers fronts y.place y.name y.items y.end_name
-              y.at own false name.name e is in
-              let bad = sym x.1 ∙ ap (λ n. object_of (m.components n) name.name) y.number ∙ none in cc
-
-      by_itself : (b : Bool) × (stands program.scope name.name ≡ Some (entity.Literal b))
-      by_itself = by_test (is_truth_value name.name) refl simple
-        where
-          by_test : (c : Bool) → is_truth_value name.name ≡ c → (c || is_component obj.components name.name) ≡ true
-              → (b : Bool) × (stands program.scope name.name ≡ Some (entity.Literal b))
-          by_test true is h = true_or_false program.scope name.name is (λ b there. standard_stays (truth_name b) (entity.Literal b) there)
-          by_test false is h = absurd (no_component h)
+    by_itself : (b : Bool) × (stands program.scope name.name ≡ Some (entity.Literal b))
+    by_itself = by_test (is_truth_value name.name) refl simple
+      where
+        by_test : (c : Bool) → is_truth_value name.name ≡ c → (c || is_component obj.components name.name) ≡ true
+            → (b : Bool) × (stands program.scope name.name ≡ Some (entity.Literal b))
+        by_test true is h = true_or_false program.scope name.name is (λ b there. standard_stays (truth_name b) (entity.Literal b) there)
+        by_test false is h = absurd (no_component h)
 
   -- ---- the whole
 
@@ -352,7 +192,7 @@ module _ (laws : LawsOfNames) (t : ProgramTree) (legal : IsLegal t) (restricted 
       by_object : (q : Procedure) (y : IsEntryBody laws t legal restricted o q) (name : Identifier) → y.barrier ≡ Named name NoSelectors → (x : Option Object)
           → object_of (m.components o) name.name ≡ x → (b : Bool) × (val (barrier_place program m o) (Named name NoSelectors) ≡ Gives (Truth b))
       by_object q y name bare (Some x) found =
-          let b = truth o q y name bare m sound x found in (b.0, component_worth program m o name x found ∙ ap Gives b.1)
+          let b = truth laws t legal restricted o q y name bare m sound x found in (b.0, component_worth program m o name x found ∙ ap Gives b.1)
       by_object q y name bare None none =
           let b = by_itself o q y name bare m sound none in (b.0, literal_worth program m o name b.0 none b.1)
 
@@ -361,7 +201,7 @@ module _ (laws : LawsOfNames) (t : ProgramTree) (legal : IsLegal t) (restricted 
       by_entry None found k = cc
       by_entry (Some q) found k =
           let y = entry_body laws t legal restricted o q found in
-          let bare = bare_there o q y found in
+          let bare = bare_there laws t legal restricted o q y found in
           let is : e ≡ Named bare.0 NoSelectors = sym (same_some y.barrier e (ap (λ z. z.barrier) (sym y.is) ∙ k)) ∙ bare.1 in
           subst (λ z. (b : Bool) × (val (barrier_place program m o) z ≡ Gives (Truth b))) (sym is)
           (by_object q y bare.0 bare.1 (object_of (m.components o) bare.0.name) refl)

@@ -10,15 +10,11 @@ use Rattle.types.specs.declared.entity.Role.TheVariants as role
 use Rattle.types.specs.declared.entity.Subtype.{Subtype}
 use Rattle.types.specs.declared.entity.Value.{Value as Scalar}
 use Rattle.types.specs.declared.entity.Value.TheVariants as scalar
-use Rattle.types.specs.declared.standing.Standing.{Standing}
-use Rattle.types.specs.declared.standing.Standing.TheVariants as standing
 use Rattle.types.specs.Entities.{Booleans, Doubtful, Entity, Object, TypeForm}
-use Rattle.types.specs.Evaluating.{call, fixed_name, fixed_value}
+use Rattle.types.specs.Evaluating.{call}
 use Rattle.types.specs.Evaluations.{Gives}
-use Rattle.types.specs.Places.{Place}
-use Rattle.types.specs.Scopes.{Scope, form_at, integer_type, is_visible, number_of, with_name}
-use Rattle.types.specs.Standings.{select_all, stands_first, stands_for}
-use Rattle.types.specs.Statics.{Keeps, StaticIsValue, start_of, static_value}
+use Rattle.types.specs.Scopes.{Scope, form_at, integer_type, is_visible, with_name}
+use Rattle.types.specs.Statics.{StaticIsValue, start_of, static_value}
 use Rattle.types.specs.Values.{Number, Truth}
 use Rattle.expr_soundness.specs.expr_rules.specs.declared.own.Own.{Own}
 use Rattle.expr_soundness.specs.expr_rules.specs.declared.own.Own.TheVariants.{Typed, Universal, Unknown}
@@ -42,12 +38,8 @@ use Rattle.program_soundness.specs.stmt_rules.specs.SimpleRules.{condition_fault
 use Rattle.program_soundness.specs.stmt_rules.specs.StatementRules.{alternatives_faults, elsifs_faults, in_handler, in_loop, more_handlers_faults, stmt_faults, stmts_faults}
 use Rattle.program_soundness.specs.stmt_rules.specs.declared.around.Around as rules
 use Rattle.program_soundness.specs.step_soundness.specs.body_restrictions.specs.BodyRules as restrictions
-use Rattle.expr_soundness.specs.Agreeing.{Agrees}
 use Rattle.expr_soundness.specs.SoundScopes.{SoundScope}
-use Rattle.expr_soundness.proofs.Expressions.{first_here}
-use Rattle.expr_soundness.proofs.FixedNames.{all_valueless}
 use Rattle.expr_soundness.proofs.Growing.{sound_with_object}
-use Rattle.expr_soundness.proofs.Positions.{entity_number}
 use Rattle.program_soundness.specs.ScopeLaws.{DeclarationsAreSound}
 use Rattle.program_soundness.proofs.Extending.{same_subtypes}
 use Rattle.program_soundness.proofs.OneList.{both_empty}
@@ -55,32 +47,11 @@ use Rattle.program_soundness.proofs.Statics.{IsStatic, must_be_static, static_nu
 use Rattle.program_soundness.proofs.Whole.{legal_subtype}
 use Rattle.program_soundness.proofs.WiderScopes.{number_stands}
 use Rattle.expr_code.proofs.Widths.{known}
+use Rattle.part_code.proofs.Deciding.{fixed_kept}
 use Rattle.source_laws.specs.Meant.{AreToldAlternatives, AreToldChoices, AreToldElsifs, AreToldHandlers, AreToldLocals, AreToldValues, IsSubtypeName, IsToldChoice, IsToldStmt, IsToldStmts}
 use Rattle.source_laws.proofs.NeedsScopes.{bounds_known, bounds_legal, integral}
 
 -- ---- choices
-
--- a place that agrees with the visible names keeps the fixed values of names
-fixed_kept : (s : Scope) (p : Place) → Agrees s p → Keeps s p
-fixed_kept s p agrees first selectors v h = by_number (number_of s first.name) refl
-  where
-    nothing : (w : Standing) → fixed_value (select_all s w selectors) ≡ None → fixed_value (select_all s w selectors) ≡ Some v → ⊥
-    nothing w e k = let both = sym e ∙ k in cc
-
-    by_number : (o : Option ℕ) → number_of s first.name ≡ o → fixed_name p first selectors ≡ Some v
-    by_number (Some n) e =
-        let x = entity_number s first.name n e in
-        let w = stands_for n (Some x.0) in
-        let there : fixed_value (select_all s w selectors) ≡ Some v =
-        ap (λ k. fixed_value (select_all s (stands_for n k) selectors)) (sym x.1)
-        ∙ ap (λ k. fixed_value (select_all s (stands_first s k) selectors)) (sym e) ∙ h in
-        elim (first_here s p agrees first.name selectors n x.0 x.1 (agrees.names first.name n x.0 e x.1)) [
-          | inl none ↦ absurd (nothing w (all_valueless s selectors w none.1) there)
-          | inr here ↦ here.same ∙ there
-        ]
-    by_number None e =
-        absurd (nothing standing.Doubtful (all_valueless s selectors standing.Doubtful refl)
-        (ap (λ k. fixed_value (select_all s (stands_first s k) selectors)) (sym e) ∙ h))
 
 -- what is wanted of choices: an integer type, or Boolean
 pub record IsDiscrete (s : Scope) (w : Wanted) : Type 0 where

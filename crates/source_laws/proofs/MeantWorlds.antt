@@ -247,9 +247,6 @@ module _ (program : Program) (laws : Premises program) (m : Store) (store : IsSo
 
     -- ---- assignments
 
-    here : Place
-    here = inside program m own (static_place program.scope)
-
     functions_at : (p : Place) → FunctionsAreSound (inside program m own p)
     functions_at p = store.functions (record p { locals = own.locals; within = own.within })
 

@@ -1,17 +1,13 @@
 -- Calls of procedures.
 use Rattle.std.proofs.Common.{◌≡◌, ℕ, zero, suc, ◌+◌, ◌-◌, ◌<◌, ◌≤◌, ℤ, List, [], ◌∷◌, length, map, Option, Some, None, ◌⊎◌, inl, refl, sym, ap, ◌∙◌, subst, arith}
 use Rattle.std.specs.Prelude.{⊤}
-use Rattle.part_code.specs.base.specs.declared.schedule.ScheduleLine.{ScheduleLine}
 use Rattle.part_code.specs.base.specs.Exceptions.{number_of}
 use Rattle.part_code.specs.base.specs.declared.exceptions.PredefinedException.TheVariants.{ProgramError, StorageError}
 use Rattle.part_code.specs.base.specs.declared.limits.TheConstants.{FRAMES}
 use Rattle.kernel.specs.State.{Kernel}
 use Rattle.kernel.specs.Effects.{Opens, Quiet, Refusal, after}
-use Rattle.kernel.specs.Calm.{Calm}
 use Rattle.kernel.specs.Counting.{Done}
-use Rattle.kernel.specs.Laws.{QuietStays}
-use Rattle.part_code.specs.image.specs.Sections.{Sections}
-use Rattle.part_code.specs.image.specs.Frames.{Role, Words, Frame, TaskState, frames_in_use, own_object}
+use Rattle.part_code.specs.image.specs.Frames.{Role, Frame, TaskState, frames_in_use, own_object}
 use Rattle.part_code.specs.image.specs.Steps as steps
 use Rattle.part_code.specs.image.specs.Steps.{act}
 use Rattle.part_code.specs.image.specs.declared.subprograms.Kind.{Kind}
@@ -28,23 +24,21 @@ use Rattle.step_soundness.specs.meaning.specs.Calls.{Actuals, Callee, body_items
 use Rattle.step_soundness.specs.meaning.specs.Programs.{Parameter, Procedure, Program, object_numbered}
 use Rattle.step_soundness.specs.meaning.specs.SourceSteps as source
 use Rattle.step_soundness.specs.meaning.specs.SourceSteps.{frames_here, place_of, with_value, work_step}
-use Rattle.step_soundness.specs.meaning.specs.Works.{Item, Does, DoesMain, EndsCall, Goes, Activation, Store, TaskWork}
+use Rattle.step_soundness.specs.meaning.specs.Works.{Item, Does, DoesMain, EndsCall, Goes, Activation, TaskWork}
 use Rattle.step_soundness.specs.Fitting.{taken_types}
 use Rattle.step_soundness.specs.Objects.{AreOf}
 use Rattle.step_soundness.proofs.Calling.{among_owner, found_here}
 use Rattle.part_code.specs.expr_code.specs.Views.{At, in_frame, placed, view_of}
 use Rattle.part_code.specs.expr_code.specs.Coming.{Comes, Throws, size_of}
 use Rattle.part_code.specs.expr_code.specs.Computing.{ArePassed}
-use Rattle.part_code.specs.expr_code.specs.Seeing.{Package}
 use Rattle.part_code.specs.expr_code.proofs.Coming as coming
-use Rattle.part_code.specs.Resting.{Framed, RestsWith, StandsFor}
+use Rattle.part_code.specs.Resting.{Framed, RestsWith}
 use Rattle.part_code.specs.Copying.{AreCopies, ArePlaced, actuals_on, addresses_of, passed_actuals, passed_expression, passed_words, taken}
 use Rattle.part_code.specs.declared.call.Destination.{Destination}
 use Rattle.part_code.specs.Handling.{GoesBy}
-use Rattle.part_code.specs.Statements.{IsCall, IsProcedureCode, Numbers, parameter_subtype, procedure_kind, procedure_operation, shapes_of}
+use Rattle.part_code.specs.Statements.{IsCall, IsProcedureCode, parameter_subtype, procedure_kind, procedure_operation, shapes_of}
 use Rattle.step_simulation.specs.Standing.{CodeStands, Follows, Going, IsGoingOn, LeadsByWays, LeavesBy, WaitsFor, frames_in, items_size, role_of, work_size}
 use Rattle.step_simulation.proofs.Entering.{entered, entered_frame}
-use Rattle.step_simulation.specs.Laws.{HasCode}
 use Rattle.step_simulation.proofs.Going.{jumps_up}
 use Rattle.step_simulation.proofs.Sizes.{item_counts}
 use Rattle.step_simulation.proofs.Copying as copy
@@ -135,12 +129,6 @@ module _ (this : Scene) where
 
   abbrev Follow : Setting → (n from : ℕ) → List Item → Role → List Frame → List Activation → Type 0
   Follow a n from items role above waiting = scene.Follow this a n from items role above waiting
-
-  abbrev Reaching : Frame → List Frame → (n from to : ℕ) → Type 0
-  Reaching above fs n from to = scene.Reaching this above fs n from to
-
-  abbrev goes_at : Frame → ℕ → List ℤ → Frame
-  goes_at above place locals = scene.goes_at this above place locals
 
   module _ (s : TaskState) where
     abbrev f : Frame

@@ -1,17 +1,11 @@
 -- Steps of `case`: the value is compared with the choices of each alternative.
 use Rattle.std.proofs.Common.{◌≡◌, ℕ, suc, ◌+◌, ◌-◌, ◌<◌, ◌≤◌, ℤ, List, [], ◌∷◌, length, Option, Some, None, Bool, true, false, refl, sym, ap, ◌∙◌, subst, arith}
 use Rattle.std.specs.Prelude.{if◌then◌else◌}
-use Rattle.part_code.specs.base.specs.declared.schedule.ScheduleLine.{ScheduleLine}
-use Rattle.kernel.specs.State.{Kernel}
-use Rattle.kernel.specs.Calm.{Calm}
-use Rattle.kernel.specs.Laws.{QuietStays}
 use Rattle.kernel.specs.Counting.{Spends}
 use Rattle.kernel.specs.RunLaws.{spends_more, spends_trans}
 use Rattle.step_soundness.specs.meaning.specs.Meeting.{Last}
 use Rattle.step_soundness.specs.meaning.specs.MeetingLaws.{spends_takes}
-use Rattle.part_code.specs.image.specs.Sections.{Sections}
-use Rattle.part_code.specs.image.specs.Frames.{Words, Frame, TaskState, Role}
-use Rattle.part_code.specs.image.specs.Steps as steps
+use Rattle.part_code.specs.image.specs.Frames.{Frame, TaskState}
 use Rattle.part_code.specs.image.specs.Steps.{behaviour}
 use Rattle.part_code.specs.image.specs.declared.instruction.Operation.TheVariants as op
 use Rattle.part_code.specs.ada_tree.specs.Size.{alternatives_size, stmts_size}
@@ -21,17 +15,16 @@ use Rattle.part_code.specs.types.specs.Evaluating.{val, value_with}
 use Rattle.part_code.specs.types.specs.Values.{Value}
 use Rattle.part_code.specs.ada_tree.specs.ExpressionTree.{ExprTree}
 use Rattle.part_code.specs.types.specs.Places.{Place}
-use Rattle.step_soundness.specs.meaning.specs.Programs.{Program}
 use Rattle.step_soundness.specs.meaning.specs.SameMeaning.{frames_of}
 use Rattle.step_soundness.specs.meaning.specs.SourceSteps as source
 use Rattle.step_soundness.specs.meaning.specs.SourceSteps.{place_of, work_step}
-use Rattle.step_soundness.specs.meaning.specs.Works.{Item, Does, Goes, Activation, Store, TaskWork}
+use Rattle.step_soundness.specs.meaning.specs.Works.{Item, Does, Goes}
 use Rattle.part_code.specs.expr_code.specs.Views.{At, in_frame, placed, view_of}
 use Rattle.part_code.specs.expr_code.specs.Coming.{most_steps, on}
-use Rattle.part_code.specs.expr_code.specs.Seeing.{Package, Sees}
-use Rattle.part_code.specs.Resting.{Framed, StandsFor}
+use Rattle.part_code.specs.expr_code.specs.Seeing.{Sees}
+use Rattle.part_code.specs.Resting.{Framed}
 use Rattle.part_code.specs.Handling.{Handling}
-use Rattle.part_code.specs.Statements.{AreAlternatives, AreStatements, Numbers, Ways}
+use Rattle.part_code.specs.Statements.{AreAlternatives, AreStatements, Ways}
 use Rattle.part_code.specs.Jumping.{Here, There}
 use Rattle.step_simulation.specs.Standing.{CodeStands, Going, items_size, work_size}
 use Rattle.step_simulation.proofs.Going.{before_ends, before_follows, earlier, jumps_up, narrows_same}
@@ -48,9 +41,6 @@ module _ (this : Scene) where
   abbrev Meet : TaskState → Type 0
   Meet s = scene.Meet this s
 
-  abbrev Meets : source.SourceStepped → steps.Stepped → Type 0
-  Meets x y = scene.Meets this x y
-
   abbrev Setting : Type 0
   Setting = scene.Setting this
 
@@ -59,12 +49,6 @@ module _ (this : Scene) where
 
   abbrev In : ℕ → ℕ → Type 0
   In n place = scene.In this n place
-
-  abbrev Follow : Setting → (n from : ℕ) → List Item → Role → List Frame → List Activation → Type 0
-  Follow a n from items role above waiting = scene.Follow this a n from items role above waiting
-
-  abbrev Reaching : Frame → List Frame → (n from to : ℕ) → Type 0
-  Reaching above fs n from to = scene.Reaching this above fs n from to
 
   abbrev goes_at : Frame → ℕ → List ℤ → Frame
   goes_at above place locals = scene.goes_at this above place locals

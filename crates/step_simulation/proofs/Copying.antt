@@ -2,14 +2,11 @@
 use Rattle.std.proofs.Common.{◌≡◌, ℕ, suc, ◌-◌, ◌<◌, ℤ, pos, List, [], ◌∷◌, length, None, Bool, true, false, refl, sym, ap, ◌∙◌, subst, arith}
 use Rattle.std.specs.Prelude.{if◌then◌else◌, is_some}
 use Rattle.part_code.specs.base.specs.declared.exceptions.PredefinedException.TheVariants.{ConstraintError}
-use Rattle.part_code.specs.base.specs.declared.schedule.ScheduleLine.{ScheduleLine}
 use Rattle.kernel.specs.State.{Kernel}
 use Rattle.kernel.specs.Effects.{Quiet, after}
-use Rattle.kernel.specs.Calm.{Calm}
 use Rattle.kernel.specs.Counting.{Done}
-use Rattle.kernel.specs.Laws.{QuietStays}
 use Rattle.part_code.specs.image.specs.Sections.{Sections}
-use Rattle.part_code.specs.image.specs.Frames.{Words, Frame, TaskState}
+use Rattle.part_code.specs.image.specs.Frames.{Frame, TaskState}
 use Rattle.part_code.specs.image.specs.Steps as steps
 use Rattle.part_code.specs.types.specs.declared.entity.Subtype.{Subtype}
 use Rattle.part_code.specs.types.specs.Evaluations.{Gives, raise}
@@ -23,13 +20,13 @@ use Rattle.step_soundness.specs.meaning.specs.Programs.{Program}
 use Rattle.step_soundness.specs.meaning.specs.Targets.{activation_with, stored_in}
 use Rattle.step_soundness.specs.meaning.specs.SourceSteps as source
 use Rattle.step_soundness.specs.meaning.specs.SourceSteps.{place_of, work_step}
-use Rattle.step_soundness.specs.meaning.specs.Works.{Item, Copies, Activation, Home, InActivation, InObject, InPackage, Store, Target, TaskWork}
+use Rattle.step_soundness.specs.meaning.specs.Works.{Item, Copies, Activation, Home, InActivation, InObject, InPackage, Target}
 use Rattle.step_soundness.specs.Judged.{IsWorkOf}
 use Rattle.step_soundness.specs.Objects.{AreOf, AreTargets}
 use Rattle.part_code.specs.expr_code.specs.Views.{in_frame, placed}
 use Rattle.part_code.specs.expr_code.specs.Coming.{Comes, on}
 use Rattle.part_code.specs.expr_code.specs.Seeing.{Package}
-use Rattle.part_code.specs.Resting.{Framed, StandsFor}
+use Rattle.part_code.specs.Resting.{Framed}
 use Rattle.part_code.specs.Copying.{AreCopies, ArePlaced, address_of, addresses_of, copies_on}
 use Rattle.part_code.specs.declared.call.Destination.{Destination}
 use Rattle.part_code.specs.Statements.{Numbers}
@@ -95,9 +92,6 @@ module _ (this : Scene) where
 
   abbrev Meet : TaskState → Type 0
   Meet s = scene.Meet this s
-
-  abbrev Meets : source.SourceStepped → steps.Stepped → Type 0
-  Meets x y = scene.Meets this x y
 
   abbrev Setting : Type 0
   Setting = scene.Setting this

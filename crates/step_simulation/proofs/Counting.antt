@@ -1,14 +1,9 @@
 -- Steps of loops over ranges: the range and the first turn, and the end of each turn.
 use Rattle.std.proofs.Common.{◌≡◌, ℕ, suc, ◌+◌, ◌-◌, ◌<◌, ◌≤◌, ℤ, List, [], ◌∷◌, length, None, Bool, true, false, refl, sym, ap, ◌∙◌, subst, arith}
 use Rattle.std.specs.Prelude.{if◌then◌else◌, int_lt, ⊤}
-use Rattle.part_code.specs.base.specs.declared.schedule.ScheduleLine.{ScheduleLine}
-use Rattle.kernel.specs.State.{Kernel}
 use Rattle.kernel.specs.Effects.{Quiet}
-use Rattle.kernel.specs.Calm.{Calm}
 use Rattle.kernel.specs.Counting.{Spends}
-use Rattle.kernel.specs.Laws.{QuietStays}
-use Rattle.part_code.specs.image.specs.Sections.{Sections}
-use Rattle.part_code.specs.image.specs.Frames.{Words, Frame, TaskState, Role, own_object}
+use Rattle.part_code.specs.image.specs.Frames.{Frame, TaskState, Role, own_object}
 use Rattle.part_code.specs.image.specs.Steps as steps
 use Rattle.part_code.specs.image.specs.Steps.{behaviour}
 use Rattle.part_code.specs.image.specs.declared.instruction.Operation.TheVariants as op
@@ -21,18 +16,15 @@ use Rattle.part_code.specs.types.specs.Places.{Place}
 use Rattle.part_code.specs.types.specs.Values.{Value, Number, Truth, Array, Record}
 use Rattle.step_soundness.specs.meaning.specs.Meeting.{Last}
 use Rattle.step_soundness.specs.meaning.specs.MeetingLaws.{spends_takes}
-use Rattle.step_soundness.specs.meaning.specs.Programs.{Program}
 use Rattle.step_soundness.specs.meaning.specs.SameMeaning.{frames_of}
 use Rattle.step_soundness.specs.meaning.specs.SourceSteps as source
 use Rattle.step_soundness.specs.meaning.specs.SourceSteps.{place_of, with_value, work_step, frames_here}
-use Rattle.step_soundness.specs.meaning.specs.Works.{Item, Does, RepeatsFor, Goes, Activation, Store, TaskWork}
+use Rattle.step_soundness.specs.meaning.specs.Works.{Item, Does, RepeatsFor, Goes, Activation}
 use Rattle.part_code.specs.expr_code.specs.Views.{in_frame, placed, view_of}
 use Rattle.part_code.specs.expr_code.specs.Coming.{most_steps}
-use Rattle.part_code.specs.expr_code.specs.Seeing.{Package}
 use Rattle.part_code.specs.expr_code.proofs.Coming.{acts}
-use Rattle.part_code.specs.Resting.{Framed, RestsWith, StandsFor}
+use Rattle.part_code.specs.Resting.{Framed, RestsWith}
 use Rattle.part_code.specs.Counting.{Bounds, GoesOn, IsCounted, IsRange, bounds, in_turn, number_bounds, turn_first, turn_last, with_last, with_parameter, are_turns_inside}
-use Rattle.part_code.specs.Statements.{Numbers}
 use Rattle.part_code.specs.Jumping.{Here, Jumps}
 use Rattle.part_code.proofs.Jumping.{jumps_both}
 use Rattle.step_simulation.specs.Standing.{CodeStands, Going, frames_in, in_range, items_size, work_size}
@@ -52,9 +44,6 @@ module _ (this : Scene) where
   abbrev Meet : TaskState → Type 0
   Meet s = scene.Meet this s
 
-  abbrev Meets : source.SourceStepped → steps.Stepped → Type 0
-  Meets x y = scene.Meets this x y
-
   abbrev Setting : Type 0
   Setting = scene.Setting this
 
@@ -66,9 +55,6 @@ module _ (this : Scene) where
 
   abbrev Follow : Setting → (n from : ℕ) → List Item → Role → List Frame → List Activation → Type 0
   Follow a n from items role above waiting = scene.Follow this a n from items role above waiting
-
-  abbrev Reaching : Frame → List Frame → (n from to : ℕ) → Type 0
-  Reaching above fs n from to = scene.Reaching this above fs n from to
 
   abbrev goes_at : Frame → ℕ → List ℤ → Frame
   goes_at above place locals = scene.goes_at this above place locals

@@ -1,11 +1,7 @@
 -- Each step of a task is met by code.
-use Rattle.std.proofs.Common.{◌≡◌, ℕ, suc, ◌<◌, ℤ, List, [], ◌∷◌, Option, Some, None, refl, sym, ap, ◌∙◌, subst, arith}
-use Rattle.part_code.specs.base.specs.declared.schedule.ScheduleLine.{ScheduleLine}
-use Rattle.kernel.specs.State.{Kernel}
-use Rattle.kernel.specs.Calm.{Calm}
+use Rattle.std.proofs.Common.{◌≡◌, ℕ, suc, ◌<◌, List, [], ◌∷◌, Option, Some, None, refl, sym, ap, ◌∙◌, subst, arith}
 use Rattle.kernel.specs.Laws.{QuietStays}
-use Rattle.part_code.specs.image.specs.Sections.{Sections}
-use Rattle.part_code.specs.image.specs.Frames.{Role, Words, Frame, TaskState}
+use Rattle.part_code.specs.image.specs.Frames.{Role, Frame, TaskState}
 use Rattle.part_code.specs.image.specs.Steps as steps
 use Rattle.part_code.specs.image.specs.Steps.{caught}
 use Rattle.part_code.specs.ada_tree.specs.StatementTree.{LocalObject, LocalTask, LocalProtected, StmtTree, Null, Assignment, Exit, Return, Raise, DelayUntil, If, Case, Loop, Block, Forever, While, For}
@@ -16,18 +12,17 @@ use Rattle.part_code.specs.types.specs.Entities.{Put}
 use Rattle.part_code.specs.ada_tree.specs.ExpressionTree as expressions
 use Rattle.part_code.specs.ada_tree.specs.StatementTree as tree
 use Rattle.step_soundness.specs.meaning.specs.Calls.{Callee, callee_by}
-use Rattle.step_soundness.specs.meaning.specs.Programs.{Procedure, Program}
+use Rattle.step_soundness.specs.meaning.specs.Programs.{Procedure}
 use Rattle.part_code.specs.types.specs.Values.{Value}
 use Rattle.step_soundness.specs.meaning.specs.SourceSteps as source
 use Rattle.step_soundness.specs.meaning.specs.SourceSteps.{work_step}
 use Rattle.step_soundness.specs.meaning.specs.Works as works
-use Rattle.step_soundness.specs.meaning.specs.Works.{Item, EndsServed, Queued, Target, Declares, DeclaresParameter, Sequence, Does, DoesMain, Repeats, RepeatsWhile, RepeatsFor, Handles, EndsHandler, EndsCall, Goes, Activation, Store, TaskWork}
+use Rattle.step_soundness.specs.meaning.specs.Works.{Item, EndsServed, Queued, Target, Declares, DeclaresParameter, Sequence, Does, DoesMain, Repeats, RepeatsWhile, RepeatsFor, Handles, EndsHandler, EndsCall, Goes, Activation}
 use Rattle.step_soundness.specs.Laws.{StepsAreSound}
-use Rattle.part_code.specs.expr_code.specs.Seeing.{Package}
-use Rattle.part_code.specs.Resting.{Framed, StandsFor}
-use Rattle.part_code.specs.Statements.{IsCallCode, IsCalleeCode, IsPutCode, Numbers, OfEntry, OfOwnEntry, OfProcedure}
+use Rattle.part_code.specs.Resting.{Framed}
+use Rattle.part_code.specs.Statements.{IsCallCode, IsCalleeCode, IsPutCode, OfEntry, OfOwnEntry, OfProcedure}
 use Rattle.step_simulation.specs.Standing.{Awaiting, Catching, Closing, CodeStands, Copying, FollowsIn, Going, IsCatching, Over as Ended, Queueing, Raised, RaisesBy, Throwing, items_size, work_size}
-use Rattle.step_simulation.specs.Laws.{HasCode, KnowsCaller, StepsAreMet}
+use Rattle.step_simulation.specs.Laws.{KnowsCaller, StepsAreMet}
 use Rattle.step_simulation.proofs.Scenes.{AtOnce, Keeping, Scene}
 use Rattle.step_simulation.proofs.Scenes as scene
 use Rattle.step_simulation.proofs.Turning as turn
@@ -51,26 +46,14 @@ module _ (this : Scene) where
   abbrev Meet : TaskState → Type 0
   Meet s = scene.Meet this s
 
-  abbrev Meets : source.SourceStepped → steps.Stepped → Type 0
-  Meets x y = scene.Meets this x y
-
   abbrev Setting : Type 0
   Setting = scene.Setting this
 
   abbrev seeing : Framed → Setting → Setting
   seeing v a = scene.seeing this v a
 
-  abbrev In : ℕ → ℕ → Type 0
-  In n place = scene.In this n place
-
   abbrev Follow : Setting → (n from : ℕ) → List Item → Role → List Frame → List Activation → Type 0
   Follow a n from items role above waiting = scene.Follow this a n from items role above waiting
-
-  abbrev Reaching : Frame → List Frame → (n from to : ℕ) → Type 0
-  Reaching above fs n from to = scene.Reaching this above fs n from to
-
-  abbrev goes_at : Frame → ℕ → List ℤ → Frame
-  goes_at above place locals = scene.goes_at this above place locals
 
   module _ (s : TaskState) where
     abbrev f : Frame

@@ -1,14 +1,9 @@
 -- Exceptions are raised and handled: each item that is dropped is met by no step, and the last one by the one step of code that raises.
 use Rattle.std.proofs.Common.{◌≡◌, ⊎_elim, ℕ, suc, ◌+◌, ◌-◌, ◌<◌, ◌≤◌, ℤ, List, [], ◌∷◌, length, Option, Some, None, true, inl, refl, sym, ap, ◌∙◌, subst, arith, rules}
 use Rattle.std.specs.Prelude.{◌&&◌, if◌then◌else◌, nat_le, pos}
-use Rattle.part_code.specs.base.specs.declared.schedule.ScheduleLine.{ScheduleLine}
-use Rattle.kernel.specs.State.{Kernel}
 use Rattle.kernel.specs.State as kernels
 use Rattle.kernel.specs.Effects.{Quiet, Dies, Ends}
-use Rattle.kernel.specs.Calm.{Calm}
-use Rattle.kernel.specs.Laws.{QuietStays}
 use Rattle.part_code.specs.handlers.specs.Innermost.{handler_of}
-use Rattle.part_code.specs.image.specs.Sections.{Sections}
 use Rattle.part_code.specs.image.specs.Frames.{Inner, Opened, Serving, Words, Frame, TaskState}
 use Rattle.part_code.specs.image.specs.Scalars.{exception_of}
 use Rattle.part_code.specs.image.specs.Steps as steps
@@ -19,24 +14,20 @@ use Rattle.part_code.specs.ada_tree.specs.StatementTree.{HandlerTrees, Raise, St
 use Rattle.part_code.specs.types.specs.Evaluations.{Val, Raises}
 use Rattle.step_soundness.specs.meaning.specs.Meeting.{Last}
 use Rattle.step_soundness.specs.meaning.specs.MeetingLaws.{spends_takes, still_by, moves_by, unrestarted}
-use Rattle.step_soundness.specs.meaning.specs.Programs.{Program}
 use Rattle.step_soundness.specs.meaning.specs.SameMeaning.{frames_of}
 use Rattle.step_soundness.specs.meaning.specs.SourceSteps as source
 use Rattle.step_soundness.specs.meaning.specs.SourceSteps.{before, handler_for, program_behaviour, work_step}
-use Rattle.step_soundness.specs.meaning.specs.Works.{Item, Declares, DeclaresParameter, Sequence, Does, DoesMain, Repeats, RepeatsWhile, RepeatsFor, Handles, EndsHandler, EndsCall, EndsAction, EndsServed, Completion, Pending, Queued, Goes, Raising, Activation, Store, Target, TaskWork}
+use Rattle.step_soundness.specs.meaning.specs.Works.{Item, Declares, DeclaresParameter, Sequence, Does, DoesMain, Repeats, RepeatsWhile, RepeatsFor, Handles, EndsHandler, EndsCall, EndsAction, EndsServed, Completion, Pending, Queued, Goes, Raising, Activation, Target}
 use Rattle.step_soundness.specs.meaning.specs.Works as works
 use Rattle.step_soundness.specs.meaning.specs.Calls.{is_open}
 use Rattle.step_soundness.specs.Judged.{IsWorkOf}
 use Rattle.step_soundness.specs.Objects.{IsException}
 use Rattle.part_code.specs.expr_code.specs.Views.{At, in_frame, placed}
 use Rattle.part_code.specs.expr_code.specs.Coming.{most_steps}
-use Rattle.part_code.specs.expr_code.specs.Seeing.{Package}
 use Rattle.part_code.specs.expr_code.proofs.Coming.{acts}
 use Rattle.part_code.specs.expr_code.proofs.Coming as coming
 use Rattle.part_code.specs.Resting.{StandsFor}
-use Rattle.part_code.specs.Statements.{Numbers}
 use Rattle.step_simulation.specs.Standing.{Catches, Catching, Closing, CaughtIf, CodeStands, Over as Ended, Raised, RaisesNext, items_size, relation, work_size}
-use Rattle.step_simulation.specs.Laws.{HasCode}
 use Rattle.step_simulation.proofs.Catching.{handling_here}
 use Rattle.step_simulation.proofs.Going.{jumps_up}
 use Rattle.step_simulation.proofs.Scenes.{Scene}

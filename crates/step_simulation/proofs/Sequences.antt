@@ -1,16 +1,13 @@
 -- Sequences of statements and blocks, with the handlers that cover them: they begin and end without code, or with a jump over the handlers.
 use Rattle.std.proofs.Common.{◌≡◌, ℕ, suc, ◌<◌, ◌≤◌, List, ◌∷◌, map, refl, sym, ap, ◌∙◌, subst, arith}
 use Rattle.std.specs.Prelude.{◌++◌}
-use Rattle.part_code.specs.image.specs.Sections.{Sections}
 use Rattle.part_code.specs.image.specs.Frames.{Frame, TaskState, Role}
 use Rattle.part_code.specs.ada_tree.specs.StatementTree.{DeclarationTree, Block, StmtTrees, HandlerTrees, NoHandlers, MoreHandlers}
-use Rattle.step_soundness.specs.meaning.specs.Programs.{Program}
 use Rattle.step_soundness.specs.meaning.specs.SourceSteps as source
 use Rattle.step_soundness.specs.meaning.specs.SourceSteps.{work_step}
-use Rattle.step_soundness.specs.meaning.specs.Works.{Item, Declares, Sequence, Does, Handles, EndsHandler, Goes, Activation, TaskWork}
-use Rattle.part_code.specs.expr_code.specs.Seeing.{Package}
+use Rattle.step_soundness.specs.meaning.specs.Works.{Item, Declares, Sequence, Does, Handles, EndsHandler, Goes, Activation}
 use Rattle.part_code.specs.Resting.{Framed, NarrowsFrame, RestsWith}
-use Rattle.part_code.specs.Statements.{IsSequence, Numbers}
+use Rattle.part_code.specs.Statements.{IsSequence}
 use Rattle.part_code.specs.Jumping.{Here, There}
 use Rattle.step_simulation.specs.Standing.{ReachesWays, in_sequence, items_size, work_size}
 use Rattle.step_simulation.proofs.Going.{before_ends, before_follows, declares_end, declares_follow, drops_handler, earlier, jumps_up, narrows_same, shows_then}

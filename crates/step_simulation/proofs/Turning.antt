@@ -1,15 +1,9 @@
 -- Steps that evaluate: conditions, loops, values that are stored, lines.
 use Rattle.std.proofs.Common.{◌≡◌, ℕ, suc, ◌+◌, ◌-◌, ◌<◌, ◌≤◌, ℤ, List, [], ◌∷◌, length, Option, Some, None, Bool, true, false, refl, sym, ap, ◌∙◌, subst, arith}
 use Rattle.std.specs.Prelude.{if◌then◌else◌}
-use Rattle.part_code.specs.base.specs.declared.limits.TheConstants.{FRAMES}
-use Rattle.part_code.specs.base.specs.declared.schedule.ScheduleLine.{ScheduleLine}
-use Rattle.kernel.specs.State.{Kernel}
 use Rattle.kernel.specs.Effects.{Quiet, Says}
-use Rattle.kernel.specs.Calm.{Calm}
-use Rattle.kernel.specs.Laws.{QuietStays}
 use Rattle.kernel.specs.RunLaws.{spends_trans}
-use Rattle.part_code.specs.image.specs.Sections.{Sections}
-use Rattle.part_code.specs.image.specs.Frames.{Words, Frame, TaskState, Role, own_object}
+use Rattle.part_code.specs.image.specs.Frames.{Frame, TaskState, Role, own_object}
 use Rattle.part_code.specs.image.specs.Steps as steps
 use Rattle.part_code.specs.image.specs.Steps.{act, behaviour, does_operation}
 use Rattle.part_code.specs.image.specs.declared.instruction.Operation.{Operation}
@@ -23,23 +17,22 @@ use Rattle.part_code.specs.ada_tree.specs.ExpressionTree.{Arguments, ExprTree, M
 use Rattle.part_code.specs.ada_tree.specs.ExpressionTree as expressions
 use Rattle.part_code.specs.ada_tree.specs.StatementTree as tree
 use Rattle.part_code.specs.types.specs.Places.{Place}
-use Rattle.step_soundness.specs.meaning.specs.Programs.{Parameter, Program}
+use Rattle.step_soundness.specs.meaning.specs.Programs.{Parameter}
 use Rattle.step_soundness.specs.meaning.specs.Targets.{activation_with, store_with, target}
 use Rattle.step_soundness.specs.meaning.specs.SameMeaning.{frames_of}
 use Rattle.step_soundness.specs.meaning.specs.SourceSteps as source
 use Rattle.step_soundness.specs.meaning.specs.SourceSteps.{place_of, with_value, work_step, frames_here}
-use Rattle.step_soundness.specs.meaning.specs.Works.{Item, Declares, DeclaresParameter, Does, Repeats, RepeatsWhile, Goes, Activation, Store, Target, TaskWork}
+use Rattle.step_soundness.specs.meaning.specs.Works.{Item, Declares, DeclaresParameter, Does, Repeats, RepeatsWhile, Goes, Activation, Store, Target}
 use Rattle.part_code.specs.expr_code.specs.Views.{At, in_frame, placed}
 use Rattle.part_code.specs.expr_code.specs.Coming.{Comes, most_steps, on, size_of}
-use Rattle.part_code.specs.expr_code.specs.Seeing.{Package}
 use Rattle.part_code.specs.expr_code.proofs.Coming.{acts}
 use Rattle.part_code.specs.expr_code.proofs.Coming as coming
-use Rattle.part_code.specs.Resting.{Framed, HeldWord, RestsWith, Shows, StandsFor}
+use Rattle.part_code.specs.Resting.{Framed, HeldWord, RestsWith, Shows}
 use Rattle.part_code.proofs.Holding.{held_kept}
 use Rattle.part_code.specs.Handling.{GoesBy}
 use Rattle.part_code.specs.Storing.{Arrives, Assigned, Assigns, Puts, assigned, assigned_to, declared, declared_from, object_declared}
-use Rattle.part_code.specs.Statements.{AreStatements, IsOtherwise, IsPutCode, IsWhile, Numbers, within_loop}
-use Rattle.part_code.specs.Jumping.{Here, Jumps, There}
+use Rattle.part_code.specs.Statements.{AreStatements, IsOtherwise, IsPutCode, IsWhile, within_loop}
+use Rattle.part_code.specs.Jumping.{Here, Jumps}
 use Rattle.part_code.proofs.Jumping.{jumps_both}
 use Rattle.step_simulation.specs.Standing.{Going, LeadsByWays, LeadsInto, ReachesWays, frames_in, in_loop, items_size, work_size}
 use Rattle.step_simulation.proofs.Going.{before_ends, before_follows, earlier, into, jumps_up, narrows_same, way_out}

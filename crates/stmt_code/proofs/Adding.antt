@@ -1,4 +1,4 @@
--- Code of statements that was added: nothing, statements one behind another, jumps to the ways out, and lines.
+-- Labels that stay; and what legality tells of the parts of blocks, of conditions of exits, and of values of which a type is wanted.
 use Rattle.std.proofs.Common.{◌≡◌, ℕ, ◌+◌, ◌++◌, List, [], ◌∷◌, length, Option, Some, refl, sym, ap, ◌∙◌, subst, arith}
 use Rattle.ada_tree.specs.ExpressionTree.{ExprTree}
 use Rattle.ada_tree.specs.StatementTree as statements
@@ -22,8 +22,6 @@ use Rattle.stmt_code.specs.Emitting.{AreAcceptedHandlers, AreAcceptedStatements,
 use Rattle.stmt_code.specs.Leaves.{any_leave, handlers_leave}
 use Rattle.stmt_code.proofs.Accepting.{ways_left, ways_right}
 use Rattle.part_code.specs.Statements.{Ways}
-use Rattle.stmt_code.specs.declared.draft.Draft.{Draft}
-use Rattle.stmt_code.proofs.RowsAdded.{KeepsRows}
 
 -- ---- labels
 
@@ -35,11 +33,6 @@ labels_before i old new e h = record { labels = λ k x le is. h.labels k x le (e
 
 pub labels_then : (a b c : List (List ℕ)) → StandsFrom 0 a b → StandsFrom 0 b c → StandsFrom 0 a c
 labels_then a b c p q = λ k x le is. q k x le (p k x le is)
-
--- ---- drafts of which one has other code alone
-
-abbrev pub IsBeside : (old new : Draft) → Type 0
-IsBeside old new = (new.labels ≡ old.labels) × (new.words ≡ old.words) × KeepsRows old new
 
 -- ---- what is legal
 

@@ -1,10 +1,10 @@
 -- What statements need hangs on which objects have words and in which region, and not on where these are in the frame.
-use Rattle.std.proofs.Common.{◌≡◌, ℕ, zero, suc, ◌+◌, List, [], ◌∷◌, ◌++◌, Bool, true, false, ◌&&◌, Option, None, Some, refl, sym, ap, ◌∙◌}
-use Rattle.std.specs.Prelude.{is_some, option_map, slice_get, ⊤, if◌then◌else◌}
+use Rattle.std.proofs.Common.{◌≡◌, ℕ, zero, suc, ◌+◌, List, [], ◌∷◌, ◌++◌, Bool, true, false, ◌&&◌, Option, None, Some, refl, ap, ◌∙◌}
+use Rattle.std.specs.Prelude.{is_some, option_map, ⊤, if◌then◌else◌}
 use Rattle.ada_tree.specs.declared.declaration.Mode.{Mode}
 use Rattle.ada_tree.specs.declared.declaration.Mode.TheVariants as mode
 use Rattle.ada_tree.specs.ExpressionTree as tree
-use Rattle.ada_tree.specs.ExpressionTree.{ArgumentTree, ArgumentTrees, ElsifValueTrees, ExprTree, MoreArguments, MoreElsifValues, NameTree, Named, NoArguments, NoElsifValues, SelectorTrees}
+use Rattle.ada_tree.specs.ExpressionTree.{ArgumentTree, ArgumentTrees, ElsifValueTrees, ExprTree, MoreArguments, MoreElsifValues, NameTree, Named, NoArguments, NoElsifValues}
 use Rattle.image.specs.declared.instruction.Region.{Region}
 use Rattle.types.specs.declared.entity.FormalParameter.{FormalParameter}
 use Rattle.types.specs.declared.entity.Role.TheVariants as role
@@ -14,14 +14,14 @@ use Rattle.types.specs.Entities.{Profile}
 use Rattle.types.specs.Scopes.{number_of}
 use Rattle.types.specs.Standings.{stands_first, standing_of}
 use Rattle.expr_code.specs.Entries.{entry_at}
-use Rattle.expr_code.specs.Seeing.{external_profile, profile_named, slot_of, told_of}
+use Rattle.expr_code.specs.Seeing.{external_profile, profile_named, slot_of}
 use Rattle.expr_code.specs.declared.visible.Slot.{Slot}
 use Rattle.expr_code.specs.declared.visible.Visible.{Visible}
 use Rattle.part_code.specs.EntryNames.{is_own_entry}
 use Rattle.part_code.specs.step_soundness.specs.Fitting.{entity_named}
 use Rattle.part_code.specs.Lines.{LabelledValue, line_of}
 use Rattle.part_code.specs.Moving.{are_moved, is_moved, moves, names_composite, source_at, source_by, variable_at}
-use Rattle.part_code.specs.Needs.{actual_needs, actuals_needs, address_needs, assignment_needs, bare_needs, behind_needs, both, call_needs, called_needs, copies_needs, copy_needs, destination_at, destinations_for, destinations_if, destinations_named, destinations_of, invoked_needs, line_needs, move_needs, moves_needs, needs_above, needs_by, passed_needs, stacked, through_needs}
+use Rattle.part_code.specs.Needs.{actual_needs, actuals_needs, address_needs, assignment_needs, bare_needs, behind_needs, both, call_needs, called_needs, copies_needs, copy_needs, destination_at, destinations_for, destinations_if, destinations_named, destinations_of, line_needs, move_needs, moves_needs, needs_above, needs_by, passed_needs, stacked, through_needs}
 use Rattle.part_code.specs.Passing.{ExternalName, actuals_behind, copied_width, operation_behind}
 use Rattle.part_code.specs.Suiting.{passed_width}
 use Rattle.part_code.specs.declared.call.Destination.{Destination}

@@ -1,4 +1,4 @@
--- Code of alternatives that was added, one behind another, and that of a whole `case`.
+-- What legality tells of the parts of a `case`.
 use Rattle.std.proofs.Common.{◌≡◌, ℕ, ◌+◌, ◌++◌, []}
 use Rattle.ada_tree.specs.ExpressionTree.{ExprTree}
 use Rattle.ada_tree.specs.StatementTree as statements
@@ -13,8 +13,6 @@ use Rattle.stmt_code.specs.Alternatives.{AreAcceptedAlternatives}
 use Rattle.stmt_code.specs.Emitting.{IsAcceptedStatement}
 use Rattle.part_code.specs.Statements.{Ways}
 use Rattle.part_code.proofs.Selecting.{selecting_inside}
-
--- ---- what is legal
 
 module _ (s : Scope) (w : Ways) (place : ℕ) (e : ExprTree) (all : AlternativeTrees) (h : IsAcceptedStatement s w (statements.Case place e all)) where
   two_faults : (selecting_faults s e ++ alternatives_faults s h.around (choices_wanted s (own_of s e)) [] all) ≡ []

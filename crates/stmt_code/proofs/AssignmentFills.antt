@@ -1,22 +1,21 @@
 -- How much the code of an assignment is (RM 5.2).
-use Rattle.std.proofs.Common.{◌≡◌, ◌≤◌, ℕ, suc, ◌+◌, ◌*◌, [], max, Bool, true, false, cond, ◌&&◌, ◌||◌, Option, None, Some, inl, inr, refl, sym, ap, ◌∙◌, subst, arith}
+use Rattle.std.proofs.Common.{◌≡◌, ◌≤◌, ℕ, suc, ◌+◌, ◌*◌, max, Bool, true, false, cond, ◌&&◌, Option, None, Some, inl, inr, refl, sym, ap, subst, arith}
 use Rattle.std.specs.Prelude.{◌⊎◌, if◌then◌else◌, is_some, nat_eq, not}
 use Rattle.ada_tree.specs.declared.expression.Identifier.{Identifier}
 use Rattle.ada_tree.specs.ExpressionTree as tree
 use Rattle.ada_tree.specs.ExpressionTree.{ElsifValueTrees, ExprTree, MoreElsifValues, MoreSelectors, NameTree, Named, NoElsifValues, NoSelectors, SelectorTrees}
-use Rattle.ada_tree.specs.Size.{elsif_values_size, expr_size, name_size, selectors_size, stmt_size}
+use Rattle.ada_tree.specs.Size.{elsif_values_size, expr_size, selectors_size, stmt_size}
 use Rattle.ada_tree.specs.StatementTree.{Assignment}
 use Rattle.image.specs.Rules.{has_operands, is_block}
 use Rattle.image.specs.declared.instruction.Operation.TheVariants as op
 use Rattle.image.specs.declared.instruction.Region.{Region}
 use Rattle.image.specs.declared.instruction.Region.TheVariants as regions
-use Rattle.types.specs.declared.entity.Role.{Role}
 use Rattle.types.specs.declared.entity.Subtype.{Subtype}
 use Rattle.types.specs.declared.standing.Standing.TheVariants as standing
 use Rattle.types.specs.Entities.{Object}
 use Rattle.types.specs.Evaluating.{fixed_value}
 use Rattle.types.specs.Layouts.{words_of}
-use Rattle.types.specs.Scopes.{form_at, number_of}
+use Rattle.types.specs.Scopes.{number_of}
 use Rattle.types.specs.Shapes.{shape_of}
 use Rattle.types.specs.Standings.{standing_of, stands_first}
 use Rattle.expr_soundness.specs.SoundScopes.{IsKnown, SoundScope}
@@ -24,7 +23,6 @@ use Rattle.expr_soundness.proofs.Goods.{object_known}
 use Rattle.expr_code.specs.Branches.{AreLegalBranches}
 use Rattle.expr_code.specs.Emitting.{IsFit, IsLegalExpression}
 use Rattle.expr_code.specs.ExpressionCode.{expr_code, path_code, path_part, whole_of}
-use Rattle.expr_code.specs.Going.{IsLegalPath}
 use Rattle.expr_code.specs.Pieces.{Piece, one, over, ◌▸◌}
 use Rattle.expr_code.specs.Providing.{HasWhatExpressionsNeed}
 use Rattle.expr_code.specs.Refusing.{HasUnfitObject, IsUnfit, checked_peak, is_fit, peak, selectors_peak}
@@ -43,7 +41,7 @@ use Rattle.expr_code.proofs.PartWorks.{PathWorks}
 use Rattle.expr_code.proofs.Refusals.{peak_some, selectors_some}
 use Rattle.part_code.specs.Emitting.{store_operation, stored_at, stored_in}
 use Rattle.part_code.specs.Moving.{are_moved, is_moved, moves, source_at}
-use Rattle.part_code.specs.Needs.{Needs, address_needs, assigned_needs, assignment_needs, both, has_unfit, in_needs, move_needs, moved_needs, moves_needs, needs_above, needs_by, nothing, stored_needs, words_at}
+use Rattle.part_code.specs.Needs.{Needs, address_needs, assigned_needs, assignment_needs, both, has_unfit, in_needs, move_needs, moved_needs, moves_needs, needs_above, needs_by, words_at}
 use Rattle.part_code.specs.PartCode.{address_at, fitting_code, move_code, moved_from, moves_code, object_at, object_named, words_in}
 use Rattle.part_code.specs.Statements.{Ways}
 use Rattle.part_code.specs.declared.moving.Moved.{Moved}
@@ -51,12 +49,11 @@ use Rattle.part_code.specs.declared.moving.Source.{Source}
 use Rattle.part_code.proofs.AssignmentsRefused.{unfit_whole}
 use Rattle.part_code.proofs.CopiesWork.{stored_fit}
 use Rattle.part_code.proofs.CoveredObjects.{IsObjectAt, known_taken, slot_held}
-use Rattle.part_code.proofs.FittingWorks.{FittingWorks, fitting_works}
+use Rattle.part_code.proofs.FittingWorks.{fitting_works}
 use Rattle.part_code.proofs.MovesRefused.{source_is}
 use Rattle.part_code.proofs.ObjectNames.{names_object}
 use Rattle.part_code.proofs.PieceNeeds.{Laws}
-use Rattle.part_code.proofs.StoresAt.{number_is}
-use Rattle.part_code.proofs.Within.{Within, in_left, in_right, none_within, of_left, of_right, within_self, within_then}
+use Rattle.part_code.proofs.Within.{Within, in_left, in_right, of_right, within_then}
 use Rattle.stmt_code.specs.Drafting.{coded}
 use Rattle.stmt_code.specs.Emitting.{IsAcceptedStatement, IsLegalStatement}
 use Rattle.stmt_code.specs.SimpleCode.{assigned_code, assignment_code, moved_code, stored_code, target_code, word_code}
@@ -64,7 +61,7 @@ use Rattle.stmt_code.specs.StatementCode.{Site}
 use Rattle.stmt_code.proofs.AssignedNames.{assigned_first, assigned_known, assigned_object, assigned_path, in_name}
 use Rattle.stmt_code.proofs.PartsFill.{Fills}
 use Rattle.stmt_code.proofs.SimpleFills.{Spans, expr_spans, fills_spans, not_true, or_first, spans_fits, spans_load, spans_more, spans_one, spans_over, spans_then}
-use Rattle.stmt_code.proofs.StatementsFill.{IsFull}
+use Rattle.stmt_code.proofs.CoveredScopes.{IsFull}
 use Rattle.stmt_code.proofs.Stored.{assigned_fit, whole_stands}
 use Rattle.stmt_code.proofs.StoredParts.{part_stands}
 

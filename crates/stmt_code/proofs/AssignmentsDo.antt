@@ -70,7 +70,8 @@ use Rattle.stmt_code.proofs.AssignedNames.{assigned_first, assigned_known, assig
 use Rattle.stmt_code.proofs.AssigningParts.{assigns_component, assigns_components}
 use Rattle.stmt_code.proofs.BranchesDo.{IsOne}
 use Rattle.stmt_code.proofs.MovingParts.{assigns_moved}
-use Rattle.stmt_code.proofs.PartsDo.{Does, IsFull, StatementLaws, does_coded}
+use Rattle.stmt_code.proofs.CoveredScopes.{IsFull}
+use Rattle.stmt_code.proofs.PartsDo.{Does, StatementLaws, does_coded}
 use Rattle.stmt_code.proofs.PartsStand.{coded_goes, coded_has}
 use Rattle.stmt_code.proofs.Stored.{assigned_fit, assigned_variable, whole_stands}
 use Rattle.stmt_code.proofs.StoredParts.{part_stands}

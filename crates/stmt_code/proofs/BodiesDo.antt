@@ -37,7 +37,8 @@ use Rattle.stmt_code.proofs.DeclarationsDo.{does_after}
 use Rattle.stmt_code.proofs.HandlersDo.{IsSequenceAt, does_sequence}
 use Rattle.stmt_code.proofs.Heads.{way_of}
 use Rattle.stmt_code.proofs.LoopsDo.{AllowsWay, does_way, leaving}
-use Rattle.stmt_code.proofs.PartsDo.{Does, IsFull, IsServed, StatementLaws}
+use Rattle.stmt_code.proofs.CoveredScopes.{IsFull}
+use Rattle.stmt_code.proofs.PartsDo.{Does, IsServed, StatementLaws}
 use Rattle.stmt_code.proofs.PartsStand.{HasPart, StandsBy}
 use Rattle.stmt_code.proofs.StatementsDo.{full_locals, handlers_do, locals_do, scope_locals, stmts_do}
 

@@ -1,6 +1,6 @@
 -- How much the code of a call is: of a procedure, of an entry, and of a line (RM 6.4, 9.5).
-use Rattle.std.proofs.Common.{◌≡◌, ◌≤◌, ℕ, suc, ◌+◌, ◌*◌, List, [], ◌∷◌, length, Bool, true, false, Option, None, Some, inl, inr, refl, sym, ap, ◌∙◌, subst, arith}
-use Rattle.ada_tree.specs.ExpressionTree.{ArgumentTree, ArgumentTrees, MoreArguments, MoreSelectors, NameTree, NoArguments, NoSelectors, SelectorTrees}
+use Rattle.std.proofs.Common.{◌≡◌, ◌≤◌, ℕ, ◌+◌, ◌*◌, List, length, Bool, true, false, Option, None, Some, inl, inr, refl, sym, ap, ◌∙◌, subst, arith}
+use Rattle.ada_tree.specs.ExpressionTree.{ArgumentTrees, MoreArguments, NameTree, NoArguments, NoSelectors, SelectorTrees}
 use Rattle.ada_tree.specs.Size.{argument_size, arguments_size, expr_size, selectors_size, stmt_size, total}
 use Rattle.ada_tree.specs.StatementTree.{Call}
 use Rattle.image.specs.Rules.{has_operands}
@@ -22,7 +22,7 @@ use Rattle.part_code.specs.Lines.{LabelledValue, line_of}
 use Rattle.part_code.specs.Needs as needs
 use Rattle.part_code.specs.Needs.{Needs, actuals_needs, bare_needs, behind_needs, both, call_needs, called_needs, copies_needs, destinations_of, line_needs, passed_needs, stacked, through_needs, value_needs}
 use Rattle.part_code.specs.PartCode.{actuals_code, actuals_height, actuals_targets, copies_code, given_words}
-use Rattle.part_code.specs.Passing.{ExternalName, actuals_behind, operation_behind}
+use Rattle.part_code.specs.Passing.{ExternalName, operation_behind}
 use Rattle.part_code.specs.Statements.{Ways}
 use Rattle.part_code.specs.Suiting.{SuitsStatements, passed_width}
 use Rattle.part_code.specs.declared.call.Destination.{Destination}
@@ -31,7 +31,7 @@ use Rattle.part_code.specs.step_soundness.proofs.Naming.{HasArguments, IsCall}
 use Rattle.part_code.proofs.ActualsWork.{ActualsWork}
 use Rattle.part_code.proofs.CopiesWork.{copies_work}
 use Rattle.part_code.proofs.PieceNeeds.{Keeps}
-use Rattle.part_code.proofs.Within.{Within, in_left, in_right, of_left, of_right, within_self}
+use Rattle.part_code.proofs.Within.{Within, in_left, in_right, of_right, within_self}
 use Rattle.expr_soundness.proofs.Positions.{same_some}
 use Rattle.stmt_code.specs.Drafting.{CodePart, coded, labelled, ◌▹◌}
 use Rattle.stmt_code.specs.Emitting.{IsAcceptedStatement, IsLegalStatement}
@@ -47,7 +47,7 @@ use Rattle.stmt_code.proofs.PartsDo.{StatementLaws}
 use Rattle.stmt_code.proofs.PartsFill.{Fills, fills_as, fills_both, fills_line, fills_more, fills_none}
 use Rattle.stmt_code.proofs.Putting.{line_faults, line_written, put_is}
 use Rattle.stmt_code.proofs.SimpleFills.{Spans, expr_spans, fills_spans, spans_fits, spans_more, spans_none, spans_one, spans_then}
-use Rattle.stmt_code.proofs.StatementsFill.{IsFull}
+use Rattle.stmt_code.proofs.CoveredScopes.{IsFull}
 
 -- ---- actual parameters are part of the name
 

@@ -1,9 +1,8 @@
--- Code of calls of procedures that was added: the actual parameters, CALL or PCALL, and what is copied back (RM 6.4, 6.4.1, 9.5.1).
-use Rattle.std.proofs.Common.{◌≡◌, ℕ, ◌+◌, List, [], ◌++◌, map, Bool, true, false, not, Some, None, Option, sym, ap, ◌∙◌, subst}
+-- What legality tells of calls of procedures, and of operations through the names of their objects (RM 6.4, 9.5.1).
+use Rattle.std.proofs.Common.{◌≡◌, ℕ, ◌+◌, [], ◌++◌, map, Bool, true, false, not, Some, None, Option, sym, ap, ◌∙◌, subst}
 use Rattle.base.specs.declared.faults.TheConstants.{NAME_NOT_VISIBLE}
-use Rattle.ada_tree.specs.declared.expression.Argument.{Argument}
 use Rattle.ada_tree.specs.declared.expression.Identifier.{Identifier}
-use Rattle.ada_tree.specs.ExpressionTree.{ArgumentTrees, Arguments, Attribute, Component, MoreSelectors, NameTree, NoArguments, NoSelectors, SelectorTrees, argument_trees}
+use Rattle.ada_tree.specs.ExpressionTree.{ArgumentTrees, Arguments, Attribute, Component, MoreSelectors, NameTree, NoArguments, NoSelectors, SelectorTrees}
 use Rattle.ada_tree.specs.StatementTree as statements
 use Rattle.types.specs.declared.standing.Callee.TheVariants as callee
 use Rattle.types.specs.declared.standing.Standing.{Standing}
@@ -20,13 +19,11 @@ use Rattle.expr_soundness.specs.meaning.specs.Programs.{Program, Procedure, obje
 use Rattle.part_code.specs.step_soundness.specs.Fitting as fitting
 use Rattle.part_code.specs.step_soundness.specs.Fitting.{formal_of}
 use Rattle.part_code.specs.step_soundness.proofs.Naming.{IsCall, called_with}
-use Rattle.expr_code.specs.Seeing.{NamesProfile, external_profile}
+use Rattle.expr_code.specs.Seeing.{NamesProfile}
 use Rattle.expr_code.specs.declared.visible.Visible.{Visible}
 use Rattle.stmt_code.specs.Emitting.{IsLegalStatement}
 use Rattle.part_code.specs.Passing.{actuals_behind, ExternalName, operation_behind}
-use Rattle.stmt_code.specs.declared.draft.Draft.{Draft}
 use Rattle.part_code.proofs.WrittenActuals.{same_some as same_trees}
-use Rattle.expr_code.proofs.Externals.{IsBehind, is_behind}
 
 -- ---- the form
 
@@ -95,9 +92,3 @@ pub operation_found : (program : Program) (x : Option Procedure) (is_entry : Boo
     → (q : Procedure) × (x ≡ Some q) × (map formal_of q.parameters ≡ profile.formals)
 operation_found program x true profile without h = (h.procedure, h.is, h.formals)
 operation_found program x false profile without h = let p = subst (fitting.IsCalled x profile) without h in (p.procedure, p.is, p.formals)
-
-module _ (v : Visible) (a : Draft) (name : NameTree) (operation : Identifier) (profile : Profile) (all : List Argument)
-    (behind : operation_behind name.selectors ≡ Some (record { operation = operation; arguments = argument_trees all }))
-    (told : external_profile v.scope name.first.name operation.name ≡ Some profile) where
-  abbrev pub there : IsBehind v.scope name.first.name operation.name profile
-  there = is_behind v.scope name.first.name operation.name profile told

@@ -67,7 +67,8 @@ use Rattle.stmt_code.proofs.CodeOfCalls.{is_invoked}
 use Rattle.stmt_code.proofs.EntryCalls as entries
 use Rattle.stmt_code.proofs.EntryCalls.{NamesEntry, called_alone, names_entry, test_changes, told_entry}
 use Rattle.stmt_code.proofs.LinesDo.{does_line}
-use Rattle.stmt_code.proofs.PartsDo.{Does, IsFull, StatementLaws, does_coded}
+use Rattle.stmt_code.proofs.CoveredScopes.{IsFull}
+use Rattle.stmt_code.proofs.PartsDo.{Does, StatementLaws, does_coded}
 use Rattle.stmt_code.proofs.PartsStand.{coded_goes, coded_has}
 use Rattle.stmt_code.proofs.Putting.{put_is}
 use Rattle.stmt_code.proofs.Suiting.{profile_sound}

@@ -16,7 +16,7 @@ use Rattle.types.specs.Entities.{Entity, Exception, Object, Profile}
 use Rattle.types.specs.Scopes.{Named, Scope, entity_at, entity_of, form_at, is_visible, number_of, with_name}
 use Rattle.types.specs.Standings.{stands_first, stands_for}
 use Rattle.expr_soundness.specs.expr_rules.proofs.TypedLaw.{unbroken}
-use Rattle.type_rules.specs.ObjectRules.{object_entity, role_of}
+use Rattle.type_rules.specs.ObjectRules.{local_object_faults, object_entity, role_of}
 use Rattle.type_rules.specs.SubtypeNames.{declared_twice, entity_at_or_none, subtype_of}
 use Rattle.declaration_rules.specs.BodyNames.{formal_role, formal_scope, formals_scope, loop_faults, loop_scope, parameter_entity, turns_subtype}
 use Rattle.part_code.specs.step_soundness.specs.Fitting.{entity_named}
@@ -25,6 +25,7 @@ use Rattle.expr_soundness.proofs.Growing.{form_before, grown, object_named, soun
 use Rattle.expr_soundness.proofs.Positions.{entity_added, item_added, number_added, number_kept, same_some}
 use Rattle.expr_soundness.proofs.Widening.{subtype_known}
 use Rattle.expr_code.specs.Entries.{entry_at}
+use Rattle.expr_code.specs.Pieces.{narrow}
 use Rattle.expr_code.specs.Providing.{is_scalar_form}
 use Rattle.expr_code.specs.Seeing.{external_profile, number_behind, object_named as protected_by_name, profile_behind, profile_named, told_of}
 use Rattle.expr_code.specs.declared.visible.Slot.{Slot}
@@ -36,9 +37,11 @@ use Rattle.part_code.specs.Formals.{no_subprogram, slot_for}
 use Rattle.part_code.specs.Needs.{local_visible, with_object}
 use Rattle.part_code.specs.Providing.{HasWhatCodeNeeds, is_full}
 use Rattle.part_code.proofs.OperationNames.{told_object, told_without}
+use Rattle.stmt_code.specs.StatementCode.{Site, after_local}
 use Rattle.stmt_code.specs.Subprograms.{AreLegalFormals}
 use Rattle.stmt_code.specs.WholeRefusals.{formals_visible, from_behind, out_behind, placed_as, placed_formals, placed_if}
 use Rattle.stmt_code.proofs.Bounded.{parameter_hidden, range_type, subtype_in}
+use Rattle.stmt_code.proofs.Declared.{local_subtype, object_new}
 use Rattle.stmt_code.proofs.FormalNames.{AreNamed, IsBehind, formal_known, formals_named, named_there, one_behind, visible_there}
 use Rattle.stmt_code.proofs.ObjectMore.{behind_before, callee_before, constant_or_variable, named_before, scalar_kept}
 
@@ -253,6 +256,20 @@ module _ (exceptions : List (List ℕ)) (v : Visible) (sound : SoundScope v.scop
         (sym found.typed)
         (covered_with exceptions v.operations s v.slots v.subprograms whole parameter.name role.LoopParameter (subtype_in s range found) here refl
         found.integers (parameter_hidden s parameter range h))
+
+-- ---- sites
+
+-- what is visible at the site has what its code needs
+abbrev pub IsFull : Site → Type 0
+IsFull c = IsCovered c.exceptions c.visible
+
+-- and so has what is visible after a declaration
+pub full_local : (c : Site) (d : ObjectTree) → IsFull c → local_object_faults c.visible.scope d ≡ [] → IsFull (after_local c (LocalObject d))
+full_local c d full legal = by_subtype (subtype_of c.visible.scope d.subtype) refl
+  where
+    by_subtype : (o : Option Subtype) → subtype_of c.visible.scope d.subtype ≡ o → IsFull (after_local c (LocalObject d))
+    by_subtype (Some t) is = whole_local c.exceptions c.visible full.sound full.entries full.has (narrow c.taken) d t is (object_new c.visible.scope d legal)
+    by_subtype None is = absurd (local_subtype c.visible.scope full.sound d legal is)
 
 -- ---- formals
 

@@ -1,4 +1,4 @@
--- Code of declarations that was added: the initial value of an object of one word, its store, and what is visible behind it; and one declaration behind another.
+-- What legality tells of objects that are declared in bodies: their subtype, their name, which is new, and their initial value, which fits.
 use Rattle.std.proofs.Common.{◌≡◌, ℕ, ◌+◌, [], ◌++◌, Option, Some, None, refl, sym, ap, ◌∙◌}
 use Rattle.ada_tree.specs.ExpressionTree.{ExprTree}
 use Rattle.ada_tree.specs.StatementTree.{ObjectTree}

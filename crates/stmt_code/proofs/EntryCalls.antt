@@ -1,10 +1,8 @@
--- Code of calls of entries that was added: through the name of their object, and in a body of it (RM 9.5.1, 9.5.3).
-use Rattle.std.proofs.Common.{◌≡◌, ℕ, inl, inr, List, [], map, Bool, true, false, ◌&&◌, Some, None, Option, refl, sym, ap, ◌∙◌, arith}
+-- Which entries are called: behind the names of their objects, and in a body of their own object (RM 9.5.1, 9.5.3).
+use Rattle.std.proofs.Common.{◌≡◌, ℕ, inl, inr, List, [], Bool, true, false, ◌&&◌, Some, None, Option, refl, sym, ap, ◌∙◌, arith}
 use Rattle.std.specs.Prelude.{if◌then◌else◌, nat_lt, slice_get}
-use Rattle.kernel.specs.Laws.{QuietStays}
-use Rattle.ada_tree.specs.declared.expression.Argument.{Argument}
 use Rattle.ada_tree.specs.declared.expression.Identifier.{Identifier}
-use Rattle.ada_tree.specs.ExpressionTree.{ArgumentTrees, MoreArguments, NameTree, NoArguments, SelectorTrees, Text, Value, argument_tree, argument_trees}
+use Rattle.ada_tree.specs.ExpressionTree.{ArgumentTrees, MoreArguments, NameTree, NoArguments, SelectorTrees, Text, Value}
 use Rattle.ada_tree.specs.StatementTree as statements
 use Rattle.image.specs.declared.instruction.Operation.TheVariants as op
 use Rattle.types.specs.declared.entity.FormalParameter.{FormalParameter}
@@ -23,23 +21,15 @@ use Rattle.expr_soundness.specs.meaning.specs.Programs.{Program}
 use Rattle.type_rules.specs.SubtypeNames.{entity_at_or_none}
 use Rattle.part_code.specs.step_soundness.specs.Fitting.{entity_named}
 use Rattle.part_code.specs.step_soundness.proofs.Naming.{HasArguments, IsCall, called_with}
-use Rattle.expr_code.specs.Code.{Adds}
-use Rattle.expr_code.specs.Seeing.{external_profile, operation_place}
-use Rattle.expr_code.specs.declared.code.Code.{Code}
+use Rattle.expr_code.specs.Seeing.{operation_place}
 use Rattle.expr_code.specs.declared.visible.Visible.{Visible}
-use Rattle.expr_code.proofs.Externals.{IsBehind}
 use Rattle.expr_code.proofs.Flowing.{Changes}
-use Rattle.part_code.specs.EntryNames.{entry_among, entry_behind, is_entry_at, is_entry_operation, is_own_entry}
+use Rattle.part_code.specs.EntryNames.{entry_among, is_entry_at, is_entry_operation, is_own_entry}
 use Rattle.part_code.specs.Lines.{line_behind, line_in}
-use Rattle.part_code.specs.Passing.{operation_behind}
-use Rattle.part_code.specs.Statements.{Ways}
 use Rattle.part_code.specs.Suiting.{SuitsStatements}
 use Rattle.part_code.proofs.CallsShallow.{label_illegal}
-use Rattle.part_code.proofs.OperationNames.{protected_named}
-use Rattle.stmt_code.specs.Emitting.{AddsInvocation, IsLegalStatement}
-use Rattle.stmt_code.specs.declared.draft.Draft.{Draft}
-use Rattle.stmt_code.proofs.Adding.{IsBeside}
-use Rattle.stmt_code.proofs.CallsAdded.{selectors_legal, there, whole_called}
+use Rattle.stmt_code.specs.Emitting.{IsLegalStatement}
+use Rattle.stmt_code.proofs.CallsAdded.{selectors_legal, whole_called}
 
 -- ---- the test that no action is open
 
@@ -65,20 +55,6 @@ told_entry o operation place x n placed found told =
     by_test : (a b : Bool) → (if a && b then Some o.number else None) ≡ Some n → a ≡ true
     by_test true b e = refl
     by_test false b e = cc
-
-module _ (quiet : QuietStays) (v : Visible) (w : Ways) (a c : Draft) (b : Code) (name : NameTree) (operation : Identifier) (profile : Profile) (number : ℕ)
-    (entered : entry_behind v.scope name.first.name operation.name ≡ Some number) (all : List Argument)
-    (behind : operation_behind name.selectors ≡ Some (record { operation = operation; arguments = argument_trees all }))
-    (told : external_profile v.scope name.first.name operation.name ≡ Some profile) (test : Adds a.code 0 op.CheckBlocking b)
-    (r : AddsInvocation v b profile.formals (map argument_tree all) (op.EntryCall number) c.code) (beside : IsBeside a c) where
-  abbrev at : IsBehind v.scope name.first.name operation.name profile
-  at = there v a name operation profile all behind told
-
-  is_entry : at.entry.is_entry ≡ true
-  is_entry =
-      told_entry at.protected operation.name at.place at.entry number at.placed at.found
-      (ap (λ o. entry_among o operation.name)
-      (sym (protected_named name.first.name at.protected v.scope (record { number = at.number; numbered = at.numbered; stands = at.stands }))) ∙ entered)
 
 -- ---- an entry of the body's own object
 

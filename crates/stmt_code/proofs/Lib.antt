@@ -54,7 +54,6 @@ mod StatementExamples
 mod PartsAdded
 mod ObjectsMade
 mod AssignmentsMade
-mod ReturnsMade
 mod ChoicesMade
 mod LoopsMade
 mod BranchesMade

@@ -40,7 +40,8 @@ use Rattle.stmt_code.proofs.AddedRows.{rows_none}
 use Rattle.stmt_code.proofs.Adding.{wanted_legal}
 use Rattle.stmt_code.proofs.BranchesDo.{IsOne, one_word_works, works_leads}
 use Rattle.stmt_code.proofs.Labelled.{label_longer, label_stays}
-use Rattle.stmt_code.proofs.PartsDo.{Does, Flows, IsFull, IsServed, StatementLaws, flows_coded, flows_then}
+use Rattle.stmt_code.proofs.CoveredScopes.{IsFull}
+use Rattle.stmt_code.proofs.PartsDo.{Does, Flows, IsServed, StatementLaws, flows_coded, flows_then}
 use Rattle.stmt_code.proofs.PartsStand.{HasPart, IsTidy, both_stand_by, coded_has, end_of, tidy_coded, tidy_then}
 use Rattle.stmt_code.proofs.Putting.{line_faults, line_wide, line_written}
 

@@ -71,9 +71,6 @@ use Rattle.expr_soundness.proofs.Lies.{results_lie}
 -- the words of a value, from an address in one region to another one
 module _ (quiet : QuietStays) (i : Sections) (mid size low high : ℕ) (source : Region) (base : List ℤ) (schedule : List ScheduleLine) (k : Kernel) (t : ℕ)
     (m : Words) (f : Frame) (fs : List Frame) (x : Value) (many : size ≡ length (value_words x)) (lies : Lies (region_words i source m f) low x) where
-  next : mid + 1 ≡ suc mid
-  next = omega arith
-
   reads : (target : Region) → At i mid (op.Copy target source size)
       → act i schedule k t (in_frame m (placed f mid (pos low ∷ pos high ∷ base)) fs)
       ≡ copied i schedule k t m (placed f mid (pos low ∷ pos high ∷ base)) fs target (pos high) (Some (value_words x)) base

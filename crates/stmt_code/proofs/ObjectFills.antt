@@ -1,6 +1,6 @@
 -- How much the code of the declaration of an object is (RM 3.3.1).
-use Rattle.std.proofs.Common.{◌≡◌, ◌≤◌, ◌<◌, ℕ, ℤ, zero, suc, ◌+◌, ◌*◌, List, [], ◌∷◌, length, max, pos, Bool, true, false, cond, ◌||◌, Option, None, Some, inl, inr, refl, sym, ap, ◌∙◌, subst, arith, rules}
-use Rattle.std.specs.Prelude.{◌&&◌, ◌⊎◌, nat_eq, nat_le, not}
+use Rattle.std.proofs.Common.{◌≡◌, ◌≤◌, ℕ, ℤ, zero, suc, ◌+◌, ◌*◌, List, [], ◌∷◌, length, pos, Bool, true, false, cond, Option, None, Some, refl, ap, ◌∙◌, subst, arith, rules}
+use Rattle.std.specs.Prelude.{◌&&◌, nat_eq, nat_le, not}
 use Rattle.base.specs.declared.limits.TheConstants.{FRAME_WORDS, WORDS}
 use Rattle.ada_tree.specs.ExpressionTree.{ExprTree}
 use Rattle.ada_tree.specs.Size.{declaration_size, expr_size, size_if_any}
@@ -26,23 +26,23 @@ use Rattle.part_code.specs.Bounds.{words_if_any}
 use Rattle.std.proofs.lemmas.Bool.{or_left, or_right}
 use Rattle.part_code.specs.Emitting.{FitsIfAny, first_word}
 use Rattle.part_code.specs.Needs as needs
-use Rattle.part_code.specs.Needs.{Needs, both, framed, has_unfit, in_needs, initial_needs, object_needs, stacked}
-use Rattle.part_code.specs.ObjectCode.{block_code, first_value, first_words, object_code, within_frame, word_pushed, words_pushed}
+use Rattle.part_code.specs.Needs.{Needs, both, framed, has_unfit, in_needs, initial_needs, object_needs}
+use Rattle.part_code.specs.ObjectCode.{block_code, first_value, first_words, object_code, word_pushed, words_pushed}
 use Rattle.part_code.specs.PartCode.{fitting_code, words_in}
 use Rattle.part_code.proofs.CoveredObjects.{known_taken}
 use Rattle.part_code.proofs.FittingWorks.{checked_works, fitting_works}
 use Rattle.part_code.proofs.FullWords.{some_words}
 use Rattle.part_code.proofs.PieceNeeds.{Laws}
-use Rattle.part_code.proofs.Within.{Within, in_left, in_right, unfit_there, within_self}
+use Rattle.part_code.proofs.Within.{in_left, in_right, unfit_there, within_self}
 use Rattle.types.specs.Laws.{InitialValuesHaveShape}
-use Rattle.stmt_code.specs.Drafting.{CodePart, coded, takes, ◌▹◌}
+use Rattle.stmt_code.specs.Drafting.{coded, takes, ◌▹◌}
 use Rattle.stmt_code.specs.StatementCode.{Site, local_object}
 use Rattle.stmt_code.proofs.AssignmentFills.{block_or}
 use Rattle.stmt_code.proofs.Declared.{initial_fit}
 use Rattle.stmt_code.proofs.FirstWords.{words_first}
 use Rattle.stmt_code.proofs.PartsFill.{Fills, fills_both, fills_more, fills_none, fills_takes}
 use Rattle.stmt_code.proofs.SimpleFills.{Spans, fills_spans, spans_fits, spans_load, spans_more, spans_none, spans_one, spans_then}
-use Rattle.stmt_code.proofs.StatementsFill.{IsFull}
+use Rattle.stmt_code.proofs.CoveredScopes.{IsFull}
 
 -- words that are put on the operand stack one by one
 words_spans : (U : Type 0) (h d : ℕ) (ws : List ℤ) → d + length ws ≤ h → Spans U (length ws) h (words_pushed d ws)

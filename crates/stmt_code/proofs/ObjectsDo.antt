@@ -53,7 +53,8 @@ use Rattle.stmt_code.proofs.Declared.{initial_fit, local_subtype}
 use Rattle.stmt_code.proofs.DeclarationsDo.{DoesDeclare}
 use Rattle.stmt_code.proofs.FirstWords.{words_first}
 use Rattle.stmt_code.proofs.LocalNames.{known, later, narrows, role, serves_later, slot, spares, subtype_there, suits_later, widens}
-use Rattle.stmt_code.proofs.PartsDo.{IsFull, IsServed, StatementLaws}
+use Rattle.stmt_code.proofs.CoveredScopes.{IsFull}
+use Rattle.stmt_code.proofs.PartsDo.{IsServed, StatementLaws}
 use Rattle.stmt_code.proofs.PartsStand.{coded_has, tidy_coded, tidy_takes, tidy_then, words_have, words_kept_in}
 use Rattle.stmt_code.proofs.TurnsDo.{one_before}
 

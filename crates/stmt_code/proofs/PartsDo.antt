@@ -31,7 +31,6 @@ use Rattle.stmt_code.specs.Drafting.{CodePart, Start, after, coded, marked, skip
 use Rattle.stmt_code.specs.Emitting.{Allows, Meant, Serves, TellPlaces}
 use Rattle.stmt_code.specs.Placing.{stmt_place, stmt_within}
 use Rattle.stmt_code.specs.StatementCode.{Site}
-use Rattle.stmt_code.proofs.CoveredScopes.{IsCovered}
 use Rattle.stmt_code.proofs.PartsStand.{IsTidy, KeepsLabels, KeptIn, StandsBy, both_kept_in, both_stand_by, coded_has, end_of, grows_skipping, inside, marked_by, marked_in, skip_end_in, skip_kept_in, tidy_coded, tidy_marked, tidy_then}
 use Rattle.stmt_code.proofs.PlacesAdded.{tells_then}
 
@@ -49,10 +48,6 @@ pub record StatementLaws : Type 0 where
   pub around : RowsAround
 
 -- ---- where code of a site runs
-
--- what is visible at the site has what its code needs
-abbrev pub IsFull : Site → Type 0
-IsFull c = IsCovered c.exceptions c.visible
 
 -- The frame serves the names that are visible at the site, in a program with its exceptions, each of which is found by its name.
 pub record IsServed (program : Program) (g : Package) (numbers : Numbers) (f : Framed) (c : Site) : Type 0 where

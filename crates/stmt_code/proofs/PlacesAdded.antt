@@ -1,16 +1,14 @@
 -- Rows of places that are added with code: how they lie where parts stand one behind the other, and of which statements they tell.
-use Rattle.std.proofs.Common.{◌≡◌, ℕ, zero, suc, ◌≤◌, inl, inr, List, [], ◌∷◌, ◌++◌, All, Some, refl, ap, sym, ◌∙◌, subst, arith}
+use Rattle.std.proofs.Common.{◌≡◌, ℕ, zero, suc, ◌≤◌, inl, inr, List, [], ◌∷◌, ◌++◌, All, Some, refl, subst, arith}
 use Rattle.std.specs.Prelude.{slice_get}
-use Rattle.std.proofs.lemmas.List.{append_assoc}
 use Rattle.std.proofs.lemmas.List.Elements.{All-append, All-cons, All-head, All-nil, All-tail, All-weaker}
-use Rattle.ada_tree.specs.ExpressionTree.{ExprTree}
-use Rattle.ada_tree.specs.StatementTree.{StmtTree, StmtTrees, elsifs_of}
+use Rattle.ada_tree.specs.StatementTree.{StmtTree}
 use Rattle.image.specs.Sections.{Sections}
 use Rattle.expr_soundness.specs.meaning.specs.Programs.{Program}
 use Rattle.expr_code.specs.Seeing.{Package}
 use Rattle.part_code.specs.Statements.{Numbers}
 use Rattle.stmt_code.specs.Emitting.{TellPlaces, TellsPlace}
-use Rattle.stmt_code.specs.Placing.{AreInnermostFirst, IsInnerOrBefore, StandsBetween, elsifs_within, stmts_within}
+use Rattle.stmt_code.specs.Placing.{AreInnermostFirst, IsInnerOrBefore, StandsBetween}
 use Rattle.stmt_code.specs.declared.tables.PlaceRow.{PlaceRow}
 
 -- ---- how they lie
@@ -67,8 +65,3 @@ told_row i program g numbers [] (x ∷ xs) p n q e = absurd p
 told_row i program g numbers (r ∷ rows) [] p n q e = absurd p
 told_row i program g numbers (r ∷ rows) (x ∷ xs) p zero q e = (x, refl, subst (λ z. TellsPlace i program g numbers z x) (some_same r q e) p.0)
 told_row i program g numbers (r ∷ rows) (x ∷ xs) p (suc n) q e = told_row i program g numbers rows xs p.1 n q e
-
-pub elsifs_joined : (xs ys : List (ExprTree × StmtTrees)) → elsifs_within (elsifs_of (xs ++ ys)) ≡ elsifs_within (elsifs_of xs) ++ elsifs_within (elsifs_of ys)
-elsifs_joined [] ys = refl
-elsifs_joined (x ∷ xs) ys =
-    ap (λ l. stmts_within x.1 ++ l) (elsifs_joined xs ys) ∙ sym (append_assoc (stmts_within x.1) (elsifs_within (elsifs_of xs)) (elsifs_within (elsifs_of ys)))

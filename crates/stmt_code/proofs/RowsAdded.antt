@@ -1,28 +1,21 @@
 -- Rows that are added with code, of handlers and of places: none, those of parts one behind the other, and those of a part in code around it; and what of
 -- them each part sees.
-use Rattle.std.proofs.Common.{◌≡◌, ◌≢◌, ℕ, ◌≤◌, List, [], ◌∷◌, ◌++◌, All, Bool, true, false, Some, length, refl, sym, ap, ◌∙◌, subst, arith, rules}
-use Rattle.std.specs.Prelude.{◌&&◌, ◌||◌, nat_eq, nat_le, slice_get}
+use Rattle.std.proofs.Common.{◌≡◌, ℕ, ◌≤◌, List, [], ◌∷◌, ◌++◌, All, Bool, true, false, length, refl, sym, ap, ◌∙◌, subst, arith, rules}
+use Rattle.std.specs.Prelude.{◌&&◌, ◌||◌, nat_le}
 use Rattle.std.specs.List.{list_all}
 use Rattle.std.proofs.lemmas.List.{append-nil, append_assoc}
 use Rattle.std.proofs.lemmas.List.Elements.{All-append, All-cons, All-head, All-nil, All-tail, All-weaker}
 use Rattle.std.proofs.lemmas.List.Folds.{list_all-append}
 use Rattle.handlers.specs.Nesting.{all_nested, are_nested}
 use Rattle.handlers.specs.declared.rows.Row.{Row}
-use Rattle.image.specs.Sections.{Sections}
-use Rattle.image.specs.declared.instruction.Instr.{Instr}
-use Rattle.image.specs.declared.instruction.Operation.{Operation}
-use Rattle.expr_soundness.specs.meaning.specs.Programs.{Program}
-use Rattle.expr_code.specs.Code.{Extends, Patches, here}
+use Rattle.expr_code.specs.Code.{Extends, here}
 use Rattle.expr_code.specs.declared.code.Code.{Code}
-use Rattle.expr_code.proofs.Growing.{patched_other, patched_there}
-use Rattle.stmt_code.specs.Emitting.{AddsRows, FindsException, IsHandled}
-use Rattle.part_code.specs.Handling.{Handling}
+use Rattle.stmt_code.specs.Emitting.{AddsRows, FindsException}
 use Rattle.part_code.specs.Rows.{LiesWithin}
 use Rattle.stmt_code.specs.declared.draft.Draft.{Draft}
 use Rattle.stmt_code.specs.Placing.{StandsBetween}
 use Rattle.stmt_code.specs.declared.tables.PlaceRow.{PlaceRow}
 use Rattle.stmt_code.proofs.PlacesAdded.{innermost_around, innermost_then, wider_places}
-use Rattle.stmt_code.proofs.AddedRows.{rows_first, rows_second}
 
 -- ---- instructions that find the exception
 
@@ -32,33 +25,6 @@ StillFinds old new = (place : ℕ) → FindsException old place → FindsExcepti
 
 pub finds_later : (old new : Code) → Extends old new → StillFinds old new
 finds_later old new e = λ place h. record { operation = h.operation; there = e.instructions place _ (omega arith) h.there }
-
-pub finds_patched : (old new : Code) (at : ℕ) (o : Operation) → Patches old at o new → StillFinds old new
-finds_patched old new at o p = λ place h. by place h (nat_eq at place) refl
-  where
-    same_nat : (a b : ℕ) → nat_eq a b ≡ true → a ≡ b
-    same_nat a b e = search rules
-
-    equal_nat : (a b : ℕ) → b ≡ a → nat_eq a b ≡ true
-    equal_nat a b same = search rules
-
-    other_nat : (a b : ℕ) → nat_eq a b ≡ false → b ≢ a
-    other_nat a b e = λ same. absurd (let t : nat_eq a b ≡ true = equal_nat a b same in cc)
-
-    some_same : (x y : Instr) → Some x ≡ Some y → x ≡ y
-    some_same x y e = cc
-
-    by : (place : ℕ) (h : FindsException old place) (t : Bool) → nat_eq at place ≡ t → FindsException new place
-    by place h true e =
-        let same : at ≡ place = same_nat at place e in
-        let before : p.before ≡ record { depth = 1; operation = h.operation } =
-        some_same p.before (record { depth = 1; operation = h.operation }) (sym p.there ∙ ap (slice_get old.instructions.items) same ∙ h.there) in
-        record {
-          operation = o;
-          there = ap (slice_get new.instructions.items) (sym same) ∙ patched_there old new at o p
-              ∙ ap (λ y. Some (record { depth = y.depth; operation = o })) before;
-        }
-    by place h false e = record { operation = h.operation; there = patched_other old new at o p place (other_nat at place e) ∙ h.there }
 
 -- ---- none
 
@@ -172,21 +138,6 @@ module _ (a b c : Draft) (p : AddsRows a b) (q : AddsRows b c) (up : here a.code
         (wider_places (here b.code) (here c.code) (here a.code) (here c.code) q.placed up (omega arith) q.between);
     innermost = innermost_then (here a.code) (here b.code) (here c.code) p.placed q.placed p.between q.between p.innermost q.innermost;
   }
-
-  module _ (i : Sections) (program : Program) (r : Handling) (h : IsHandled i program a c rows_then r) where
-    pub handled_first : IsHandled i program a b p r
-    handled_first = record {
-      exceptions = h.exceptions;
-      named = h.named;
-      goes = rows_first i r p.added q.added (here a.code) (here b.code) (here c.code) over behind_first h.goes;
-    }
-
-    pub handled_second : IsHandled i program b c q r
-    handled_second = record {
-      exceptions = h.exceptions ∙ ap (λ e. e.items) (sym p.exceptions);
-      named = h.named;
-      goes = rows_second i r p.added q.added (here a.code) (here b.code) (here c.code) up before_second h.goes;
-    }
 
 -- ---- of a part in code around it that adds none
 

@@ -1,15 +1,11 @@
 -- Code of a body that was put together and joined to that of a program: what was added, how much it is, and which limit it may have passed.
-use Rattle.std.proofs.Common.{◌≡◌, ◌≤◌, ◌<◌, ℕ, ◌+◌, List, [], ◌∷◌, ◌++◌, All, length, max, true, false, Some, inl, inr, refl, sym, ap, ◌∙◌, subst, arith, length-append}
-use Rattle.std.specs.Prelude.{slice_get, ◌⊎◌}
+use Rattle.std.proofs.Common.{◌≡◌, ◌≤◌, ℕ, ◌+◌, All, length, max, true, inl, inr, refl, sym, ap, ◌∙◌, subst, arith, length-append}
+use Rattle.std.specs.Prelude.{slice_get}
 use Rattle.std.proofs.lemmas.List.Elements.{All-weaker}
-use Rattle.base.specs.declared.limits.TheConstants.{FRAME_WORDS, INSTRUCTIONS, LABELS}
 use Rattle.handlers.specs.declared.rows.Row.{Row}
 use Rattle.ada_tree.specs.ProgramTree.{BodyTree}
-use Rattle.image.specs.declared.instruction.Instr.{Instr}
-use Rattle.expr_soundness.specs.SoundScopes.{SoundScope}
 use Rattle.expr_code.specs.Appending.{Misfits, PassesLimit}
-use Rattle.expr_code.specs.Code.{IsShallow, here}
-use Rattle.expr_code.specs.Pieces.{deepest_of}
+use Rattle.expr_code.specs.Code.{here}
 use Rattle.expr_code.specs.declared.refusal.ImageLimit.{ImageLimit}
 use Rattle.expr_code.specs.declared.refusal.ImageLimit.TheVariants as limits
 use Rattle.expr_code.specs.declared.refusal.Refusal.{Refusal}
@@ -20,15 +16,14 @@ use Rattle.part_code.specs.Bounds.{run_bound}
 use Rattle.part_code.specs.Labels.{handlers_labels, stmts_labels}
 use Rattle.part_code.specs.Needs.{HasManyLabels, IsNeeding, Needs}
 use Rattle.part_code.specs.Rows.{LiesWithin, handlers_rows, stmts_rows}
-use Rattle.stmt_code.specs.Drafting.{CodePart, Drafted, Sketched, Start, adds}
-use Rattle.stmt_code.specs.Emitting.{AddsRows, FindsException, no_ways}
+use Rattle.stmt_code.specs.Drafting.{CodePart, Drafted, Start, adds}
+use Rattle.stmt_code.specs.Emitting.{AddsRows, FindsException}
 use Rattle.stmt_code.specs.Joining.{HasWideFrame, IsJoined, Overflows, begun_from}
 use Rattle.stmt_code.specs.Placing.{StandsBetween}
 use Rattle.stmt_code.specs.Refusing.{RefusesRun, run_needs}
 use Rattle.stmt_code.specs.StatementCode.{run_code}
 use Rattle.stmt_code.specs.Staying.{StaysRun}
 use Rattle.stmt_code.specs.declared.draft.Draft.{Draft}
-use Rattle.stmt_code.specs.declared.tables.PlaceRow.{PlaceRow}
 use Rattle.stmt_code.proofs.BodiesDo.{AddsRun, run_of, site_of, start_of}
 use Rattle.stmt_code.proofs.PartsFill.{Fills}
 use Rattle.stmt_code.proofs.RowsKept.{Finds, KeepsRows, get_back}

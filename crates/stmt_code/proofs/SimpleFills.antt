@@ -1,10 +1,9 @@
 -- How much the code of simple statements and of parts of others is: lines, ways out, exceptions, delays, choices, turns of loops and initial values.
-use Rattle.std.proofs.Common.{◌≡◌, ℕ, ℤ, zero, suc, ◌+◌, ◌*◌, ◌≤◌, ◌<◌, List, [], ◌∷◌, length, max, Bool, true, false, cond, Option, None, Some, inl, inr, refl, sym, ap, ◌∙◌, subst, arith, length-append, rules}
+use Rattle.std.proofs.Common.{◌≡◌, ℕ, ℤ, suc, ◌+◌, ◌*◌, ◌≤◌, List, [], ◌∷◌, length, max, Bool, true, false, Option, None, Some, inl, refl, sym, subst, arith, length-append}
 use Rattle.std.specs.Prelude.{◌||◌, ◌⊎◌, not, pos}
 use Rattle.ada_tree.specs.declared.expression.Identifier.{Identifier}
 use Rattle.ada_tree.specs.ExpressionTree.{ExprTree}
-use Rattle.ada_tree.specs.Size.{expr_size, size_if_any, total}
-use Rattle.ada_tree.specs.StatementTree.{RangeTree}
+use Rattle.ada_tree.specs.Size.{expr_size}
 use Rattle.image.specs.Rules.{has_operands}
 use Rattle.image.specs.declared.instruction.Operation.{Operation}
 use Rattle.image.specs.declared.instruction.Operation.TheVariants as op
@@ -18,21 +17,18 @@ use Rattle.expr_code.specs.Providing.{HasWhatExpressionsNeed}
 use Rattle.expr_code.specs.Refusing.{peak}
 use Rattle.expr_code.specs.Widths.{width_of}
 use Rattle.expr_code.specs.declared.visible.Visible.{Visible}
-use Rattle.expr_code.proofs.ExpressionWorks.{Works}
 use Rattle.expr_code.proofs.NamesWork.{all_work}
 use Rattle.expr_code.proofs.Pieces.{deepest_append}
 use Rattle.expr_code.proofs.StandingPieces.{FitOr, FitsOr, Suiting, narrow_low}
-use Rattle.part_code.specs.Lines.{LabelledValue}
-use Rattle.part_code.specs.Needs.{Needs, has_unfit, line_needs, needs_above, value_needs}
+use Rattle.part_code.specs.Needs.{Needs, has_unfit}
 use Rattle.part_code.specs.Raising.{number_among, pushed}
 use Rattle.part_code.specs.Turns.{next_operation, word_of_first, word_of_last}
 use Rattle.part_code.specs.declared.turns.Turns.{Turns}
 use Rattle.part_code.proofs.PieceNeeds.{Laws}
 use Rattle.part_code.proofs.Within.{unfit_there}
-use Rattle.stmt_code.specs.Drafting.{coded, labelled, ◌▹◌}
-use Rattle.stmt_code.specs.SimpleCode.{bounds_code, choice_word, choices_code, delay_code, exit_code, jump_code, last_code, leaving_code, next_code, null_code, raise_code, raising, test_code, tests_code}
-use Rattle.stmt_code.specs.StatementCode.{line_code}
-use Rattle.stmt_code.proofs.PartsFill.{Fills, both_fit, fills_both, fills_line, fills_none, max_most, none_more, weaker_fit}
+use Rattle.stmt_code.specs.Drafting.{coded}
+use Rattle.stmt_code.specs.SimpleCode.{choice_word, choices_code, jump_code, last_code, leaving_code, next_code, null_code, raise_code, raising, test_code, tests_code}
+use Rattle.stmt_code.proofs.PartsFill.{Fills, both_fit, max_most, none_more, weaker_fit}
 
 -- ---- pieces
 

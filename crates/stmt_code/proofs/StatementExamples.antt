@@ -20,7 +20,7 @@ use Rattle.expr_code.specs.Pieces.{narrow, nothing, one, over}
 use Rattle.expr_code.specs.declared.visible.Slot.{Slot}
 use Rattle.stmt_code.specs.Drafting.{begun, coded, handles, labelled, marked, skipping, takes, ◌▹◌}
 use Rattle.stmt_code.specs.SimpleCode.{choices_code}
-use Rattle.stmt_code.specs.StatementCode.{Site, procedure_code}
+use Rattle.stmt_code.specs.StatementCode.{Site, run_code}
 use Rattle.stmt_code.specs.declared.tables.PlaceRow.{PlaceRow}
 
 -- ---- what is visible: `type Row is array (1 .. 3) of Integer; A : Row; B : Row; N : Integer;`
@@ -147,12 +147,12 @@ instructions =
     (op.Push (pos 1) at 1) ∷ (op.Add at 2) ∷ (op.StoreLocal 4 at 1) ∷ (op.Jump 64 at 0) ∷ (op.Push (pos 1) at 0) ∷
     (op.StoreLocal 0 at 1) ∷ (op.Jump 86 at 0) ∷ (op.StoreLocal 4 at 1) ∷ (op.Push (pos 2) at 0) ∷ (op.StoreLocal 0 at 1) ∷
     (op.Jump 86 at 0) ∷ (op.StoreLocal 4 at 1) ∷ (op.LoadLocal 4 at 0) ∷ (op.Raise at 1) ∷ (op.Jump 86 at 0) ∷
-    (op.Jump 8 at 0) ∷ (op.Return at 0) ∷ []
+    (op.Jump 8 at 0) ∷ []
 
 abbrev stands : (first behind place : ℕ) → PlaceRow
 stands first behind place = record { first = first; behind = behind; place = place }
 
-pub whole : procedure_code site [] body (record { place = 0; labels = [] }) ≡ record {
+pub whole : run_code site body (record { place = 0; labels = [] }) ≡ record {
   code = instructions;
   rows = record { start = 75; end_ = 78; exception = 1; target = 78 } ∷ record { start = 75; end_ = 78; exception = 0; target = 82 } ∷ [];
   places =

@@ -1,5 +1,5 @@
 -- The rows that statements and bodies add, of handlers and of places: one induction over the forms.
-use Rattle.std.proofs.Common.{◌≡◌, ℕ, ◌+◌, ◌≤◌, List, [], ◌∷◌, ◌++◌, All, Bool, true, false, Option, None, Some, length, refl, sym, ap, ◌∙◌, subst, arith}
+use Rattle.std.proofs.Common.{◌≡◌, ℕ, ◌+◌, ◌≤◌, List, [], ◌∷◌, ◌++◌, All, Bool, true, false, Option, None, Some, length, refl, sym, subst, arith}
 use Rattle.std.specs.Prelude.{◌||◌}
 use Rattle.std.proofs.lemmas.List.Elements.{All-cons, All-nil}
 use Rattle.ada_tree.specs.declared.statement.ExceptionChoice.{ExceptionChoice}
@@ -14,7 +14,7 @@ use Rattle.image.specs.declared.instruction.Operation.TheVariants as op
 use Rattle.part_code.specs.ChoiceRows.{choice_rows, row_for}
 use Rattle.part_code.specs.Lines.{LabelledValue, line_of}
 use Rattle.part_code.specs.Raising.{choice_number}
-use Rattle.part_code.specs.Statements.{Ways, with_exit}
+use Rattle.part_code.specs.Statements.{with_exit}
 use Rattle.type_rules.specs.SubtypeNames.{subtype_of}
 use Rattle.types.specs.declared.entity.Subtype.{Subtype}
 use Rattle.types.specs.Scopes.{Scope}

@@ -3,13 +3,10 @@ use Rattle.std.proofs.Common.{◌≡◌, ℕ, List, [], ◌∷◌, ◌++◌, tru
 use Rattle.std.specs.Prelude.{is_some, not}
 use Rattle.base.specs.declared.faults.TheConstants.{MISPLACED_STATEMENT}
 use Rattle.ada_tree.specs.ExpressionTree.{ExprTree}
-use Rattle.ada_tree.specs.StatementTree.{Abort, Accept, AlternativeTrees, Assignment, Block, Call, Case, DeclarationTree, Delay, DelayUntil, ElsifTrees, Exit, For, Forever, HandlerTrees, If, LocalObject, LocalProtected, LocalTask, Loop, MoreAlternatives, MoreElsifs, MoreHandlers, MoreStmts, NoAlternatives, NoElsifs, NoHandlers, NoStmts, Null, ObjectTree, OtherValues, Raise, Requeue, Return, Select, StmtTree, StmtTrees, Values, While}
+use Rattle.ada_tree.specs.StatementTree.{Abort, Accept, AlternativeTrees, Assignment, Block, Call, Case, DeclarationTree, Delay, DelayUntil, ElsifTrees, Exit, For, Forever, HandlerTrees, If, LocalObject, LocalProtected, LocalTask, Loop, MoreAlternatives, MoreElsifs, MoreHandlers, MoreStmts, NoAlternatives, NoElsifs, NoHandlers, NoStmts, Null, OtherValues, Raise, Requeue, Return, Select, StmtTree, StmtTrees, Values, While}
 use Rattle.handlers.specs.declared.rows.Row.{Row}
-use Rattle.types.specs.declared.entity.Subtype.{Subtype}
 use Rattle.types.specs.declared.entity.Value.{Value as Scalar}
 use Rattle.types.specs.Statics.{StaticIsValue, static_fault}
-use Rattle.type_rules.specs.ObjectRules.{local_object_faults}
-use Rattle.type_rules.specs.SubtypeNames.{subtype_of}
 use Rattle.declaration_rules.specs.LocalRules.{local_faults, local_scope, locals_faults, locals_scope}
 use Rattle.part_code.specs.step_soundness.specs.body_restrictions.specs.BodyRules as restrictions
 use Rattle.part_code.specs.stmt_rules.specs.CaseRules.{choice_faults, choices_wanted, selecting_faults}
@@ -40,15 +37,14 @@ use Rattle.stmt_code.proofs.AssignmentsDo.{does_assignment}
 use Rattle.stmt_code.proofs.BranchesDo.{AreBody, AreOtherwise, IsOne, does_elsif, does_if, one_word_works}
 use Rattle.stmt_code.proofs.CallsDo.{does_call}
 use Rattle.stmt_code.proofs.CasesDo.{AreAlternativesAt, does_case, label_is, none_left, others_choose, others_do, values_choose, values_do}
-use Rattle.stmt_code.proofs.CoveredScopes.{whole_local, whole_loop}
-use Rattle.stmt_code.proofs.Declared.{local_subtype, object_new}
+use Rattle.stmt_code.proofs.CoveredScopes.{IsFull, full_local, whole_loop}
 use Rattle.stmt_code.proofs.DeclarationsDo.{DoDeclare, does_block, local_ways, more_declare, none_declare}
 use Rattle.stmt_code.proofs.Delaying.{until_legal, until_wide}
 use Rattle.stmt_code.proofs.HandlersDo.{DoHandle, does_sequence, more_handle, none_handle}
 use Rattle.stmt_code.proofs.LoopsDo.{does_forever, does_while_loop, in_loop}
 use Rattle.stmt_code.proofs.ObjectsDo.{object_does}
 use Rattle.stmt_code.proofs.Opening.{if_body, if_condition, if_elsifs, if_others}
-use Rattle.stmt_code.proofs.PartsDo.{Does, DoesFrom, IsFull, StatementLaws, does_marked, does_nothing, does_then}
+use Rattle.stmt_code.proofs.PartsDo.{Does, DoesFrom, StatementLaws, does_marked, does_nothing, does_then}
 use Rattle.stmt_code.proofs.RangesDo.{does_for}
 use Rattle.stmt_code.proofs.Repeating.{forever_body, while_body, while_condition}
 use Rattle.stmt_code.proofs.SimpleDo.{does_delay, does_exit, does_exit_when, does_null, does_raise, does_return}
@@ -85,15 +81,6 @@ module _ (laws : StatementLaws) (statics : StaticIsValue) where
       by_kind k is f = cc
 
   -- ---- declarations
-
-  -- what is visible after a declaration has what its code needs
-  full_local : (c : Site) (d : ObjectTree) → IsFull c → local_object_faults c.visible.scope d ≡ [] → IsFull (after_local c (LocalObject d))
-  full_local c d full legal = by_subtype (subtype_of c.visible.scope d.subtype) refl
-    where
-      by_subtype : (o : Option Subtype) → subtype_of c.visible.scope d.subtype ≡ o → IsFull (after_local c (LocalObject d))
-      by_subtype (Some t) is =
-          whole_local c.exceptions c.visible full.sound full.entries full.has (narrow c.taken) d t is (object_new c.visible.scope d legal)
-      by_subtype None is = absurd (local_subtype c.visible.scope full.sound d legal is)
 
   pub locals_do : (c : Site) (ds : List DeclarationTree) → IsFull c → locals_faults c.visible.scope ds ≡ [] → restrictions.locals_faults ds ≡ []
       → DoDeclare c ds (locals_code c ds)

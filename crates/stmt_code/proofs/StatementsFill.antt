@@ -1,23 +1,20 @@
 -- How much the code of statements and bodies is, and which labels and how many rows there are after it: one induction over the trees (RM 5, 11.2).
-use Rattle.std.proofs.Common.{◌≡◌, ◌≤◌, ℕ, suc, ◌+◌, ◌*◌, List, [], ◌∷◌, ◌++◌, length, max, Bool, true, false, ◌||◌, cond, Option, None, Some, refl, sym, ap, ◌∙◌, subst, arith, length-append}
-use Rattle.std.specs.Prelude.{⊤}
+use Rattle.std.proofs.Common.{◌≡◌, ◌≤◌, ℕ, suc, ◌+◌, ◌*◌, List, [], ◌∷◌, ◌++◌, length, Bool, true, false, ◌||◌, cond, Option, None, Some, refl, sym, ap, ◌∙◌, subst, arith, length-append}
 use Rattle.handlers.specs.declared.rows.Row.{Row}
 use Rattle.ada_tree.specs.ExpressionTree.{ExprTree, NameTree}
 use Rattle.ada_tree.specs.ProgramTree.{BodyTree}
-use Rattle.ada_tree.specs.Size.{alternatives_size, declaration_size, elsifs_size, expr_size, handlers_size, name_size, stmt_size, stmts_size, total}
-use Rattle.ada_tree.specs.StatementTree.{Abort, Accept, AlternativeTrees, Assignment, Block, Call, Case, DeclarationTree, Delay, DelayUntil, ElsifTrees, Exit, For, Forever, HandlerTrees, If, IterationTree, LocalObject, LocalProtected, LocalTask, Loop, MoreAlternatives, MoreElsifs, MoreHandlers, MoreStmts, NoAlternatives, NoElsifs, NoHandlers, NoStmts, Null, ObjectTree, OtherValues, Raise, RangeTree, Requeue, Return, Select, StmtTree, StmtTrees, Values, While}
+use Rattle.ada_tree.specs.Size.{declaration_size, expr_size, stmt_size}
+use Rattle.ada_tree.specs.StatementTree.{Abort, Accept, AlternativeTrees, Assignment, Block, Call, Case, DeclarationTree, Delay, DelayUntil, ElsifTrees, Exit, For, Forever, HandlerTrees, If, LocalObject, LocalProtected, LocalTask, Loop, MoreAlternatives, MoreElsifs, MoreHandlers, MoreStmts, NoAlternatives, NoElsifs, NoHandlers, NoStmts, Null, ObjectTree, OtherValues, Raise, RangeTree, Requeue, Return, Select, StmtTree, StmtTrees, Values, While}
 use Rattle.image.specs.declared.instruction.Operation.TheVariants as op
 use Rattle.image.specs.declared.instruction.Region.TheVariants as regions
 use Rattle.types.specs.declared.entity.Subtype.{Subtype}
-use Rattle.types.specs.Bounds.{bounds_of}
-use Rattle.types.specs.Scopes.{Scope, integer}
+use Rattle.types.specs.Scopes.{Scope}
 use Rattle.type_rules.specs.ObjectRules.{local_object_faults}
 use Rattle.type_rules.specs.SubtypeNames.{subtype_of}
 use Rattle.declaration_rules.specs.BodyNames.{loop_scope}
 use Rattle.declaration_rules.specs.LocalRules.{local_faults, local_scope, locals_faults, locals_scope}
 use Rattle.part_code.specs.step_soundness.specs.body_restrictions.specs.BodyRules as restrictions
 use Rattle.part_code.specs.stmt_rules.specs.SimpleRules.{condition_faults}
-use Rattle.expr_soundness.specs.BoundsLaw.{is_inside}
 use Rattle.expr_soundness.specs.expr_rules.specs.Typing.{boolean_wanted}
 use Rattle.expr_soundness.specs.expr_rules.proofs.TypedLaw.{back_empty, front_empty}
 use Rattle.expr_code.specs.Emitting.{IsLegalExpression}
@@ -28,30 +25,29 @@ use Rattle.expr_code.specs.Refusing.{peak}
 use Rattle.expr_code.specs.declared.visible.Slot.{Slot}
 use Rattle.expr_code.specs.declared.visible.Visible.{Visible}
 use Rattle.expr_code.proofs.Refusals.{peak_some}
-use Rattle.expr_code.proofs.StandingPieces.{narrow_low}
-use Rattle.part_code.specs.Bounds.{alternatives_bound, alternatives_words, declarations_bound, elsifs_bound, elsifs_words, handlers_bound, handlers_words, local_words, locals_words, run_bound, stmt_bound, stmts_bound, stmts_words, words_if_any}
+use Rattle.part_code.specs.Bounds.{alternatives_bound, declarations_bound, elsifs_bound, handlers_bound, locals_words, run_bound, stmt_bound, stmts_bound, words_if_any}
 use Rattle.part_code.specs.ChoiceRows.{choice_rows}
 use Rattle.part_code.specs.Labels.{alternatives_labels, elsifs_labels, handlers_labels, stmt_labels, stmts_labels, with_line}
 use Rattle.part_code.specs.Lines.{line_of}
 use Rattle.part_code.specs.Needs as needs
-use Rattle.part_code.specs.Needs.{Needs, assignment_needs, both, call_needs, choices_needs, framed, has_unfit, local_visible, locals_needs, locals_visible, needs_above, object_needs, stacked, value_needs, with_object}
+use Rattle.part_code.specs.Needs.{Needs, assignment_needs, both, call_needs, framed, has_unfit, local_visible, locals_needs, locals_visible, needs_above, object_needs, stacked, value_needs}
 use Rattle.part_code.specs.Rows.{alternatives_rows, elsifs_rows, handlers_rows, stmt_rows, stmts_rows}
 use Rattle.part_code.specs.Statements.{Ways, with_exit, within_handler}
 use Rattle.part_code.specs.Turns.{word_of_first, word_of_last}
 use Rattle.part_code.specs.declared.turns.Turns.{Turns}
 use Rattle.part_code.proofs.PieceNeeds.{Laws}
 use Rattle.part_code.proofs.Selecting.{all_count}
-use Rattle.part_code.proofs.Within.{Within, in_left, in_right, none_within, of_left, of_right, within_self, within_then}
+use Rattle.part_code.proofs.Within.{Within, in_left, in_right, of_left, of_right, within_self, within_then}
 use Rattle.stmt_code.specs.Alternatives.{AreAcceptedAlternatives}
 use Rattle.stmt_code.specs.Drafting.{CodePart, begun, coded, handles, marked, skipping, takes, ◌▹◌}
-use Rattle.stmt_code.specs.Emitting.{AreAcceptedElsifs, AreAcceptedHandlers, AreAcceptedStatements, IsAcceptedRun, IsAcceptedStatement, IsLegalStatement, no_ways}
+use Rattle.stmt_code.specs.Emitting.{AreAcceptedElsifs, AreAcceptedHandlers, AreAcceptedStatements, IsAcceptedRun, IsAcceptedStatement}
 use Rattle.stmt_code.specs.Leaves.{any_leave, handlers_leave}
 use Rattle.stmt_code.specs.Placing.{stmt_place}
-use Rattle.stmt_code.specs.Refusing.{Standpoint, alternatives_needs, behind_locals, elsifs_needs, handler_needs, handlers_needs, inside_handler, needs_if_any, run_needs, sequence_needs, stmt_needs, stmts_needs}
+use Rattle.stmt_code.specs.Refusing.{Standpoint, alternatives_needs, behind_locals, elsifs_needs, handler_needs, handlers_needs, inside_handler, run_needs, sequence_needs, stmt_needs, stmts_needs}
 use Rattle.stmt_code.specs.SimpleCode.{assignment_code, bounds_code, call_form, choices_code, exit_code, jump_code, last_code, leaving_code, next_code, null_code, raise_code, timed_code}
 use Rattle.part_code.specs.stmt_rules.specs.StatementRules as rules
 use Rattle.stmt_code.specs.StatementCode as forms
-use Rattle.stmt_code.specs.StatementCode.{Site, after_local, after_locals, alternative_code, alternatives_code, called_code, elsifs_code, fork_code, guarded_code, handlers_code, if_code, in_handler, in_turn, kept_code, leads_to, local_code, local_object, locals_code, loop_code, ranged_code, run_code, sequence_code, stmt_code, stmts_code, turns_at, turns_code, with_way}
+use Rattle.stmt_code.specs.StatementCode.{Site, after_local, after_locals, alternative_code, alternatives_code, called_code, elsifs_code, fork_code, guarded_code, handlers_code, if_code, in_handler, in_turn, kept_code, leads_to, local_code, local_object, locals_code, ranged_code, run_code, sequence_code, stmt_code, stmts_code, turns_at, turns_code, with_way}
 use Rattle.stmt_code.specs.Timely.{alternatives_timely, elsifs_timely, handlers_timely, locals_seen, stmt_timely, stmts_timely}
 use Rattle.stmt_code.specs.Turns.{is_full}
 use Rattle.stmt_code.specs.declared.leaves.WayOut.TheVariants as way
@@ -61,20 +57,14 @@ use Rattle.stmt_code.proofs.AlikeNeeds.{AreAlike, alike_itself, alike_more, assi
 use Rattle.stmt_code.proofs.Alternatives.{case_alternatives, case_selecting, selecting_legal}
 use Rattle.stmt_code.proofs.Bounded.{first_legal, integer_legal, last_legal, loop_body, loop_range}
 use Rattle.stmt_code.proofs.ChoiceRows.{choices_long}
-use Rattle.stmt_code.proofs.CoveredScopes as scopes
-use Rattle.stmt_code.proofs.CoveredScopes.{whole_local, whole_loop}
-use Rattle.stmt_code.proofs.Declared.{local_subtype, object_new}
+use Rattle.stmt_code.proofs.CoveredScopes.{IsFull, full_local, whole_loop}
 use Rattle.stmt_code.proofs.Delaying.{until_legal}
 use Rattle.stmt_code.proofs.Opening.{if_body, if_condition, if_elsifs, if_others}
 use Rattle.stmt_code.proofs.PartsFill.{Fills, fills_as, fills_begun, fills_both, fills_covered, fills_handles, fills_marked, fills_more, fills_none, fills_one, fills_skipping, fills_takes}
 use Rattle.stmt_code.proofs.Repeating.{forever_body, while_body, while_condition}
-use Rattle.stmt_code.proofs.SimpleFills.{Spans, choices_spans, expr_spans, fills_spans, jump_spans, last_spans, leaving_spans, next_spans, null_spans, raise_spans, spans_more, spans_one, spans_then}
+use Rattle.stmt_code.proofs.SimpleFills.{choices_spans, expr_spans, fills_spans, jump_spans, last_spans, leaving_spans, next_spans, null_spans, raise_spans, spans_more, spans_one, spans_then}
 
 -- ---- where a statement stands
-
--- what is visible at the site has what its code needs
-abbrev pub IsFull : Site → Type 0
-IsFull c = scopes.IsCovered c.exceptions c.visible
 
 -- the site, where words of the frame are counted without bounds
 abbrev pub point : Site → (slots : List (Option Slot)) → (taken : ℕ) → Standpoint
@@ -85,14 +75,6 @@ pub record IsNear (c : Site) (slots : List (Option Slot)) (taken : ℕ) : Type 0
   pub low : c.taken ≤ taken
 
 -- ---- declarations
-
--- what is visible after a declaration has what its code needs
-full_local : (c : Site) (d : ObjectTree) → IsFull c → local_object_faults c.visible.scope d ≡ [] → IsFull (after_local c (LocalObject d))
-full_local c d full legal = by_subtype (subtype_of c.visible.scope d.subtype) refl
-  where
-    by_subtype : (o : Option Subtype) → subtype_of c.visible.scope d.subtype ≡ o → IsFull (after_local c (LocalObject d))
-    by_subtype (Some t) is = whole_local c.exceptions c.visible full.sound full.entries full.has (narrow c.taken) d t is (object_new c.visible.scope d legal)
-    by_subtype None is = absurd (local_subtype c.visible.scope full.sound d legal is)
 
 capped_low : (s : Scope) (o : Option Subtype) → forms.words_taken s o ≤ words_if_any s o
 capped_low s None = omega arith

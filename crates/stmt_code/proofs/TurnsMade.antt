@@ -20,7 +20,7 @@ use Rattle.part_code.specs.declared.turns.Turns.{Turns}
 use Rattle.types.specs.Scopes.{Scope}
 use Rattle.stmt_code.specs.Drafting.{ClosesTo, CodePart, OpensParts, Sketched, adds, all_led, begun, coded, end_of, led, skipping, takes, ◌▹◌}
 use Rattle.stmt_code.specs.SimpleCode.{bounds_code, choices_code, last_code, next_code}
-use Rattle.stmt_code.specs.StatementCode.{Site, alternative_code, chosen_code, counted_code, covered_code, fork_code, handlers_code, if_code, ranged_code, sequence_code, stmt_code, stmts_code, turned, turns_at, turns_code, while_code, with_way}
+use Rattle.stmt_code.specs.StatementCode.{Site, chosen_code, counted_code, covered_code, fork_code, handlers_code, if_code, ranged_code, sequence_code, stmt_code, stmts_code, turned, turns_at, turns_code, while_code, with_way}
 use Rattle.stmt_code.specs.StatementCode as forms
 use Rattle.stmt_code.specs.Turns.{is_full}
 use Rattle.stmt_code.proofs.LoopsMade.{adds_begun, both_coded, tested_made, turned_made, way_made}

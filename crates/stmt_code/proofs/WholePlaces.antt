@@ -1,17 +1,16 @@
 -- Where the formal parameters of a body stand, and what is visible inside it, by definition.
-use Rattle.std.proofs.Common.{◌≡◌, ◌+◌, ◌++◌, ◌∷◌, ℕ, List, [], map, Some, refl, sym, ap, ◌∙◌, arith}
+use Rattle.std.proofs.Common.{◌≡◌, ◌+◌, ◌++◌, ◌∷◌, ℕ, List, [], map, refl, sym, ap, ◌∙◌, arith}
 use Rattle.ada_tree.specs.declared.declaration.Formal.{Formal}
 use Rattle.ada_tree.specs.declared.declaration.Mode.{Mode}
 use Rattle.ada_tree.specs.declared.declaration.Mode.TheVariants as mode
 use Rattle.ada_tree.specs.Size.{total}
-use Rattle.types.specs.declared.entity.Subtype.{Subtype}
 use Rattle.types.specs.Layouts.{words_of}
 use Rattle.types.specs.Scopes.{Scope}
-use Rattle.type_rules.specs.SubtypeNames.{subtype_of}
 use Rattle.expr_code.specs.declared.visible.Visible.{Visible}
 use Rattle.part_code.specs.Bounds.{words_if_any, words_named}
 use Rattle.part_code.specs.Formals.{PlacesFormals, StandInTurn, StandsAt, no_subprogram, passed_for, slot_for}
 use Rattle.part_code.specs.Needs.{formals_frame, out_for}
+use Rattle.part_code.proofs.FormalsRefused.{out_named}
 use Rattle.stmt_code.specs.WholeRefusals.{formals_placed, formals_visible, from_behind, out_behind, placed_as, placed_formals, placed_if}
 use Rattle.part_code.specs.declared.frame_words.FrameWords.{FrameWords}
 use Rattle.part_code.specs.declared.formals.PlacedFormal.{PlacedFormal}
@@ -44,13 +43,6 @@ placed_is s (f ∷ fs) (x ∷ xs) from out last top h =
     placed_is s fs xs h.0 h.1 last top h.5 ∙ (λ j. placed_formals s (next j) (behind j) fs) in
     (λ j. one.0 j ∷ rest j)
     ∙ sym (ap (λ o. placed_if f.mode from out o (placed_formals s (from_behind f.mode many from) (out_behind f.mode many out) fs)) h.2)
-
--- the words of those that are not copied in
-out_named : (s : Scope) (f : Formal) (t : Subtype) (m : Mode) → subtype_of s f.subtype ≡ Some t → f.mode ≡ m
-    → out_for s f ≡ elim m [ mode.In ↦ 0 | mode.Out ↦ words_of s t | mode.InOut ↦ 0 ]
-out_named s f t m named is =
-    ap (λ q. elim q [ mode.In ↦ 0 | mode.Out ↦ words_named s f.subtype | mode.InOut ↦ 0 ]) is
-    ∙ ap (λ n. elim m [ mode.In ↦ 0 | mode.Out ↦ n | mode.InOut ↦ 0 ]) (ap (words_if_any s) named)
 
 outs_placed : (s : Scope) (fs : List Formal) (xs : List PlacedFormal) (from out last top : ℕ) → StandInTurn s from out fs xs last top
     → top ≡ out + total (out_for s) fs

@@ -1,14 +1,12 @@
 -- What methods that add the code of statements promise.
 use Rattle.std.specs.List.{All}
 use Rattle.std.specs.Prelude.{◌≡◌, ◌≢◌, ℕ, ◌+◌, ◌≤◌, ◌<◌, Bool, true, List, [], ◌∷◌, ◌++◌, length, Option, Some, None, is_some, slice_get, ⊤}
-use Rattle.ada_tree.specs.ExpressionTree.{ExprTree, ArgumentTree}
-use Rattle.ada_tree.specs.StatementTree.{DeclarationTree, ElsifTrees, HandlerTrees, MoreElsifs, StmtTree, StmtTrees, elsifs_of}
+use Rattle.ada_tree.specs.StatementTree.{DeclarationTree, ElsifTrees, HandlerTrees, StmtTree, StmtTrees}
 use Rattle.handlers.specs.Nesting.{all_nested}
 use Rattle.handlers.specs.declared.rows.Row.{Row}
 use Rattle.image.specs.Sections.{Sections}
 use Rattle.image.specs.Rules.{has_depth}
 use Rattle.image.specs.declared.instruction.Operation.{Operation}
-use Rattle.image.specs.declared.instruction.Operation.TheVariants as op
 use Rattle.image.specs.declared.subprograms.Subprogram.{Subprogram}
 use Rattle.types.specs.Entities.{Entity, Profile, ProtectedObject, Protected}
 use Rattle.types.specs.Places.{Place, is_among}
@@ -23,31 +21,27 @@ use Rattle.expr_soundness.specs.Agreeing.{Agrees}
 use Rattle.expr_soundness.specs.meaning.specs.Calls.{procedure_here, procedure_among}
 use Rattle.expr_soundness.specs.meaning.specs.Programs.{Procedure, Program}
 use Rattle.part_code.specs.step_soundness.specs.Fitting.{IsFound, entity_named}
-use Rattle.expr_code.specs.Branches.{Joins}
-use Rattle.expr_code.specs.Code.{Extends, Holds, StandsFrom, here, Adds}
+use Rattle.expr_code.specs.Code.{Extends, Holds, StandsFrom, here}
 use Rattle.expr_code.specs.Flows.{AreKeptBetween}
 use Rattle.expr_code.specs.Seeing.{Package, subprogram_of, NamesProfile, external_of}
 use Rattle.expr_code.specs.declared.code.Code.{Code}
 use Rattle.expr_code.specs.declared.visible.Visible.{Visible}
 use Rattle.part_code.specs.EntryNames.{entry_behind}
-use Rattle.part_code.specs.Bounds.{elsifs_bound, run_bound, stmts_bound}
+use Rattle.part_code.specs.Bounds.{run_bound}
 use Rattle.part_code.specs.Layout.{EndsBelow, IsLaidOut}
 use Rattle.part_code.specs.Suiting.{SuitsStatements}
 use Rattle.part_code.specs.Resting.{Framed}
 use Rattle.part_code.specs.Handling.{GoesByRows, Handling, unhandled}
 use Rattle.part_code.specs.Raising.{AreNamed}
 use Rattle.part_code.specs.Rows.{LiesWithin}
-use Rattle.part_code.specs.Statements.{AreStatements, IsOtherwise, IsRun, IsStatement, Numbers, Ways}
+use Rattle.part_code.specs.Statements.{IsRun, IsStatement, Numbers, Ways}
 use Rattle.stmt_code.specs.declared.draft.Draft.{Draft}
 use Rattle.stmt_code.specs.declared.tables.PlaceRow.{PlaceRow}
 use Rattle.stmt_code.specs.Leaves.{any_leave, elsifs_leave, handlers_leave, leaves}
 use Rattle.stmt_code.specs.declared.leaves.WayOut.{WayOut}
 use Rattle.stmt_code.specs.declared.leaves.WayOut.TheVariants as way
-use Rattle.stmt_code.specs.Placing.{AreInnermostFirst, StandsBetween, elsifs_within, sequence_within, stmt_place, stmts_within}
+use Rattle.stmt_code.specs.Placing.{AreInnermostFirst, StandsBetween, sequence_within, stmt_place}
 use Rattle.part_code.specs.Emitting.{IsReachable}
-use Rattle.types.specs.declared.entity.FormalParameter.{FormalParameter}
-use Rattle.part_code.specs.declared.call.Destination.{Destination}
-use Rattle.part_code.specs.Passing.{EmitsCopies, EmitsPassedActuals}
 
 -- ---- what is asked
 
@@ -209,67 +203,11 @@ pub record Emits (Is : Meant) (v : Visible) (w : Ways) (old : Draft) (size : ℕ
       → has_depth i (here new.code) 0 ≡ true → Allows i s low high w
       → AreKeptBetween i s low high (here old.code) (here new.code) 0
 
-abbrev pub EmitsStatements : Visible → Ways → Draft → StmtTrees → Draft → Type 0
-EmitsStatements v w old body new =
-    Emits (λ i program g numbers f handling from to. AreStatements i program g numbers f w handling from to body) v w old (stmts_bound v.scope body)
-    (stmts_within body) new
-
 -- ---- declarations
 
 -- the same frame, where other names are visible
 abbrev pub seeing : Framed → Visible → Framed
 seeing f later = record f { names = later }
-
--- ---- code whose jumps to its end wait for the place
-
--- which code this is, where the jumps that wait lead to `end`
-abbrev pub MeantTo : Type 1
-MeantTo = Sections → Program → Package → Numbers → Framed → Handling → (end from to : ℕ) → Type 0
-
--- code with jumps that wait was added: in every image that joins them, with an empty operand stack, to what comes after; words before and after are given
-pub record EmitsOpen (Is : MeantTo) (v : Visible) (w : Ways) (depth : ℕ) (old : Draft) (size : ℕ) (within : List StmtTree) (waiting : List ℕ) (new : Draft)
-    : Type 0 where
-  pub extends : Extends old.code new.code
-  pub labels : StandsFrom 0 old.labels new.labels
-  pub taken : new.words.taken ≡ old.words.taken
-  pub most : old.words.most ≤ new.words.most
-  pub sized : here new.code ≤ here old.code + size
-  pub rows : AddsRows old new
-  pub inside : (k : ℕ) → is_among waiting k ≡ true → (here old.code ≤ k) × (k < here new.code)
-  pub waits : (k : ℕ) → is_among waiting k ≡ true → slice_get new.code.instructions.items k ≡ Some (record { depth = 0; operation = op.Jump 0 })
-  pub stands : (i : Sections) (end : ℕ) → here new.code ≤ end → Joins i (here old.code) waiting end 0 new.code → HasLabels i new.labels
-      → (program : Program) (g : Package) (numbers : Numbers) (f : Framed) → f.names ≡ v → Serves program g numbers f old.words.taken
-      → new.words.most ≤ f.room
-      → (handling : Handling) → IsHandled i program old new rows handling
-      → Is i program g numbers f handling end (here old.code) (here new.code)
-  pub tells : (i : Sections) (end : ℕ) → here new.code ≤ end → Joins i (here old.code) waiting end 0 new.code → HasLabels i new.labels
-      → (program : Program) (g : Package) (numbers : Numbers) (f : Framed) → f.names ≡ v → Serves program g numbers f old.words.taken
-      → new.words.most ≤ f.room
-      → (handling : Handling) → IsHandled i program old new rows handling
-      → TellPlaces i program g numbers rows.placed within
-  pub flows : (i : Sections) (s : Subprogram) (low high end : ℕ) → low ≤ here old.code → here new.code ≤ end → end ≤ high
-      → Joins i (here old.code) waiting end 0 new.code → HasLabels i new.labels → SuitsStatements v i s → new.code.deepest ≤ s.stack
-      → new.words.most ≤ s.locals → depth ≤ s.stack
-      → has_depth i end 0 ≡ true → has_depth i (here new.code) depth ≡ true → Allows i s low high w
-      → AreKeptBetween i s low high (here old.code) (here new.code) depth
-
--- these parts of an `if` in front of others
-abbrev pub in_front : List (ExprTree × StmtTrees) → ElsifTrees → ElsifTrees
-in_front [] rest = rest
-in_front (x ∷ all) rest = MoreElsifs x.0 x.1 (in_front all rest)
-
--- with whatever parts and statements stand behind them, they are the parts of an `if` behind its beginning
-abbrev pub AreParts : Ways → List (ExprTree × StmtTrees) → MeantTo
-AreParts w all i program g numbers f handling end from to =
-    (rest : ElsifTrees) (others : StmtTrees)
-    → IsOtherwise i program g numbers f w handling to end rest (λ x y. AreStatements i program g numbers f w handling x y others)
-    → IsOtherwise i program g numbers f w handling from end (in_front all rest) (λ x y. AreStatements i program g numbers f w handling x y others)
-
--- code of these parts was added, and the places of their jumps to what waits
-pub record AddsParts (v : Visible) (w : Ways) (old : Draft) (all : List (ExprTree × StmtTrees)) (before after : List ℕ) (new : Draft) : Type 0 where
-  pub waiting : List ℕ
-  pub after_is : after ≡ before ++ waiting
-  pub emits : EmitsOpen (AreParts w all) v w 0 old (elsifs_bound v.scope (elsifs_of all)) (elsifs_within (elsifs_of all)) waiting new
 
 -- ---- bodies
 
@@ -290,15 +228,3 @@ abbrev pub EmitsRun : Visible → Draft → List DeclarationTree → StmtTrees �
 EmitsRun v old ds body all new =
     Emits (λ i program g numbers f handling from to. handling ≡ unhandled → IsRun i program g numbers f from to ds body all) v no_ways old
     (run_bound v.scope ds body all) (sequence_within body all) new
-
--- ---- calls
-
--- the code of the actual parameters of a call was added, the call by this instruction, and what is copied back
-pub record AddsInvocation (v : Visible) (old : Code) (fs : List FormalParameter) (all : List ArgumentTree) (operation : Operation) (new : Code) : Type 0 where
-  pub destinations : List Destination
-  pub height : ℕ
-  pub passed : Code
-  pub called : Code
-  pub actuals : EmitsPassedActuals v old 0 fs all destinations height passed
-  pub adds : Adds passed height operation called
-  pub copies : EmitsCopies v called destinations 0 new

@@ -2,8 +2,6 @@
 -- some code is given too.
 use Rattle.std.specs.Prelude.{ℕ, ◌+◌, ◌*◌, ℤ, pos, nat_eq, length, cond, Bool, true, false, List, [], ◌∷◌, Option, Some, None}
 use Rattle.ada_tree.specs.declared.expression.Identifier.{Identifier}
-use Rattle.ada_tree.specs.declared.program.MainStatement.{MainStatement}
-use Rattle.ada_tree.specs.declared.program.MainStatement.TheVariants as main
 use Rattle.ada_tree.specs.ExpressionTree.{ArgumentTrees, ExprTree, NameTree, NoSelectors, SelectorTrees}
 use Rattle.ada_tree.specs.StatementTree.{RangeTree}
 use Rattle.image.specs.declared.instruction.Operation.{Operation}
@@ -175,14 +173,3 @@ last_code t = one 0 (op.LoadLocal t.counter) ▸ one 1 (op.LoadLocal t.limit) �
 abbrev pub next_code : Turns → Piece
 next_code t =
     one 0 (op.LoadLocal t.counter) ▸ one 1 (op.Push (pos 1)) ▸ one 2 (next_operation t.reversed) ▸ one 1 (op.StoreLocal t.counter)
-
--- ---- main (RM 10.2)
-
-abbrev pub calling : (number : Option ℕ) → Piece
-calling None = nothing
-calling (Some number) = one 0 (op.Call number)
-
-abbrev pub main_code : Visible → List MainStatement → Piece
-main_code v [] = one 0 op.Return
-main_code v (main.Null place ∷ rest) = main_code v rest
-main_code v (main.Call package_ procedure ∷ rest) = calling (subprogram_of v procedure.name) ▸ main_code v rest

@@ -2,7 +2,6 @@
 -- given too.
 use Rattle.std.specs.Prelude.{ℕ, suc, ◌+◌, Bool, true, false, ◌||◌, List, [], ◌∷◌, ◌++◌, Option, Some, None}
 use Rattle.handlers.specs.declared.rows.Row.{Row}
-use Rattle.ada_tree.specs.declared.declaration.Mode.TheVariants as mode
 use Rattle.ada_tree.specs.declared.expression.Identifier.{Identifier}
 use Rattle.ada_tree.specs.ExpressionTree.{ExprTree, NameTree}
 use Rattle.ada_tree.specs.ProgramTree.{BodyTree}
@@ -13,7 +12,7 @@ use Rattle.types.specs.Scopes.{Scope}
 use Rattle.type_rules.specs.SubtypeNames.{subtype_of}
 use Rattle.declaration_rules.specs.BodyNames.{loop_scope}
 use Rattle.declaration_rules.specs.LocalRules.{local_scope}
-use Rattle.expr_code.specs.ExpressionCode.{checked_code, expr_code}
+use Rattle.expr_code.specs.ExpressionCode.{expr_code}
 use Rattle.expr_code.specs.Pieces.{narrow, nothing, one}
 use Rattle.expr_code.specs.Pieces as pieces
 use Rattle.expr_code.specs.declared.visible.Visible.{Visible}
@@ -21,10 +20,9 @@ use Rattle.part_code.specs.ChoiceRows.{choice_rows}
 use Rattle.part_code.specs.Emitting.{ways_of}
 use Rattle.part_code.specs.Lines.{LabelledValue, line_of}
 use Rattle.part_code.specs.Needs.{with_object}
-use Rattle.part_code.specs.ObjectCode.{object_code, returned_code}
+use Rattle.part_code.specs.ObjectCode.{object_code}
 use Rattle.part_code.specs.PartCode.{words_in}
 use Rattle.part_code.specs.Statements.{Ways, with_exit, within_handler}
-use Rattle.part_code.specs.declared.formals.PlacedFormal.{PlacedFormal}
 use Rattle.part_code.specs.declared.leaving.Leaving.{Leaving}
 use Rattle.part_code.specs.declared.turns.Turns.{Turns}
 use Rattle.stmt_code.specs.Drafting.{CodePart, begun, coded, handles, labelled, marked, skipping, takes, ◌▹◌}
@@ -233,19 +231,3 @@ run_code c b =
     ▹ with_way (any_leave b.statements way.Return || handlers_leave b.handlers way.Return)
     (λ end. sequence_code b.handlers (stmts_code (in_body (after_locals c b.declarations) end) b.statements)
     (λ q. handlers_code (in_body (after_locals c b.declarations) end) q [] b.handlers))
-
--- the first value of an `out` parameter (RM 6.4.1)
-abbrev pub out_code : Visible → PlacedFormal → CodePart
-out_code v x = elim x.mode [ mode.In ↦ coded nothing | mode.Out ↦ coded (object_code v x.offset x.subtype None) | mode.InOut ↦ coded nothing ]
-
-abbrev pub outs_code : Visible → List PlacedFormal → CodePart
-outs_code v [] = coded nothing
-outs_code v (x ∷ xs) = out_code v x ▹ outs_code v xs
-
--- the body of a procedure with these formal parameters, of a task or of an entry
-abbrev pub procedure_code : Site → List PlacedFormal → BodyTree → CodePart
-procedure_code c formals b = takes c.taken ▹ outs_code c.visible formals ▹ run_code c b ▹ coded (returned_code c.visible.scope formals)
-
--- that of a function: its value, checked, and the return
-abbrev pub function_code : Site → Subtype → ExprTree → CodePart
-function_code c t e = takes c.taken ▹ coded (pieces.◌▸◌ (checked_code c.visible 0 t e (expr_code c.visible 0 e)) (one 1 op.Return))

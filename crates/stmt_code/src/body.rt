@@ -1,5 +1,5 @@
 //! The code of bodies of procedures (RM 6.3).
-ghost use Rattle.std.specs.Prelude.{◌≡◌, map, IfErr, None, OnOk};
+ghost use Rattle.std.specs.Prelude.{◌≡◌, map, IfErr, OnOk};
 ghost use Rattle.ada_tree.specs.StatementTree.{declaration_tree, handler_trees, stmt_trees};
 ghost use Rattle.stmt_code.specs.Staying.{StaysRun};
 ghost use Rattle.part_code.specs.Providing.{HasWhatCodeNeeds};

@@ -1,14 +1,11 @@
 //! Code as statements add to it, with the labels of its lines.
-ghost use Rattle.std.specs.Prelude.{◌≡◌, ◌⊎◌, [], false, length, Some, slice_get, IfErr, IfOk, OnOk};
-ghost use Rattle.expr_code.specs.Code.{StandsFrom};
+ghost use Rattle.std.specs.Prelude.{◌≡◌, [], length, IfErr, IfOk, OnOk};
 ghost use Rattle.expr_code.specs.Refusing.{IsRefused};
 ghost use Rattle.part_code.specs.Labels.{with_label};
-ghost use Rattle.part_code.specs.Needs.{HasManyLabels};
 ghost use Rattle.stmt_code.specs.Drafting.{label_number};
 
 use crate::tables::CodeTables;
-use base::limits::LABELS;
-use expr_code::{Code, ImageLimit, Refusal};
+use expr_code::{Code, Refusal};
 use indexmap::IndexSet;
 use lexer::Text;
 use part_code::FrameWords;

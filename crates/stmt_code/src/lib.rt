@@ -9,7 +9,6 @@ mod joining;
 pub mod laws;
 mod leaves;
 mod marking;
-pub mod returning;
 pub mod selection;
 pub mod simple;
 pub mod sketch;

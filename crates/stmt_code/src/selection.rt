@@ -1,5 +1,5 @@
 //! The tests of the choices of a `case`, as they are put together (RM 5.4).
-ghost use Rattle.std.specs.Prelude.{◌≡◌, ◌+◌, ◌*◌, length, map, IfOk, OnOk};
+ghost use Rattle.std.specs.Prelude.{◌≡◌, ◌+◌, ◌*◌, map, IfOk, OnOk};
 ghost use Rattle.ada_tree.specs.ExpressionTree.{expr_tree};
 ghost use Rattle.types.specs.Statics.{static_fault, static_value};
 ghost use Rattle.expr_code.specs.Pieces.{adds, end_of, narrow};

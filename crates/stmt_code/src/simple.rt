@@ -1,19 +1,18 @@
 //! The code of statements without others within, as it is put together before it is added to that of its body (RM 5.2, 5.7, 6.4, 6.5, 9.5.3, 9.6, 11.3).
-ghost use Rattle.std.specs.Prelude.{◌≡◌, option_map, OnOk};
+ghost use Rattle.std.specs.Prelude.{◌≡◌, OnOk};
 ghost use Rattle.ada_tree.specs.ExpressionTree.{argument_trees, expr_tree, name_tree, selector_trees};
 ghost use Rattle.ada_tree.specs.StatementTree.{optional_tree};
 ghost use Rattle.types.specs.Entities.{profile_value};
 ghost use Rattle.expr_code.specs.Pieces.{adds};
-ghost use Rattle.expr_code.specs.Seeing.{external_of, external_profile, profile_named, subprogram_of};
+ghost use Rattle.expr_code.specs.Seeing.{external_of, external_profile, subprogram_of};
 ghost use Rattle.part_code.specs.EntryNames.{entry_behind};
 ghost use Rattle.part_code.specs.Moving.{moves};
-ghost use Rattle.part_code.specs.PartCode.{object_named};
 ghost use Rattle.part_code.specs.Passing.{actuals_behind};
 ghost use Rattle.stmt_code.specs.SimpleCode.{assigned_code, assignment_code, delay_code, exit_code, invoked_code, jump_code, leaving_code, moved_code, procedure_code, raise_code, stored_code, through_code, timed_code, word_code};
 
 use ada_tree::{Argument, Expr, Identifier, NameExpr, Selector};
 use expr_code::Visible;
-use expr_code::fragment::{Fragment, above, raised};
+use expr_code::fragment::{Fragment, raised};
 use image::Operation;
 use lexer::Text;
 use part_code::call::{actuals, copies, fitting, object_at};

@@ -1,11 +1,11 @@
 //! What statements make as it is put together, before limits of images are tested where it is added to the code of a program (docs/CODEGEN.md).
-ghost use Rattle.std.specs.Prelude.{◌≡◌, ◌++◌, ◌∷◌, [], length, max, IfOk, OnOk};
+ghost use Rattle.std.specs.Prelude.{◌≡◌, ◌++◌, ◌∷◌, [], length, IfOk, OnOk};
 ghost use Rattle.ada_tree.specs.ExpressionTree.{expr_tree};
 ghost use Rattle.ada_tree.specs.StatementTree.{stmt_tree};
 ghost use Rattle.expr_code.specs.ExpressionCode.{expr_code};
 ghost use Rattle.expr_code.specs.Pieces.{narrow, one};
 ghost use Rattle.image.specs.declared.instruction.Operation.TheVariants as op;
-ghost use Rattle.stmt_code.specs.Drafting.{Sketched, adds, all_led, coded, end_of, handles, led, marks, takes};
+ghost use Rattle.stmt_code.specs.Drafting.{Sketched, adds, all_led, coded, end_of, handles, led, marks};
 ghost use Rattle.stmt_code.specs.Placing.{stmt_place};
 
 use crate::draft::Labels;

@@ -1,11 +1,11 @@
 //! Statements without others within, as they are added to what is put together (RM 5.2, 5.7, 6.4, 6.5, 9.5.3, 9.6, 11.3).
-ghost use Rattle.std.specs.Prelude.{◌≡◌, map, true, IfOk, OnOk, Some};
+ghost use Rattle.std.specs.Prelude.{◌≡◌, map, true, OnOk, Some};
 ghost use Rattle.ada_tree.specs.ExpressionTree.{argument_trees, expr_tree, name_tree};
 ghost use Rattle.ada_tree.specs.StatementTree.{optional_tree, range_tree};
 ghost use Rattle.expr_code.specs.Pieces.{one};
 ghost use Rattle.image.specs.declared.instruction.Operation.TheVariants as op;
 ghost use Rattle.part_code.specs.Lines.{line_of};
-ghost use Rattle.part_code.specs.ObjectCode.{all_height, object_code, returned_code};
+ghost use Rattle.part_code.specs.ObjectCode.{object_code};
 ghost use Rattle.expr_code.specs.Seeing.{external_of, external_profile, subprogram_of};
 ghost use Rattle.part_code.specs.EntryNames.{entry_behind};
 ghost use Rattle.part_code.specs.Passing.{actuals_behind};
@@ -18,7 +18,6 @@ ghost use Rattle.types.specs.Scopes.{integer};
 ghost use Rattle.expr_soundness.specs.BoundsLaw.{is_inside};
 
 use crate::initial_values::initialise;
-use crate::returning::add_return;
 use crate::selection::{add_choices, narrow};
 use crate::simple;
 use crate::sketch::Sketch;
@@ -28,7 +27,7 @@ use expr_code::Visible;
 use expr_code::fragment::raised;
 use image::Operation;
 use lexer::Text;
-use part_code::{PlacedFormal, Turns, is_own_entry, line_of, operation_of};
+use part_code::{Turns, is_own_entry, line_of, operation_of};
 use std::alloc::AllocError;
 use types::{Profile, Scope, Subtype, bounds};
 
@@ -245,18 +244,5 @@ impl Sketch {
         let most = raised(taken, visible.scope.words(subtype))?;
         self.take(most);
         self.first_value(visible, narrow(taken), subtype, value)
-    }
-
-    /// Adds what a body gives back, and its return (RM 6.4.1); tells how many words that finds.
-    pub fn give_back(
-        &mut self,
-        scope: &Scope,
-        formals: &[PlacedFormal],
-    ) -> Result<usize, AllocError>
-        ensures height { IfOk result (λ height. height ≡ all_height scope.now formals.now) }
-        ensures made { OnOk result (self.new ≡ adds self.old (coded (returned_code scope.now formals.now))) }
-    {
-        let height = add_return(&mut self.fragment, scope, formals)?;
-        Ok(height)
     }
 }

@@ -1,4 +1,4 @@
-use Rattle.std.proofs.Common.{◌≡◌, ◌+◌, ◌++◌, append_assoc, drop, sym, ap, ◌∙◌}
+use Rattle.std.proofs.Common.{◌+◌, ◌++◌, append_assoc, drop, sym, ap, ◌∙◌}
 use Rattle.package_code.specs.Directory.{number_told}
 use Rattle.package_code.specs.Owners.{objects_at, protected_objects, told_behind_objects}
 use Rattle.package_code.proofs.ToldInside.{objects_told}

@@ -1,9 +1,8 @@
-use Rattle.std.proofs.Common.{◌≡◌, ◌∷◌, ◌++◌, [], ◌&&◌, length, map, true, false, Some, refl, sym, ap, ◌∙◌, arith, rules, subst}
+use Rattle.std.proofs.Common.{◌≡◌, ◌∷◌, ◌++◌, [], ◌&&◌, length, map, true, false, refl, sym, ap, ◌∙◌, rules, subst}
 use Rattle.std.specs.Prelude.{◌==◌}
-use Rattle.std.proofs.lemmas.Result.{on_ok_weaker}
 use Rattle.ada_tree.specs.ExpressionTree.{expr_tree, name_tree}
 use Rattle.ada_tree.specs.StatementTree as tree
-use Rattle.ada_tree.specs.StatementTree.{StmtTrees, alternative_trees, choices_tree, declaration_tree, elsif_trees, handler_trees, iteration_tree, optional_tree, range_tree, stmt_tree, stmt_trees}
+use Rattle.ada_tree.specs.StatementTree.{alternative_trees, choices_tree, declaration_tree, elsif_trees, handler_trees, iteration_tree, range_tree, stmt_tree, stmt_trees}
 use Rattle.declaration_rules.specs.BodyNames.{loop_scope}
 use Rattle.image.specs.declared.instruction.Operation.TheVariants as op
 use Rattle.expr_code.specs.ExpressionCode.{expr_code}
@@ -18,12 +17,12 @@ use Rattle.stmt_code.specs.Declaring.{site_at}
 use Rattle.stmt_code.specs.Drafting.{ClosesTo, CodePart, OpensParts, adds, all_led, coded, end_of, handles, marks, ◌▹◌}
 use Rattle.stmt_code.specs.Leaves.{any_leave}
 use Rattle.stmt_code.specs.Placing.{stmt_place}
-use Rattle.stmt_code.specs.SimpleCode.{assignment_code, choices_code, null_code}
-use Rattle.stmt_code.specs.StatementCode.{Site, after_locals, alternative_code, alternatives_code, covered_code, elsifs_code, fork_code, guarded_code, handlers_code, in_turn, locals_code, loop_code, ranged_code, sequence_code, site, stmt_code, stmts_code, turns_code, with_way}
+use Rattle.stmt_code.specs.SimpleCode.{assignment_code, null_code}
+use Rattle.stmt_code.specs.StatementCode.{Site, after_locals, alternative_code, alternatives_code, covered_code, elsifs_code, fork_code, guarded_code, handlers_code, in_turn, locals_code, loop_code, ranged_code, site, stmt_code, stmts_code, turns_code}
 use Rattle.stmt_code.proofs.Adding.{none_there}
 use Rattle.stmt_code.proofs.BranchesMade.{alternatives_step, elsifs_end, elsifs_step, handlers_step, statements_end, statements_step}
-use Rattle.stmt_code.proofs.DeclarationsMade.{block_made, out_of_sight, shown_after, shows_locals, shows_object}
-use Rattle.stmt_code.proofs.PartsAdded.{adds_nothing, adds_then, closes_end, closes_none}
+use Rattle.stmt_code.proofs.DeclarationsMade.{block_made, out_of_sight, shown_after, shows_locals}
+use Rattle.stmt_code.proofs.PartsAdded.{closes_end, closes_none}
 use Rattle.stmt_code.specs.Timely.{alternatives_timely, elsifs_timely, handlers_timely, locals_seen, stmt_timely, stmts_timely, turn_scope}
 use Rattle.stmt_code.proofs.TimesMade.{alternatives_done, alternatives_on, elsifs_done, elsifs_on, handlers_done, handlers_on, seen_after, statements_done, statements_on, timed}
 use Rattle.stmt_code.proofs.TurnsMade.{branch_opens, condition_made, cover_made, forever_made, forked, forked_made, handled, looped, nothing_made, others_open, out_made, range_made, sequence_made, skip_made, stated, then_added, turn_made, values_open}
