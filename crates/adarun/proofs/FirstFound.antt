@@ -59,7 +59,7 @@ reported_first t input part i slots until limit wanted (searched.Found schedule 
       sight = sight;
       report_is = ap (λ n. found_text n schedule sight) (same_names c.tree i schedule schedule_lawful c.means);
     })
-reported_first t input part i slots until limit wanted searched.Nothing c read are f = tt
+reported_first t input part i slots until limit wanted (searched.Nothing worlds) c read are f = tt
 reported_first t input part i slots until limit wanted (searched.TooLong schedule time) c read are f = record {
   searched = record { tree = c.tree; accepted = c.accepted; slots = slots; are_slots = read };
   schedule = schedule;

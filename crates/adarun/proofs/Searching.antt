@@ -132,7 +132,7 @@ reported t input part i slots until limit wanted (searched.Found schedule findin
       outcome_is = outcome_same i finding;
       report_is = ap (λ n. found_text n schedule sight) names;
     })
-reported t input part i slots until limit wanted searched.Nothing c read are s = record {
+reported t input part i slots until limit wanted (searched.Nothing worlds) c read are s = record {
   finds = record {
     searched = record { tree = c.tree; accepted = c.accepted; slots = slots; are_slots = read };
     never = λ schedule set.
@@ -140,6 +140,7 @@ reported t input part i slots until limit wanted searched.Nothing c read are s =
     followed = λ schedule set.
         followed_on c.tree i c.means c.counted schedule (lawful_in part slots schedule are set) until (s schedule set).1;
   };
+  worlds = worlds;
   report_is = refl;
 }
 reported t input part i slots until limit wanted (searched.TooLong schedule time) c read are s = record {

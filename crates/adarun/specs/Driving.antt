@@ -1,5 +1,5 @@
 -- What the program's work over files leaves, by what is asked for and by its exit status.
-use Rattle.std.specs.Prelude.{◌≡◌, ◌≢◌, ◌<◌, ◌⊎◌, ◌++◌, ℕ, ℤ, List, [], Option, Some, None, true, ⊤}
+use Rattle.std.specs.Prelude.{◌≡◌, ◌≢◌, ◌<◌, ◌⊎◌, ◌++◌, ℕ, ℤ, Bool, true, false, List, [], Option, Some, None, ⊤}
 use Rattle.std.specs.Io.KnownBytes.{Appends}
 use Rattle.base.specs.declared.faults.TheConstants.{MEMORY_REFUSED}
 use Rattle.base.specs.declared.schedule.ScheduleLine.{ScheduleLine}
@@ -33,8 +33,10 @@ use Rattle.searching.specs.declared.sight.Wanted.{Wanted}
 use Rattle.searching.specs.declared.sight.Wanted.TheVariants as sights
 use Rattle.tracing.specs.Known.{Known}
 use Rattle.tracing.specs.Traces.{trace_text}
+use Rattle.measuring.specs.Text.{measures_text}
+use Rattle.measuring.specs.declared.text.Form.TheVariants as tables
 use Rattle.waveforms.specs.Waves.{waves_text}
-use Rattle.command_line.specs.Words.{CheckText, Command, CompileText, DumpText, DumpUntil, ExplainFault, ExplainText, GoText, ListImage, Nothing, RunImage, ShowManual, ShowVersion, SearchText, SimulateText, SimulateUntil, TraceText, TraceUntil, asked, is_told}
+use Rattle.command_line.specs.Words.{CheckText, Command, CompileText, DumpText, DumpUntil, ExplainFault, ExplainText, GoText, ListImage, MeasureText, MeasureUntil, Nothing, RunImage, ShowManual, ShowVersion, SearchText, SimulateText, SimulateUntil, TraceText, TraceUntil, asked, is_told}
 use Rattle.command_line.specs.Words as words_of
 use Rattle.adarun.specs.Accepted.{Compiles, RefusesText}
 use Rattle.adarun.specs.CodeTold.{IsCodeTold}
@@ -166,11 +168,18 @@ input_of contents (Some name) = contents name
 
 -- ---- `trace`
 
--- in which form a run is reported, by its image, the names of its objects, what is known of its source, its schedule and its bound: rows, or a value change
--- dump
+-- in which form a run is reported, by its image, the names of its objects, what is known of its source, its schedule and its bound: rows, a value change dump,
+-- or what is measured of it, as a table or as fields
 abbrev pub text_of : TraceForm → Sections → List (List ℕ) → Known → List ScheduleLine → Bound → List ℕ
 text_of forms.Rows = trace_text
 text_of forms.Dump = λ i objects known. waves_text i objects
+text_of forms.Measures = λ i objects known. measures_text tables.Table i objects
+text_of forms.MeasuredFields = λ i objects known. measures_text tables.Fields i objects
+
+-- the form of what is measured
+abbrev pub measured_form : (is_tsv : Bool) → TraceForm
+measured_form true = forms.MeasuredFields
+measured_form false = forms.Measures
 
 -- the file was read, and its lines are a schedule
 pub record HasSchedule (contents : Contents) (name : List ℕ) : Type 0 where
@@ -531,6 +540,10 @@ LeavesWritten (TraceUntil source schedule limit until) standard_input before aft
     × LeavesTrace forms.Rows before source schedule (Some until) limit status old new
 LeavesWritten (DumpUntil source schedule limit until) standard_input before after status old new = AreFilesKept before after
     × LeavesTrace forms.Dump before source schedule (Some until) limit status old new
+LeavesWritten (MeasureText is_tsv source schedule limit) standard_input before after status old new = AreFilesKept before after
+    × LeavesTrace (measured_form is_tsv) before source schedule None limit status old new
+LeavesWritten (MeasureUntil is_tsv source schedule limit until) standard_input before after status old new = AreFilesKept before after
+    × LeavesTrace (measured_form is_tsv) before source schedule (Some until) limit status old new
 LeavesWritten (ExplainFault number) standard_input before after status old new = AreFilesKept before after × LeavesExplain number status old new
 LeavesWritten (ExplainText number source) standard_input before after status old new = AreFilesKept before after
     × LeavesExplainText before source number status old new

@@ -76,7 +76,7 @@ outcome_found (findings.Line line) = outcomes.Line
 -- by what the machine has found
 abbrev pub outcome_by : Searched → SearchOutcome
 outcome_by (searched.Found schedule finding) = outcome_found finding
-outcome_by searched.Nothing = outcomes.Nothing
+outcome_by (searched.Nothing worlds) = outcomes.Nothing
 outcome_by (searched.TooLong schedule time) = outcomes.TooLong
 
 -- the schedule that was found, and what the source comes to under it
@@ -87,9 +87,11 @@ pub record IsFoundReport (text input : List ℕ) (part : Part) (until : ℤ) (wa
   pub outcome_is : outcome ≡ outcome_of sight
   pub report_is : report ≡ found_text (source_names finds.searched.tree) schedule sight
 
+-- there is nothing; how many worlds were kept to find this is of no meaning for the source
 pub record IsNothingReport (text input : List ℕ) (part : Part) (until : ℤ) (wanted : Wanted) (report : List ℕ) : Type 0 where
   pub finds : FindsNothing text input part until wanted
-  pub report_is : report ≡ nothing_text part finds.searched.slots
+  pub worlds : ℕ
+  pub report_is : report ≡ nothing_text part finds.searched.slots worlds
 
 pub record IsTooLongReport (text input : List ℕ) (part : Part) (until : ℤ) (limit : ℕ) (report : List ℕ) : Type 0 where
   pub schedule : List ScheduleLine

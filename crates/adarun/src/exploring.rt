@@ -57,7 +57,7 @@ fn outcome_of(searched: &Searched) -> SearchOutcome
         Searched::Found(_, Finding::Unhandled { .. }) => SearchOutcome::Unhandled,
         Searched::Found(_, Finding::WaitsForever { .. }) => SearchOutcome::WaitsForever,
         Searched::Found(_, Finding::Line(_)) => SearchOutcome::Line,
-        Searched::Nothing => SearchOutcome::Nothing,
+        Searched::Nothing(_) => SearchOutcome::Nothing,
         Searched::TooLong(_, _) => SearchOutcome::TooLong,
     }
 }

@@ -15,6 +15,7 @@ use crate::code_told::told_of_limit;
 use crate::compilation::{Named, compile, compile_named};
 use crate::files::{FileStore, ReadError, WriteError, read_source};
 use crate::going::{GoFault, go};
+use crate::measured::measured_form;
 use crate::naming::names_alone;
 use crate::origins::{Statements, position};
 use crate::progress::Stopwatch;
@@ -35,6 +36,7 @@ use itoa::Buffer;
 use lexer::Fault;
 use machine::{Bound, Cut, Outcome, RunFault, Sink, SinkError, Steps, bound_of, run, write_all};
 use manual::{MANUAL, VERSION};
+use measuring::{Form, measure};
 use std::alloc::{AllocError, Global};
 use std::sync::ledger::Ledger;
 use tracing::{Origins, trace};
@@ -67,17 +69,21 @@ pub(crate) enum TraceForm {
     Rows,
     /// As a value change dump (docs/FORMATS.md, "Value change dumps").
     Dump,
+    /// By what is measured of it, as a table (docs/FORMATS.md, "Measures").
+    Measures,
+    /// By what is measured of it, as fields that are separated by tabs.
+    MeasuredFields,
 }
 
 /// Does what the words, without the program's name, ask for: reads files, writes one of them or to `out`, and where it stops early one line to `err`, or of
-/// `simulate` several; `check` writes to `err` alone, which was given the report of every fault of the source under status 2, and nothing under status 0.
-/// It answers the exit status. Where a run came to an outcome, `out` was given its text (`go`, `simulate`, `run`), or its trace in the form that was asked
-/// for (`trace`); of `search` its answer; where an image was listed, its listing; where a fault was explained, its explanation; where the manual or the
-/// version was asked for, this; and no write to `out` failed under any status but 1. Where a text, an image or a schedule was refused or memory was wanting,
-/// nothing was written; where a write to `out` failed, a beginning of what was to be written. `compile` writes the image's file, and nothing to `out`: that
-/// file stays as it was unless the bytes of the source's image were there to be written, and no other file changes. The steps of runs, searches and traces
-/// are counted, among them those of a second run, by which `simulate` says where an exception came from. `watch` has the
-/// seconds that somebody has waited.
+/// `simulate` several; `check` writes to `err` alone, which was given the report of every fault of the source under status 2, and nothing under status 0. It
+/// answers the exit status. Where a run came to an outcome, `out` was given its text (`go`, `simulate`, `run`), or its trace in the form that was asked for
+/// (`trace`), or what is measured of it (`measure`); of `search` its answer; where an image was listed, its listing; where a fault was explained, its
+/// explanation; where the manual or the version was asked for, this; and no write to `out` failed under any status but 1. Where a text, an image or a schedule
+/// was refused or memory was wanting, nothing was written; where a write to `out` failed, a beginning of what was to be written. `compile` writes the image's
+/// file, and nothing to `out`: that file stays as it was unless the bytes of the source's image were there to be written, and no other file changes. The steps
+/// of runs, searches and traces are counted, among them those of a second run, by which `simulate` says where an exception came from. `watch` has the seconds
+/// that somebody has waited.
 pub fn drive<F: FileStore, W: Stopwatch, O: Sink, E: Sink, L: Ledger>(
     alloc: Global,
     words: &[&str],
@@ -178,6 +184,45 @@ pub fn drive<F: FileStore, W: Stopwatch, O: Sink, E: Sink, L: Ledger>(
             alloc,
             files,
             TraceForm::Dump,
+            source,
+            schedule,
+            Some(until),
+            limit,
+            out,
+            err,
+            steps,
+        ),
+        Ok(
+            Request::Measure {
+                is_tsv,
+                source,
+                schedule,
+                limit,
+            },
+        ) => drive_trace(
+            alloc,
+            files,
+            measured_form(is_tsv),
+            source,
+            schedule,
+            None,
+            limit,
+            out,
+            err,
+            steps,
+        ),
+        Ok(
+            Request::MeasureUntil {
+                is_tsv,
+                source,
+                schedule,
+                limit,
+                until,
+            },
+        ) => drive_trace(
+            alloc,
+            files,
+            measured_form(is_tsv),
             source,
             schedule,
             Some(until),
@@ -567,6 +612,26 @@ fn write_trace<P: Origins, O: Sink, L: Ledger>(
             steps,
         ),
         TraceForm::Dump => waves(alloc, &named.image, &objects, schedule, bound, out, steps),
+        TraceForm::Measures => measure(
+            alloc,
+            Form::Table,
+            &named.image,
+            &objects,
+            schedule,
+            bound,
+            out,
+            steps,
+        ),
+        TraceForm::MeasuredFields => measure(
+            alloc,
+            Form::Fields,
+            &named.image,
+            &objects,
+            schedule,
+            bound,
+            out,
+            steps,
+        ),
     }
 }
 

@@ -30,6 +30,9 @@ pub data Command : Type 0 where
   -- up to a time in microseconds, which the clock doesn't pass
   SimulateUntil : (source : List ℕ) (schedule : Option (List ℕ)) (limit : ℕ) (until : ℤ) → Command
   TraceUntil DumpUntil : (source schedule : List ℕ) (limit : ℕ) (until : ℤ) → Command
+  -- whether what is measured is written as fields that are separated by tabs
+  MeasureText : (is_tsv : Bool) (source schedule : List ℕ) (limit : ℕ) → Command
+  MeasureUntil : (is_tsv : Bool) (source schedule : List ℕ) (limit : ℕ) (until : ℤ) → Command
   -- a time in microseconds up to which a part of a set is searched, and a limit on the steps at one time; whether nothing is reported meanwhile
   SearchText : (source choices : List ℕ) (until : ℤ) (limit : ℕ) → Wanted → Part → (is_quiet : Bool) → Command
   ShowManual ShowVersion Nothing : Command
@@ -94,6 +97,29 @@ dump_asked words = Nothing
 abbrev pub asked_among : List (List ℕ) → Option (List (List ℕ)) → Command
 asked_among words (Some rest) = dump_asked rest
 asked_among words None = asked_plainly words
+
+-- ---- `measure`
+
+-- the words behind `measure`
+abbrev pub behind_measure : List (List ℕ) → Option (List (List ℕ))
+behind_measure [] = None
+behind_measure (name ∷ rest) = if bytes_eq name (codes "measure") then Some rest else None
+
+-- what these ask for: a word `--` in front of them lets names begin with `-`
+abbrev pub measure_in : (is_tsv : Bool) → List (List ℕ) → Command
+measure_in is_tsv (source ∷ schedule ∷ limit ∷ []) =
+    if is_plain source && is_plain schedule then within (MeasureText is_tsv source schedule) (numeral_of limit) else Nothing
+measure_in is_tsv (mark ∷ source ∷ schedule ∷ limit ∷ []) =
+    if bytes_eq mark (codes "--") then within (MeasureText is_tsv source schedule) (numeral_of limit) else Nothing
+measure_in is_tsv words = Nothing
+
+-- `--tsv`, directly after `measure`, and the words after it
+abbrev pub tsv_in : List (List ℕ) → Bool × List (List ℕ)
+tsv_in [] = (false, [])
+tsv_in (mark ∷ rest) = if bytes_eq mark (codes "--tsv") then (true, rest) else (false, mark ∷ rest)
+
+abbrev pub measure_asked : List (List ℕ) → Command
+measure_asked words = measure_in (tsv_in words).0 (tsv_in words).1
 
 -- ---- `search`
 
@@ -198,10 +224,14 @@ search_asked words = search_among (quiet_in words).0 (unmarked (quiet_in words).
 abbrev pub is_escape : List ℕ → Bool
 is_escape word = bytes_eq word (codes "--")
 
+-- whether a name is that of a command that takes a time
+abbrev pub takes_time : List ℕ → Bool
+takes_time name = bytes_eq name (codes "simulate") || (bytes_eq name (codes "trace") || bytes_eq name (codes "measure"))
+
 -- the words of a command that takes a time, of which none makes names of all that follow
 abbrev pub takes_until : List (List ℕ) → Bool
 takes_until [] = false
-takes_until (name ∷ rest) = (bytes_eq name (codes "simulate") || bytes_eq name (codes "trace")) && not (list_any is_escape rest)
+takes_until (name ∷ rest) = takes_time name && not (list_any is_escape rest)
 
 abbrev pub last_two : List (List ℕ) → List (List ℕ)
 last_two words = drop (length words - 2) words
@@ -223,6 +253,7 @@ abbrev pub until_of : ℤ → Command → Command
 until_of until (SimulateText source schedule limit) = SimulateUntil source schedule limit until
 until_of until (TraceText source schedule limit) = TraceUntil source schedule limit until
 until_of until (DumpText source schedule limit) = DumpUntil source schedule limit until
+until_of until (MeasureText is_tsv source schedule limit) = MeasureUntil is_tsv source schedule limit until
 until_of until command = Nothing
 
 -- a time that is none asks for nothing
@@ -232,9 +263,13 @@ timed (Some until) command = until_of until command
 
 -- ---- all
 
+abbrev pub asked_by_measure : List (List ℕ) → Option (List (List ℕ)) → Command
+asked_by_measure words (Some rest) = measure_asked rest
+asked_by_measure words None = asked_among words (behind_option words)
+
 -- what words without `search` in front and without `--until` ask for
 abbrev pub asked_besides : List (List ℕ) → Command
-asked_besides words = asked_among words (behind_option words)
+asked_besides words = asked_by_measure words (behind_measure words)
 
 -- by the word after `--until`, if it is there
 abbrev pub asked_up_to : List (List ℕ) → Option (List ℕ) → Command
@@ -248,8 +283,11 @@ asked_by_search words None = asked_up_to words (until_word words)
 abbrev pub asked : List (List ℕ) → Command
 asked words = asked_by_search words (behind_search words)
 
+abbrev pub is_told_among : List (List ℕ) → Bool
+is_told_among words = is_some (behind_option words) || list_all is_plain words
+
 abbrev pub is_told_besides : List (List ℕ) → Bool
-is_told_besides words = is_some (behind_option words) || list_all is_plain words
+is_told_besides words = is_some (behind_measure words) || is_told_among words
 
 abbrev pub is_told_up_to : List (List ℕ) → Option (List ℕ) → Bool
 is_told_up_to words None = is_told_besides words
@@ -279,6 +317,8 @@ command_of (requests.Simulate source schedule limit) = SimulateText source.now (
 command_of (requests.SimulateUntil source schedule limit until) = SimulateUntil source.now (option_map (λ name. name.now) schedule) limit until
 command_of (requests.TraceUntil source schedule limit until) = TraceUntil source.now schedule.now limit until
 command_of (requests.DumpUntil source schedule limit until) = DumpUntil source.now schedule.now limit until
+command_of (requests.Measure is_tsv source schedule limit) = MeasureText is_tsv source.now schedule.now limit
+command_of (requests.MeasureUntil is_tsv source schedule limit until) = MeasureUntil is_tsv source.now schedule.now limit until
 command_of (requests.Search source choices until limit wanted part is_quiet) = SearchText source.now choices.now until limit (wanted_of wanted) part is_quiet
 command_of requests.Manual = ShowManual
 command_of requests.Version = ShowVersion

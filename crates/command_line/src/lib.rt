@@ -5,13 +5,15 @@ ghost use Rattle.std.specs.Prelude.{◌≡◌, ◌&&◌, if◌then◌else◌, tr
 ghost use Rattle.std.specs.List.{list_all};
 ghost use Rattle.clap.specs.Words.{App, app_of, first_value, found_of, kind_of, subcommand_rows_of};
 ghost use Rattle.clap.specs.declared.builder.command.Command.TheViews.{out-Command};
-ghost use Rattle.command_line.specs.Words.{AnswersWords, DumpText, Nothing, asked, asked_besides, asked_plainly, dump_asked, is_digit, is_told, is_told_besides, within};
+ghost use Rattle.command_line.specs.Words.{AnswersWords, DumpText, Nothing, asked, asked_among, asked_besides, asked_plainly, dump_asked, is_digit, is_told, is_told_among, is_told_besides, within};
 ghost use Rattle.command_line.specs.Finding.{asked_by, asked_in, bare_app, command_app, explain_app, of_simulate, program_app, simulate_app};
 ghost use Rattle.command_line.specs.Words as words_of;
 
+mod measure;
 mod search;
 mod until;
 
+use crate::measure::{behind_measure, measure_request};
 use crate::search::{behind_search, search_request};
 use crate::until::request_up_to;
 use choices::Part;
@@ -98,6 +100,22 @@ pub enum Request<'a> {
         limit: u64,
         until: i64,
     },
+    /// Compile a source, run it on a schedule, for at most this many steps, and write what is measured of its tasks and objects: a table, or fields that are
+    /// separated by tabs.
+    Measure {
+        is_tsv: bool,
+        source: &'a str,
+        schedule: &'a str,
+        limit: u64,
+    },
+    /// Write what is measured up to a time in microseconds, which the clock doesn't pass.
+    MeasureUntil {
+        is_tsv: bool,
+        source: &'a str,
+        schedule: &'a str,
+        limit: u64,
+        until: i64,
+    },
     /// Compile a source and search the schedules of a part of a set up to a time (microseconds since the start), with at most so many steps at one time; a
     /// quiet search doesn't report how far it is.
     Search {
@@ -143,8 +161,8 @@ pub enum WordsError {
 /// Usage for other words than a request's, those that ask for help among them, and for a limit or a number that isn't one or more decimal
 /// digits of a value below 2**64, or a time below 2**63; Memory where memory was refused.
 pub fn request_of<'a>(alloc: Global, words: &'a [&'a str]) -> Result<Request<'a>, WordsError>
-    // Words after `search` and `trace --vcd`, and words of which none but `-` begins with `-`, ask for just what the table of commands says, `--until TIME` at
-    // their end being left out.
+    // Words after `search`, `measure` and `trace --vcd`, and words of which none but `-` begins with `-`, ask for just what the table of commands says,
+    // `--until TIME` at their end being left out.
     ensures { is_told (map (λ w. w.now) words.now) ≡ true → AnswersWords (asked (map (λ w. w.now) words.now)) result }
 {
     match behind_search(words) {
@@ -156,6 +174,17 @@ pub fn request_of<'a>(alloc: Global, words: &'a [&'a str]) -> Result<Request<'a>
 // What words without `search` in front and without `--until` ask for.
 fn request_besides<'a>(alloc: Global, words: &'a [&'a str]) -> Result<Request<'a>, WordsError>
     ensures { is_told_besides (map (λ w. w.now) words.now) ≡ true → AnswersWords (asked_besides (map (λ w. w.now) words.now)) result }
+{
+    match behind_measure(words) {
+        Some(rest) => measure_request(rest),
+        None => request_among_options(alloc, words),
+    }
+}
+
+// What words without `measure` in front ask for beside those.
+fn request_among_options<'a>(alloc: Global, words: &'a [&'a str]) -> Result<Request<'a>, WordsError>
+    ensures { is_told_among (map (λ w. w.now) words.now) ≡ true → AnswersWords
+        (asked_among (map (λ w. w.now) words.now) (words_of.behind_option (map (λ w. w.now) words.now))) result }
 {
     match behind_option(words) {
         Some(rest) => dump_request(rest),

@@ -1,7 +1,7 @@
-//! `--until TIME` at the end of the words of `simulate` and `trace`, which is read without clap.
-ghost use Rattle.std.specs.Prelude.{◌≡◌, ◌&&◌, ◌||◌, not, true, bytes_eq, codes, map, option_map};
+//! `--until TIME` at the end of the words of `simulate`, `trace` and `measure`, which is read without clap.
+ghost use Rattle.std.specs.Prelude.{◌≡◌, true, map, option_map};
 ghost use Rattle.std.specs.List.{list_any};
-ghost use Rattle.command_line.specs.Words.{AnswersWords, asked_up_to, before_until, command_of, is_escape, is_told_up_to, last_two, takes_until, time_word, timed, until_of, until_word};
+ghost use Rattle.command_line.specs.Words.{AnswersWords, asked_up_to, before_until, command_of, is_escape, is_told_up_to, last_two, takes_time, takes_until, time_word, timed, until_of, until_word};
 
 use crate::search::time_of;
 use crate::{Request, WordsError, request_besides};
@@ -16,9 +16,9 @@ fn is_escape(word: &str) -> bool
 
 // Whether a name can be that of a command that takes a time.
 fn is_timed_name(name: &str) -> bool
-    ensures { result ≡ (bytes_eq name.now (codes "simulate") || bytes_eq name.now (codes "trace")) }
+    ensures { result ≡ takes_time name.now }
 {
-    name == "simulate" || name == "trace"
+    name == "simulate" || name == "trace" || name == "measure"
 }
 
 fn has_escape(words: &[&str]) -> bool
@@ -115,9 +115,22 @@ fn with_time<'a>(request: Request<'a>, until: i64) -> Result<Request<'a>, WordsE
             limit,
             until,
         }),
+        Request::Measure {
+            is_tsv,
+            source,
+            schedule,
+            limit,
+        } => Ok(Request::MeasureUntil {
+            is_tsv,
+            source,
+            schedule,
+            limit,
+            until,
+        }),
         Request::SimulateUntil { .. }
         | Request::TraceUntil { .. }
         | Request::DumpUntil { .. }
+        | Request::MeasureUntil { .. }
         | Request::Compile { .. }
         | Request::List { .. }
         | Request::Run { .. }

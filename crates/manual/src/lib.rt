@@ -23,6 +23,9 @@ COMMANDS
         queues and is served, what is raised and where, and what is refused
     adarun trace --vcd SRC SCHED LIMIT [--until TIME]
         writes the run as a value change dump, for viewers of waveforms
+    adarun measure [--tsv] SRC SCHED LIMIT [--until TIME]
+        writes what is measured of the run: jobs and steps of each task, preemptions, waits in
+        queues, lateness, calls of each object; as tables, or with tabs between fields
     adarun compile SRC IMG
         compiles a source to the file of an image
     adarun list IMG
@@ -58,7 +61,7 @@ WORDS
 
     A longer name that begins with a hyphen comes after the word --, as in
     adarun go -- -main.adb /dev/null 1000000. There are no options but --vcd,
-    --part, --quiet and --until, which doesn't come after that word.
+    --tsv, --part, --quiet and --until, which doesn't come after that word.
 
 FORMATS
 
@@ -67,7 +70,7 @@ FORMATS
         8000 1 72
     A set of schedules has such lines with alternatives; `-` is no change.
         0..40000/10000 1 20|50|60..64|-
-    A search writes a schedule and a last line `found: ..`, or `none of N schedules`.
+    A search writes a schedule and a last line `found: ..`, or `none of N schedules, W worlds`.
     A run writes a line `TIME TASK LABEL VALUE` for each call of Put, with the virtual time in
     microseconds, and last how it came to its end: `ended at T`, `waits forever at T`,
     `unhandled NAME in TASK at T`, `step limit at T`, `time limit at T` or `image fault at T`.

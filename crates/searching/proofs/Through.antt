@@ -109,8 +109,8 @@ module _ (i : Sections) (slots : List Slot) (part : Part) (until : ℤ) (limit :
     before = λ others v of_too before. t.1 others v before of_too;
   }
 
-  pub through_all : (places : List ℕ) → IsThrough false places → Searches i slots part until limit wanted searched.Nothing
-  through_all places t schedule set =
+  pub through_all : (places : List ℕ) (worlds : ℕ) → IsThrough false places → Searches i slots part until limit wanted (searched.Nothing worlds)
+  through_all places worlds t schedule set =
       subst (λ s. AnswersRun i s until limit wanted answers.Nothing) (sym set.schedule_is) (t set.places set.within set.is_of)
 
 pub in_part : (part : Part) (slots : List Slot) (places : List ℕ) (schedule : List ScheduleLine) → AreWithin slots places → is_of_part part slots places ≡ true

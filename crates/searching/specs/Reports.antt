@@ -31,12 +31,12 @@ excess_text limit time = codes "found: more than " ++ decimal limit ++ codes " s
 abbrev pub too_long_text : (limit : ℕ) → List ScheduleLine → (time : ℤ) → List ℕ
 too_long_text limit schedule time = schedule_text schedule ++ excess_text limit time
 
--- the number of choices of the part
-abbrev pub nothing_text : Part → List Slot → List ℕ
-nothing_text part slots = codes "none of " ++ number_text (number_of_part part slots) ++ codes " schedules\n"
+-- the number of choices of the part, and how many worlds the search has kept
+abbrev pub nothing_text : Part → List Slot → (worlds : ℕ) → List ℕ
+nothing_text part slots worlds = codes "none of " ++ number_text (number_of_part part slots) ++ codes " schedules, " ++ decimal worlds ++ codes " worlds\n"
 
 -- by what the machine has found in the code of an image
 abbrev pub report_text : Sections → List Slot → Part → (limit : ℕ) → Searched → List ℕ
 report_text i slots part limit (searched.Found schedule finding) = found_text (names_of i) schedule (sight_of i finding)
-report_text i slots part limit searched.Nothing = nothing_text part slots
+report_text i slots part limit (searched.Nothing worlds) = nothing_text part slots worlds
 report_text i slots part limit (searched.TooLong schedule time) = too_long_text limit schedule time

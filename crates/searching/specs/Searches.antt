@@ -51,7 +51,7 @@ AnswersRun i schedule until limit wanted (answers.TooLong time) = TakesMore unti
 abbrev pub Searches : Sections → List Slot → Part → (until : ℤ) → (limit : ℕ) → Wanted → Searched → Type 0
 Searches i slots part until limit wanted (searched.Found schedule finding) =
     IsInPart part slots schedule × AnswersRun i schedule until limit wanted (answers.Found finding)
-Searches i slots part until limit wanted searched.Nothing =
+Searches i slots part until limit wanted (searched.Nothing worlds) =
     (schedule : List ScheduleLine) → IsInPart part slots schedule → AnswersRun i schedule until limit wanted answers.Nothing
 Searches i slots part until limit wanted (searched.TooLong schedule time) =
     IsInPart part slots schedule × AnswersRun i schedule until limit wanted (answers.TooLong time)
@@ -68,5 +68,5 @@ pub record IsFirstFound (i : Sections) (slots : List Slot) (part : Part) (until 
 -- what is found is found under the first schedule of the part under which anything is
 abbrev pub FindsFirst : Sections → List Slot → Part → (until : ℤ) → (limit : ℕ) → Wanted → Searched → Type 0
 FindsFirst i slots part until limit wanted (searched.Found schedule finding) = IsFirstFound i slots part until limit wanted schedule
-FindsFirst i slots part until limit wanted searched.Nothing = Unit {0}
+FindsFirst i slots part until limit wanted (searched.Nothing worlds) = Unit {0}
 FindsFirst i slots part until limit wanted (searched.TooLong schedule time) = IsFirstFound i slots part until limit wanted schedule

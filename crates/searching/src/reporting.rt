@@ -113,14 +113,21 @@ fn too_long_text(
     Ok(text)
 }
 
-fn nothing_text(alloc: Global, choices: &Choices, part: Part) -> Result<Vec<u8>, AllocError>
-    ensures { IfOk result (λ text. text.items ≡ nothing_text part choices.now) }
+fn nothing_text(
+    alloc: Global,
+    choices: &Choices,
+    part: Part,
+    worlds: u64,
+) -> Result<Vec<u8>, AllocError>
+    ensures { IfOk result (λ text. text.items ≡ nothing_text part choices.now worlds) }
 {
     let count = count_text(alloc, choices, part)?;
     let mut text = Vec::new(alloc);
     text.extend_from_slice(b"none of ")?;
     text.extend_from_slice(&count)?;
-    text.extend_from_slice(b" schedules\n")?;
+    text.extend_from_slice(b" schedules, ")?;
+    text.extend_from_slice(Buffer::new().format(worlds).as_bytes())?;
+    text.extend_from_slice(b" worlds\n")?;
     Ok(text)
 }
 
@@ -140,7 +147,7 @@ pub fn report(
 {
     match searched {
         Searched::Found(schedule, finding) => found_text(alloc, image, schedule, finding),
-        Searched::Nothing => nothing_text(alloc, choices, part),
+        Searched::Nothing(worlds) => nothing_text(alloc, choices, part, *worlds),
         Searched::TooLong(schedule, time) => too_long_text(alloc, limit, schedule, *time),
     }
 }

@@ -156,7 +156,7 @@ impl Table {
         row.is_met(choice, front, time, values, world)
     }
 
-    /// How many rows are kept.
+    /// How many rows have been kept, with those in whose place a later one is.
     pub(crate) fn count(&self) -> u64 {
         self.count
     }
@@ -170,7 +170,7 @@ impl Table {
         if self.rows.len() <= place {
             return;
         }
-        self.count = count_with(self.count, self.rows[place].is_none());
+        self.count = self.count.saturating_add(1);
         self.rows[place] = Some(row);
     }
 
@@ -193,14 +193,5 @@ fn row_at(rows: &[Option<Row>], place: usize) -> Option<&Row>
     match kept {
         Some(row) => Some(row),
         None => None,
-    }
-}
-
-// How many rows there are with one that is kept in place of another, or of none.
-fn count_with(count: u64, is_new: bool) -> u64 {
-    if is_new {
-        count.saturating_add(1)
-    } else {
-        count
     }
 }

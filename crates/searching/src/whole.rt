@@ -34,8 +34,8 @@ use tasking::laws::lines_apart;
 pub enum Searched {
     /// Under this schedule of the part the run comes to this.
     Found(Schedule, Finding),
-    /// Under none.
-    Nothing,
+    /// Under none, and so many worlds were kept, to compare later ones with.
+    Nothing(u64),
     /// Under this schedule the run takes more steps than the limit at this time, in microseconds.
     TooLong(Schedule, i64),
 }
@@ -91,7 +91,7 @@ pub fn search<P: Progress, L: Ledger>(
         is_more = choice.advance(choices);
         progress.report(choice.millionths(choices), runs, table.count());
     }
-    Ok(Searched::Nothing)
+    Ok(Searched::Nothing(table.count()))
 }
 
 // Runs the image on the schedule of a choice, if it is of the part. If nothing is found, the choice becomes the last one under whose schedule nothing is, by

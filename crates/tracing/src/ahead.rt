@@ -20,7 +20,7 @@ pub struct Ahead {
 }
 
 /// What is known of the next step of a machine; nothing changes.
-pub(crate) fn ahead_of<R: Ready, D: Delays>(machine: &Machine<'_, R, D>) -> Ahead
+pub fn ahead_of<R: Ready, D: Delays>(machine: &Machine<'_, R, D>) -> Ahead
     ensures { (lines : List Line) → result ≡ next_ahead machine.now.image machine.now.schedule (world_with lines machine.now) }
 {
     let address = machine.address_ahead();

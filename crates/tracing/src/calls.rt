@@ -9,13 +9,13 @@ use machine::{Machine, Place};
 use std::alloc::{AllocError, Global};
 
 /// The most tasks and handlers that a run has.
-pub(crate) const ACTORS: usize = 256;
+pub const ACTORS: usize = 256;
 
 /// No task has called an entry.
 ///
 /// # Errors
 /// Where memory was refused.
-pub(crate) fn no_calls(alloc: Global) -> Result<Vec<i64>, AllocError>
+pub fn no_calls(alloc: Global) -> Result<Vec<i64>, AllocError>
     ensures { IfOk result (λ calls. calls.items ≡ no_calls ACTORS) }
 {
     let mut calls = Vec::new(alloc);
@@ -28,7 +28,7 @@ pub(crate) fn no_calls(alloc: Global) -> Result<Vec<i64>, AllocError>
 }
 
 /// The time of the last call of a task that had to wait, in microseconds.
-pub(crate) fn call_time(calls: &[i64], task: u8) -> i64
+pub fn call_time(calls: &[i64], task: u8) -> i64
     ensures { result ≡ call_time calls.now task }
 {
     match calls.get(usize::from(task)) {
@@ -38,7 +38,7 @@ pub(crate) fn call_time(calls: &[i64], task: u8) -> i64
 }
 
 /// Notes the call of the task that ran, if it waits now.
-pub(crate) fn note_call<R: Ready, D: Delays>(
+pub fn note_call<R: Ready, D: Delays>(
     calls: &mut [i64],
     before: &Machine<'_, R, D>,
     after: &Machine<'_, R, D>,

@@ -16,10 +16,10 @@ use dispatch::Ready;
 use machine::{Asking, Machine, Outcome, Place, Raising};
 
 /// The most events of one step at one time.
-pub(crate) const EVENTS: usize = OBJECTS + 2 * TASKS + 4;
+pub const EVENTS: usize = OBJECTS + 2 * TASKS + 4;
 
 /// Events of one step at one time, in their order.
-pub(crate) type Events = ArrayVec<Event, EVENTS>;
+pub type Events = ArrayVec<Event, EVENTS>;
 
 // Adds an event, if there is one.
 fn add(events: &mut Events, event: Option<Event>)
@@ -336,7 +336,7 @@ fn callers<R: Ready, D: Delays>(
 }
 
 /// What has happened when the clock may move.
-pub(crate) fn until_clock<R: Ready, D: Delays>(
+pub fn until_clock<R: Ready, D: Delays>(
     calls: &[i64],
     before: &Machine<'_, R, D>,
     after: &Machine<'_, R, D>,
@@ -358,7 +358,7 @@ pub(crate) fn until_clock<R: Ready, D: Delays>(
 }
 
 /// What has happened since: the clock has moved, tasks have woken, and the highest runs.
-pub(crate) fn since_clock<R: Ready, D: Delays>(
+pub fn since_clock<R: Ready, D: Delays>(
     before: &Machine<'_, R, D>,
     after: &Machine<'_, R, D>,
     ran: u8,
@@ -378,7 +378,7 @@ pub(crate) fn since_clock<R: Ready, D: Delays>(
 }
 
 /// What has happened at the start.
-pub(crate) fn starts<R: Ready, D: Delays>(machine: &Machine<'_, R, D>) -> Events
+pub fn starts<R: Ready, D: Delays>(machine: &Machine<'_, R, D>) -> Events
     ensures { result.items ≡ starts (kernel_of machine.now.tasking) }
 {
     let mut events = ArrayVec::new();

@@ -10,7 +10,9 @@ mod origin;
 mod text;
 mod tracing_of;
 
-pub use ahead::Ahead;
+pub use ahead::{Ahead, ahead_of};
+pub use calls::{ACTORS, no_calls, note_call};
+pub use comparing::{Events, since_clock, starts, until_clock};
 pub use event::Event;
 pub use origin::{Origin, Origins};
 pub use tracing_of::trace;

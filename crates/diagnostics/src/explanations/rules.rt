@@ -93,8 +93,10 @@ where it stands (RM 4.5, 8.6).
 fault 12 at 8:45
 
 The place is the expression, which for an operator is the whole operation; `adarun explain 12 SRC` \
-gives the type that is expected and the one that is found, and where they are declared. Convert \
-between integer types: `N := Integer (Digit);`.
+gives the type that is expected and the one that is found, and where they are declared. Between \
+integer types convert: `N := Integer (Digit);`. A Boolean where a number is wanted is written \
+`(if B then 1 else 0)`, or the variable is declared Boolean (`X := True;` with X an Integer); a \
+number where a Boolean is wanted is compared, `N > 0`.
 ";
 
 const NOT_A_VARIABLE: &str = "\

@@ -71,8 +71,8 @@ right after them (RM 2.4.1).
 
 fault 4 at 2:31
 
-The place is the beginning of the number. Write `255`; there are no based literals, exponents or \
-real numbers.
+The place is the beginning of the number. Write `255`; there are no based literals and no \
+exponents. Of a real number, `0.5`, the point is refused by 6.
 ";
 
 const WRONG_LABEL: &str = "\

@@ -1,6 +1,6 @@
-use Rattle.std.proofs.Common.{◌≡◌, Some, inl, inr, of_z, refl, rules, subst, to_z, w64}
+use Rattle.std.proofs.Common.{◌≡◌, None, Some, inl, inr, of_z, refl, rules, subst, to_z, w64}
 use Rattle.std.specs.Prelude.{option_map}
-use Rattle.command_line.specs.Words.{CheckText, CompileText, DumpText, DumpUntil, ExplainFault, ExplainText, GoText, ListImage, Nothing, RunImage, SearchText, ShowManual, ShowVersion, SimulateText, SimulateUntil, TraceText, TraceUntil, wanted_of}
+use Rattle.command_line.specs.Words.{CheckText, CompileText, DumpText, DumpUntil, ExplainFault, ExplainText, GoText, ListImage, MeasureText, MeasureUntil, Nothing, RunImage, SearchText, ShowManual, ShowVersion, SimulateText, SimulateUntil, TraceText, TraceUntil, wanted_of}
 use Rattle.adarun.specs.Driving.{LeavesSearch, LeavesTrace, LeavesUntil, input_of}
 use Rattle.adarun.specs.Reading.{with_input}
 use Rattle.adarun.specs.declared.program.Status.TheVariants.{Failed, NoMemory}
@@ -125,6 +125,33 @@ returns-in-Ok-DumpUntil-clause-answers g c =
       answer_is = numbered_as c.drive_trace-status-in-Ok-DumpUntil.result;
       asked_for = λ plain. inl (asked_as _ _ _ c.in-Ok-DumpUntil.field-0-is (c.in-Ok-DumpUntil.ensures plain));
       leaves = (λ name. refl, subst (λ z. LeavesTrace forms.Dump (g.F.FileStore.contents c.args.files.now) c.in-Ok-DumpUntil.source.now c.in-Ok-DumpUntil.schedule.now (Some z) c.in-Ok-DumpUntil.limit c.drive_trace-status-in-Ok-DumpUntil.result (g.O.Sink.bytes c.args.out.now) (g.O.Sink.bytes c.drive_trace-status-in-Ok-DumpUntil.new.out)) u c.drive_trace-status-in-Ok-DumpUntil.ensures.leaves);
+      reports = tt;
+    }
+
+pub returns-in-Ok-Measure-clause-answers : goal.returns-in-Ok-Measure-clause-answers
+returns-in-Ok-Measure-clause-answers g c = record {
+  work = MeasureText c.in-Ok-Measure.is_tsv c.in-Ok-Measure.source.now c.in-Ok-Measure.schedule.now c.in-Ok-Measure.limit;
+  status = c.drive_trace-status-in-Ok-Measure.result;
+  answer_is = search rules;
+  asked_for = λ plain. inl (asked_as _ _ _ c.in-Ok-Measure.field-0-is (c.in-Ok-Measure.ensures plain));
+  leaves = (λ name. refl, subst (λ form. LeavesTrace form (g.F.FileStore.contents c.args.files.now) c.in-Ok-Measure.source.now c.in-Ok-Measure.schedule.now None c.in-Ok-Measure.limit c.drive_trace-status-in-Ok-Measure.result (g.O.Sink.bytes c.args.out.now) (g.O.Sink.bytes c.drive_trace-status-in-Ok-Measure.new.out)) c.measured_form.ensures c.drive_trace-status-in-Ok-Measure.ensures.leaves);
+  reports = tt;
+}
+
+pub returns-in-Ok-MeasureUntil-clause-answers : goal.returns-in-Ok-MeasureUntil-clause-answers
+returns-in-Ok-MeasureUntil-clause-answers g c =
+    let until = c.in-Ok-MeasureUntil.until in
+    let u : to_z w64 (of_z w64 until) ≡ until = search rules in
+    record {
+      work = MeasureUntil c.in-Ok-MeasureUntil.is_tsv c.in-Ok-MeasureUntil.source.now c.in-Ok-MeasureUntil.schedule.now c.in-Ok-MeasureUntil.limit until;
+      status = c.drive_trace-status-in-Ok-MeasureUntil.result;
+      answer_is = numbered_as c.drive_trace-status-in-Ok-MeasureUntil.result;
+      asked_for = λ plain. inl (asked_as _ _ _ c.in-Ok-MeasureUntil.field-0-is (c.in-Ok-MeasureUntil.ensures plain));
+      leaves = (
+        λ name. refl,
+        subst (λ form. LeavesTrace form (g.F.FileStore.contents c.args.files.now) c.in-Ok-MeasureUntil.source.now c.in-Ok-MeasureUntil.schedule.now (Some until) c.in-Ok-MeasureUntil.limit c.drive_trace-status-in-Ok-MeasureUntil.result (g.O.Sink.bytes c.args.out.now) (g.O.Sink.bytes c.drive_trace-status-in-Ok-MeasureUntil.new.out)) c.measured_form-in-Ok-MeasureUntil.ensures
+            (subst (λ z. LeavesTrace c.measured_form-in-Ok-MeasureUntil.result (g.F.FileStore.contents c.args.files.now) c.in-Ok-MeasureUntil.source.now c.in-Ok-MeasureUntil.schedule.now (Some z) c.in-Ok-MeasureUntil.limit c.drive_trace-status-in-Ok-MeasureUntil.result (g.O.Sink.bytes c.args.out.now) (g.O.Sink.bytes c.drive_trace-status-in-Ok-MeasureUntil.new.out)) u c.drive_trace-status-in-Ok-MeasureUntil.ensures.leaves),
+      );
       reports = tt;
     }
 

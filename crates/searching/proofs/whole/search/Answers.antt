@@ -61,5 +61,5 @@ returns-clause-answer g c =
     let u : to_z w64 (of_z w64 c.args.until) ≡ c.args.until = search rules in
     let t = subst (λ b. Through c.args.image.now c.args.choices.now c.args.part (to_z w64 (of_z w64 c.args.until)) c.args.limit c.args.wanted b c.loop-is_more.choice)
     c.loop-is_more-test.false c.loop-is_more.invariant.0 in
-    subst (λ z. Searches c.args.image.now c.args.choices.now c.args.part z c.args.limit c.args.wanted searched.Nothing) u
-    (through_all c.args.image.now c.args.choices.now c.args.part (to_z w64 (of_z w64 c.args.until)) c.args.limit c.args.wanted c.loop-is_more.choice t)
+    subst (λ z. Searches c.args.image.now c.args.choices.now c.args.part z c.args.limit c.args.wanted (searched.Nothing c.count-2.result)) u
+    (through_all c.args.image.now c.args.choices.now c.args.part (to_z w64 (of_z w64 c.args.until)) c.args.limit c.args.wanted c.loop-is_more.choice c.count-2.result t)

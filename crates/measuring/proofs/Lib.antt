@@ -1,0 +1,4 @@
+mod Tabled
+mod Measured
+mod Rows
+mod Whole

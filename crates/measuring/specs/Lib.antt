@@ -1,0 +1,5 @@
+pub mod Stories
+pub mod Measures
+pub mod Runs
+pub mod Tables
+pub mod Text

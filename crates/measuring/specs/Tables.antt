@@ -1,0 +1,22 @@
+-- Tables of tasks and of objects, and what a run so far has in them.
+use Rattle.std.specs.Prelude.{◌≡◌, ◌<◌, ℕ, List, length, slice_index_or}
+use Rattle.tracing.specs.declared.calls.TheConstants.{ACTORS}
+use Rattle.measuring.specs.Measures.{measures, object_measures}
+use Rattle.measuring.specs.Stories.{ObjectCalls, Stories}
+use Rattle.measuring.specs.declared.counting.Measures.{Measures}
+use Rattle.measuring.specs.declared.instants.Instants.{Instants}
+
+-- the table has what a function gives of each number that a task, a handler or an object may have
+abbrev pub IsTable : {X : Type 0} → List X → (ℕ → X) → Type 0
+IsTable {X} table f = (n : ℕ) (d : X) → n < ACTORS → slice_index_or table n d ≡ f n
+
+-- there is a row for each of these numbers
+pub record AreWhole (m : Measures) : Type 0 where
+  pub actors : length m.actors.items ≡ ACTORS
+  pub objects : length m.objects.items ≡ ACTORS
+
+-- what these say is measured of what has happened to tasks, of the calls of objects, and of instants
+pub record AreMeasured (m : Measures) (stories : Stories) (calls : ObjectCalls) (instants : Instants) : Type 0 where
+  pub actors : IsTable m.actors.items (λ t. measures (stories t))
+  pub objects : IsTable m.objects.items (λ o. object_measures (calls o))
+  pub instants_are : m.instants ≡ instants
