@@ -32,6 +32,7 @@ CALLS = [
     ["run", "faulty.adb", "empty", "1"],
     ["trace", "faulty.adb", "empty", "1"],
     ["trace", "--vcd", "faulty.adb", "empty", "1"],
+    ["measure", "faulty.adb", "empty", "1"],
     ["search", "faulty.adb", "empty", "1", "1"],
     ["search", "ends.adb", "faulty.adb", "1", "1"],
     ["explain", "6", "nothing"],

@@ -122,7 +122,7 @@ def wrong(program, watcher, scratch, text, lines, subprograms):
     yield "check", called([program, "check", source]), (0, "", "")
     status, out, err = called([program, "trace", source, os.devnull, str(LIMIT)])
     yield "trace", (status, lines_of_trace(out), err), expected
-    yield "search", called([program, "search", source, os.devnull, "1", str(LIMIT)]), (0, "none of 1 schedules\n", "")
+    yield "search", called([program, "search", source, os.devnull, "1", str(LIMIT)]), (0, "none of 1 schedules, 0 worlds\n", "")
     with open(image, "rb") as file:
         yield "subprograms", int.from_bytes(file.read()[8:10], "big"), subprograms
     status, out, err = called([watcher, image, os.devnull, str(WATCHED)])

@@ -7,7 +7,8 @@ What opens and has the same bytes (open(2), symlink(7), fifo(7)) leaves what the
 comes late or writes in parts, by /dev/stdin. /dev/null is as an empty file (null(4)), and /dev/zero and /dev/full as a file of zeros (full(4)). What can't be opened
 or read is `cannot read FILE` with status 1: a link to nothing or to itself, a folder, a socket, a name of a folder for a file, a name of 4,096 characters or with a
 part of 256 (PATH_MAX, NAME_MAX), standard input that is closed, a folder, or open to be written alone. A name that is no UTF-8 is `usage` (docs/FORMATS.md,
-"Commands").
+"Commands"). A file in whose place another one comes while it is read is one of both. One that is written over while it is read is what was there of either: the
+program ends with a status that docs/FORMATS.md has, and soon.
 """
 import os
 import socket
@@ -15,6 +16,7 @@ import subprocess
 import sys
 import threading
 import time
+from contextlib import contextmanager
 
 import mnemonics
 from rows import row_of
@@ -25,6 +27,8 @@ FAULTY = b"pragma Profile (Ravenscar);\nprocedure Main is begin end Main;\n"
 PATH_MAX = 4_096
 NAME_MAX = 255
 PAUSE = 0.05
+CHANGES = 5
+STATUSES = range(10)
 FILE = "FILE"
 COMMANDS = [
     ("source", ["go", FILE, "lines", "100000"]),
@@ -37,9 +41,19 @@ COMMANDS = [
     ("source", ["trace", FILE, "lines", "100000"]),
     ("lines", ["trace", "source", FILE, "100000"]),
     ("source", ["trace", "--vcd", FILE, "lines", "100000"]),
+    ("source", ["measure", FILE, "lines", "100000"]),
     ("source", ["search", FILE, "choices", "20000", "1000"]),
     ("choices", ["search", "source", FILE, "20000", "1000"]),
+    ("faulty", ["trace", FILE, "lines", "1"]),
+    ("faulty", ["trace", "--vcd", FILE, "lines", "1"]),
+    ("faulty", ["measure", FILE, "lines", "1"]),
+    ("lines", ["trace", "--vcd", "source", FILE, "100000"]),
+    ("lines", ["measure", "source", FILE, "100000"]),
+    ("source", ["search", "--quiet", FILE, "choices", "20000", "1000", "waits"]),
+    ("choices", ["search", "--quiet", "source", FILE, "20000", "1000", "line", "x", "--part", "1/2"]),
+    ("faulty", ["search", FILE, "choices", "20000", "1000"]),
     ("faulty", ["explain", "6", FILE]),
+    ("source", ["explain", "6", FILE]),
     ("image", ["list", FILE]),
     ("image", ["run", FILE, "lines", "3"]),
     ("lines", ["run", "image", FILE, "3"]),
@@ -88,6 +102,38 @@ def parts_to(path, data, parts):
         for at in range(0, len(data), size):
             pipe.write(data[at : at + size])
             time.sleep(PAUSE)
+
+
+def replace(folder, data):
+    """Another file comes in the place of `given`."""
+    with open(folder.path("next"), "wb") as file:
+        file.write(data)
+    os.replace(folder.path("next"), folder.path("given"))
+
+
+def write_over(folder, data):
+    """The file `given` is emptied, and has other bytes then."""
+    with open(folder.path("given"), "wb") as file:
+        file.write(data)
+
+
+@contextmanager
+def changing(change, folder, *contents):
+    """The file `given` changes all the time, from one of the contents to the next."""
+    over = threading.Event()
+
+    def go_on():
+        while not over.is_set():
+            for data in contents:
+                change(folder, data)
+
+    writer = threading.Thread(target=go_on)
+    writer.start()
+    try:
+        yield
+    finally:
+        over.set()
+        writer.join()
 
 
 def long_name(size, name):
@@ -156,6 +202,21 @@ class Command:
             self.same(f"a pipe with {parts} parts of {file}", "pipe", file)
             writer.join()
 
+    def try_changes(self):
+        """A file in whose place another one comes, and one that is written over, while it is read."""
+        own, other = self.folder.files[self.name], self.folder.files["zeros"]
+        with open(self.folder.path("given"), "wb") as file:
+            file.write(own)
+        either = [self.as_file(name, "given") for name in (self.name, "zeros")]
+        with changing(replace, self.folder, own, other):
+            for _ in range(CHANGES):
+                left = self.folder.call(self.with_name("given"))
+                self.expect("a file in whose place another one comes", left in either, True)
+        with changing(write_over, self.folder, own, other):
+            for _ in range(CHANGES):
+                left = self.folder.call(self.with_name("given"))
+                self.expect(f"a file that is written over ({left})", left[2] in STATUSES, True)
+
     def try_standard_input(self):
         """Standard input by the word `-`, of commands that know it."""
         if self.words[0] not in ("simulate", "check", "search") or self.words[1] != FILE:
@@ -179,6 +240,7 @@ def main():
         command.try_unreadable()
         command.try_devices()
         command.try_pipes()
+        command.try_changes()
         command.try_standard_input()
         wrong += command.wrong
     for told in wrong:

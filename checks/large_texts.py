@@ -99,6 +99,8 @@ CHAINS = [
 
 CALLED = "package App is procedure P; end App; package body App is procedure P is begin null; end P; end App;\n"
 
+ROWS = "type T is array (1..511) of Integer; procedure P;"
+
 LISTS = [
     runs("null statements", statements(), "null;", "null;", lambda n: LAST_LINE),
     runs("lines", statements(), "", 'Put("n",7);', lambda n: lines(*[7] * n)),
@@ -114,6 +116,7 @@ LISTS = [
     broken("objects", items(), "", "X:T;", 10, "T;"),
     broken("objects of a body", declarations(), "", "X:T;", 10, "T;"),
     broken("objects of a block", statements("declare ", "begin null; end;"), "", "X:T;", 10, "T;"),
+    broken("blocks with objects of 511 words", app("procedure P is begin ", "end P;", ROWS), "", "declare X:T;begin null;end;", 23, "X:T", 2),
     broken("components", items("type R is record ", "end record;"), "X:T;", "X:T;", 10, "T;"),
     broken("tasks", items(), "", "task T;", 18, "T;"),
     broken("entries of a task", items("task T is ", "end T;"), "", "entry E;", 18, "T is"),

@@ -31,7 +31,7 @@ def blocks_of(text):
         before = part
     return found
 
-OPTION = r" \[(--(?:quiet|until TIME))\]"
+OPTION = r" \[(--(?:quiet|tsv|until TIME))\]"
 
 
 class Checker:

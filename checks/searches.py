@@ -9,6 +9,7 @@ COUNT sets are made for each program, of at most 64 schedules each, and with MOS
 are 16 of EXAMPLES and 24 that are made here, of four kinds: a task that counts, a handler and an entry, a ring between two tasks, and waiting times that are read.
 """
 import itertools
+import math
 import os
 import random
 import re
@@ -257,7 +258,7 @@ end App;
 with App;
 procedure Main is begin null; end Main;
 """
-CYCLE_SETS = [("0..380000/10000 1 20|50\n", 385_000, [], 0, f"none of {2**39} schedules\n"),
+CYCLE_SETS = [("0..380000/10000 1 20|50\n", 385_000, [], 0, f"none of {2**39} schedules, WORLDS worlds\n"),
     ("0..380000/10000 1 20|50\n390000 1 20|90\n", 395_000, ["line", "alarm"], LINE_FOUND, "found: 390000 WATCH alarm 90\n")]
 FRAME = """pragma Profile (Ravenscar);
 with Control_IO; use Control_IO;
@@ -375,9 +376,20 @@ def parts_agree(program, case, file, count, status, told):
     source, _, until, wanted = case
     answers = [call(program, "search", source, file, str(until), str(ENOUGH), *wanted, "--part", f"{k}/{count}") for k in range(1, count + 1)]
     if status == 0:
-        numbers = [re.fullmatch(r"none of (\d+) schedules\n", out) for _, out, _ in answers]
+        numbers = [re.fullmatch(r"none of (\d+) schedules, \d+ worlds\n", out) for _, out, _ in answers]
         return all(numbers) and sum(int(number[1]) for number in numbers) == int(re.search(r"\d+", told)[0])
-    return (status, told, "") in answers
+    return any(is_answer(answered, status, told) for answered in answers)
+
+
+def most_worlds(slots):
+    """How many worlds all runs come to at most just before the times of the slots: one for each choice of the slots before."""
+    times = [time for time, _, _ in slots]
+    return sum(math.prod(len(values) for _, _, values in slots[: times.index(time)]) for time in set(times))
+
+
+def is_answer(got, status, told):
+    """Whether a search has answered so, where WORLDS is any number: how many worlds it has kept follows from no run."""
+    return got[0] == status and not got[2] and re.fullmatch(re.escape(told).replace("WORLDS", "[0-9]+"), got[1]) is not None
 
 
 def answer(program, source, text, until, wanted, file):
@@ -391,7 +403,7 @@ def answer(program, source, text, until, wanted, file):
         found = shown(run, until, wanted)
         if found:
             return found[0], f"{schedule}found: {found[1]}\n"
-    return 0, f"none of {len(schedules)} schedules\n"
+    return 0, f"none of {len(schedules)} schedules, WORLDS worlds\n"
 
 
 def random_set(rng, channels, step, most=MOST_SCHEDULES):
@@ -466,8 +478,10 @@ def main():
         status, told = answer(program, source, text, until, wanted, os.path.join(scratch, f"{number}.schedule"))
         got = call(program, "search", source, file, str(until), str(ENOUGH), *wanted)
         answers[status] += 1
-        if got != (status, told, ""):
+        if not is_answer(got, status, told):
             failures.append(f"{source} up to {until} {' '.join(wanted)}\n{text}gave {got}, and not {(status, told, '')}")
+        elif status == 0 and int(re.findall(r"\d+", got[1])[1]) > most_worlds(slots_of(text, until)):
+            failures.append(f"{source} up to {until} {' '.join(wanted)}\n{text}gave {got}, which are more worlds than its runs can come to")
         elif number % 2 and not parts_agree(program, case, file, 2 + number % 5, status, told):
             failures.append(f"{source} up to {until} {' '.join(wanted)}\n{text}its parts don't answer as the whole set: {told}")
 
@@ -498,7 +512,7 @@ def main():
         with open(file, "w", encoding="ascii") as out:
             out.write(text)
         got = call(program, "search", sources["cycle"], file, str(until), str(ENOUGH), *wanted)
-        if got[0] != status or not got[1].endswith(last) or got[2]:
+        if not is_answer((got[0], got[1][-len(last) :] if status else got[1], got[2]), status, last):
             failures.append(f"the cycle under {text!r}: {got}, and not {status} {last!r}")
     for failure in failures[:20]:
         print(f"searches: {failure}", file=sys.stderr)

@@ -3,10 +3,12 @@ _adarun() {
     local word=${COMP_WORDS[COMP_CWORD]}
     COMPREPLY=()
     if [ "$COMP_CWORD" = 1 ]; then
-        mapfile -t COMPREPLY < <(compgen -W "simulate check go trace search compile list run explain manual version" -- "$word")
+        mapfile -t COMPREPLY < <(compgen -W "simulate check go trace measure search compile list run explain manual version" -- "$word")
     elif [ "${COMP_WORDS[1]}" = trace ] && [ "$COMP_CWORD" = 2 ] && [[ $word == -* ]]; then
         COMPREPLY=(--vcd)
-    elif [[ ${COMP_WORDS[1]} = simulate || ${COMP_WORDS[1]} = trace ]] && [ "$COMP_CWORD" -gt 2 ] && [[ $word == -* ]]; then
+    elif [ "${COMP_WORDS[1]}" = measure ] && [ "$COMP_CWORD" = 2 ] && [[ $word == -* ]]; then
+        COMPREPLY=(--tsv)
+    elif [[ ${COMP_WORDS[1]} = simulate || ${COMP_WORDS[1]} = trace || ${COMP_WORDS[1]} = measure ]] && [ "$COMP_CWORD" -gt 2 ] && [[ $word == -* ]]; then
         COMPREPLY=(--until)
     elif [ "${COMP_WORDS[1]}" = search ] && [ "$COMP_CWORD" = 6 ]; then
         mapfile -t COMPREPLY < <(compgen -W "unhandled waits line --part" -- "$word")

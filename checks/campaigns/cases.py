@@ -235,7 +235,7 @@ def search_case(caller, seed):
     given = caller.write("choices", chosen)
     got = caller.call("search", file, given, str(until), ENOUGH, *wanted)
     came = {0: "none"}.get(status, "found")
-    if got != (status, told, ""):
+    if not searches.is_answer(got, status, told):
         return came, Difference(f"search up to {until} {' '.join(wanted)}: {got} where {(status, told)} is meant", text.encode(), chosen)
     if not searches.parts_agree(caller.program, (file, chosen, until, wanted), given, source.randint(2, 5), status, told):
         return came, Difference(f"search up to {until} {' '.join(wanted)}: its parts don't answer as the whole set", text.encode(), chosen)
