@@ -1,5 +1,6 @@
 //! Slots of time with alternatives.
-ghost use Rattle.std.specs.Prelude.{◌≡◌};
+ghost use Rattle.std.specs.Prelude.{◌≡◌, is_some};
+ghost use Rattle.std.specs.List.{list_all};
 
 use std::marker::Model;
 
@@ -31,5 +32,19 @@ impl Slot {
         ensures { result ≡ self.now.time }
     {
         self.time
+    }
+
+    /// Its channel, from 1 to 8.
+    pub fn channel(&self) -> u8
+        ensures { result ≡ self.now.channel }
+    {
+        self.channel
+    }
+
+    /// Whether each of its alternatives is a value, so that none leaves the channel as it is.
+    pub fn has_values_alone(&self) -> bool
+        ensures { result ≡ list_all is_some self.now.alternatives }
+    {
+        self.alternatives.iter().all(|value| value.is_some())
     }
 }

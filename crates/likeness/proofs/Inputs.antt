@@ -6,11 +6,11 @@ use Rattle.base.specs.Schedule.{input, input_after, is_heard}
 use Rattle.base.specs.declared.schedule.ScheduleLine.{ScheduleLine}
 use Rattle.kernel.specs.State.{Interrupt}
 use Rattle.kernel.specs.Interrupts.{interrupt_if, interrupts_of}
-use Rattle.likeness.specs.Schedules.{AgreeAt, AgreeBefore, AgreeFrom, AreBefore, AreFrom}
+use Rattle.likeness.specs.Schedules.{AgreeBefore, AreBefore, AreFrom}
 use Rattle.likeness.specs.Worlds.{IsLastBefore}
 use Rattle.likeness.proofs.Pending as pending
 
-after_both : (v : ℤ) (c d : List ScheduleLine) (channel : ℕ) (now : ℤ) → input_after v (c ++ d) channel now ≡ input_after (input_after v c channel now) d channel now
+pub after_both : (v : ℤ) (c d : List ScheduleLine) (channel : ℕ) (now : ℤ) → input_after v (c ++ d) channel now ≡ input_after (input_after v c channel now) d channel now
 after_both v [] d channel now = refl
 after_both v (l ∷ c) d channel now = after_both (cond (is_heard channel now l) l.value v) c d channel now
 
@@ -52,14 +52,14 @@ all_heard time last v (l ∷ c) channel now before le h =
 pub front_input : (time last : ℤ) (c d : List ScheduleLine) (channel : ℕ) → AreFrom time d → IsLastBefore last time → input (c ++ d) channel last ≡ input c channel last
 front_input time last c d channel from h = after_both (pos 0) c d channel last ∙ later_unheard time (input c channel last) d channel last from h.early
 
--- where the last values of two fronts are the same, and the tail is the same, the inputs are from there on
-pub same_from : (time last : ℤ) (c e d : List ScheduleLine) → AreBefore time c → AreBefore time e → IsLastBefore last time → AgreeAt c e last
-    → AgreeFrom (c ++ d) (e ++ d) time
-same_from time last c e d before_c before_e h agree now le channel known =
+-- where the last values of a channel are the same under two fronts, its inputs under these and one tail are the same from there on
+pub same_from : (time last : ℤ) (c e d : List ScheduleLine) (channel : ℕ) (now : ℤ) → AreBefore time c → AreBefore time e → IsLastBefore last time
+    → int_le time now ≡ true → input c channel last ≡ input e channel last → input (c ++ d) channel now ≡ input (e ++ d) channel now
+same_from time last c e d channel now before_c before_e h le same =
     let x = all_heard time last (pos 0) c channel now before_c le h in
     let y = all_heard time last (pos 0) e channel now before_e le h in
     after_both (pos 0) c d channel now
-    ∙ (ap (λ v. input_after v d channel now) (x ∙ (agree channel known ∙ sym y)) ∙ sym (after_both (pos 0) e d channel now))
+    ∙ (ap (λ v. input_after v d channel now) (x ∙ (same ∙ sym y)) ∙ sym (after_both (pos 0) e d channel now))
 
 -- ---- interrupts
 

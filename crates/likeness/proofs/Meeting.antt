@@ -1,5 +1,5 @@
 -- Two runs that have met have one future: under schedules that differ in their fronts alone, from worlds just before the time of the tail that are the same but
--- for the lines that were written, where the channels have the same last values.
+-- for the lines that were written, where both give the same input from that time on.
 use Rattle.std.proofs.Common.{◌≡◌, ℕ, zero, suc, ◌+◌, ℤ, List, [], ◌∷◌, ◌++◌, Option, Some, None, Bool, true, false, refl, sym, ap, subst, ◌∙◌, arith, append-nil}
 use Rattle.std.specs.Prelude.{int_le, int_lt, slice_get}
 use Rattle.std.proofs.lemmas.Int.{ints}
@@ -14,10 +14,10 @@ use Rattle.image.specs.Code.{CodeWorld, code, partition_of, start}
 use Rattle.image.specs.Frames.{TaskState, Words}
 use Rattle.image.specs.Sections.{Sections}
 use Rattle.image.specs.Steps.{behaviour}
-use Rattle.likeness.specs.Schedules.{AgreeAt, AgreeFrom, AreBefore, AreFrom}
+use Rattle.likeness.specs.Schedules.{AgreeFrom, AreBefore, AreFrom}
 use Rattle.likeness.proofs.Futures.{Paired, paired_next, run_paired_from, run_same}
-use Rattle.likeness.specs.Worlds.{IsEarly, IsSure, IsBlind, IsLastBefore, NoneSooner, ReadsNothing}
-use Rattle.likeness.proofs.Inputs.{interrupts_both, interrupts_early, interrupts_from, same_before, same_from}
+use Rattle.likeness.specs.Worlds.{IsEarly, IsSure, IsBlind, NoneSooner, ReadsNothing}
+use Rattle.likeness.proofs.Inputs.{interrupts_both, interrupts_early, interrupts_from, same_before}
 use Rattle.likeness.proofs.Onward.{IsAhead, begins_ahead, run_onward}
 use Rattle.likeness.proofs.Pending.{Swapped, swapped_back, with}
 use Rattle.likeness.proofs.Pending as pending
@@ -109,12 +109,12 @@ module _ (i : Sections) (r s : List ScheduleLine) where
   step_blind k d None None blind = refl
   step_blind k d None (Some t) blind = ap (λ y. record { kernel = after t y.effect k; rest = y.rest }) (among_blind i r s k t d (blind t refl))
 
-module _ (i : Sections) (behind : LinesBehind i) (time last : ℤ) (is_last : IsLastBefore last time) (c e d first : List ScheduleLine) (before_c : AreBefore time c)
+module _ (i : Sections) (behind : LinesBehind i) (time : ℤ) (c e d first : List ScheduleLine) (before_c : AreBefore time c)
     (before_e : AreBefore time e) (from_d : AreFrom time d) (from_first : AreFrom time first) (lawful_c : is_schedule (c ++ first) ≡ true)
     (lawful_e : is_schedule (e ++ first) ≡ true) (lawful : is_schedule (c ++ d) ≡ true) (n m : ℕ) (before : IsEarly time (code i (c ++ first) n).kernel)
     (same : (code i (c ++ first) n).kernel ≡ record (code i (e ++ first) m).kernel { pending = (code i (c ++ first) n).kernel.pending; lines = (code i (c ++ first) n).kernel.lines })
     (rest : (code i (c ++ first) n).rest ≡ (code i (e ++ first) m).rest) (none : NoneSooner time (code i (c ++ first) n)) (none_e : NoneSooner time (code i (e ++ first) m))
-    (blind : ReadsNothing i (code i (c ++ first) n)) (crossed : IsEarly time (code i (c ++ first) (n + 1)).kernel → ⊥) (agree : AgreeAt c e last) where
+    (blind : ReadsNothing i (code i (c ++ first) n)) (crossed : IsEarly time (code i (c ++ first) (n + 1)).kernel → ⊥) (agree : AgreeFrom (c ++ d) (e ++ d) time) where
   abbrev f : Local (Tasks Words TaskState)
   f = among (behaviour i (c ++ d))
 
@@ -185,7 +185,7 @@ module _ (i : Sections) (behind : LinesBehind i) (time last : ℤ) (is_last : Is
   on_by j None true is h = absurd (not_before (record { now = h; on = is }))
   on_by j None false is h =
       run_same i (c ++ d) (e ++ d) j (step f met) ahead
-      (λ now le. same_from time last c e d before_c before_e is_last agree now (le_through time (step f met).kernel.now now (not_lt (step f met).kernel.now time h) le))
+      (λ now le. agree now (le_through time (step f met).kernel.now now (not_lt (step f met).kernel.now time h) le))
 
   run_on : (j : ℕ) → run f j (step f met) ≡ run g j (step g met)
   run_on j = on_by j (step f met).kernel.outcome (int_lt (step f met).kernel.now time) refl refl ∙ ap (run g j) next_same

@@ -1,7 +1,7 @@
 -- Where the step of a run passes the time of slots from a world that a row has, the run has met that of the row.
-use Rattle.std.proofs.Common.{◌≡◌, ℕ, zero, suc, ◌+◌, ◌-◌, ◌<◌, ◌≤◌, ℤ, List, [], ◌∷◌, ◌++◌, Option, Some, None, true, drop, get_or, length, set, take, refl, sym, ap, subst, ◌∙◌, arith, rules}
+use Rattle.std.proofs.Common.{◌≡◌, ℕ, zero, suc, ◌+◌, ◌-◌, ◌<◌, ◌≤◌, ℤ, List, [], ◌∷◌, ◌++◌, Option, Some, None, true, drop, get_or, length, set, take, inl, inr, refl, sym, ap, subst, ◌∙◌, ⊎_elim, arith, rules}
 use Rattle.std.proofs.lemmas.Int.{ints}
-use Rattle.std.specs.Prelude.{IfSome, ◌<ℤ◌, int_le, int_lt, nat_le}
+use Rattle.std.specs.Prelude.{◌⊎◌, IfSome, ◌<ℤ◌, int_le, int_lt, nat_le}
 use Rattle.std.proofs.lemmas.Bool.{and_parts}
 use Rattle.base.specs.Schedule.{input}
 use Rattle.base.specs.declared.limits.TheConstants.{CHANNELS}
@@ -14,10 +14,9 @@ use Rattle.image.specs.Sections.{Sections}
 use Rattle.tasking.specs.Held.{Held, kernel_of}
 use Rattle.tasking.specs.Orderly.{time_ahead}
 use Rattle.execution.specs.Held.{HeldWorld, world_of}
-use Rattle.likeness.specs.Schedules.{AgreeAt}
 use Rattle.likeness.specs.Worlds.{IsEarly, IsLastBefore, NoneSooner}
 use Rattle.searching.specs.Following.{AreCheckpoints, AreKeptRows, AreValues, CrossesAt, CrossesFrom, HasMetAfter, HasMetQuietly, IsCheckpoint, IsMomentOf, IsPauseOf, IsRow, IsSeenIn, IsSomeRow, KeptCheckpoint, KeptMoment, KeptRow, MeetsRow, NoneBefore, Standing, StepsOn}
-use Rattle.searching.specs.Meeting.{MeetThere, StandsAfter, schedule_of}
+use Rattle.searching.specs.Meeting.{AgreeUnlessSet, IsSetAnew, MeetThere, StandsAfter, schedule_of}
 use Rattle.searching.specs.declared.sight.Wanted.{Wanted}
 use Rattle.searching.proofs.Alike.{worlds_like}
 use Rattle.searching.proofs.Reaching.{has_met}
@@ -33,17 +32,27 @@ none_sooner : (time : ℤ) (h : HeldWorld) (next : Option ℤ) → next ≡ time
 none_sooner time h None e n x xs is = absurd (let bad = e ∙ ap time_ahead is in cc)
 none_sooner time h (Some next) e n x xs is = subst (λ z. int_le time z ≡ true) (some_same next x.time (e ∙ ap time_ahead is)) n
 
--- equal values of the channels are equal inputs
-agree_by : (r s : List ScheduleLine) (now : ℤ) (values others : List ℤ) → AreValues r now values → AreValues s now others → others ≡ values → AgreeAt r s now
-agree_by r s now values others a b same channel known =
+-- values, told of what is the same
+pub values_of : (slots told : List Slot) (front : ℕ) (t time : ℤ) (schedule own : List ScheduleLine) (l last : ℤ) (values : List ℤ) → told ≡ slots → t ≡ time
+    → schedule ≡ own → l ≡ last → AreValues (drop front told) t schedule l values → AreValues (drop front slots) time own last values
+values_of slots told front t time schedule own l last values slots_are time_is schedule_is last_is are =
+    subst (λ z. AreValues (drop front slots) time own z values) last_is
+    (subst (λ s. AreValues (drop front slots) time s l values) schedule_is
+    (subst (λ z. AreValues (drop front slots) z schedule l values) time_is (subst (λ s. AreValues (drop front s) t schedule l values) slots_are are)))
+
+-- equal values of the channels are equal inputs, but for those that are set anew
+agree_by : (tail : List Slot) (time : ℤ) (r s : List ScheduleLine) (last : ℤ) (values others : List ℤ) → AreValues tail time r last values
+    → AreValues tail time s last others → others ≡ values → AgreeUnlessSet tail time last r s
+agree_by tail time r s last values others a b same channel known =
     let both = and_parts (nat_le 1 channel) (nat_le channel CHANNELS) known in
     let low : 1 ≤ channel = search (rules, both.0) in
     let high : channel ≤ CHANNELS = search (rules, both.1) in
     let place = channel - 1 in
     let lt : place < CHANNELS = omega (arith, low, high) in
     let is : place + 1 ≡ channel = omega (arith, low) in
-    subst (λ c. input r c now ≡ input s c now) is
-    (sym (a.each place now lt) ∙ (ap (λ l. get_or l place now) (sym same) ∙ b.each place now lt))
+    subst (λ c. IsSetAnew time c tail ⊎ (input r c last ≡ input s c last)) is
+    (⊎_elim (λ anew. inl anew)
+    (λ one. ⊎_elim (λ anew. inl anew) (λ other. inr (sym one ∙ (ap (λ l. get_or l place last) (sym same) ∙ other))) (b.each place last lt)) (a.each place last lt))
 
 module _ (slots : List Slot) (part : Part) (places : List ℕ) (h : HeldWorld) (n : ℕ) (next : HeldWorld) (m : KeptMoment)
     (from : CrossesFrom slots part places h n next m) (front : ℕ) (time : ℤ) (at : CrossesAt slots m next front time) where
@@ -57,10 +66,13 @@ module _ (slots : List Slot) (part : Part) (places : List ℕ) (h : HeldWorld) (
   none_there = none_sooner time h m.next from.moment.next at.none
 
   pub meets : (r : KeptRow) (last : ℤ) (values : List ℤ) → IsRow h.image slots part r → IsLastBefore last time
-      → AreValues (schedule_of slots places) last values → MeetsRow r places front time values m.world → front_of part slots ≤ front
+      → AreValues (drop front slots) time (schedule_of slots places) last values → MeetsRow r places front time values m.world → front_of part slots ≤ front
       → HasMetAfter h.image slots part places n front
   meets r last values row is_last own met no_less =
       let there = subst (λ z. IsLastBefore last z) (sym met.time_is) is_last in
+      let others : AreValues (drop front slots) time (schedule_of slots r.choice) last r.values =
+      subst (λ f. AreValues (drop f slots) time (schedule_of slots r.choice) last r.values) met.front_is
+      (subst (λ z. AreValues (drop r.front slots) z (schedule_of slots r.choice) last r.values) met.time_is (row.values last there)) in
       let meeting : MeetThere time h row.held next = record {
         before = early_there;
         alike = worlds_like h row.held m.world r.world (sym row.stands.image) from.moment.seen row.seen met.like;
@@ -73,14 +85,15 @@ module _ (slots : List Slot) (part : Part) (places : List ℕ) (h : HeldWorld) (
       } in
       let all =
       has_met h.image slots front time last r.choice places row.steps n h row.held next at.parted is_last row.within met.order
-      (agree_by (schedule_of slots places) (schedule_of slots r.choice) last values r.values own (row.values last there) met.values_are) from.stands row.stands
-      meeting in
+      (agree_by (drop front slots) time (schedule_of slots places) (schedule_of slots r.choice) last values r.values own others met.values_are) from.stands
+      row.stands meeting in
       record { earlier = r.choice; time = time; last = last; steps = row.steps; met = all; is_of = row.is_of; no_less = no_less }
 
   -- the world is kept as a row
-  pub row_of_it : (digested : KeptRow) (last : ℤ) (values : List ℤ) → digested.time ≡ time → digested.choice ≡ places → digested.values ≡ values
-      → digested.world ≡ m.world → IsLastBefore last time → AreValues (schedule_of slots places) last values → IsRow h.image slots part digested
-  row_of_it r last values time_is choice_is values_are world_is is_last own = record {
+  pub row_of_it : (digested : KeptRow) (last : ℤ) (values : List ℤ) → digested.front ≡ front → digested.time ≡ time → digested.choice ≡ places
+      → digested.values ≡ values → digested.world ≡ m.world → IsLastBefore last time → AreValues (drop front slots) time (schedule_of slots places) last values
+      → IsRow h.image slots part digested
+  row_of_it r last values front_is time_is choice_is values_are world_is is_last own = record {
     held = h;
     steps = n;
     within = subst (AreWithin slots) (sym choice_is) from.within;
@@ -90,9 +103,12 @@ module _ (slots : List Slot) (part : Part) (places : List ℕ) (h : HeldWorld) (
     none = subst (λ z. NoneSooner z (world_of h)) (sym time_is) none_there;
     values =
         λ other before.
-        subst (λ c. AreValues (schedule_of slots c) other r.values) (sym choice_is)
-        (subst (AreValues (schedule_of slots places) other) (sym values_are)
-        (subst (λ z. AreValues (schedule_of slots places) z values) (one_last last other is_last (subst (IsLastBefore other) time_is before)) own));
+        subst (λ f. AreValues (drop f slots) r.time (schedule_of slots r.choice) other r.values) (sym front_is)
+        (subst (λ z. AreValues (drop front slots) z (schedule_of slots r.choice) other r.values) (sym time_is)
+        (subst (λ c. AreValues (drop front slots) time (schedule_of slots c) other r.values) (sym choice_is)
+        (subst (AreValues (drop front slots) time (schedule_of slots places) other) (sym values_are)
+        (subst (λ z. AreValues (drop front slots) time (schedule_of slots places) z values)
+        (one_last last other is_last (subst (IsLastBefore other) time_is before)) own))));
   }
     where
       -- there is one last time before another

@@ -3,6 +3,7 @@ mod Reaching
 mod Seeing
 mod Standing
 mod Quiet
+mod Anew
 mod Merging
 mod Kept
 mod Crossed

@@ -1,7 +1,7 @@
 -- Where the run on a choice has met that of an earlier one, nothing is found under any choice with the same front.
-use Rattle.std.proofs.Common.{◌≡◌, ℕ, zero, suc, ◌+◌, ◌≤◌, ℤ, List, [], ◌∷◌, ◌++◌, true, Option, Some, None, drop, take, refl, sym, ap, subst, ◌∙◌, ⊎_elim, append_assoc}
+use Rattle.std.proofs.Common.{◌≡◌, ℕ, zero, suc, ◌+◌, ◌≤◌, ℤ, pos, List, [], ◌∷◌, ◌++◌, true, Option, Some, None, drop, take, refl, sym, ap, subst, ◌∙◌, ⊎_elim, append_assoc}
 use Rattle.std.specs.Prelude.{int_le, int_lt, slice_get, ◌≤ℤ◌}
-use Rattle.base.specs.Schedule.{is_schedule}
+use Rattle.base.specs.Schedule.{input, is_schedule}
 use Rattle.base.specs.declared.schedule.ScheduleLine.{ScheduleLine}
 use Rattle.choices.specs.Parts.{front_of, is_of_part}
 use Rattle.choices.specs.declared.part.Part.{Part}
@@ -18,9 +18,9 @@ use Rattle.kernel.specs.Laws.{LeftUnmoved}
 use Rattle.image.specs.Code.{code}
 use Rattle.image.specs.Sections.{Sections}
 use Rattle.image_laws.specs.Laws.{OutcomeStays}
-use Rattle.likeness.specs.Schedules.{AgreeAt, AreBefore, AreFrom}
+use Rattle.likeness.specs.Schedules.{AgreeFrom, AreBefore, AreFrom}
 use Rattle.likeness.specs.Worlds.{IsEarly, IsSure, NoneSooner, ReadsNothing}
-use Rattle.likeness.proofs.Inputs.{front_input}
+use Rattle.likeness.proofs.Inputs.{after_both, front_input, same_from}
 use Rattle.likeness.proofs.Meeting.{HaveOneFuture, LinesBehind, have_one_end, have_one_future}
 use Rattle.searching.specs.Following.{NoneWanted}
 use Rattle.searching.specs.Meeting.{AreEachBefore, AreEachFrom, AreLike, EndsBefore, HaveMet, schedule_of}
@@ -28,6 +28,7 @@ use Rattle.searching.specs.Searches.{AnswersRun, kernels}
 use Rattle.searching.specs.Sights.{HasLine, IsWanted, Written}
 use Rattle.searching.specs.declared.one.Answer.TheVariants as answers
 use Rattle.searching.specs.declared.sight.Wanted.{Wanted}
+use Rattle.searching.proofs.Anew.{set_anew}
 use Rattle.searching.proofs.Quiet.{quiet_too}
 
 -- ---- the front and the tail of choices and of their schedules
@@ -123,14 +124,16 @@ module _ (unmoved : LeftUnmoved) (stays : OutcomeStays) (i : Sections) (behind :
         ap (schedule_of slots) (sym (split_of front earlier) ∙ ap (λ l. take front earlier ++ l) met.order.behind)
         ∙ schedule_parts front slots (take front earlier) (drop front places) (within_front front slots earlier met.within)
 
-    agree : AgreeAt c e last
-    agree channel known =
-        sym (front_input time last c first channel (from_lines time (drop front slots) (drop front places) met.parted.from) met.last_is)
-        ∙ (agree_whole channel known
-        ∙ front_input time last e first channel (from_lines time (drop front slots) (drop front places) met.parted.from) met.last_is)
-      where
-        agree_whole : AgreeAt (c ++ first) (e ++ first) last
-        agree_whole = subst (λ r. AgreeAt r (e ++ first) last) here_is (subst (λ s. AgreeAt (schedule_of slots places) s last) there_is met.agree)
+    tail_from : AreFrom time first
+    tail_from = from_lines time (drop front slots) (drop front places) met.parted.from
+
+    -- the last values under the fronts are those under the whole schedules
+    fronts_agree : (channel : ℕ) → input (schedule_of slots places) channel last ≡ input (schedule_of slots earlier) channel last
+        → input c channel last ≡ input e channel last
+    fronts_agree channel same =
+        sym (front_input time last c first channel tail_from met.last_is)
+        ∙ (ap (λ s. input s channel last) (sym here_is)
+        ∙ (same ∙ (ap (λ s. input s channel last) there_is ∙ front_input time last e first channel tail_from met.last_is)))
 
     module _ (others : List ℕ) (v : AreWithin slots others) (same : take front others ≡ take front places) where
       abbrev d : List ScheduleLine
@@ -156,9 +159,21 @@ module _ (unmoved : LeftUnmoved) (stays : OutcomeStays) (i : Sections) (behind :
       mixed_is : schedule_of slots mixed ≡ e ++ d
       mixed_is = schedule_parts front slots (take front earlier) (drop front others) (within_front front slots earlier met.within)
 
+      agree : AgreeFrom (c ++ d) (e ++ d) time
+      agree now le channel known =
+          ⊎_elim
+          (λ anew.
+          after_both (pos 0) c d channel now
+          ∙ (set_anew time channel (drop front slots) (drop front others) anew (within_tail front slots others v) (input c channel now) (input e channel now) now le
+          ∙ sym (after_both (pos 0) e d channel now)))
+          (λ same.
+          same_from time last c e d channel now (before_lines time (take front slots) (take front places) met.parted.before)
+          (before_lines time (take front slots) (take front earlier) met.parted.before) met.last_is le (fronts_agree channel same))
+          (met.agree channel known)
+
       future : HaveOneFuture i (c ++ d) (e ++ d) n m (code i (c ++ first) n).kernel.lines (code i (e ++ first) m).kernel.lines
       future =
-          have_one_future i behind time last met.last_is c e d first
+          have_one_future i behind time c e d first
           (before_lines time (take front slots) (take front places) met.parted.before)
           (before_lines time (take front slots) (take front earlier) met.parted.before)
           (from_lines time (drop front slots) (drop front others) met.parted.from)

@@ -1,5 +1,5 @@
 -- Runs that take so many steps, each of which leads on in the code.
-use Rattle.std.proofs.Common.{◌≡◌, ℕ, zero, suc, ◌+◌, ◌<◌, ℤ, List, [], ◌∷◌, ◌++◌, true, refl, sym, ap, subst, ◌∙◌, arith, get_or, length, take}
+use Rattle.std.proofs.Common.{◌≡◌, ℕ, zero, suc, ◌+◌, ◌<◌, ℤ, List, [], ◌∷◌, ◌++◌, true, refl, sym, ap, subst, ◌∙◌, arith, drop, get_or, length, take}
 use Rattle.std.specs.Prelude.{int_le, int_lt, ◌≤ℤ◌, ◌<ℤ◌}
 use Rattle.std.proofs.lemmas.Int.{ints}
 use Rattle.base.specs.declared.schedule.ScheduleLine.{ScheduleLine}
@@ -14,9 +14,8 @@ use Rattle.execution.specs.Held.{HeldWorld, Leads, world_of, world_with}
 use Rattle.choices.specs.Places.{AreWithin}
 use Rattle.choices.specs.Slots.{Slot}
 use Rattle.choices.specs.Stepping.{IsEarlierInFront}
-use Rattle.likeness.specs.Schedules.{AgreeAt}
 use Rattle.likeness.specs.Worlds.{IsEarly, IsLastBefore, NoneSooner, ReadsNothing}
-use Rattle.searching.specs.Meeting.{AreEachBefore, AreEachFrom, AreLike, ArePartedAt, EndsBefore, HaveMet, IsAtEnd, MeetThere, StandsAfter, schedule_of}
+use Rattle.searching.specs.Meeting.{AgreeUnlessSet, AreEachBefore, AreEachFrom, AreLike, ArePartedAt, EndsBefore, HaveMet, IsAtEnd, MeetThere, StandsAfter, schedule_of}
 use Rattle.searching.proofs.Standing.{begins_without}
 
 pub stands_first : LeftUnmoved → (h : HeldWorld) → world_of h ≡ start h.image h.schedule → StandsAfter 0 h.image h.schedule h
@@ -82,8 +81,8 @@ module _ (time : ℤ) (one other after : HeldWorld) (met : MeetThere time one ot
 
 -- so both have met
 pub has_met : (i : Sections) (slots : List Slot) (front : ℕ) (time last : ℤ) (earlier places : List ℕ) (m n : ℕ) (one other after : HeldWorld) → ArePartedAt time front slots
-    → IsLastBefore last time → AreWithin slots earlier → IsEarlierInFront front earlier places → AgreeAt (schedule_of slots places) (schedule_of slots earlier) last
-    → StandsAfter n i (schedule_of slots places) one → StandsAfter m i (schedule_of slots earlier) other → MeetThere time one other after
+    → IsLastBefore last time → AreWithin slots earlier → IsEarlierInFront front earlier places
+    → AgreeUnlessSet (drop front slots) time last (schedule_of slots places) (schedule_of slots earlier) → StandsAfter n i (schedule_of slots places) one → StandsAfter m i (schedule_of slots earlier) other → MeetThere time one other after
     → HaveMet i slots front time last earlier places m n
 has_met i slots front time last earlier places m n one other after parted is_last within order agree here there met =
     let r = schedule_of slots places in

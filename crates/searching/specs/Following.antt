@@ -1,5 +1,5 @@
 -- What the search keeps of the worlds on its way, and what it says of the run that goes on from them; nobody has to believe this.
-use Rattle.std.specs.Prelude.{◌≡◌, ◌≢◌, ℕ, ◌+◌, ◌-◌, ◌<◌, ◌≤◌, ℤ, pos, ◌<ℤ◌, ◌≤ℤ◌, int_le, int_lt, List, [], ◌∷◌, Option, Some, None, true, get_or, IfSome, length, take}
+use Rattle.std.specs.Prelude.{◌≡◌, ◌≢◌, ◌⊎◌, ℕ, ◌+◌, ◌-◌, ◌<◌, ◌≤◌, ℤ, pos, ◌<ℤ◌, ◌≤ℤ◌, int_le, int_lt, List, [], ◌∷◌, Option, Some, None, true, drop, get_or, IfSome, length, take}
 use Rattle.base.specs.Schedule.{input}
 use Rattle.base.specs.declared.limits.TheConstants.{CHANNELS}
 use Rattle.base.specs.declared.schedule.ScheduleLine.{ScheduleLine}
@@ -21,7 +21,7 @@ use Rattle.tasking.specs.Orderly.{time_ahead}
 use Rattle.tasking.specs.declared.reports.Outcome.{Outcome as End}
 use Rattle.tasking.specs.declared.reports.Place.{Place as Stand}
 use Rattle.searching.specs.Judging.{JudgedOutcome}
-use Rattle.searching.specs.Meeting.{ArePartedAt, EndsBefore, HaveMet, IsAtEnd, StandsAfter, schedule_of}
+use Rattle.searching.specs.Meeting.{ArePartedAt, EndsBefore, HaveMet, IsAtEnd, IsSetAnew, StandsAfter, schedule_of}
 use Rattle.searching.specs.Searches.{AnswersRun, kernels}
 use Rattle.searching.specs.Sights.{HasLine, IsWanted, Written}
 use Rattle.searching.specs.declared.following.Followed.{Followed}
@@ -100,10 +100,10 @@ pub record Standing (i : Sections) (schedule : List ScheduleLine) (until : ℤ) 
 
 -- ---- what is kept
 
--- the values of all channels at a time
-pub record AreValues (schedule : List ScheduleLine) (now : ℤ) (values : List ℤ) : Type 0 where
+-- the last values of all channels before a time, but for those that one of these slots gives another at this time, whichever alternative is taken
+pub record AreValues (slots : List Slot) (time : ℤ) (schedule : List ScheduleLine) (last : ℤ) (values : List ℤ) : Type 0 where
   pub count : length values ≡ CHANNELS
-  pub each : (place : ℕ) (d : ℤ) → place < CHANNELS → get_or values place d ≡ input schedule (place + 1) now
+  pub each : (place : ℕ) (d : ℤ) → place < CHANNELS → IsSetAnew time (place + 1) slots ⊎ (get_or values place d ≡ input schedule (place + 1) last)
 
 -- a choice, how many first slots are passed, the time of those after them, how many steps may be taken at this time, a world, and a copy of its tasks and
 -- objects
@@ -137,7 +137,7 @@ pub record KeptRow : Type 0 where
   pub values : List ℤ
   pub world : SeenWorld
 
--- the run on a choice of the part stands in this world just before the time, and the channels have these values then
+-- the run on a choice of the part stands in this world just before the time, and the channels have these values then that count from there on
 pub record IsRow (i : Sections) (slots : List Slot) (part : Part) (r : KeptRow) : Type 0 where
   pub held : HeldWorld
   pub steps : ℕ
@@ -146,7 +146,7 @@ pub record IsRow (i : Sections) (slots : List Slot) (part : Part) (r : KeptRow) 
   pub stands : StandsAfter steps i (schedule_of slots r.choice) held
   pub seen : IsSeenIn held r.world
   pub none : NoneSooner r.time (world_of held)
-  pub values : (last : ℤ) → IsLastBefore last r.time → AreValues (schedule_of slots r.choice) last r.values
+  pub values : (last : ℤ) → IsLastBefore last r.time → AreValues (drop r.front slots) r.time (schedule_of slots r.choice) last r.values
 
 abbrev pub IsSomeRow : Sections → List Slot → Part → Option KeptRow → Type 0
 IsSomeRow i slots part None = Unit {0}

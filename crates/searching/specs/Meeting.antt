@@ -1,5 +1,8 @@
 -- What the search compares of two runs that may have met; nobody has to believe this.
-use Rattle.std.specs.Prelude.{◌≡◌, ◌≢◌, ℕ, ◌+◌, ℤ, ◌<ℤ◌, pos, List, [], ◌∷◌, Option, Some, None, drop, take, true, int_le, int_lt}
+use Rattle.std.specs.Prelude.{◌≡◌, ◌≢◌, ◌⊎◌, ℕ, ◌+◌, ℤ, ◌<ℤ◌, pos, List, [], ◌∷◌, Option, Some, None, drop, take, true, ◌&&◌, int_le, int_lt, is_some, nat_le}
+use Rattle.std.specs.List.{list_all}
+use Rattle.base.specs.Schedule.{input}
+use Rattle.base.specs.declared.limits.TheConstants.{CHANNELS}
 use Rattle.base.specs.declared.schedule.ScheduleLine.{ScheduleLine}
 use Rattle.choices.specs.Places.{AreWithin, taken}
 use Rattle.choices.specs.Slots.{Slot, lines_of}
@@ -9,7 +12,6 @@ use Rattle.image.specs.Sections.{Sections}
 use Rattle.kernel.specs.State.{IsReady, Kernel, Line, Outcome}
 use Rattle.tasking.specs.Held.{Held, kernel_of}
 use Rattle.execution.specs.Held.{HeldWorld, Leads, world_of, world_with}
-use Rattle.likeness.specs.Schedules.{AgreeAt}
 use Rattle.likeness.specs.Worlds.{IsEarly, IsLastBefore, IsSure, NoneSooner, ReadsNothing}
 
 abbrev pub AreEachBefore : (time : ℤ) → List Slot → Type 0
@@ -28,6 +30,22 @@ schedule_of slots places = lines_of slots (taken slots places)
 pub record ArePartedAt (time : ℤ) (front : ℕ) (slots : List Slot) : Type 0 where
   pub before : AreEachBefore time (take front slots)
   pub from : AreEachFrom time (drop front slots)
+
+-- the slot gives the channel a value at this time, whichever alternative is taken
+pub record SetsAnew (time : ℤ) (channel : ℕ) (s : Slot) : Type 0 where
+  pub time_is : s.time ≡ time
+  pub channel_is : s.channel ≡ channel
+  pub given : list_all is_some s.alternatives ≡ true
+
+-- some slot does
+abbrev pub IsSetAnew : (time : ℤ) → (channel : ℕ) → List Slot → Type 0
+IsSetAnew time channel [] = ⊥
+IsSetAnew time channel (s ∷ slots) = SetsAnew time channel s ⊎ IsSetAnew time channel slots
+
+-- each channel has the same last value before a time under both schedules, unless one of these slots gives it another at this time
+abbrev pub AgreeUnlessSet : List Slot → (time last : ℤ) → List ScheduleLine → List ScheduleLine → Type 0
+AgreeUnlessSet slots time last r s =
+    (channel : ℕ) → (nat_le 1 channel && nat_le channel CHANNELS) ≡ true → IsSetAnew time channel slots ⊎ (input r channel last ≡ input s channel last)
 
 -- the kernel and what tasks hold are the same but for the lines that were written
 pub record AreLike (v w : CodeWorld) : Type 0 where
@@ -61,7 +79,7 @@ PartsAt None front slots = Unit {0}
 PartsAt (Some time) front slots = ArePartedAt time front slots × (pos 0 <ℤ time)
 
 -- just before the time of the slots behind the front, the run on this choice stands in the same world as that on an earlier one, which differs in the front
--- alone, and the channels have the same values
+-- alone, and the channels have the same values, but for those that get one at that time whichever choice is taken
 pub record HaveMet (i : Sections) (slots : List Slot) (front : ℕ) (time last : ℤ) (earlier places : List ℕ) (m n : ℕ) : Type 0 where
   pub parted : ArePartedAt time front slots
   pub last_is : IsLastBefore last time
@@ -73,7 +91,7 @@ pub record HaveMet (i : Sections) (slots : List Slot) (front : ℕ) (time last :
   pub none_earlier : NoneSooner time (code i (schedule_of slots earlier) m)
   pub blind : ReadsNothing i (code i (schedule_of slots places) n)
   pub crossed : IsEarly time (code i (schedule_of slots places) (n + 1)).kernel → ⊥
-  pub agree : AgreeAt (schedule_of slots places) (schedule_of slots earlier) last
+  pub agree : AgreeUnlessSet (drop front slots) time last (schedule_of slots places) (schedule_of slots earlier)
 
 -- before the time of the slots behind the front, the run on this choice has come to its end, which no later interrupt changes
 pub record EndsBefore (i : Sections) (slots : List Slot) (front : ℕ) (time : ℤ) (places : List ℕ) (n : ℕ) : Type 0 where

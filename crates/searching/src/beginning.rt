@@ -24,6 +24,7 @@ use tasking::laws::kept_with_lines;
 ///
 /// # Errors
 /// Where memory was refused.
+#[inline(never)]
 pub(crate) fn begin<'a, 's>(
     alloc: Global,
     image: &'a Image,
@@ -32,11 +33,11 @@ pub(crate) fn begin<'a, 's>(
     schedule: &'s Schedule,
     limit: u64,
     path: &Path,
-    rooms: Option<Rooms<'a>>,
+    rooms: Option<Box<Rooms<'a>>>,
 ) -> Result<(Execution<'a, 's, RingReady, HeapDelays>, Midst), AllocError>
     requires schedule { schedule.now ≡ schedule_of choices.now choice.now }
     requires within { AreWithin choices.now choice.now }
-    requires rooms { IfSome rooms (λ r. r ≡ image.now) }
+    requires rooms { IfSome rooms (λ r. r.value ≡ image.now) }
     requires checkpoints { (until : ℤ) × (wanted : Asked) × AreCheckpoints image.now choices.now until limit wanted path.now }
     ensures image { IfOk result (λ begun. begun.0.image ≡ image.now) }
     ensures stands { IfOk result (λ begun. (until : ℤ) (wanted : Asked) → AreCheckpoints image.now choices.now until limit wanted path.now
@@ -89,11 +90,11 @@ fn resume<'a, 's>(
     schedule: &'s Schedule,
     limit: u64,
     checkpoint: &Checkpoint,
-    rooms: Rooms<'a>,
+    rooms: Box<Rooms<'a>>,
 ) -> Result<Execution<'a, 's, RingReady, HeapDelays>, AllocError>
     requires schedule { schedule.now ≡ schedule_of choices.now choice.now }
     requires within { AreWithin choices.now choice.now }
-    requires rooms { rooms ≡ image.now }
+    requires rooms { rooms.value ≡ image.now }
     requires on_way { take checkpoint.now.front choice.now ≡ take checkpoint.now.front checkpoint.now.choice }
     requires checkpoint { (until : ℤ) × (wanted : Asked) × IsCheckpoint image.now choices.now until limit wanted checkpoint.now }
     ensures image { IfOk result (λ e. e.image ≡ image.now) }
@@ -106,7 +107,7 @@ fn resume<'a, 's>(
     let _instructions = image.instructions();
     let _slots = choices.slots();
     let passed = count_before(schedule.lines(), checkpoint.time());
-    let execution = rooms.resume(
+    let execution = Box::into_inner(rooms).resume(
         alloc,
         checkpoint.contents(),
         checkpoint.pause(),

@@ -1,16 +1,16 @@
 //! Passing the times of slots: whether the run on a choice has met an earlier one.
-ghost use Rattle.std.specs.Prelude.{◌≡◌, ◌<◌, ℕ, ℤ, IfOk, IfSome, OnOk, length, true};
+ghost use Rattle.std.specs.Prelude.{◌≡◌, ◌⊎◌, ◌<◌, ℕ, ℤ, IfOk, IfSome, OnOk, drop, length, true};
+ghost use Rattle.base.specs.Schedule.{input};
 ghost use Rattle.choices.specs.Places.{AreWithin};
 ghost use Rattle.execution.specs.Held.{HeldWorld};
 ghost use Rattle.searching.specs.Following.{AreCheckpoints, AreKeptRows, AreValues, CrossesAt, CrossesFrom, HasMetAfter, HasMetQuietly, IsMomentOf, Standing, StepsOn};
-ghost use Rattle.searching.specs.Meeting.{schedule_of};
+ghost use Rattle.searching.specs.Meeting.{IsSetAnew, SetsAnew, schedule_of};
 ghost use Rattle.searching.specs.declared.sight.Wanted.{Wanted as Asked};
 
 use crate::moment::Moment;
 use crate::parting::{has_come_to, last_before, parting_time};
 use crate::path::{Checkpoint, Path};
 use crate::table::{Row, Table};
-use crate::world::World;
 use base::limits::CHANNELS;
 use choices::{Choice, Choices, Part, Slot};
 use clock::{Delays, Schedule};
@@ -88,11 +88,10 @@ fn meet_among<R: Ready, D: Delays>(
 {
     let slots = choices.slots();
     let last = passed.min(slots.len());
-    let digest = moment.world().digest();
     let mut at = front;
     while at < last {
         let met = is_met(
-            alloc, execution, choices, part, choice, schedule, moment, at, digest, table,
+            alloc, execution, choices, part, choice, schedule, moment, at, table,
         )?;
         if met {
             return Ok(Some(at));
@@ -112,7 +111,6 @@ fn is_met<R: Ready, D: Delays>(
     schedule: &Schedule,
     moment: &Moment,
     front: usize,
-    digest: u64,
     table: &mut Table,
 ) -> Result<bool, AllocError>
     requires schedule { schedule.now ≡ schedule_of choices.now choice.now }
@@ -133,8 +131,9 @@ fn is_met<R: Ready, D: Delays>(
         return Ok(false);
     };
     let last = last_before(time);
-    let values = values_at(alloc, schedule, last)?;
-    let own = row_digest(digest, &values, front);
+    let slots = choices.slots();
+    let values = values_before(alloc, slots, front, time, schedule, last)?;
+    let own = row_digest(moment.digest(), slots, front, time, schedule);
     if table.has_met(own, choice, front, time, &values, moment.world()) {
         return Ok(true);
     }
@@ -197,56 +196,99 @@ fn keep_checkpoint<R: Ready, D: Delays>(
     Ok(())
 }
 
-/// Whether the table has a world that the run meets, if its next step leads to the time of the slot after the first `front` ones.
-///
-/// # Errors
-/// Where memory was refused.
+/// Whether the table most likely has a world that the run meets, if its next step leads to the time of the slot after the first `front` ones, by the digest of
+/// its world.
 pub(crate) fn is_known(
-    alloc: Global,
     slots: &[Slot],
-    choice: &Choice,
     schedule: &Schedule,
     front: usize,
-    world: &World,
+    digest: u64,
     table: &Table,
-) -> Result<bool, AllocError> {
-    let Some(slot) = slots.get(front) else {
-        return Ok(false);
-    };
-    let time = slot.time();
-    if time <= 0 {
-        return Ok(false);
+) -> bool {
+    match slots.get(front) {
+        None => false,
+        Some(slot) => table.has_digest(row_digest(digest, slots, front, slot.time(), schedule)),
     }
-    let values = values_at(alloc, schedule, last_before(time))?;
-    let own = row_digest(world.digest(), &values, front);
-    Ok(table.has_met(own, choice, front, time, &values, world))
 }
 
 // The digest of a row, by that of its world.
-fn row_digest(world: u64, values: &[i64], front: usize) -> u64 {
-    digest_with(digest_of_values(world, values), front as u64)
+fn row_digest(world: u64, slots: &[Slot], front: usize, time: i64, schedule: &Schedule) -> u64 {
+    let last = time.saturating_sub(1);
+    let mut digest = digest_with(world, front as u64);
+    for channel in 0..CHANNELS {
+        let value = value_before(slots, front, time, schedule, channel + 1, last);
+        digest = digest_with(digest, value.cast_unsigned());
+    }
+    digest
 }
 
-// The values of all channels at a time.
-fn values_at(alloc: Global, schedule: &Schedule, now: i64) -> Result<Vec<i64>, AllocError>
-    ensures { IfOk result (λ values. AreValues schedule.now now values.items) }
+// The values of all channels at the last time before that of the slots after the first `front` ones, and 0 for those that get another by each alternative.
+fn values_before(
+    alloc: Global,
+    slots: &[Slot],
+    front: usize,
+    time: i64,
+    schedule: &Schedule,
+    last: i64,
+) -> Result<Vec<i64>, AllocError>
+    ensures { IfOk result (λ values. AreValues (drop front slots.now) time schedule.now last values.items) }
 {
-    let mut values = Vec::new(alloc);
+    let mut values = Vec::with_capacity(alloc, usize::from(CHANNELS))?;
     let mut channel = 0;
     while channel < CHANNELS {
         channel += 1;
-        values.push(schedule.value(channel, now))?;
+        values.push(value_before(slots, front, time, schedule, channel, last))?;
     }
     Ok(values)
 }
 
-// A digest with these values.
-fn digest_of_values(first: u64, values: &[i64]) -> u64 {
-    let mut digest = first;
-    for value in values {
-        digest = digest_with(digest, value.cast_unsigned());
+// The value of one of them.
+fn value_before(
+    slots: &[Slot],
+    front: usize,
+    time: i64,
+    schedule: &Schedule,
+    channel: u8,
+    last: i64,
+) -> i64
+    ensures { IsSetAnew time channel (drop front slots.now) ⊎ (result ≡ input schedule.now channel last) }
+{
+    if is_set_anew(slots, front, time, channel) {
+        0
+    } else {
+        schedule.value(channel, last)
     }
-    digest
+}
+
+// Whether a slot after the first `front` ones gives a channel a value at their time, whichever alternative is taken.
+fn is_set_anew(slots: &[Slot], front: usize, time: i64, channel: u8) -> bool
+    ensures { result ≡ true → IsSetAnew time channel (drop front slots.now) }
+{
+    let mut at = front;
+    while at < slots.len() {
+        let slot = &slots[at];
+        if time < slot.time() {
+            return false;
+        }
+        if sets_anew(slot, time, channel) {
+            return true;
+        }
+        at += 1;
+    }
+    false
+}
+
+// Whether a slot does.
+fn sets_anew(slot: &Slot, time: i64, channel: u8) -> bool
+    ensures { result ≡ true → SetsAnew time channel slot.now }
+{
+    if slot.time() != time {
+        return false;
+    }
+    if slot.channel() != channel {
+        return false;
+    }
+    slot.has_values_alone()
 }
 
 // The first slot after this one that has another time.

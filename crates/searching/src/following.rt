@@ -94,7 +94,7 @@ pub(crate) fn follow<R: Ready, D: Delays, L: Ledger>(
         if left == 0 {
             return Ok(Followed::TooLong(now));
         }
-        let moment = Moment::of(alloc, execution, choices, choice, schedule, front, table)?;
+        let moment = Moment::of(alloc, execution, choices, schedule, front, table)?;
         let told = execution.step(steps);
         match wanted_line(execution.image(), wanted, until, told) {
             Some(line) => return Ok(Followed::Found(Finding::Line(line))),

@@ -8,7 +8,7 @@ ghost use Rattle.searching.specs.Following.{IsMomentOf, IsPauseOf, NoneBefore};
 use crate::crossing::is_known;
 use crate::table::Table;
 use crate::world::World;
-use choices::{Choice, Choices, Slot};
+use choices::{Choices, Slot};
 use clock::{Delays, Schedule};
 use dispatch::Ready;
 use execution::Execution;
@@ -17,11 +17,12 @@ use std::alloc::{AllocError, Global};
 use std::marker::Model;
 use tasking::Pause;
 
-/// A world in which a run is, a copy of its tasks and objects unless the table has the world, and the time of its next interrupt, before a step that reads no
-/// input.
+/// A world in which a run is, with its digest, a copy of its tasks and objects unless the table has the world, and the time of its next interrupt, before a
+/// step that reads no input.
 #[derive(Drop)]
 pub(crate) struct Moment {
     world: World,
+    digest: u64,
     pause: Option<Box<Pause>>,
     next: Option<i64>,
 }
@@ -47,7 +48,6 @@ impl Moment {
         alloc: Global,
         execution: &Execution<'_, '_, R, D>,
         choices: &Choices,
-        choice: &Choice,
         schedule: &Schedule,
         front: usize,
         table: &Table,
@@ -65,11 +65,17 @@ impl Moment {
         let Some(world) = world else {
             return Ok(None);
         };
-        let is_known = is_known(alloc, slots, choice, schedule, front, &world, table)?;
+        let digest = world.digest();
+        let is_known = is_known(slots, schedule, front, digest, table);
         let pause = pause_of(alloc, execution, is_known)?;
         let tasking = execution.tasking();
         let next = tasking.next_interrupt();
-        Ok(Some(Moment { world, pause, next }))
+        Ok(Some(Moment {
+            world,
+            digest,
+            pause,
+            next,
+        }))
     }
 
     /// The world.
@@ -79,6 +85,11 @@ impl Moment {
         &self.world
     }
 
+    /// The digest of the world.
+    pub(crate) fn digest(&self) -> u64 {
+        self.digest
+    }
+
     /// The world, and the copy of its tasks and objects, if one was made.
     pub(crate) fn into_parts(self) -> (World, Option<Box<Pause>>)
         ensures world { result.0 ≡ self.world }
@@ -86,6 +97,7 @@ impl Moment {
     {
         let Moment {
             world,
+            digest: _,
             pause,
             next: _,
         } = self;
@@ -113,16 +125,19 @@ fn may_pass<R: Ready, D: Delays>(
         return false;
     };
     let time = slot.time();
-    let sleepers = execution.tasking().sleepers();
-    for sleeper in sleepers.as_slice() {
-        if sleeper.wake < time {
-            return false;
+    let tasking = execution.tasking();
+    for task in 0..tasking.task_count() {
+        if let Some(wake) = tasking.wake_time(task) {
+            if wake < time {
+                return false;
+            }
         }
     }
     true
 }
 
 // A copy of the tasks and objects of a run, for later runs to go on from, if nothing is known of its world.
+#[inline(never)]
 fn pause_of<R: Ready, D: Delays>(
     alloc: Global,
     execution: &Execution<'_, '_, R, D>,

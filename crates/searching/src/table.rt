@@ -156,6 +156,14 @@ impl Table {
         row.is_met(choice, front, time, values, world)
     }
 
+    /// Whether it has a row with this digest.
+    pub(crate) fn has_digest(&self, digest: u64) -> bool {
+        match row_at(self.rows.as_slice(), self.place(digest)) {
+            None => false,
+            Some(row) => row.digest == digest,
+        }
+    }
+
     /// How many rows have been kept, with those in whose place a later one is.
     pub(crate) fn count(&self) -> u64 {
         self.count

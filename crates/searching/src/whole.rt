@@ -19,8 +19,9 @@ use crate::progress::Progress;
 use crate::sight::{Finding, Wanted};
 use crate::table::Table;
 use choices::{Choice, Choices, Part};
-use clock::Schedule;
-use execution::Rooms;
+use clock::{HeapDelays, Schedule};
+use dispatch::RingReady;
+use execution::{Execution, Rooms};
 use image::Image;
 use image_laws::{lines_unread, outcome_stays};
 use kernel::laws::left_unmoved;
@@ -89,9 +90,22 @@ pub fn search<P: Progress, L: Ledger>(
             None => {}
         }
         is_more = choice.advance(choices);
-        progress.report(choice.millionths(choices), runs, table.count());
+        report_some(progress, choices, &choice, runs, table.count());
     }
     Ok(Searched::Nothing(table.count()))
+}
+
+// Reports how far a search is, after each 16th run: where that is follows from all slots.
+fn report_some<P: Progress>(
+    progress: &mut P,
+    choices: &Choices,
+    choice: &Choice,
+    runs: u64,
+    worlds: u64,
+) {
+    if runs % 16 == 0 {
+        progress.report(choice.millionths(choices), runs, worlds);
+    }
 }
 
 // Runs the image on the schedule of a choice, if it is of the part. If nothing is found, the choice becomes the last one under whose schedule nothing is, by
@@ -107,19 +121,19 @@ fn pass<'a, L: Ledger>(
     wanted: Wanted<'_>,
     path: &mut Path,
     table: &mut Table,
-    rooms: &mut Option<Rooms<'a>>,
+    rooms: &mut Option<Box<Rooms<'a>>>,
     runs: &mut u64,
     steps: &mut Steps<L>,
 ) -> Result<Option<Searched>, AllocError>
     requires through { Through image.now choices.now part until limit wanted true choice.old }
     requires checkpoints { AreCheckpoints image.now choices.now until limit wanted path.old }
     requires rows { AreKeptRows image.now choices.now part table.old }
-    requires rooms { IfSome rooms.old (λ r. r ≡ image.now) }
+    requires rooms { IfSome rooms.old (λ r. r.value ≡ image.now) }
     ensures found { IfOk result (λ found. IfSome found (ComesOut image.now choices.now part until limit wanted.entry)) }
     ensures passed { IfOk result (λ found. found ≡ None → MayGoOn image.now choices.now part until limit wanted.entry choice.old choice.new) }
     ensures checkpoints { OnOk result (AreCheckpoints image.now choices.now until limit wanted.entry path.new) }
     ensures rows { OnOk result (AreKeptRows image.now choices.now part table.new) }
-    ensures rooms { OnOk result (IfSome rooms.new (λ r. r ≡ image.now)) }
+    ensures rooms { OnOk result (IfSome rooms.new (λ r. r.value ≡ image.now)) }
 {
     if !choice.is_of_part(choices, part) {
         choice.go_to_last(choices, part.front(choices));
@@ -148,7 +162,7 @@ fn run_on<'a, L: Ledger>(
     wanted: Wanted<'_>,
     path: &mut Path,
     table: &mut Table,
-    rooms: &mut Option<Rooms<'a>>,
+    rooms: &mut Option<Box<Rooms<'a>>>,
     steps: &mut Steps<L>,
 ) -> Result<Followed, AllocError>
     requires schedule { schedule.now ≡ schedule_of choices.now choice.now }
@@ -157,11 +171,11 @@ fn run_on<'a, L: Ledger>(
     requires is_of { is_of_part part choices.now choice.now ≡ true }
     requires checkpoints { AreCheckpoints image.now choices.now until limit wanted path.old }
     requires rows { AreKeptRows image.now choices.now part table.old }
-    requires rooms { IfSome rooms.old (λ r. r ≡ image.now) }
+    requires rooms { IfSome rooms.old (λ r. r.value ≡ image.now) }
     ensures comes { IfOk result (ComesAlong image.now choices.now part until limit wanted.entry choice.now) }
     ensures checkpoints { OnOk result (AreCheckpoints image.now choices.now until limit wanted.entry path.new) }
     ensures rows { OnOk result (AreKeptRows image.now choices.now part table.new) }
-    ensures rooms { OnOk result (IfSome rooms.new (λ r. r ≡ image.now)) }
+    ensures rooms { OnOk result (IfSome rooms.new (λ r. r.value ≡ image.now)) }
 {
     let taken = rooms.take();
     let begun = begin(alloc, image, choices, choice, schedule, limit, path, taken)?;
@@ -170,8 +184,21 @@ fn run_on<'a, L: Ledger>(
         alloc, &mut run, choices, part, choice, schedule, midst, until, limit, wanted, path, table,
         steps,
     )?;
-    *rooms = Some(run.into_rooms());
+    let left = rooms_of(alloc, run)?;
+    *rooms = Some(left);
     Ok(followed)
+}
+
+// The memory of a run, for the next one.
+#[inline(never)]
+fn rooms_of<'a>(
+    alloc: Global,
+    run: Execution<'a, '_, RingReady, HeapDelays>,
+) -> Result<Box<Rooms<'a>>, AllocError>
+    ensures { IfOk result (λ r. r.value ≡ run.entry.image) }
+{
+    let rooms = Box::new(alloc, run.into_rooms())?;
+    Ok(rooms)
 }
 
 // What the search comes to by the run on a choice, if to anything. If it comes to nothing, the choice becomes the last one under whose schedule nothing is

@@ -11,7 +11,7 @@ pub returns-in_default-last_for-clause-stands : goal.returns-in_default-last_for
 returns-in_default-last_for-clause-stands c = λ until wanted all. c.in_ok-begun-2.ensures.stands until wanted
 
 pub resume-requires-clause-rooms : goal.resume-requires-clause-rooms
-resume-requires-clause-rooms c = subst (λ o. IfSome o (λ r. r ≡ c.args.image.now)) c.in-Some.is c.requires.rooms
+resume-requires-clause-rooms c = subst (λ o. IfSome o (λ r. r.value ≡ c.args.image.now)) c.in-Some.is c.requires.rooms
 
 pub resume-requires-clause-on_way : goal.resume-requires-clause-on_way
 resume-requires-clause-on_way c = c.in-Some-last_for.ensures.on_way

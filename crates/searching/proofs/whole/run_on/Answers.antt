@@ -5,7 +5,7 @@ use Rattle.tasking.specs.Held.{kernel_of}
 use Rattle.searching.proofs.whole.run_on.Goals as goal
 
 pub begin-requires-clause-rooms : goal.begin-requires-clause-rooms
-begin-requires-clause-rooms g c = subst (λ o. IfSome o (λ r. r ≡ c.args.image.now)) (sym c.take-taken.ensures.value) c.requires.rooms
+begin-requires-clause-rooms g c = subst (λ o. IfSome o (λ r. r.value ≡ c.args.image.now)) (sym c.take-taken.ensures.value) c.requires.rooms
 
 pub begin-requires-clause-checkpoints : goal.begin-requires-clause-checkpoints
 begin-requires-clause-checkpoints g c = (c.args.until, c.args.wanted, c.requires.checkpoints)
@@ -51,4 +51,4 @@ pub returns-clause-rows : goal.returns-clause-rows
 returns-clause-rows g c = subst (λ j. AreKeptRows j c.args.choices.now c.args.part c.follow.new.table) c.in_ok-begun.ensures.image c.in_ok-followed.ensures.rows
 
 pub returns-clause-rooms : goal.returns-clause-rooms
-returns-clause-rooms g c = c.into_rooms.ensures ∙ (c.in_ok-followed.ensures.image ∙ c.in_ok-begun.ensures.image)
+returns-clause-rooms g c = c.in_ok-left.ensures ∙ (c.in_ok-followed.ensures.image ∙ c.in_ok-begun.ensures.image)
