@@ -149,6 +149,7 @@ def calls_of_commands(program, folder):
     words = [
         ["trace", "tank.adb", "tank.schedule", "60"],
         ["trace", "--vcd", "tank.adb", "tank.schedule", "60"],
+        ["trace", "--chart", "tank.adb", "tank.schedule", "60"],
         ["measure", "tank.adb", "tank.schedule", "60"],
         ["search", "tank.adb", "choices", "20000", "1000"],
         ["search", "tank.adb", "choices", "20000", "1000", "line", "alarm"],

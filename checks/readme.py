@@ -55,10 +55,10 @@ class Checker:
         return path
 
     def example(self, blocks):
-        """The program, its schedule, its lines and the piece of its trace."""
+        """The program, its schedule, its lines, the piece of its trace, and its chart."""
         with open(SOURCE, encoding="utf-8") as file:
             source = [line.strip() for line in file]
-        shown, schedule, lines, trace = blocks[:4]
+        shown, schedule, lines, trace, chart = blocks[:5]
         for column in (slice(0, 46), slice(46, None)):
             part = [line[column].strip() for line in shown[1] if line[column].strip()]
             where = [number for number, line in enumerate(source) if line == part[0]]
@@ -69,6 +69,8 @@ class Checker:
         self.is_so(command, self.called(command.split()) == (0, "\n".join(lines[1]) + "\n", ""), lines[1])
         told = self.called([self.program, "trace", SOURCE, SCHEDULE, "1000000"])[1]
         self.is_so("the piece of its trace", "\n".join(trace[1]) + "\n" in told, trace[1])
+        told = self.called([self.program, "trace", "--chart", SOURCE, SCHEDULE, "1000000"])[1]
+        self.is_so("its chart", "\n".join(chart[1]) + "\n" == told, chart[1])
         return "\n".join(lines[1]) + "\n"
 
     def refused(self, blocks):

@@ -4,8 +4,9 @@
     refusals.py PROGRAM REFUSING SCRATCH
 
 REFUSING is what refuses, and tells that it did (refuse.c). A call in which a request was refused writes nothing but `no memory`, ends with status 8, and leaves
-the files as they were, so that the same call with memory, made after it, does what it should; the others do that too. One of `simulate` that has reported less for
-want of memory, as docs/FORMATS.md has it ("Commands"), leaves what `go` does, and a search that could keep less of the runs that it has made leaves its answer: that is what the program does, docs/FORMATS.md doesn't say it.
+the files as they were, so that the same call with memory, made after it, does what it should; the others do that too. Two go on where docs/FORMATS.md has it
+("Commands", "Exit statuses"): one of `simulate` that has reported less for want of memory leaves what `go` does, and a search that found none, and was refused
+room ahead for the digits of a number, leaves its answer.
 """
 import os
 import subprocess
@@ -133,9 +134,10 @@ def calls_of_commands(program, folder):
         ("simulate of an exception", ["simulate", "main.adb"], {"main.adb": raised}, (raised_lines, b"", raised_status)),
         ("trace", ["trace", "main.adb", "input", "1000"], files, None),
         ("trace --vcd", ["trace", "--vcd", "main.adb", "input", "1000"], files, None),
+        ("trace --chart", ["trace", "--chart", "main.adb", "input", "1000"], files, None),
         ("measure", ["measure", "main.adb", "input", "1000"], files, None),
         ("search that finds none", ["search", "main.adb", "choices", "20000", "1000"], {"main.adb": tank, "choices": choices}, "the answer"),
-        ("search that finds a line", ["search", "main.adb", "choices", "20000", "1000", "line", "alarm"], {"main.adb": tank, "choices": choices}, "the answer"),
+        ("search that finds a line", ["search", "main.adb", "choices", "20000", "1000", "line", "alarm"], {"main.adb": tank, "choices": choices}, None),
         ("explain of a text", ["explain", "12", "main.adb"], {"main.adb": faulty}, None),
     ]
     return [ample_call(program, folder, *call) for call in calls]

@@ -31,7 +31,7 @@ use Rattle.adarun.specs.declared.going.GoFault.{GoFault}
 use Rattle.adarun.specs.declared.going.GoFault.TheVariants as faults
 use Rattle.adarun.specs.contracts.program.Status as status_type
 use Rattle.adarun.specs.declared.program.Status.{Status}
-use Rattle.adarun.specs.declared.program.TraceForm.{TraceForm}
+use Rattle.command_line.specs.declared.View.{View}
 use Rattle.adarun.specs.declared.program.Status.TheVariants as statuses
 use Rattle.adarun.specs.declared.program.Status.TheVariants.{Failed, SourceRefused, ScheduleRefused, NoMemory}
 use Rattle.adarun.proofs.Reading.{begun, image_whole, schedule_whole, source_whole}
@@ -159,30 +159,30 @@ asked_nothing command error is answers = sym (subst (λ e. AnswersWords command 
 
 -- ---- `trace`: what is told of equal names and texts is the same
 
-pub told_alike : (form : TraceForm) (W : List ℕ → Type 0) (image : Sections) (places : List PlaceRow) (lines : List ScheduleLine) (bound : Bound)
+pub told_alike : (view : View) (W : List ℕ → Type 0) (image : Sections) (places : List PlaceRow) (lines : List ScheduleLine) (bound : Bound)
     → (lent names own bodies : List (List ℕ)) (shown text : List ℕ) → lent ≡ names → own ≡ bodies → shown ≡ text
-    → W (text_of form image lent (known_in shown image places own) lines bound) → W (text_of form image names (known_in text image places bodies) lines bound)
-told_alike form W image places lines bound lent names own bodies shown text same_names same_bodies same_text told =
-    subst (λ n. W (text_of form image n (known_in text image places bodies) lines bound)) same_names
-    (subst (λ o. W (text_of form image lent (known_in text image places o) lines bound)) same_bodies
-    (subst (λ t. W (text_of form image lent (known_in t image places own) lines bound)) same_text told))
+    → W (text_of view image lent (known_in shown image places own) lines bound) → W (text_of view image names (known_in text image places bodies) lines bound)
+told_alike view W image places lines bound lent names own bodies shown text same_names same_bodies same_text told =
+    subst (λ n. W (text_of view image n (known_in text image places bodies) lines bound)) same_names
+    (subst (λ o. W (text_of view image lent (known_in text image places o) lines bound)) same_bodies
+    (subst (λ t. W (text_of view image lent (known_in t image places own) lines bound)) same_text told))
 
 -- a schedule that is refused leaves what it leaves to `go`
 
-module _ (form : TraceForm) (contents : Contents) (source schedule : List ℕ) (until : Option ℤ) (limit : ℕ) (old new : Option (List ℕ)) where
-  pub unscheduled_trace : (b : Bool) (status : Status) → status ≡ cond b NoMemory ScheduleRefused → LeavesGo contents source (contents schedule) limit status old new → LeavesTrace form contents source schedule until limit status old new
-  unscheduled_trace true status e h = subst (λ s. LeavesTrace form contents source schedule until limit s old new) (sym e) (subst (λ s. LeavesGo contents source (contents schedule) limit s old new) e h)
-  unscheduled_trace false status e h = subst (λ s. LeavesTrace form contents source schedule until limit s old new) (sym e) (subst (λ s. LeavesGo contents source (contents schedule) limit s old new) e h)
+module _ (view : View) (contents : Contents) (source schedule : List ℕ) (until : Option ℤ) (limit : ℕ) (old new : Option (List ℕ)) where
+  pub unscheduled_trace : (b : Bool) (status : Status) → status ≡ cond b NoMemory ScheduleRefused → LeavesGo contents source (contents schedule) limit status old new → LeavesTrace view contents source schedule until limit status old new
+  unscheduled_trace true status e h = subst (λ s. LeavesTrace view contents source schedule until limit s old new) (sym e) (subst (λ s. LeavesGo contents source (contents schedule) limit s old new) e h)
+  unscheduled_trace false status e h = subst (λ s. LeavesTrace view contents source schedule until limit s old new) (sym e) (subst (λ s. LeavesGo contents source (contents schedule) limit s old new) e h)
 
-  has_traced : (outcome : Outcome) → HasTraced form contents source schedule until limit (status_of outcome) old new → LeavesTrace form contents source schedule until limit (status_of outcome) old new
+  has_traced : (outcome : Outcome) → HasTraced view contents source schedule until limit (status_of outcome) old new → LeavesTrace view contents source schedule until limit (status_of outcome) old new
   has_traced (outcomes.Ended time) h = h
   has_traced (outcomes.Unhandled exception task time) h = h
   has_traced (outcomes.WaitsForever time) h = h
   has_traced (outcomes.StepLimit time) h = h
   has_traced (outcomes.ImageFault time) h = h
 
-  pub trace_leaves : (status : Status) (outcome : Outcome) → status ≡ status_of outcome → HasTraced form contents source schedule until limit (status_of outcome) old new → LeavesTrace form contents source schedule until limit status old new
-  trace_leaves status outcome e h = subst (λ s. LeavesTrace form contents source schedule until limit s old new) (sym e) (has_traced outcome h)
+  pub trace_leaves : (status : Status) (outcome : Outcome) → status ≡ status_of outcome → HasTraced view contents source schedule until limit (status_of outcome) old new → LeavesTrace view contents source schedule until limit status old new
+  trace_leaves status outcome e h = subst (λ s. LeavesTrace view contents source schedule until limit s old new) (sym e) (has_traced outcome h)
 
 -- ---- `simulate` up to a time: a text or a schedule that is refused leaves what it leaves to `go`
 

@@ -31,12 +31,13 @@ use Rattle.machine.specs.declared.reports.Outcome.{Outcome}
 use Rattle.machine.specs.declared.reports.Outcome.TheVariants as outcomes
 use Rattle.searching.specs.declared.sight.Wanted.{Wanted}
 use Rattle.searching.specs.declared.sight.Wanted.TheVariants as sights
+use Rattle.charts.specs.Text.{chart_text}
 use Rattle.tracing.specs.Known.{Known}
 use Rattle.tracing.specs.Traces.{trace_text}
 use Rattle.measuring.specs.Text.{measures_text}
 use Rattle.measuring.specs.declared.text.Form.TheVariants as tables
 use Rattle.waveforms.specs.Waves.{waves_text}
-use Rattle.command_line.specs.Words.{CheckText, Command, CompileText, DumpText, DumpUntil, ExplainFault, ExplainText, GoText, ListImage, MeasureText, MeasureUntil, Nothing, RunImage, ShowManual, ShowVersion, SearchText, SimulateText, SimulateUntil, TraceText, TraceUntil, asked, is_told}
+use Rattle.command_line.specs.Words.{CheckText, Command, CompileText, ExplainFault, ExplainText, GoText, ListImage, Nothing, RunImage, ShowManual, ShowVersion, SearchText, SimulateText, TraceText, asked, is_told}
 use Rattle.command_line.specs.Words as words_of
 use Rattle.adarun.specs.Accepted.{Compiles, RefusesText}
 use Rattle.adarun.specs.CodeTold.{IsCodeTold}
@@ -56,8 +57,8 @@ use Rattle.adarun.specs.declared.exploring.SearchOutcome.TheVariants as searches
 use Rattle.adarun.specs.declared.files.ReadError.{ReadError}
 use Rattle.adarun.specs.declared.files.ReadError.TheVariants as errors
 use Rattle.adarun.specs.declared.program.Status.{Status}
-use Rattle.adarun.specs.declared.program.TraceForm.{TraceForm}
-use Rattle.adarun.specs.declared.program.TraceForm.TheVariants as forms
+use Rattle.command_line.specs.declared.View.{View}
+use Rattle.command_line.specs.declared.View.TheVariants as views
 use Rattle.adarun.specs.declared.program.Status.TheVariants.{Done, Failed, SourceRefused, Unhandled, WaitsForever, StepLimit, ImageFault, ScheduleRefused, NoMemory, LineFound}
 
 -- the exit status of a run's outcome (docs/FORMATS.md, "Exit statuses")
@@ -161,6 +162,12 @@ LeavesUntil contents source given until limit NoMemory old new = new ≡ old
 LeavesUntil contents source given until limit Failed old new = (new ≡ old) ⊎ HasBegunUntil contents source given until limit old new
 LeavesUntil contents source given until limit status old new = HasRunUntil contents source given until limit status old new
 
+-- a whole run, or one up to a time
+abbrev pub LeavesSimulate : Contents → (source : List ℕ) → (given : Option (List ℕ)) → (until : Option ℤ) → (limit : ℕ) → Status → Option (List ℕ)
+    → Option (List ℕ) → Type 0
+LeavesSimulate contents source given None limit = LeavesGo contents source given limit
+LeavesSimulate contents source given (Some until) limit = LeavesUntil contents source given until limit
+
 -- what the file of a schedule has, as far as it is known; without one the schedule is empty
 abbrev pub input_of : Contents → Option (List ℕ) → Option (List ℕ)
 input_of contents None = Some []
@@ -168,18 +175,14 @@ input_of contents (Some name) = contents name
 
 -- ---- `trace`
 
--- in which form a run is reported, by its image, the names of its objects, what is known of its source, its schedule and its bound: rows, a value change dump,
--- or what is measured of it, as a table or as fields
-abbrev pub text_of : TraceForm → Sections → List (List ℕ) → Known → List ScheduleLine → Bound → List ℕ
-text_of forms.Rows = trace_text
-text_of forms.Dump = λ i objects known. waves_text i objects
-text_of forms.Measures = λ i objects known. measures_text tables.Table i objects
-text_of forms.MeasuredFields = λ i objects known. measures_text tables.Fields i objects
-
--- the form of what is measured
-abbrev pub measured_form : (is_tsv : Bool) → TraceForm
-measured_form true = forms.MeasuredFields
-measured_form false = forms.Measures
+-- what is written of a run, by its image, the names of its objects, what is known of its source, its schedule and its bound: rows, a value change dump, a
+-- chart, or what is measured of it, as a table or as fields
+abbrev pub text_of : View → Sections → List (List ℕ) → Known → List ScheduleLine → Bound → List ℕ
+text_of views.Rows = trace_text
+text_of views.Dump = λ i objects known. waves_text i objects
+text_of views.Chart = λ i objects known. chart_text i objects
+text_of views.Measures = λ i objects known. measures_text tables.Table i objects
+text_of views.MeasuredFields = λ i objects known. measures_text tables.Fields i objects
 
 -- the file was read, and its lines are a schedule
 pub record HasSchedule (contents : Contents) (name : List ℕ) : Type 0 where
@@ -188,11 +191,11 @@ pub record HasSchedule (contents : Contents) (name : List ℕ) : Type 0 where
   pub lines : List ScheduleLine
   pub is_schedule : schedules.IsScheduleText input lines
 
--- The source was read and compiled, the second file is a schedule, and the trace of the image's run, up to a time if one is given, was written in this form,
--- with an outcome of this status.
+-- The source was read and compiled, the second file is a schedule, and this view of the image's run, up to a time if one is given, was written, with an outcome
+-- of this status.
 -- Objects and their operations have their names in the source, and an instruction comes from the line and the column of the innermost statement whose code it
 -- is.
-pub record HasTraced (form : TraceForm) (contents : Contents) (source schedule : List ℕ) (until : Option ℤ) (limit : ℕ) (status : Status)
+pub record HasTraced (view : View) (contents : Contents) (source schedule : List ℕ) (until : Option ℤ) (limit : ℕ) (status : Status)
     (old new : Option (List ℕ)) : Type 0 where
   pub text : List ℕ
   pub source_read : IsContentRead (contents source) text
@@ -205,12 +208,12 @@ pub record HasTraced (form : TraceForm) (contents : Contents) (source schedule :
   pub bounded : IsBound image given.lines until limit bound
   pub outcome : Outcome
   pub status_is : status ≡ status_of outcome
-  pub written : Appends old new (text_of form image (object_names compiles.tree) (known_in text image places (subprogram_names compiles.tree))
+  pub written : Appends old new (text_of view image (object_names compiles.tree) (known_in text image places (subprogram_names compiles.tree))
       given.lines bound)
   pub ends : EndsBy outcome (code image given.lines bound.steps)
 
 -- a beginning of that trace was written
-pub record HasBegunTrace (form : TraceForm) (contents : Contents) (source schedule : List ℕ) (until : Option ℤ) (limit : ℕ)
+pub record HasBegunTrace (view : View) (contents : Contents) (source schedule : List ℕ) (until : Option ℤ) (limit : ℕ)
     (old new : Option (List ℕ)) : Type 0 where
   pub text : List ℕ
   pub source_read : IsContentRead (contents source) text
@@ -221,17 +224,17 @@ pub record HasBegunTrace (form : TraceForm) (contents : Contents) (source schedu
   pub placed : PlacesTell compiles.tree image places
   pub bound : Bound
   pub bounded : IsBound image given.lines until limit bound
-  pub begins : AppendsBeginning old new (text_of form image (object_names compiles.tree) (known_in text image places (subprogram_names compiles.tree))
+  pub begins : AppendsBeginning old new (text_of view image (object_names compiles.tree) (known_in text image places (subprogram_names compiles.tree))
       given.lines bound)
 
 -- what `trace` wrote to standard output, by the exit status
-abbrev pub LeavesTrace : TraceForm → Contents → (source schedule : List ℕ) → (until : Option ℤ) → (limit : ℕ) → Status → Option (List ℕ) → Option (List ℕ)
+abbrev pub LeavesTrace : View → Contents → (source schedule : List ℕ) → (until : Option ℤ) → (limit : ℕ) → Status → Option (List ℕ) → Option (List ℕ)
     → Type 0
-LeavesTrace form contents source schedule until limit SourceRefused old new = HasRefusedSource contents source old new
-LeavesTrace form contents source schedule until limit ScheduleRefused old new = HasRefusedSchedule contents source (contents schedule) old new
-LeavesTrace form contents source schedule until limit NoMemory old new = new ≡ old
-LeavesTrace form contents source schedule until limit Failed old new = (new ≡ old) ⊎ HasBegunTrace form contents source schedule until limit old new
-LeavesTrace form contents source schedule until limit status old new = HasTraced form contents source schedule until limit status old new
+LeavesTrace view contents source schedule until limit SourceRefused old new = HasRefusedSource contents source old new
+LeavesTrace view contents source schedule until limit ScheduleRefused old new = HasRefusedSchedule contents source (contents schedule) old new
+LeavesTrace view contents source schedule until limit NoMemory old new = new ≡ old
+LeavesTrace view contents source schedule until limit Failed old new = (new ≡ old) ⊎ HasBegunTrace view contents source schedule until limit old new
+LeavesTrace view contents source schedule until limit status old new = HasTraced view contents source schedule until limit status old new
 
 -- ---- images
 
@@ -532,26 +535,14 @@ LeavesWritten (RunImage image schedule limit) standard_input before after status
     × LeavesRun before image schedule limit status old new
 LeavesWritten (GoText source schedule limit) standard_input before after status old new = AreFilesKept before after
     × LeavesGo before source (before schedule) limit status old new
-LeavesWritten (TraceText source schedule limit) standard_input before after status old new = AreFilesKept before after
-    × LeavesTrace forms.Rows before source schedule None limit status old new
-LeavesWritten (DumpText source schedule limit) standard_input before after status old new = AreFilesKept before after
-    × LeavesTrace forms.Dump before source schedule None limit status old new
-LeavesWritten (TraceUntil source schedule limit until) standard_input before after status old new = AreFilesKept before after
-    × LeavesTrace forms.Rows before source schedule (Some until) limit status old new
-LeavesWritten (DumpUntil source schedule limit until) standard_input before after status old new = AreFilesKept before after
-    × LeavesTrace forms.Dump before source schedule (Some until) limit status old new
-LeavesWritten (MeasureText is_tsv source schedule limit) standard_input before after status old new = AreFilesKept before after
-    × LeavesTrace (measured_form is_tsv) before source schedule None limit status old new
-LeavesWritten (MeasureUntil is_tsv source schedule limit until) standard_input before after status old new = AreFilesKept before after
-    × LeavesTrace (measured_form is_tsv) before source schedule (Some until) limit status old new
+LeavesWritten (TraceText view source schedule limit until) standard_input before after status old new = AreFilesKept before after
+    × LeavesTrace view before source schedule until limit status old new
 LeavesWritten (ExplainFault number) standard_input before after status old new = AreFilesKept before after × LeavesExplain number status old new
 LeavesWritten (ExplainText number source) standard_input before after status old new = AreFilesKept before after
     × LeavesExplainText before source number status old new
 LeavesWritten (CheckText source) standard_input before after status old new = AreFilesKept before after × (new ≡ old)
-LeavesWritten (SimulateText source schedule limit) standard_input before after status old new = AreFilesKept before after
-    × LeavesGo (with_input standard_input before) source (input_of before schedule) limit status old new
-LeavesWritten (SimulateUntil source schedule limit until) standard_input before after status old new = AreFilesKept before after
-    × LeavesUntil (with_input standard_input before) source (input_of before schedule) until limit status old new
+LeavesWritten (SimulateText source schedule limit until) standard_input before after status old new = AreFilesKept before after
+    × LeavesSimulate (with_input standard_input before) source (input_of before schedule) until limit status old new
 LeavesWritten (SearchText source choices until limit sought part is_quiet) standard_input before after status old new = AreFilesKept before after
     × LeavesSearch (with_input standard_input before) source (before choices) until limit sought part status old new
 LeavesWritten ShowManual standard_input before after status old new = AreFilesKept before after × LeavesShown MANUAL.now status old new

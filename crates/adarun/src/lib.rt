@@ -9,7 +9,6 @@ mod going;
 mod inputs;
 mod last_reports;
 pub mod laws;
-mod measured;
 mod naming;
 mod operations;
 mod origins;

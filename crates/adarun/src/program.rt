@@ -2,8 +2,7 @@
 ghost use Rattle.std.specs.Prelude.{◌≡◌, ◌≢◌, ◌<◌, ◌⊎◌, ℕ, Err, IfOk, List, OnOk, Option, map, nat_eq, option_map, if◌then◌else◌};
 ghost use Rattle.base.specs.declared.faults.TheConstants.{MEMORY_REFUSED};
 ghost use Rattle.adarun.specs.Driving as driving;
-ghost use Rattle.adarun.specs.Driving.{AnswersStatus, IsFaultPlace, IsWholeTold, KeepsSink, LeavesCheck, LeavesCompile, LeavesExplain, LeavesExplainText, LeavesGo, LeavesList, LeavesRun, LeavesShown, LeavesTrace, LeavesUntil, input_of, text_of};
-ghost use Rattle.adarun.specs.Naming.{names_alone};
+ghost use Rattle.adarun.specs.Driving.{AnswersStatus, IsFaultPlace, IsWholeTold, KeepsSink, LeavesCheck, LeavesCompile, LeavesExplain, LeavesExplainText, LeavesGo, LeavesList, LeavesRun, LeavesShown, LeavesSimulate, LeavesTrace, LeavesUntil, input_of, text_of};
 ghost use Rattle.adarun.specs.Reading.{IsBeginningRead, with_input};
 ghost use Rattle.file_limits.specs.declared.TheConstants.{SCHEDULE_BYTES};
 ghost use Rattle.image.specs.Code.{code};
@@ -12,10 +11,9 @@ ghost use Rattle.machine.specs.Written.{AppendsBeginning};
 ghost use Rattle.std.specs.Io.KnownBytes.{Appends};
 
 use crate::code_told::told_of_limit;
-use crate::compilation::{Named, compile, compile_named};
+use crate::compilation::{compile, compile_named};
 use crate::files::{FileStore, ReadError, WriteError, read_source};
 use crate::going::{GoFault, go};
-use crate::measured::measured_form;
 use crate::naming::names_alone;
 use crate::origins::{Statements, position};
 use crate::progress::Stopwatch;
@@ -25,15 +23,16 @@ use crate::search_command::drive_search;
 use crate::timed::{Ending, go_until};
 use arrayvec::ArrayVec;
 use base::faults::MEMORY_REFUSED;
+use charts::chart;
 use clock::{Schedule, ScheduleFault};
-use command_line::{Request, WordsError, request_of};
+use command_line::{Request, View, WordsError, request_of};
 use diagnostics::{explained, explanation};
 use file_limits::{IMAGE_BYTES, SCHEDULE_BYTES, SOURCE_BYTES, image_ends};
-use image::ImageFault;
+use image::{Image, ImageFault};
 use image_format::{encode, list};
 use image_loading::load;
 use itoa::Buffer;
-use lexer::Fault;
+use lexer::{Fault, Text};
 use machine::{Bound, Cut, Outcome, RunFault, Sink, SinkError, Steps, bound_of, run, write_all};
 use manual::{MANUAL, VERSION};
 use measuring::{Form, measure};
@@ -62,23 +61,10 @@ pub enum Status {
     LineFound = 9,
 }
 
-/// The form in which a run is reported.
-#[derive(Clone, Copy, PartialEq, Eq, Debug)]
-pub(crate) enum TraceForm {
-    /// Row by row (docs/FORMATS.md, "Traces").
-    Rows,
-    /// As a value change dump (docs/FORMATS.md, "Value change dumps").
-    Dump,
-    /// By what is measured of it, as a table (docs/FORMATS.md, "Measures").
-    Measures,
-    /// By what is measured of it, as fields that are separated by tabs.
-    MeasuredFields,
-}
-
 /// Does what the words, without the program's name, ask for: reads files, writes one of them or to `out`, and where it stops early one line to `err`, or of
 /// `simulate` several; `check` writes to `err` alone, which was given the report of every fault of the source under status 2, and nothing under status 0. It
-/// answers the exit status. Where a run came to an outcome, `out` was given its text (`go`, `simulate`, `run`), or its trace in the form that was asked for
-/// (`trace`), or what is measured of it (`measure`); of `search` its answer; where an image was listed, its listing; where a fault was explained, its
+/// answers the exit status. Where a run came to an outcome, `out` was given its text (`go`, `simulate`, `run`), or the view of it that was asked for
+/// (`trace`, `measure`); of `search` its answer; where an image was listed, its listing; where a fault was explained, its
 /// explanation; where the manual or the version was asked for, this; and no write to `out` failed under any status but 1. Where a text, an image or a schedule
 /// was refused or memory was wanting, nothing was written; where a write to `out` failed, a beginning of what was to be written. `compile` writes the image's
 /// file, and nothing to `out`: that file stays as it was unless the bytes of the source's image were there to be written, and no other file changes. The steps
@@ -120,116 +106,14 @@ pub fn drive<F: FileStore, W: Stopwatch, O: Sink, E: Sink, L: Ledger>(
         ) => drive_go(alloc, files, source, schedule, limit, out, err, steps),
         Ok(
             Request::Trace {
-                source,
-                schedule,
-                limit,
-            },
-        ) => drive_trace(
-            alloc,
-            files,
-            TraceForm::Rows,
-            source,
-            schedule,
-            None,
-            limit,
-            out,
-            err,
-            steps,
-        ),
-        Ok(
-            Request::Dump {
-                source,
-                schedule,
-                limit,
-            },
-        ) => drive_trace(
-            alloc,
-            files,
-            TraceForm::Dump,
-            source,
-            schedule,
-            None,
-            limit,
-            out,
-            err,
-            steps,
-        ),
-        Ok(
-            Request::TraceUntil {
+                view,
                 source,
                 schedule,
                 limit,
                 until,
             },
         ) => drive_trace(
-            alloc,
-            files,
-            TraceForm::Rows,
-            source,
-            schedule,
-            Some(until),
-            limit,
-            out,
-            err,
-            steps,
-        ),
-        Ok(
-            Request::DumpUntil {
-                source,
-                schedule,
-                limit,
-                until,
-            },
-        ) => drive_trace(
-            alloc,
-            files,
-            TraceForm::Dump,
-            source,
-            schedule,
-            Some(until),
-            limit,
-            out,
-            err,
-            steps,
-        ),
-        Ok(
-            Request::Measure {
-                is_tsv,
-                source,
-                schedule,
-                limit,
-            },
-        ) => drive_trace(
-            alloc,
-            files,
-            measured_form(is_tsv),
-            source,
-            schedule,
-            None,
-            limit,
-            out,
-            err,
-            steps,
-        ),
-        Ok(
-            Request::MeasureUntil {
-                is_tsv,
-                source,
-                schedule,
-                limit,
-                until,
-            },
-        ) => drive_trace(
-            alloc,
-            files,
-            measured_form(is_tsv),
-            source,
-            schedule,
-            Some(until),
-            limit,
-            out,
-            err,
-            steps,
+            alloc, files, view, source, schedule, until, limit, out, err, steps,
         ),
         Ok(Request::Explain { number }) => drive_explain(number, out, err),
         Ok(Request::ExplainText { number, source }) => {
@@ -241,16 +125,9 @@ pub fn drive<F: FileStore, W: Stopwatch, O: Sink, E: Sink, L: Ledger>(
                 source,
                 schedule,
                 limit,
-            },
-        ) => drive_simulate(alloc, files, source, schedule, limit, out, err, steps),
-        Ok(
-            Request::SimulateUntil {
-                source,
-                schedule,
-                limit,
                 until,
             },
-        ) => drive_simulate_until(
+        ) => drive_simulate(
             alloc, files, source, schedule, until, limit, out, err, steps,
         ),
         Ok(
@@ -456,8 +333,32 @@ fn read_schedule<F: FileStore>(
     }
 }
 
-// As `drive_go`; a refusal is told in words, with its line. Where standard output takes no more nothing is told.
+// Runs a source, and reports in words what goes wrong.
 fn drive_simulate<F: FileStore, O: Sink, E: Sink, L: Ledger>(
+    alloc: Global,
+    files: &F,
+    source: &str,
+    schedule: Option<&str>,
+    until: Option<i64>,
+    limit: u64,
+    out: &mut O,
+    err: &mut E,
+    steps: &mut Steps<L>,
+) -> Status
+    ensures leaves { LeavesSimulate (with_input (F.standard_input files.now) (F.contents files.now)) source.now
+        (input_of (F.contents files.now) (option_map (λ name. name.now) schedule.entry)) until limit result (O.bytes out.old) (O.bytes out.new) }
+    ensures sink { KeepsSink result (out.new ≡ out.old) (O.failures out.old) (O.failures out.new) }
+{
+    match until {
+        None => simulate_whole(alloc, files, source, schedule, limit, out, err, steps),
+        Some(until) => simulate_until(
+            alloc, files, source, schedule, until, limit, out, err, steps,
+        ),
+    }
+}
+
+// As `drive_go`; a refusal is reported in words, with its line. Where standard output takes no more nothing is reported.
+fn simulate_whole<F: FileStore, O: Sink, E: Sink, L: Ledger>(
     alloc: Global,
     files: &F,
     source: &str,
@@ -492,8 +393,8 @@ fn drive_simulate<F: FileStore, O: Sink, E: Sink, L: Ledger>(
     }
 }
 
-// As `drive_simulate`, up to a time.
-fn drive_simulate_until<F: FileStore, O: Sink, E: Sink, L: Ledger>(
+// As `simulate_whole`, up to a time.
+fn simulate_until<F: FileStore, O: Sink, E: Sink, L: Ledger>(
     alloc: Global,
     files: &F,
     source: &str,
@@ -532,7 +433,7 @@ fn drive_simulate_until<F: FileStore, O: Sink, E: Sink, L: Ledger>(
 fn drive_trace<F: FileStore, O: Sink, E: Sink, L: Ledger>(
     alloc: Global,
     files: &F,
-    form: TraceForm,
+    view: View,
     source: &str,
     schedule: &str,
     until: Option<i64>,
@@ -541,7 +442,7 @@ fn drive_trace<F: FileStore, O: Sink, E: Sink, L: Ledger>(
     err: &mut E,
     steps: &mut Steps<L>,
 ) -> Status
-    ensures leaves { LeavesTrace form (F.contents files.now) source.now schedule.now until limit result (O.bytes out.old) (O.bytes out.new) }
+    ensures leaves { LeavesTrace view (F.contents files.now) source.now schedule.now until limit result (O.bytes out.old) (O.bytes out.new) }
     ensures sink { KeepsSink result (out.new ≡ out.old) (O.failures out.old) (O.failures out.new) }
 {
     let text = match files.read(alloc, source, SOURCE_BYTES) {
@@ -570,63 +471,57 @@ fn drive_trace<F: FileStore, O: Sink, E: Sink, L: Ledger>(
         places: &named.places,
         subprograms: &named.subprograms,
     };
-    match write_trace(alloc, form, &named, &origins, &schedule, bound, out, steps) {
+    let Ok(objects) = names_alone(alloc, &named.objects) else {
+        return no_memory(err);
+    };
+    let image = &named.image;
+    match write_view(
+        alloc, view, image, &objects, &origins, &schedule, bound, out, steps,
+    ) {
         Ok(outcome) => status_of(&outcome),
         Err(RunFault::Memory) => no_memory(err),
         Err(RunFault::Write) => cannot_write(err),
     }
 }
 
-// Writes a run in this form.
-fn write_trace<P: Origins, O: Sink, L: Ledger>(
+// Writes this view of a run; its protected objects have these names.
+fn write_view<P: Origins, O: Sink, L: Ledger>(
     alloc: Global,
-    form: TraceForm,
-    named: &Named,
+    view: View,
+    image: &Image,
+    objects: &[Text],
     origins: &P,
     schedule: &Schedule,
     bound: Bound,
     out: &mut O,
     steps: &mut Steps<L>,
 ) -> Result<Outcome, RunFault>
-    ensures text { OnOk result (Appends (O.bytes out.old) (O.bytes out.new) (text_of form named.now.image (names_alone named.now.objects.items)
-        (P.known origins.now) schedule.now bound)) }
-    ensures ends { IfOk result (λ outcome. EndsBy outcome (code named.now.image schedule.now bound.steps)) }
+    ensures text { OnOk result (Appends (O.bytes out.old) (O.bytes out.new) (text_of view image.now objects.now (P.known origins.now) schedule.now bound)) }
+    ensures ends { IfOk result (λ outcome. EndsBy outcome (code image.now schedule.now bound.steps)) }
     ensures kept { OnOk result (O.failures out.new ≡ O.failures out.old) }
     ensures memory { result ≡ Err RunFault.Memory → out.new ≡ out.old }
     ensures failed { result ≡ Err RunFault.Write → O.failures out.old < O.failures out.new }
-    ensures beginning { AppendsBeginning (O.bytes out.old) (O.bytes out.new) (text_of form named.now.image (names_alone named.now.objects.items)
-        (P.known origins.now) schedule.now bound) }
+    ensures beginning { AppendsBeginning (O.bytes out.old) (O.bytes out.new) (text_of view image.now objects.now (P.known origins.now) schedule.now bound) }
 {
-    let Ok(objects) = names_alone(alloc, &named.objects) else {
-        return Err(RunFault::Memory);
-    };
-    match form {
-        TraceForm::Rows => trace(
-            alloc,
-            &named.image,
-            &objects,
-            origins,
-            schedule,
-            bound,
-            out,
-            steps,
-        ),
-        TraceForm::Dump => waves(alloc, &named.image, &objects, schedule, bound, out, steps),
-        TraceForm::Measures => measure(
+    match view {
+        View::Rows => trace(alloc, image, objects, origins, schedule, bound, out, steps),
+        View::Dump => waves(alloc, image, objects, schedule, bound, out, steps),
+        View::Chart => chart(alloc, image, objects, schedule, bound, out, steps),
+        View::Measures => measure(
             alloc,
             Form::Table,
-            &named.image,
-            &objects,
+            image,
+            objects,
             schedule,
             bound,
             out,
             steps,
         ),
-        TraceForm::MeasuredFields => measure(
+        View::MeasuredFields => measure(
             alloc,
             Form::Fields,
-            &named.image,
-            &objects,
+            image,
+            objects,
             schedule,
             bound,
             out,

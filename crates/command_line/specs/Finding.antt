@@ -1,9 +1,10 @@
 -- How clap is told of the commands, and what is read of its matches.
-use Rattle.std.specs.Prelude.{ℕ, true, false, List, [], ◌∷◌, map, Option, Some, None, if◌then◌else◌, bytes_eq, codes}
+use Rattle.std.specs.Prelude.{ℕ, true, false, List, [], ◌∷◌, ◌++◌, map, Option, Some, None, if◌then◌else◌, bytes_eq, codes}
 use Rattle.clap.specs.Words.{App, Row, Rule, Shape, Text, first_of, new_rule}
 use Rattle.clap.specs.Simple.{new_shape}
 use Rattle.command_line.specs.declared.TheConstants.{SIMULATED_STEPS}
-use Rattle.command_line.specs.Words.{CheckText, Command, CompileText, ExplainFault, ExplainText, GoText, ListImage, Nothing, RunImage, ShowManual, ShowVersion, SimulateText, TraceText, numeral_of, within}
+use Rattle.command_line.specs.Words.{CheckText, Command, CompileText, ExplainFault, ExplainText, GoText, ListImage, Nothing, RunImage, ShowManual, ShowVersion, numeral_of, seen, simulated, within}
+use Rattle.command_line.specs.declared.View.TheVariants as views
 
 -- an argument that has to be given
 abbrev pub required_rule : Text → Rule
@@ -34,16 +35,24 @@ bare_app = record { top = record (new_shape (codes "adarun")) { no_binary_name =
 abbrev pub program_shape : Shape
 program_shape = record (new_shape (codes "adarun")) { no_binary_name = true; subcommand_required = true; is_leaf = false }
 
--- the ten commands
-abbrev pub program_app : App
-program_app = record {
+-- the commands that compile, list, run and trace
+abbrev pub running_app : App
+running_app = record {
   top = program_shape;
   subs = (command_app (codes "compile") (codes "SRC" ∷ codes "IMG" ∷ [])).top
       ∷ (command_app (codes "list") (codes "IMG" ∷ [])).top
       ∷ (command_app (codes "run") (codes "IMG" ∷ codes "SCHED" ∷ codes "LIMIT" ∷ [])).top
       ∷ (command_app (codes "go") (codes "SRC" ∷ codes "SCHED" ∷ codes "LIMIT" ∷ [])).top
       ∷ (command_app (codes "trace") (codes "SRC" ∷ codes "SCHED" ∷ codes "LIMIT" ∷ [])).top
-      ∷ explain_app.top
+      ∷ [];
+}
+
+-- the ten commands
+abbrev pub program_app : App
+program_app = record {
+  top = program_shape;
+  subs = running_app.subs
+      ++ explain_app.top
       ∷ (command_app (codes "check") (codes "SRC" ∷ [])).top
       ∷ simulate_app.top
       ∷ (command_app (codes "manual") []).top
@@ -74,8 +83,8 @@ of_explain number None = by_numeral ExplainFault number
 
 -- a source, a schedule or none, and a limit or none
 abbrev pub of_simulate : Option Text → Option Text → Option Text → Command
-of_simulate (Some source) schedule (Some digits) = within (SimulateText source schedule) (numeral_of digits)
-of_simulate (Some source) schedule None = SimulateText source schedule SIMULATED_STEPS
+of_simulate (Some source) schedule (Some digits) = within (simulated source schedule) (numeral_of digits)
+of_simulate (Some source) schedule None = simulated source schedule SIMULATED_STEPS
 of_simulate None schedule limit = Nothing
 
 -- what the command of this name asks for, where these are the words for its arguments
@@ -85,7 +94,7 @@ asked_in name value =
     else (if bytes_eq name (codes "list") then of_one ListImage (value (codes "IMG"))
     else (if bytes_eq name (codes "run") then of_three RunImage (value (codes "IMG")) (value (codes "SCHED")) (value (codes "LIMIT"))
     else (if bytes_eq name (codes "go") then of_three GoText (value (codes "SRC")) (value (codes "SCHED")) (value (codes "LIMIT"))
-    else (if bytes_eq name (codes "trace") then of_three TraceText (value (codes "SRC")) (value (codes "SCHED")) (value (codes "LIMIT"))
+    else (if bytes_eq name (codes "trace") then of_three (seen views.Rows) (value (codes "SRC")) (value (codes "SCHED")) (value (codes "LIMIT"))
     else (if bytes_eq name (codes "explain") then of_explain (value (codes "NUMBER")) (value (codes "SRC"))
     else (if bytes_eq name (codes "check") then of_one CheckText (value (codes "SRC"))
     else (if bytes_eq name (codes "simulate") then of_simulate (value (codes "SRC")) (value (codes "SCHED")) (value (codes "LIMIT"))

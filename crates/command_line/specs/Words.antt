@@ -8,6 +8,8 @@ use Rattle.command_line.specs.declared.Request.{Request}
 use Rattle.command_line.specs.declared.Request.TheVariants as requests
 use Rattle.command_line.specs.declared.Sought.{Sought}
 use Rattle.command_line.specs.declared.Sought.TheVariants as sought
+use Rattle.command_line.specs.declared.View.{View}
+use Rattle.command_line.specs.declared.View.TheVariants as views
 use Rattle.command_line.specs.declared.WordsError.{WordsError}
 use Rattle.command_line.specs.declared.WordsError.TheVariants as errors
 
@@ -21,18 +23,14 @@ pub data Command : Type 0 where
   CompileText : (source image : List ℕ) → Command
   ListImage : (image : List ℕ) → Command
   RunImage : (image schedule : List ℕ) (limit : ℕ) → Command
-  GoText TraceText DumpText : (source schedule : List ℕ) (limit : ℕ) → Command
+  GoText : (source schedule : List ℕ) (limit : ℕ) → Command
+  -- a view of a run, with a time in microseconds, if one is given, which the clock doesn't pass
+  TraceText : View → (source schedule : List ℕ) (limit : ℕ) (until : Option ℤ) → Command
   ExplainFault : (number : ℕ) → Command
   ExplainText : (number : ℕ) (source : List ℕ) → Command
   CheckText : (source : List ℕ) → Command
   -- the schedule is empty where none is named
-  SimulateText : (source : List ℕ) (schedule : Option (List ℕ)) (limit : ℕ) → Command
-  -- up to a time in microseconds, which the clock doesn't pass
-  SimulateUntil : (source : List ℕ) (schedule : Option (List ℕ)) (limit : ℕ) (until : ℤ) → Command
-  TraceUntil DumpUntil : (source schedule : List ℕ) (limit : ℕ) (until : ℤ) → Command
-  -- whether what is measured is written as fields that are separated by tabs
-  MeasureText : (is_tsv : Bool) (source schedule : List ℕ) (limit : ℕ) → Command
-  MeasureUntil : (is_tsv : Bool) (source schedule : List ℕ) (limit : ℕ) (until : ℤ) → Command
+  SimulateText : (source : List ℕ) (schedule : Option (List ℕ)) (limit : ℕ) (until : Option ℤ) → Command
   -- a time in microseconds up to which a part of a set is searched, and a limit on the steps at one time; whether nothing is reported meanwhile
   SearchText : (source choices : List ℕ) (until : ℤ) (limit : ℕ) → Wanted → Part → (is_quiet : Bool) → Command
   ShowManual ShowVersion Nothing : Command
@@ -50,6 +48,14 @@ abbrev pub within : (ℕ → Command) → Option ℕ → Command
 within command (Some value) = command value
 within command None = Nothing
 
+-- a view of a whole run
+abbrev pub seen : View → (source schedule : List ℕ) → (limit : ℕ) → Command
+seen view source schedule limit = TraceText view source schedule limit None
+
+-- a whole run
+abbrev pub simulated : (source : List ℕ) → (schedule : Option (List ℕ)) → (limit : ℕ) → Command
+simulated source schedule limit = SimulateText source schedule limit None
+
 -- the commands without a file
 abbrev pub asked_alone : List ℕ → Command
 asked_alone name =
@@ -63,16 +69,16 @@ asked_plainly (name ∷ word ∷ []) =
     if bytes_eq name (codes "list") then ListImage word
     else (if bytes_eq name (codes "explain") then within ExplainFault (numeral_of word)
     else (if bytes_eq name (codes "check") then CheckText word
-    else (if bytes_eq name (codes "simulate") then SimulateText word None SIMULATED_STEPS else Nothing)))
+    else (if bytes_eq name (codes "simulate") then simulated word None SIMULATED_STEPS else Nothing)))
 asked_plainly (name ∷ first ∷ second ∷ []) =
     if bytes_eq name (codes "compile") then CompileText first second
     else (if bytes_eq name (codes "explain") then within (λ number. ExplainText number second) (numeral_of first)
-    else (if bytes_eq name (codes "simulate") then SimulateText first (Some second) SIMULATED_STEPS else Nothing))
+    else (if bytes_eq name (codes "simulate") then simulated first (Some second) SIMULATED_STEPS else Nothing))
 asked_plainly (name ∷ file ∷ schedule ∷ limit ∷ []) =
     if bytes_eq name (codes "run") then within (RunImage file schedule) (numeral_of limit)
     else (if bytes_eq name (codes "go") then within (GoText file schedule) (numeral_of limit)
-    else (if bytes_eq name (codes "trace") then within (TraceText file schedule) (numeral_of limit)
-    else (if bytes_eq name (codes "simulate") then within (SimulateText file (Some schedule)) (numeral_of limit) else Nothing)))
+    else (if bytes_eq name (codes "trace") then within (seen views.Rows file schedule) (numeral_of limit)
+    else (if bytes_eq name (codes "simulate") then within (simulated file (Some schedule)) (numeral_of limit) else Nothing)))
 asked_plainly words = Nothing
 
 -- a word that can be no option: it is `-`, or doesn't begin with `-`
@@ -81,45 +87,42 @@ is_plain [] = true
 is_plain (c ∷ []) = true
 is_plain (c ∷ d ∷ rest) = not (nat_eq c 45)
 
--- the words behind `trace --vcd`
-abbrev pub behind_option : List (List ℕ) → Option (List (List ℕ))
-behind_option (name ∷ option ∷ rest) = if bytes_eq name (codes "trace") && bytes_eq option (codes "--vcd") then Some rest else None
+-- ---- `trace` with an option, and `measure`
+
+-- what an option directly after `trace` asks for
+abbrev pub option_view : List ℕ → Option View
+option_view option =
+    if bytes_eq option (codes "--vcd") then Some views.Dump else (if bytes_eq option (codes "--chart") then Some views.Chart else None)
+
+-- that, and the words after it
+abbrev pub behind_option : List (List ℕ) → Option (View × List (List ℕ))
+behind_option (name ∷ option ∷ rest) = if bytes_eq name (codes "trace") then option_map (λ view. (view, rest)) (option_view option) else None
 behind_option words = None
 
--- what these ask for: a word `--` in front of them lets names begin with `-`
-abbrev pub dump_asked : List (List ℕ) → Command
-dump_asked (source ∷ schedule ∷ limit ∷ []) =
-    if is_plain source && is_plain schedule then within (DumpText source schedule) (numeral_of limit) else Nothing
-dump_asked (mark ∷ source ∷ schedule ∷ limit ∷ []) =
-    if bytes_eq mark (codes "--") then within (DumpText source schedule) (numeral_of limit) else Nothing
-dump_asked words = Nothing
+-- what these ask for: a word `--` before them lets names begin with `-`
+abbrev pub view_asked : View → List (List ℕ) → Command
+view_asked view (source ∷ schedule ∷ limit ∷ []) =
+    if is_plain source && is_plain schedule then within (seen view source schedule) (numeral_of limit) else Nothing
+view_asked view (mark ∷ source ∷ schedule ∷ limit ∷ []) =
+    if bytes_eq mark (codes "--") then within (seen view source schedule) (numeral_of limit) else Nothing
+view_asked view words = Nothing
 
-abbrev pub asked_among : List (List ℕ) → Option (List (List ℕ)) → Command
-asked_among words (Some rest) = dump_asked rest
+abbrev pub asked_among : List (List ℕ) → Option (View × List (List ℕ)) → Command
+asked_among words (Some found) = view_asked found.0 found.1
 asked_among words None = asked_plainly words
 
--- ---- `measure`
-
--- the words behind `measure`
+-- the words after `measure`
 abbrev pub behind_measure : List (List ℕ) → Option (List (List ℕ))
 behind_measure [] = None
 behind_measure (name ∷ rest) = if bytes_eq name (codes "measure") then Some rest else None
 
--- what these ask for: a word `--` in front of them lets names begin with `-`
-abbrev pub measure_in : (is_tsv : Bool) → List (List ℕ) → Command
-measure_in is_tsv (source ∷ schedule ∷ limit ∷ []) =
-    if is_plain source && is_plain schedule then within (MeasureText is_tsv source schedule) (numeral_of limit) else Nothing
-measure_in is_tsv (mark ∷ source ∷ schedule ∷ limit ∷ []) =
-    if bytes_eq mark (codes "--") then within (MeasureText is_tsv source schedule) (numeral_of limit) else Nothing
-measure_in is_tsv words = Nothing
-
--- `--tsv`, directly after `measure`, and the words after it
-abbrev pub tsv_in : List (List ℕ) → Bool × List (List ℕ)
-tsv_in [] = (false, [])
-tsv_in (mark ∷ rest) = if bytes_eq mark (codes "--tsv") then (true, rest) else (false, mark ∷ rest)
+-- `--tsv`, directly after `measure`, asks for fields that are separated by tabs; and the words after it
+abbrev pub measured_in : List (List ℕ) → View × List (List ℕ)
+measured_in [] = (views.Measures, [])
+measured_in (mark ∷ rest) = if bytes_eq mark (codes "--tsv") then (views.MeasuredFields, rest) else (views.Measures, mark ∷ rest)
 
 abbrev pub measure_asked : List (List ℕ) → Command
-measure_asked words = measure_in (tsv_in words).0 (tsv_in words).1
+measure_asked words = view_asked (measured_in words).0 (measured_in words).1
 
 -- ---- `search`
 
@@ -250,10 +253,8 @@ until_word words = if takes_until words then time_word (last_two words) else Non
 
 -- what is asked for, with a time that the clock doesn't pass
 abbrev pub until_of : ℤ → Command → Command
-until_of until (SimulateText source schedule limit) = SimulateUntil source schedule limit until
-until_of until (TraceText source schedule limit) = TraceUntil source schedule limit until
-until_of until (DumpText source schedule limit) = DumpUntil source schedule limit until
-until_of until (MeasureText is_tsv source schedule limit) = MeasureUntil is_tsv source schedule limit until
+until_of until (SimulateText source schedule limit earlier) = SimulateText source schedule limit (Some until)
+until_of until (TraceText view source schedule limit earlier) = TraceText view source schedule limit (Some until)
 until_of until command = Nothing
 
 -- a time that is none asks for nothing
@@ -308,17 +309,11 @@ command_of (requests.Compile source image) = CompileText source.now image.now
 command_of (requests.List image) = ListImage image.now
 command_of (requests.Run image schedule limit) = RunImage image.now schedule.now limit
 command_of (requests.Go source schedule limit) = GoText source.now schedule.now limit
-command_of (requests.Trace source schedule limit) = TraceText source.now schedule.now limit
-command_of (requests.Dump source schedule limit) = DumpText source.now schedule.now limit
+command_of (requests.Trace view source schedule limit until) = TraceText view source.now schedule.now limit until
 command_of (requests.Explain number) = ExplainFault number
 command_of (requests.ExplainText number source) = ExplainText number source.now
 command_of (requests.Check source) = CheckText source.now
-command_of (requests.Simulate source schedule limit) = SimulateText source.now (option_map (λ name. name.now) schedule) limit
-command_of (requests.SimulateUntil source schedule limit until) = SimulateUntil source.now (option_map (λ name. name.now) schedule) limit until
-command_of (requests.TraceUntil source schedule limit until) = TraceUntil source.now schedule.now limit until
-command_of (requests.DumpUntil source schedule limit until) = DumpUntil source.now schedule.now limit until
-command_of (requests.Measure is_tsv source schedule limit) = MeasureText is_tsv source.now schedule.now limit
-command_of (requests.MeasureUntil is_tsv source schedule limit until) = MeasureUntil is_tsv source.now schedule.now limit until
+command_of (requests.Simulate source schedule limit until) = SimulateText source.now (option_map (λ name. name.now) schedule) limit until
 command_of (requests.Search source choices until limit wanted part is_quiet) = SearchText source.now choices.now until limit (wanted_of wanted) part is_quiet
 command_of requests.Manual = ShowManual
 command_of requests.Version = ShowVersion

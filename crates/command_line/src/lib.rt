@@ -3,19 +3,21 @@
 
 ghost use Rattle.std.specs.Prelude.{◌≡◌, ◌&&◌, if◌then◌else◌, true, false, map, Some, None, IfOk, IfErr, IfSome, option_map};
 ghost use Rattle.std.specs.List.{list_all};
-ghost use Rattle.clap.specs.Words.{App, app_of, first_value, found_of, kind_of, subcommand_rows_of};
+ghost use Rattle.clap.specs.Words.{App, app_of, first_value, found_of, kind_of, subcommand_rows_of, with_subcommand};
 ghost use Rattle.clap.specs.declared.builder.command.Command.TheViews.{out-Command};
-ghost use Rattle.command_line.specs.Words.{AnswersWords, DumpText, Nothing, asked, asked_among, asked_besides, asked_plainly, dump_asked, is_digit, is_told, is_told_among, is_told_besides, within};
-ghost use Rattle.command_line.specs.Finding.{asked_by, asked_in, bare_app, command_app, explain_app, of_simulate, program_app, simulate_app};
+ghost use Rattle.command_line.specs.Words.{AnswersWords, asked, asked_among, asked_besides, asked_plainly, is_digit, is_told, is_told_among, is_told_besides};
+ghost use Rattle.command_line.specs.Finding.{asked_by, asked_in, bare_app, command_app, explain_app, of_simulate, program_app, running_app, simulate_app};
 ghost use Rattle.command_line.specs.Words as words_of;
 
 mod measure;
 mod search;
 mod until;
+mod views;
 
 use crate::measure::{behind_measure, measure_request};
 use crate::search::{behind_search, search_request};
 use crate::until::request_up_to;
+use crate::views::{behind_option, view_request};
 use choices::Part;
 use clap::error::ErrorKind;
 use clap::{Arg, ArgMatches, Command, Error};
@@ -48,17 +50,14 @@ pub enum Request<'a> {
         schedule: &'a str,
         limit: u64,
     },
-    /// Compile a source and write the trace of its run on a schedule, for at most this many steps.
+    /// Compile a source, run it on a schedule, for at most this many steps, and write this view of the run; with a time in microseconds, the clock doesn't pass
+    /// that.
     Trace {
+        view: View,
         source: &'a str,
         schedule: &'a str,
         limit: u64,
-    },
-    /// Compile a source and write its run on a schedule, for at most this many steps, as a value change dump.
-    Dump {
-        source: &'a str,
-        schedule: &'a str,
-        limit: u64,
+        until: Option<i64>,
     },
     /// Explain the fault of this number, which may be that of none.
     Explain {
@@ -73,48 +72,13 @@ pub enum Request<'a> {
     Check {
         source: &'a str,
     },
-    /// Compile a source and run it on a schedule, or on the empty one, for at most this many steps, and say in words what goes wrong, and where.
+    /// Compile a source and run it on a schedule, or on the empty one, for at most this many steps, and say in words what goes wrong, and where; with a time in
+    /// microseconds, the clock doesn't pass that.
     Simulate {
         source: &'a str,
         schedule: Option<&'a str>,
         limit: u64,
-    },
-    /// Compile a source and run it up to a time in microseconds, which the clock doesn't pass, and say in words what goes wrong, and where.
-    SimulateUntil {
-        source: &'a str,
-        schedule: Option<&'a str>,
-        limit: u64,
-        until: i64,
-    },
-    /// Write the trace up to a time in microseconds, which the clock doesn't pass.
-    TraceUntil {
-        source: &'a str,
-        schedule: &'a str,
-        limit: u64,
-        until: i64,
-    },
-    /// Write the value change dump up to a time in microseconds, which the clock doesn't pass.
-    DumpUntil {
-        source: &'a str,
-        schedule: &'a str,
-        limit: u64,
-        until: i64,
-    },
-    /// Compile a source, run it on a schedule, for at most this many steps, and write what is measured of its tasks and objects: a table, or fields that are
-    /// separated by tabs.
-    Measure {
-        is_tsv: bool,
-        source: &'a str,
-        schedule: &'a str,
-        limit: u64,
-    },
-    /// Write what is measured up to a time in microseconds, which the clock doesn't pass.
-    MeasureUntil {
-        is_tsv: bool,
-        source: &'a str,
-        schedule: &'a str,
-        limit: u64,
-        until: i64,
+        until: Option<i64>,
     },
     /// Compile a source and search the schedules of a part of a set up to a time (microseconds since the start), with at most so many steps at one time; a
     /// quiet search doesn't report how far it is.
@@ -131,6 +95,21 @@ pub enum Request<'a> {
     Manual,
     /// Show the number of this version.
     Version,
+}
+
+/// What is written of a run.
+#[derive(Clone, Copy, PartialEq, Eq, Debug)]
+pub enum View {
+    /// A row for each event (docs/FORMATS.md, "Traces").
+    Rows,
+    /// A value change dump (docs/FORMATS.md, "Value change dumps").
+    Dump,
+    /// A chart over virtual time (docs/FORMATS.md, "Charts").
+    Chart,
+    /// What is measured, as a table (docs/FORMATS.md, "Measures").
+    Measures,
+    /// What is measured, as fields that are separated by tabs.
+    MeasuredFields,
 }
 
 /// What a search looks for.
@@ -161,8 +140,8 @@ pub enum WordsError {
 /// Usage for other words than a request's, those that ask for help among them, and for a limit or a number that isn't one or more decimal
 /// digits of a value below 2**64, or a time below 2**63; Memory where memory was refused.
 pub fn request_of<'a>(alloc: Global, words: &'a [&'a str]) -> Result<Request<'a>, WordsError>
-    // Words after `search`, `measure` and `trace --vcd`, and words of which none but `-` begins with `-`, ask for just what the table of commands says,
-    // `--until TIME` at their end being left out.
+    // Words after `search`, after `measure` and after `trace` with an option, and words of which none but `-` begins with `-`, ask for just what the table of
+    // commands says, `--until TIME` at their end being left out.
     ensures { is_told (map (λ w. w.now) words.now) ≡ true → AnswersWords (asked (map (λ w. w.now) words.now)) result }
 {
     match behind_search(words) {
@@ -187,59 +166,9 @@ fn request_among_options<'a>(alloc: Global, words: &'a [&'a str]) -> Result<Requ
         (asked_among (map (λ w. w.now) words.now) (words_of.behind_option (map (λ w. w.now) words.now))) result }
 {
     match behind_option(words) {
-        Some(rest) => dump_request(rest),
+        Some((view, rest)) => view_request(view, rest),
         None => plain_request(alloc, words),
     }
-}
-
-// The words behind `trace --vcd`.
-fn behind_option<'a>(words: &'a [&'a str]) -> Option<&'a [&'a str]>
-    ensures { option_map (λ rest. map (λ w. w.now) rest.now) result ≡ words_of.behind_option (map (λ w. w.now) words.now) }
-{
-    match words {
-        [name, option, rest @ ..] if *name == "trace" && *option == "--vcd" => Some(rest),
-        _ => None,
-    }
-}
-
-// What the words behind `trace --vcd` ask for.
-fn dump_request<'a>(words: &'a [&'a str]) -> Result<Request<'a>, WordsError>
-    ensures { AnswersWords (dump_asked (map (λ w. w.now) words.now)) result }
-{
-    match words {
-        [source, schedule, limit] => {
-            dump_if(are_plain(source, schedule), source, schedule, limit)
-        }
-        [mark, source, schedule, limit] => dump_if(*mark == "--", source, schedule, limit),
-        _ => Err(WordsError::Usage),
-    }
-}
-
-// The request for the dump of this source and schedule, where they may be read as such and the limit is one.
-fn dump_if<'a>(
-    is_right: bool,
-    source: &'a str,
-    schedule: &'a str,
-    limit: &str,
-) -> Result<Request<'a>, WordsError>
-    ensures { AnswersWords (if is_right then within (DumpText source.now schedule.now) (words_of.numeral_of limit.now) else Nothing) result }
-{
-    if is_right {
-        dump_of(source, schedule, limit)
-    } else {
-        Err(WordsError::Usage)
-    }
-}
-
-// The request for the dump of this source and schedule, where the limit is one.
-fn dump_of<'a>(source: &'a str, schedule: &'a str, limit: &str) -> Result<Request<'a>, WordsError>
-    ensures { AnswersWords (within (DumpText source.now schedule.now) (words_of.numeral_of limit.now)) result }
-{
-    Ok(Request::Dump {
-        source,
-        schedule,
-        limit: numeral_of(limit).ok_or(WordsError::Usage)?,
-    })
 }
 
 // Whether a word can be no option: it is `-`, or doesn't begin with `-`.
@@ -304,9 +233,11 @@ fn request_in<'a>(name: &str, found: &ArgMatches<'a>) -> Result<Request<'a>, Wor
             limit: numeral_of(word(found, "LIMIT")?).ok_or(WordsError::Usage)?,
         }),
         "trace" => Ok(Request::Trace {
+            view: View::Rows,
             source: word(found, "SRC")?,
             schedule: word(found, "SCHED")?,
             limit: numeral_of(word(found, "LIMIT")?).ok_or(WordsError::Usage)?,
+            until: None,
         }),
         "explain" => {
             let number = numeral_of(word(found, "NUMBER")?).ok_or(WordsError::Usage)?;
@@ -349,6 +280,7 @@ fn simulate_request<'a>(
         source,
         schedule,
         limit,
+        until: None,
     })
 }
 
@@ -403,20 +335,38 @@ fn program<'a>(alloc: Global) -> Command<'a>
         .subcommand_required(true)
 }
 
+// The program with one more command, which has these words.
+fn with_command<'a>(
+    alloc: Global,
+    program: Command<'a>,
+    name: &'a str,
+    words: &[&'a str],
+) -> Result<Command<'a>, AllocError>
+    ensures { IfOk result (λ more. app_of more ≡ with_subcommand (app_of program.entry) (command_app name.now (map (λ w. w.now) words.now)).top) }
+{
+    program.subcommand(command_with(alloc, name, words)?)
+}
+
+// The program with the commands that compile, list, run and trace.
+fn running_commands<'a>(alloc: Global) -> Result<Command<'a>, AllocError>
+    ensures { IfOk result (λ command. app_of command ≡ running_app) }
+{
+    let command = with_command(alloc, program(alloc), "compile", &["SRC", "IMG"])?;
+    let command = with_command(alloc, command, "list", &["IMG"])?;
+    let command = with_command(alloc, command, "run", &["IMG", "SCHED", "LIMIT"])?;
+    let command = with_command(alloc, command, "go", &["SRC", "SCHED", "LIMIT"])?;
+    with_command(alloc, command, "trace", &["SRC", "SCHED", "LIMIT"])
+}
+
+// The program with all its commands.
 fn command<'a>(alloc: Global) -> Result<Command<'a>, AllocError>
     ensures { IfOk result (λ command. app_of command ≡ program_app) }
 {
-    program(alloc)
-        .subcommand(command_with(alloc, "compile", &["SRC", "IMG"])?)?
-        .subcommand(command_with(alloc, "list", &["IMG"])?)?
-        .subcommand(command_with(alloc, "run", &["IMG", "SCHED", "LIMIT"])?)?
-        .subcommand(command_with(alloc, "go", &["SRC", "SCHED", "LIMIT"])?)?
-        .subcommand(command_with(alloc, "trace", &["SRC", "SCHED", "LIMIT"])?)?
-        .subcommand(explain_command(alloc)?)?
-        .subcommand(command_with(alloc, "check", &["SRC"])?)?
-        .subcommand(simulate_command(alloc)?)?
-        .subcommand(command_with(alloc, "manual", &[])?)?
-        .subcommand(command_with(alloc, "version", &[])?)
+    let command = running_commands(alloc)?.subcommand(explain_command(alloc)?)?;
+    let command = with_command(alloc, command, "check", &["SRC"])?;
+    let command = command.subcommand(simulate_command(alloc)?)?;
+    let command = with_command(alloc, command, "manual", &[])?;
+    with_command(alloc, command, "version", &[])
 }
 
 fn error_of(error: &Error) -> WordsError

@@ -89,58 +89,27 @@ fn with_time<'a>(request: Request<'a>, until: i64) -> Result<Request<'a>, WordsE
             source,
             schedule,
             limit,
-        } => Ok(Request::SimulateUntil {
+            until: _,
+        } => Ok(Request::Simulate {
             source,
             schedule,
             limit,
-            until,
+            until: Some(until),
         }),
         Request::Trace {
+            view,
             source,
             schedule,
             limit,
-        } => Ok(Request::TraceUntil {
+            until: _,
+        } => Ok(Request::Trace {
+            view,
             source,
             schedule,
             limit,
-            until,
+            until: Some(until),
         }),
-        Request::Dump {
-            source,
-            schedule,
-            limit,
-        } => Ok(Request::DumpUntil {
-            source,
-            schedule,
-            limit,
-            until,
-        }),
-        Request::Measure {
-            is_tsv,
-            source,
-            schedule,
-            limit,
-        } => Ok(Request::MeasureUntil {
-            is_tsv,
-            source,
-            schedule,
-            limit,
-            until,
-        }),
-        Request::SimulateUntil { .. }
-        | Request::TraceUntil { .. }
-        | Request::DumpUntil { .. }
-        | Request::MeasureUntil { .. }
-        | Request::Compile { .. }
-        | Request::List { .. }
-        | Request::Run { .. }
-        | Request::Go { .. }
-        | Request::Explain { .. }
-        | Request::ExplainText { .. }
-        | Request::Check { .. }
-        | Request::Search { .. }
-        | Request::Manual
-        | Request::Version => Err(WordsError::Usage),
+        _ => Err(WordsError::Usage),
     }
 }
 

@@ -23,6 +23,8 @@ COMMANDS
         queues and is served, what is raised and where, and what is refused
     adarun trace --vcd SRC SCHED LIMIT [--until TIME]
         writes the run as a value change dump, for viewers of waveforms
+    adarun trace --chart SRC SCHED LIMIT [--until TIME]
+        writes the run as a chart over virtual time: a row for each task and each object
     adarun measure [--tsv] SRC SCHED LIMIT [--until TIME]
         writes what is measured of the run: jobs and steps of each task, preemptions, waits in
         queues, lateness, calls of each object; as tables, or with tabs between fields
@@ -61,7 +63,7 @@ WORDS
 
     A longer name that begins with a hyphen comes after the word --, as in
     adarun go -- -main.adb /dev/null 1000000. There are no options but --vcd,
-    --tsv, --part, --quiet and --until, which doesn't come after that word.
+    --chart, --tsv, --part, --quiet and --until, which doesn't come after that word.
 
 FORMATS
 

@@ -1,10 +1,9 @@
 use Rattle.std.proofs.Common.{◌≡◌, None, Some, inl, inr, of_z, refl, rules, subst, to_z, w64}
 use Rattle.std.specs.Prelude.{option_map}
-use Rattle.command_line.specs.Words.{CheckText, CompileText, DumpText, DumpUntil, ExplainFault, ExplainText, GoText, ListImage, MeasureText, MeasureUntil, Nothing, RunImage, SearchText, ShowManual, ShowVersion, SimulateText, SimulateUntil, TraceText, TraceUntil, wanted_of}
+use Rattle.command_line.specs.Words.{CheckText, CompileText, ExplainFault, ExplainText, GoText, ListImage, Nothing, RunImage, SearchText, ShowManual, ShowVersion, SimulateText, TraceText, wanted_of}
 use Rattle.adarun.specs.Driving.{LeavesSearch, LeavesTrace, LeavesUntil, input_of}
 use Rattle.adarun.specs.Reading.{with_input}
 use Rattle.adarun.specs.declared.program.Status.TheVariants.{Failed, NoMemory}
-use Rattle.adarun.specs.declared.program.TraceForm.TheVariants as forms
 use Rattle.adarun.proofs.Driving.{asked_as, asked_nothing, failed, numbered_as}
 use Rattle.adarun.proofs.program.drive.Goals as goal
 
@@ -54,21 +53,11 @@ returns-in-Ok-Go-clause-answers g c = record {
 
 pub returns-in-Ok-Trace-clause-answers : goal.returns-in-Ok-Trace-clause-answers
 returns-in-Ok-Trace-clause-answers g c = record {
-  work = TraceText c.in-Ok-Trace.source.now c.in-Ok-Trace.schedule.now c.in-Ok-Trace.limit;
+  work = TraceText c.in-Ok-Trace.view c.in-Ok-Trace.source.now c.in-Ok-Trace.schedule.now c.in-Ok-Trace.limit c.in-Ok-Trace.until;
   status = c.drive_trace-status.result;
   answer_is = search rules;
   asked_for = λ plain. inl (asked_as _ _ _ c.in-Ok-Trace.field-0-is (c.in-Ok-Trace.ensures plain));
   leaves = (λ name. refl, c.drive_trace-status.ensures.leaves);
-  reports = tt;
-}
-
-pub returns-in-Ok-Dump-clause-answers : goal.returns-in-Ok-Dump-clause-answers
-returns-in-Ok-Dump-clause-answers g c = record {
-  work = DumpText c.in-Ok-Dump.source.now c.in-Ok-Dump.schedule.now c.in-Ok-Dump.limit;
-  status = c.drive_trace-status-in-Ok-Dump.result;
-  answer_is = search rules;
-  asked_for = λ plain. inl (asked_as _ _ _ c.in-Ok-Dump.field-0-is (c.in-Ok-Dump.ensures plain));
-  leaves = (λ name. refl, c.drive_trace-status-in-Ok-Dump.ensures.leaves);
   reports = tt;
 }
 
@@ -94,79 +83,13 @@ returns-in-Ok-ExplainText-clause-answers g c = record {
 
 pub returns-in-Ok-Simulate-clause-answers : goal.returns-in-Ok-Simulate-clause-answers
 returns-in-Ok-Simulate-clause-answers g c = record {
-  work = SimulateText c.in-Ok-Simulate.source.now (option_map (λ name. name.now) c.in-Ok-Simulate.schedule) c.in-Ok-Simulate.limit;
+  work = SimulateText c.in-Ok-Simulate.source.now (option_map (λ name. name.now) c.in-Ok-Simulate.schedule) c.in-Ok-Simulate.limit c.in-Ok-Simulate.until;
   status = c.drive_simulate-status.result;
   answer_is = search rules;
   asked_for = λ plain. inl (asked_as _ _ _ c.in-Ok-Simulate.field-0-is (c.in-Ok-Simulate.ensures plain));
   leaves = (λ name. refl, c.drive_simulate-status.ensures.leaves);
   reports = tt;
 }
-
-pub returns-in-Ok-TraceUntil-clause-answers : goal.returns-in-Ok-TraceUntil-clause-answers
-returns-in-Ok-TraceUntil-clause-answers g c =
-    let until = c.in-Ok-TraceUntil.until in
-    let u : to_z w64 (of_z w64 until) ≡ until = search rules in
-    record {
-      work = TraceUntil c.in-Ok-TraceUntil.source.now c.in-Ok-TraceUntil.schedule.now c.in-Ok-TraceUntil.limit until;
-      status = c.drive_trace-status-in-Ok-TraceUntil.result;
-      answer_is = numbered_as c.drive_trace-status-in-Ok-TraceUntil.result;
-      asked_for = λ plain. inl (asked_as _ _ _ c.in-Ok-TraceUntil.field-0-is (c.in-Ok-TraceUntil.ensures plain));
-      leaves = (λ name. refl, subst (λ z. LeavesTrace forms.Rows (g.F.FileStore.contents c.args.files.now) c.in-Ok-TraceUntil.source.now c.in-Ok-TraceUntil.schedule.now (Some z) c.in-Ok-TraceUntil.limit c.drive_trace-status-in-Ok-TraceUntil.result (g.O.Sink.bytes c.args.out.now) (g.O.Sink.bytes c.drive_trace-status-in-Ok-TraceUntil.new.out)) u c.drive_trace-status-in-Ok-TraceUntil.ensures.leaves);
-      reports = tt;
-    }
-
-pub returns-in-Ok-DumpUntil-clause-answers : goal.returns-in-Ok-DumpUntil-clause-answers
-returns-in-Ok-DumpUntil-clause-answers g c =
-    let until = c.in-Ok-DumpUntil.until in
-    let u : to_z w64 (of_z w64 until) ≡ until = search rules in
-    record {
-      work = DumpUntil c.in-Ok-DumpUntil.source.now c.in-Ok-DumpUntil.schedule.now c.in-Ok-DumpUntil.limit until;
-      status = c.drive_trace-status-in-Ok-DumpUntil.result;
-      answer_is = numbered_as c.drive_trace-status-in-Ok-DumpUntil.result;
-      asked_for = λ plain. inl (asked_as _ _ _ c.in-Ok-DumpUntil.field-0-is (c.in-Ok-DumpUntil.ensures plain));
-      leaves = (λ name. refl, subst (λ z. LeavesTrace forms.Dump (g.F.FileStore.contents c.args.files.now) c.in-Ok-DumpUntil.source.now c.in-Ok-DumpUntil.schedule.now (Some z) c.in-Ok-DumpUntil.limit c.drive_trace-status-in-Ok-DumpUntil.result (g.O.Sink.bytes c.args.out.now) (g.O.Sink.bytes c.drive_trace-status-in-Ok-DumpUntil.new.out)) u c.drive_trace-status-in-Ok-DumpUntil.ensures.leaves);
-      reports = tt;
-    }
-
-pub returns-in-Ok-Measure-clause-answers : goal.returns-in-Ok-Measure-clause-answers
-returns-in-Ok-Measure-clause-answers g c = record {
-  work = MeasureText c.in-Ok-Measure.is_tsv c.in-Ok-Measure.source.now c.in-Ok-Measure.schedule.now c.in-Ok-Measure.limit;
-  status = c.drive_trace-status-in-Ok-Measure.result;
-  answer_is = search rules;
-  asked_for = λ plain. inl (asked_as _ _ _ c.in-Ok-Measure.field-0-is (c.in-Ok-Measure.ensures plain));
-  leaves = (λ name. refl, subst (λ form. LeavesTrace form (g.F.FileStore.contents c.args.files.now) c.in-Ok-Measure.source.now c.in-Ok-Measure.schedule.now None c.in-Ok-Measure.limit c.drive_trace-status-in-Ok-Measure.result (g.O.Sink.bytes c.args.out.now) (g.O.Sink.bytes c.drive_trace-status-in-Ok-Measure.new.out)) c.measured_form.ensures c.drive_trace-status-in-Ok-Measure.ensures.leaves);
-  reports = tt;
-}
-
-pub returns-in-Ok-MeasureUntil-clause-answers : goal.returns-in-Ok-MeasureUntil-clause-answers
-returns-in-Ok-MeasureUntil-clause-answers g c =
-    let until = c.in-Ok-MeasureUntil.until in
-    let u : to_z w64 (of_z w64 until) ≡ until = search rules in
-    record {
-      work = MeasureUntil c.in-Ok-MeasureUntil.is_tsv c.in-Ok-MeasureUntil.source.now c.in-Ok-MeasureUntil.schedule.now c.in-Ok-MeasureUntil.limit until;
-      status = c.drive_trace-status-in-Ok-MeasureUntil.result;
-      answer_is = numbered_as c.drive_trace-status-in-Ok-MeasureUntil.result;
-      asked_for = λ plain. inl (asked_as _ _ _ c.in-Ok-MeasureUntil.field-0-is (c.in-Ok-MeasureUntil.ensures plain));
-      leaves = (
-        λ name. refl,
-        subst (λ form. LeavesTrace form (g.F.FileStore.contents c.args.files.now) c.in-Ok-MeasureUntil.source.now c.in-Ok-MeasureUntil.schedule.now (Some until) c.in-Ok-MeasureUntil.limit c.drive_trace-status-in-Ok-MeasureUntil.result (g.O.Sink.bytes c.args.out.now) (g.O.Sink.bytes c.drive_trace-status-in-Ok-MeasureUntil.new.out)) c.measured_form-in-Ok-MeasureUntil.ensures
-            (subst (λ z. LeavesTrace c.measured_form-in-Ok-MeasureUntil.result (g.F.FileStore.contents c.args.files.now) c.in-Ok-MeasureUntil.source.now c.in-Ok-MeasureUntil.schedule.now (Some z) c.in-Ok-MeasureUntil.limit c.drive_trace-status-in-Ok-MeasureUntil.result (g.O.Sink.bytes c.args.out.now) (g.O.Sink.bytes c.drive_trace-status-in-Ok-MeasureUntil.new.out)) u c.drive_trace-status-in-Ok-MeasureUntil.ensures.leaves),
-      );
-      reports = tt;
-    }
-
-pub returns-in-Ok-SimulateUntil-clause-answers : goal.returns-in-Ok-SimulateUntil-clause-answers
-returns-in-Ok-SimulateUntil-clause-answers g c =
-    let until = c.in-Ok-SimulateUntil.until in
-    let u : to_z w64 (of_z w64 until) ≡ until = search rules in
-    record {
-      work = SimulateUntil c.in-Ok-SimulateUntil.source.now (option_map (λ name. name.now) c.in-Ok-SimulateUntil.schedule) c.in-Ok-SimulateUntil.limit until;
-      status = c.drive_simulate_until-status.result;
-      answer_is = search rules;
-      asked_for = λ plain. inl (asked_as _ _ _ c.in-Ok-SimulateUntil.field-0-is (c.in-Ok-SimulateUntil.ensures plain));
-      leaves = (λ name. refl, subst (λ z. LeavesUntil (with_input (g.F.FileStore.standard_input c.args.files.now) (g.F.FileStore.contents c.args.files.now)) c.in-Ok-SimulateUntil.source.now (input_of (g.F.FileStore.contents c.args.files.now) (option_map (λ name. name.now) c.in-Ok-SimulateUntil.schedule)) z c.in-Ok-SimulateUntil.limit c.drive_simulate_until-status.result (g.O.Sink.bytes c.args.out.now) (g.O.Sink.bytes c.drive_simulate_until-status.new.out)) u c.drive_simulate_until-status.ensures.leaves);
-      reports = tt;
-    }
 
 pub returns-in-Ok-Check-clause-answers : goal.returns-in-Ok-Check-clause-answers
 returns-in-Ok-Check-clause-answers g c = record {

@@ -7,8 +7,8 @@ use Rattle.adarun.proofs.Driving.{failed_keeps, schedule_leaves, told_alike, tra
 use Rattle.adarun.proofs.Reading.{schedule_whole, source_whole}
 use Rattle.adarun.proofs.program.drive_trace.Goals as goal
 
-pub returns-in-Ok-write_trace-clause-leaves : goal.returns-in-Ok-write_trace-clause-leaves
-returns-in-Ok-write_trace-clause-leaves g c =
+pub returns-in-Ok-write_view-clause-leaves : goal.returns-in-Ok-write_view-clause-leaves
+returns-in-Ok-write_view-clause-leaves g c =
     trace_leaves _ _ _ _ _ _ _ _ _ _ c.status_of.ensures.is
     (record {
       text = c.deref.result.now;
@@ -20,14 +20,14 @@ returns-in-Ok-write_trace-clause-leaves g c =
       placed = c.in-Ok-compile_named.ensures.means.placed;
       bound = c.in-Ok-bound_of.bound;
       bounded = c.in-Ok-bound_of.ensures.bound;
-      outcome = c.in-Ok-write_trace.outcome;
+      outcome = c.in-Ok-write_view.outcome;
       status_is = refl;
-      written = told_alike c.args.form (Appends (g.O.Sink.bytes c.args.out.now) (g.O.Sink.bytes c.write_trace.new.out)) c.in-Ok-compile_named.named.image
+      written = told_alike c.args.view (Appends (g.O.Sink.bytes c.args.out.now) (g.O.Sink.bytes c.write_view.new.out)) c.in-Ok-compile_named.named.image
           c.in-Ok-compile_named.named.places c.in-Ok-read-2.schedule c.in-Ok-bound_of.bound _ _ _ _ _ _
-          (ap names_alone c.in-Ok-compile_named.ensures.means.names)
+          (c.deref-6.ensures.value ∙ c.in-Ok-names_alone.ensures ∙ ap names_alone (c.deref-5.ensures.value ∙ c.in-Ok-compile_named.ensures.means.names))
           (c.deref-4.ensures.value ∙ c.in-Ok-compile_named.ensures.bodies c.in-Ok-compile_named.ensures.means.compiles.tree c.in-Ok-compile_named.ensures.means.compiles.accepted.is_tree)
-          (c.deref-3.ensures.value ∙ sym c.deref.ensures.value) c.in-Ok-write_trace.ensures.text;
-      ends = c.in-Ok-write_trace.ensures.ends;
+          (c.deref-3.ensures.value ∙ sym c.deref.ensures.value) c.in-Ok-write_view.ensures.text;
+      ends = c.in-Ok-write_view.ensures.ends;
     })
 
 pub returns-in-Err-read-2-clause-leaves : goal.returns-in-Err-read-2-clause-leaves
@@ -49,9 +49,9 @@ returns-clause-leaves g c =
       placed = c.in-Ok-compile_named.ensures.means.placed;
       bound = c.in-Ok-bound_of.bound;
       bounded = c.in-Ok-bound_of.ensures.bound;
-      begins = told_alike c.args.form (AppendsBeginning (g.O.Sink.bytes c.args.out.now) (g.O.Sink.bytes c.write_trace.new.out)) c.in-Ok-compile_named.named.image
+      begins = told_alike c.args.view (AppendsBeginning (g.O.Sink.bytes c.args.out.now) (g.O.Sink.bytes c.write_view.new.out)) c.in-Ok-compile_named.named.image
           c.in-Ok-compile_named.named.places c.in-Ok-read-2.schedule c.in-Ok-bound_of.bound _ _ _ _ _ _
-          (ap names_alone c.in-Ok-compile_named.ensures.means.names)
+          (c.deref-6.ensures.value ∙ c.in-Ok-names_alone.ensures ∙ ap names_alone (c.deref-5.ensures.value ∙ c.in-Ok-compile_named.ensures.means.names))
           (c.deref-4.ensures.value ∙ c.in-Ok-compile_named.ensures.bodies c.in-Ok-compile_named.ensures.means.compiles.tree c.in-Ok-compile_named.ensures.means.compiles.accepted.is_tree)
           (c.deref-3.ensures.value ∙ sym c.deref.ensures.value) c.in-Err-Write.ensures.beginning;
     }))

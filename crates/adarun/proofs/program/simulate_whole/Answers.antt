@@ -6,7 +6,7 @@ use Rattle.adarun.specs.Stopping.{RefusesRunning}
 use Rattle.adarun.specs.declared.going.GoFault.TheVariants as faults
 use Rattle.adarun.proofs.Driving.{failed_keeps, refused_leaves, run_leaves, schedule_leaves}
 use Rattle.adarun.proofs.Reading.{schedule_whole, source_whole}
-use Rattle.adarun.proofs.program.drive_simulate.Goals as goal
+use Rattle.adarun.proofs.program.simulate_whole.Goals as goal
 
 pub returns-in-Ok-go-clause-leaves : goal.returns-in-Ok-go-clause-leaves
 returns-in-Ok-go-clause-leaves g c =

@@ -8,7 +8,7 @@ use Rattle.adarun.specs.Timed.{WritesBeginningUntil, WritesItsMeaningUntil}
 use Rattle.adarun.specs.declared.going.GoFault.TheVariants as faults
 use Rattle.adarun.proofs.Driving.{failed_keeps, refused_leaves, refused_until, schedule_leaves, unscheduled_until, until_leaves}
 use Rattle.adarun.proofs.Reading.{schedule_whole, source_whole}
-use Rattle.adarun.proofs.program.drive_simulate_until.Goals as goal
+use Rattle.adarun.proofs.program.simulate_until.Goals as goal
 
 pub returns-in-Ok-go_until-clause-leaves : goal.returns-in-Ok-go_until-clause-leaves
 returns-in-Ok-go_until-clause-leaves g c =

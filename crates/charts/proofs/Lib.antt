@@ -1,0 +1,5 @@
+mod Charted
+mod Examples
+mod Pieces
+mod Tabled
+mod Whole
