@@ -1,14 +1,12 @@
 -- Code of calls of functions: actual parameters one behind the other, and the call.
-use Rattle.std.proofs.Common.{◌≡◌, ℕ, zero, suc, ◌+◌, ◌<◌, List, [], ◌∷◌, ◌++◌, get_or, length, map, Option, None, Some, Bool, true, false, cond, not, ◌||◌, refl, sym, ap, ◌∙◌, subst, arith}
-use Rattle.std.specs.Prelude.{slice_get}
-use Rattle.std.proofs.lemmas.Option.{slice_get-get_or}
+use Rattle.std.proofs.Common.{◌≡◌, ℕ, suc, ◌+◌, List, [], ◌∷◌, ◌++◌, length, map, Option, None, Some, Bool, true, false, cond, not, ◌||◌, refl, sym, ap, ◌∙◌, subst, arith}
 use Rattle.base.specs.declared.exceptions.PredefinedException.TheVariants.{ConstraintError}
 use Rattle.base.specs.declared.faults.TheConstants.{NAME_NOT_VISIBLE}
 use Rattle.ada_tree.specs.declared.expression.Argument.{Argument}
 use Rattle.ada_tree.specs.declared.expression.Identifier.{Identifier}
 use Rattle.ada_tree.specs.ExpressionTree as tree
-use Rattle.ada_tree.specs.ExpressionTree.{argument_tree, argument_trees, ArgumentTree, ArgumentTrees, MoreArguments, NoArguments, NoSelectors, SelectorTrees, Value}
-use Rattle.ada_tree.specs.Size.{argument_size, arguments_size, total}
+use Rattle.ada_tree.specs.ExpressionTree.{argument_trees, ArgumentTree, ArgumentTrees, MoreArguments, NoSelectors, SelectorTrees, Value}
+use Rattle.ada_tree.specs.Size.{total}
 use Rattle.image.specs.Sections.{Sections}
 use Rattle.image.specs.Operations.{called, parameters_of, results_of}
 use Rattle.image.specs.Rules.{calls_inside, is_plain, some_and}
@@ -29,12 +27,12 @@ use Rattle.types.specs.Standings.{callee_profile, count, select_all, standing_of
 use Rattle.types.specs.Values as values
 use Rattle.types.specs.Values.{fits}
 use Rattle.expr_soundness.specs.expr_rules.specs.Faults.{rule}
-use Rattle.expr_soundness.specs.expr_rules.specs.NameRules.{call_slot, count_rule, formal_slot, formal_slot_or, profile_formals, slot_at, value_rule}
-use Rattle.expr_soundness.specs.expr_rules.specs.ExpressionRules.{argument_faults, arguments_faults, selectors_faults}
+use Rattle.expr_soundness.specs.expr_rules.specs.NameRules.{count_rule, profile_formals, value_rule}
+use Rattle.expr_soundness.specs.expr_rules.specs.ExpressionRules.{selectors_faults}
 use Rattle.expr_soundness.specs.expr_rules.proofs.TypedLaw.{back_empty, front_empty}
 use Rattle.expr_soundness.specs.Agreeing.{MeansFunction, parameter_subtype}
 use Rattle.expr_soundness.proofs.Applying.{one_count}
-use Rattle.expr_code.specs.Actuals.{arguments_in_front, IsPassedLegally}
+use Rattle.expr_code.specs.Actuals.{arguments_in_front}
 use Rattle.expr_code.specs.Computing.{AlwaysNames, ArePassed}
 use Rattle.expr_code.specs.Emitting.{IsLegalExpression}
 use Rattle.expr_code.specs.Seeing.{library_of, NamesProfile, Package, Sees, subprogram_of, Suits}
@@ -48,18 +46,6 @@ use Rattle.expr_code.proofs.Passing.{named_value}
 pub in_front_then : (one two : List ArgumentTree) (rest : ArgumentTrees) → arguments_in_front (one ++ two) rest ≡ arguments_in_front one (arguments_in_front two rest)
 in_front_then [] two rest = refl
 in_front_then (a ∷ one) two rest = ap (MoreArguments a) (in_front_then one two rest)
-
-pub sum_then : {X : Type 0} (f : X → ℕ) (one two : List X) → total f (one ++ two) ≡ total f one + total f two
-sum_then f [] two = omega arith
-sum_then f (a ∷ one) two = let more = sum_then f one two in omega (arith, more)
-
-pub got : {X : Type 0} (l : List X) (n : ℕ) (x : X) → n < length l → x ≡ get_or l n x → slice_get l n ≡ Some x
-got l n x less is = slice_get-get_or l n x less ∙ ap Some (sym is)
-
-pub mapped : {X Y : Type 0} (f : X → Y) (l : List X) (n : ℕ) (x : X) → slice_get l n ≡ Some x → slice_get (map f l) n ≡ Some (f x)
-mapped f [] n x e = absurd cc
-mapped f (y ∷ l) zero x e = let same : y ≡ x = cc in ap (λ z. Some (f z)) same
-mapped f (y ∷ l) (suc n) x e = mapped f l n x e
 
 pub nothing_behind : {X : Type 0} (l : List X) → l ++ [] ≡ l
 nothing_behind [] = refl
@@ -87,14 +73,6 @@ both_given Meaningless b vs e = cc
 
 -- ---- the call
 
-pub trees_are : (all : List Argument) → arguments_in_front (map argument_tree all) NoArguments ≡ argument_trees all
-trees_are [] = refl
-trees_are (a ∷ all) = ap (MoreArguments (argument_tree a)) (trees_are all)
-
-pub sizes_are : (all : List Argument) → total argument_size (map argument_tree all) ≡ arguments_size (argument_trees all)
-sizes_are [] = refl
-sizes_are (a ∷ all) = ap (λ n. argument_size (argument_tree a) + n) (sizes_are all)
-
 pub counted : (all : List Argument) → count (argument_trees all) ≡ length all
 counted [] = refl
 counted (a ∷ all) = ap suc (counted all)
@@ -102,26 +80,6 @@ counted (a ∷ all) = ap suc (counted all)
 -- ---- what stands behind a function's name, wherever that stands
 
 module _ (s : Scope) (place : ℕ) (profile : Profile) (f : Callee) (profiled : callee_profile s f ≡ Some profile) where
-  -- the rules of one argument among those from a number on
-  pub argument_legal : (k : ℕ) (all : List Argument) → arguments_faults s (standing.Callee f) k (argument_trees all) ≡ []
-      → (n : ℕ) (x : FormalParameter) (a : ArgumentTree) → slice_get profile.formals (k + n) ≡ Some x → slice_get (map argument_tree all) n ≡ Some a
-      → IsPassedLegally s x a
-  argument_legal k [] h n x a at_formal at_argument = absurd cc
-  argument_legal k (y ∷ all) h zero x a at_formal at_argument =
-      let same : argument_tree y ≡ a = cc in
-      let more : k + 0 ≡ k = omega arith in
-      let slot : slot_at s (standing.Callee f) k ≡ formal_slot x =
-      ap (λ o. call_slot o k) profiled ∙ ap formal_slot_or (ap (slice_get profile.formals) (sym more) ∙ at_formal) in
-      (λ j. argument_faults s (sym slot j) (sym same j))
-      ∙ front_empty (argument_faults s (slot_at s (standing.Callee f) k) (argument_tree y))
-      (arguments_faults s (standing.Callee f) (suc k) (argument_trees all)) h
-  argument_legal k (y ∷ all) h (suc n) x a at_formal at_argument =
-      let more : k + suc n ≡ suc k + n = omega arith in
-      argument_legal (suc k) all
-      (back_empty (argument_faults s (slot_at s (standing.Callee f) k) (argument_tree y))
-      (arguments_faults s (standing.Callee f) (suc k) (argument_trees all)) h)
-      n x a (ap (slice_get profile.formals) (sym more) ∙ at_formal) at_argument
-
   pub none_wanted : selectors_faults s place (standing.Callee f) NoSelectors ≡ [] → profile.formals ≡ []
   none_wanted unbroken =
       empty profile.formals (one_count place 0 (length profile.formals) (ap (λ o. count_rule place 0 (length (profile_formals o))) (sym profiled) ∙ unbroken))

@@ -1,14 +1,13 @@
 -- What is emitted for statements, by the piece that was added.
 use Rattle.std.proofs.Common.{◌≡◌, ◌≤◌, ℕ, suc, ◌+◌, ◌*◌, [], length, true, ap, ◌∙◌, subst, arith}
-use Rattle.std.specs.Prelude.{pos, ◌+ℤ◌, ◌⊎◌}
+use Rattle.std.specs.Prelude.{pos, ◌+ℤ◌}
 use Rattle.ada_tree.specs.ExpressionTree.{ExprTree, SelectorTrees}
-use Rattle.ada_tree.specs.Size.{expr_size, selectors_size}
+use Rattle.ada_tree.specs.Size.{selectors_size}
 use Rattle.image.specs.Sections.{Sections}
 use Rattle.image.specs.declared.instruction.Operation.{Operation}
 use Rattle.image.specs.declared.instruction.Operation.TheVariants as op
 use Rattle.types.specs.Shapes.{shape_of}
 use Rattle.expr_code.specs.ExpressionCode.{address_code, whole_of}
-use Rattle.expr_code.specs.Going.{EmitsAddress}
 use Rattle.expr_code.specs.Locating.{IsPath}
 use Rattle.expr_code.specs.Seeing.{Package, Sees, Suits, library_of}
 use Rattle.expr_code.specs.declared.part.PartAt.{PartAt}
@@ -16,20 +15,17 @@ use Rattle.expr_code.proofs.PartWorks.{PathWorks, all_left}
 use Rattle.types.specs.declared.entity.Subtype.{Subtype}
 use Rattle.types.specs.Scopes.{form_at}
 use Rattle.expr_soundness.specs.Laws.{ExpressionsAreTyped}
-use Rattle.expr_code.specs.Appending.{Appends, Misfits}
-use Rattle.expr_code.specs.Code.{Holds, IsShallow, here}
-use Rattle.expr_code.specs.Emitting.{EmitsChecked, EmitsExpression, IsFit}
+use Rattle.expr_code.specs.Appending.{Appends}
+use Rattle.expr_code.specs.Code.{here}
+use Rattle.expr_code.specs.Emitting.{EmitsChecked, IsFit}
 use Rattle.expr_code.specs.Pieces.{Made, Piece, adds, one, ◌▸◌}
 use Rattle.expr_code.specs.Providing.{is_passable}
-use Rattle.expr_code.specs.Refusing.{HasUnfitObject, IsUnfit, RefusesAddress, RefusesChecked, RefusesExpression, checked_peak, peak, selectors_peak}
+use Rattle.expr_code.specs.Refusing.{selectors_peak}
 use Rattle.expr_code.specs.Views.{At}
-use Rattle.expr_code.specs.Widths.{width_of}
 use Rattle.expr_code.specs.declared.code.Code.{Code}
-use Rattle.expr_code.specs.declared.refusal.Refusal.{Refusal}
 use Rattle.expr_code.specs.declared.visible.Visible.{Visible}
-use Rattle.expr_code.proofs.CalledWorks.{as_wide}
 use Rattle.expr_code.proofs.Checking.{shaped}
-use Rattle.expr_code.proofs.ExpressionWorks.{Works, appends_extends, emits_added, placed, refused_added, shallow_added}
+use Rattle.expr_code.proofs.ExpressionWorks.{appends_extends, placed}
 use Rattle.expr_code.proofs.NameWorks.{WorksChecked}
 use Rattle.expr_code.proofs.PassedWorks.{is_known, passable_word}
 use Rattle.expr_code.proofs.Pieces.{make}
@@ -42,19 +38,6 @@ code_is old m new a n empty at h =
     ap (λ x. x.code) (h ∙ ap (λ x. adds x a) empty) ∙ ap a (let e : n + 0 ≡ here old = omega (arith, at) in e)
 
 module _ (v : Visible) (old new : Code) (depth : ℕ) (e : ExprTree) (f : Made) (a : Piece) (is : f.code ≡ a (here old)) where
-  pub width_emits : (width : ℕ) → width_of v.scope e ≡ width → Works v depth (width_of v.scope e) e a → Appends old f.code new
-      → EmitsExpression v old depth width e new
-  width_emits width wide w h = emits_added v old new depth width e a (as_wide v depth _ width e a wide w) (subst (λ l. Appends old l new) is h)
-
-  pub width_shallow : Works v depth (width_of v.scope e) e a → Appends old f.code new → IsShallow old new (depth + peak v.scope e)
-  width_shallow w h = shallow_added v old new depth _ e a w (subst (λ l. Appends old l new) is h)
-
-  pub width_refused : (why : Refusal) → Works v depth (width_of v.scope e) e a → Misfits old f.code why → RefusesExpression v old depth e why
-  width_refused why w h =
-      refused_added (Suits v) old (20 * expr_size e) (depth + peak v.scope e) depth _ a why
-      (fits_more (Suits v) w.long (20 * expr_size e) (depth + peak v.scope e) (depth + peak v.scope e) depth _ a (let few = w.few in omega (arith, few)) (omega arith) w.fits)
-      (subst (λ l. Misfits old l why) is h)
-
   module _ (t : Subtype) (w : WorksChecked v depth t e a) where
     pub checked_emits : ExpressionsAreTyped → is_passable v.scope t ≡ true → IsFit v.scope t e → Appends old f.code new → EmitsChecked v old depth t e new
     checked_emits laws passable fit p =
@@ -73,18 +56,6 @@ module _ (v : Visible) (old new : Code) (depth : ℕ) (e : ExprTree) (f : Made) 
           single = passable_word v.scope t passable;
           typed = shaped laws v t e fit;
         }
-
-    pub checked_shallow : Appends old f.code new → IsShallow old new (depth + checked_peak (peak v.scope e))
-    checked_shallow p =
-        let h = subst (λ l. Appends old l new) is p in
-        let low = w.fits.low (here old) in let same = h.deepest in omega (arith, same, low)
-
-    pub checked_refused : (why : Refusal) → Misfits old f.code why → RefusesChecked v old depth e why
-    checked_refused why h =
-        let few = w.few in
-        refused_added (Suits v) old (20 * expr_size e + 3) (depth + checked_peak (peak v.scope e)) depth (depth + 1) a why
-        (fits_more (Suits v) w.long (20 * expr_size e + 3) _ (depth + checked_peak (peak v.scope e)) depth (depth + 1) a (omega (arith, few)) (omega arith) w.fits)
-        (subst (λ l. Misfits old l why) is h)
 
 -- ---- the address of an object or a part of one
 
@@ -124,41 +95,3 @@ module _ (U : Type 0) (v : Visible) (depth offset : ℕ) (t : Subtype) (all : Se
             (subst (λ z. IsPath i (library_of g) (Sees g v) both.mid to z t (shape_of v.scope t) all last.subtype (shape_of v.scope last.subtype))
             (all_left last.shift) (q.goes i both.mid to both.second g));
       }
-
-module _ (v : Visible) (old new : Code) (depth offset : ℕ) (t : Subtype) (all : SelectorTrees) (f : Made) (last : PartAt) (a : Piece)
-    (q : PathWorks (HasUnfitObject v ⊎ IsUnfit v.scope t) v depth (whole_of t) last all a) (is : f.code ≡ address_code depth offset last a (here old)) where
-  abbrev fits : FitsOr (HasUnfitObject v ⊎ IsUnfit v.scope t) (Suits v) (20 * selectors_size all + 1) (depth + selectors_peak v.scope 1 all) depth (depth + 1)
-      (address_code depth offset last a)
-  fits = address_fits (HasUnfitObject v ⊎ IsUnfit v.scope t) v depth offset t all last a q
-
-  pub address_emits : Appends old f.code new → EmitsAddress v old depth offset t all last.subtype new
-  address_emits p =
-      let h = subst (λ l. Appends old l new) is p in
-      let at = placed old new (address_code depth offset last a) h in
-      let long = at.long in
-      let stands : (i : Sections) → Holds i (here old) new → AddressStands i v (here old) (here new) offset t last all =
-      λ i holds. address_stands (HasUnfitObject v ⊎ IsUnfit v.scope t) v depth offset t all last a q i (here old) (here new) (at.stands i holds) in
-      record {
-        extends = appends_extends old new (address_code depth offset last a (here old)) h;
-        longer = starts_with_one depth offset last a (here old) (here new) long;
-        sized = let few = fits.sized (here old) in omega (arith, long, few);
-        shift = last.shift;
-        near = q.near;
-        pushes = λ i holds. (stands i holds).push;
-        goes = λ i holds. (stands i holds).goes;
-        flows = record {
-          flows = λ i s holds suits deep high ends.
-              let same = h.deepest in
-              fits.leads.leads i s (here old) (here new) (at.stands i holds) suits (omega (arith, same, deep)) high ends;
-        };
-      }
-
-  pub address_shallow : Appends old f.code new → IsShallow old new (depth + selectors_peak v.scope 1 all)
-  address_shallow p =
-      let h = subst (λ l. Appends old l new) is p in
-      let low = fits.low (here old) in let same = h.deepest in omega (arith, same, low)
-
-  pub address_refused : (why : Refusal) → Misfits old f.code why → RefusesAddress v old depth t all why
-  address_refused why h =
-      refused_added (Suits v) old (20 * selectors_size all + 1) (depth + selectors_peak v.scope 1 all) depth (depth + 1) (address_code depth offset last a) why fits
-      (subst (λ l. Misfits old l why) is h)

@@ -18,22 +18,19 @@ use Rattle.image.specs.declared.instruction.Operation.TheVariants as op
 use Rattle.expr_soundness.specs.Laws.{ExpressionsAreTyped}
 use Rattle.expr_soundness.specs.SoundScopes.{SoundScope}
 use Rattle.base.specs.declared.limits.TheConstants.{FRAME_WORDS}
-use Rattle.expr_code.specs.Appending.{Appends, Misfits}
+use Rattle.expr_code.specs.Appending.{Appends}
 use Rattle.expr_code.specs.Branches.{AreLegalBranches, Branch, in_front}
-use Rattle.expr_code.specs.Code.{Extends, Holds, IsShallow, here}
+use Rattle.expr_code.specs.Code.{Extends, Holds, here}
 use Rattle.expr_code.specs.Computing.{Computes, ComputesElse}
 use Rattle.expr_code.specs.Emitting.{EmitsExpression, IsLegalExpression}
 use Rattle.expr_code.specs.ExpressionCode.{branch_code, elsifs_code, expr_code, operand_code, sign_code, value_words}
 use Rattle.expr_code.specs.OperatorCode.{binary_operation, unary_operation}
 use Rattle.expr_code.specs.Pieces.{Piece, narrow, one, ◌▸◌, over}
-use Rattle.expr_code.specs.Refusing.{IsRefusedBeside, elsifs_peak, operand_peak, peak}
+use Rattle.expr_code.specs.Refusing.{elsifs_peak, operand_peak, peak}
 use Rattle.expr_code.specs.Seeing.{Package, Sees, Suits, library_of}
 use Rattle.expr_code.specs.Views.{At}
 use Rattle.expr_code.specs.Widths.{AreWide, width_of}
 use Rattle.expr_code.specs.declared.code.Code.{Code}
-use Rattle.expr_code.specs.declared.refusal.ImageLimit.TheVariants as limits
-use Rattle.expr_code.specs.declared.refusal.Refusal.{Refusal}
-use Rattle.expr_code.specs.declared.refusal.Refusal.TheVariants as refusal
 use Rattle.expr_code.specs.declared.visible.Visible.{Visible}
 use Rattle.expr_code.proofs.Emitted.{binary_changes, has_added, unary_changes}
 use Rattle.expr_code.proofs.Expressions.{computes_and_then, computes_binary, computes_conditional, computes_number, computes_or_else, computes_plus, computes_unary}
@@ -41,7 +38,7 @@ use Rattle.expr_code.proofs.Flowing.{Changes}
 use Rattle.expr_code.proofs.Growing.{get_before}
 use Rattle.expr_code.proofs.Legal.{left_truth, legal_left, legal_operand, legal_parts, legal_right}
 use Rattle.expr_code.proofs.Refusals.{both_peak, peak_some}
-use Rattle.expr_code.proofs.StandingPieces.{Between, Fits, FitsOr, IsTest, Suiting, both_stand, fits_fork, fits_more, fits_one, fits_over, fits_then, one_stands, one_unfit, one_test, narrow_frame, over_end, over_stands, pushes, stands_behind, zero_test}
+use Rattle.expr_code.proofs.StandingPieces.{Between, Fits, IsTest, both_stand, fits_fork, fits_more, fits_one, fits_over, fits_then, one_stands, one_test, narrow_frame, over_end, over_stands, pushes, stands_behind, zero_test}
 use Rattle.expr_code.proofs.Widths.{binary_width, conditional_wide, unary_width}
 
 pub appends_extends : (old new : Code) (added : List Instr) → Appends old added new → Extends old new
@@ -53,15 +50,6 @@ appends_extends old new added h =
       longer = omega (arith, long);
       deeper = omega (arith, is);
     }
-
--- what exceeds the limits of images is told by what the piece needs
-pub refused_added : {Unfit : Type 0} (S : Suiting) (old : Code) (long high before after : ℕ) (a : Piece) (why : Refusal) → FitsOr Unfit S long high before after a
-    → Misfits old (a (here old)) why → IsRefusedBeside Unfit (here old + long) high why
-refused_added {Unfit} S old long high before after a refusal.Memory p h = tt
-refused_added {Unfit} S old long high before after a (refusal.Limit limits.Instructions) p h = let few = p.sized (here old) in omega (arith, few, h)
-refused_added {Unfit} S old long high before after a (refusal.Limit limits.Frame) p h = let low = p.low (here old) in omega (arith, low, h)
-refused_added {Unfit} S old long high before after a (refusal.Limit limits.Block) p h = one_unfit Unfit (a (here old)) (p.fit (here old)) h
-refused_added {Unfit} S old long high before after a (refusal.Limit other) p h = absurd h
 
 -- ---- what is promised of a piece
 
@@ -112,9 +100,6 @@ module _ (v : Visible) (old new : Code) (depth width : ℕ) (e : ExprTree) (a : 
               let is = h.deepest in w.fits.leads.leads i s (here old) (here new) (at.stands i holds) suits (omega (arith, is, deep)) high ends;
         };
       }
-
-  pub shallow_added : IsShallow old new (depth + peak v.scope e)
-  shallow_added = let low = w.fits.low (here old) in let is = h.deepest in omega (arith, is, low)
 
 -- ---- numbers, parentheses, signs
 

@@ -7,10 +7,7 @@ use Rattle.image.specs.Rules.{depth_after, has_depth, has_effect, has_operands, 
 use Rattle.image.specs.declared.instruction.Instr.{Instr}
 use Rattle.image.specs.declared.instruction.Operation.{Operation}
 use Rattle.image.specs.declared.subprograms.Subprogram.{Subprogram}
-use Rattle.expr_code.specs.Code.{Extends, Adds, here}
-use Rattle.expr_code.specs.Flows.{AreKeptBetween, Flows, KeepsInstructionRules}
-use Rattle.expr_code.specs.declared.code.Code.{Code}
-use Rattle.expr_code.proofs.Growing.{added_here, added_there, holds_before, holds_later}
+use Rattle.expr_code.specs.Flows.{AreKeptBetween, KeepsInstructionRules}
 
 -- ---- tests
 
@@ -128,21 +125,6 @@ module _ (i : Sections) (s : Subprogram) where
 -- ---- code behind code
 
 module _ (Suits : Sections → Subprogram → Type 0) where
-  pub flows_then : (a b c : Code) (one two three : ℕ) → Extends a b → Extends b c → Flows Suits a one b two → Flows Suits b two c three → Flows Suits a one c three
-  flows_then a b c one two three e g p q = record {
-    flows = λ i s h suits deep high depth.
-        let second = q.flows i s (holds_later i (here a) (here b) c e.longer h) suits deep high depth in
-        let first = p.flows i s (holds_before i (here a) b c g h) suits (omega (arith, g.deeper, deep)) second.shallow second.begins in
-        kept_then i s (here a) (here c) (here a) (here b) (here c) one two
-        (widened i s (here a) (here b) (here a) (here c) (here a) (here b) one (omega arith) g.longer first)
-        (widened i s (here b) (here c) (here a) (here c) (here b) (here c) two e.longer (omega arith) second);
-  }
-
-  pub flows_same : (c : Code) (depth : ℕ) → Flows Suits c depth c depth
-  flows_same c depth = record {
-    flows = λ i s h suits deep high is. record { begins = is; shallow = high; each = λ k x le less there. absurd (omega (arith, le, less)) };
-  }
-
   -- what an instruction that doesn't jump finds and leaves, wherever the names suit
   pub record Changes (o : Operation) (depth out : ℕ) : Type 0 where
     pub operands : has_operands o ≡ true
@@ -151,17 +133,3 @@ module _ (Suits : Sections → Subprogram → Type 0) where
     pub leaves : (i : Sections) (s : Subprogram) → Suits i s → depth - taken_by i s.results o + given_by i o ≡ out
     pub stays : jump_target o ≡ None
     pub is_none : is_return o ≡ false
-
-  pub instruction_flows : (old new : Code) (depth out : ℕ) (o : Operation) → Adds old depth o new → Changes o depth out → Flows Suits old depth new out
-  instruction_flows old new depth out o a c = record {
-    flows = λ i s h suits deep high ends.
-        let end = added_here old new depth o a in
-        let one = kept_one i s (here old) (here new) (here old) depth out o (added_there old new depth o a i (here old) (omega arith) h)
-        (omega (arith, a.within, deep)) high c.operands (c.names i s suits) (c.takes i s suits) (c.leaves i s suits) c.is_none
-        (λ e. ap (λ n. has_depth i n out) (sym end) ∙ ends)
-        (λ n target. absurd (none_some n (sym c.stays ∙ target))) in
-        subst (λ n. AreKeptBetween i s (here old) (here new) (here old) n depth) (sym end) one;
-  }
-    where
-      none_some : (n : ℕ) → None ≡ Some n → ⊥
-      none_some n e = cc

@@ -1,11 +1,10 @@
 -- What is broken nowhere in a chain of operators is broken nowhere in its parts; and the left operand of a logical operator is a truth value.
-use Rattle.std.proofs.Common.{◌≡◌, ◌<◌, ◌++◌, ℕ, zero, suc, List, [], ◌∷◌, length, map, Bool, true, false, refl, sym, ap, ◌∙◌, subst, arith}
-use Rattle.std.specs.Prelude.{cond, get_or}
+use Rattle.std.proofs.Common.{◌≡◌, ◌++◌, ℕ, List, [], ◌∷◌, Bool, true, false, sym, ap, ◌∙◌}
+use Rattle.std.specs.Prelude.{cond}
 use Rattle.ada_tree.specs.declared.expression.UnaryOperator.{UnaryOperator}
 use Rattle.ada_tree.specs.declared.expression.BinaryOperator.{BinaryOperator}
 use Rattle.ada_tree.specs.ExpressionTree as tree
-use Rattle.ada_tree.specs.declared.expression.ElsifValue.{ElsifValue}
-use Rattle.ada_tree.specs.ExpressionTree.{ExprTree, NoElsifValues, MoreElsifValues, elsif_value_trees, expr_tree}
+use Rattle.ada_tree.specs.ExpressionTree.{ExprTree, NoElsifValues}
 use Rattle.image.specs.Sections.{Sections}
 use Rattle.types.specs.Scopes.{Scope}
 use Rattle.types.specs.Statics.{start_of}
@@ -19,7 +18,7 @@ use Rattle.expr_soundness.specs.expr_rules.proofs.TypedLaw.{as_truth, back_empty
 use Rattle.base.specs.declared.faults.TheConstants.{NO_MEANING}
 use Rattle.expr_soundness.specs.Laws.{ExpressionsAreTyped}
 use Rattle.expr_code.specs.Computing.{IsTruth}
-use Rattle.expr_code.specs.Branches.{AreLegalBranches, Branch, branch_of, in_front}
+use Rattle.expr_code.specs.Branches.{AreLegalBranches, Branch, in_front}
 use Rattle.expr_code.specs.Emitting.{IsLegalExpression}
 use Rattle.expr_code.specs.Seeing.{library_of, Package, Sees}
 use Rattle.expr_code.specs.declared.visible.Visible.{Visible}
@@ -83,17 +82,6 @@ module _ (s : Scope) where
         elsifs = legal_elsifs w all (back_empty (c ++ v) m three);
         last = record { wanted = w; unbroken = front_empty (faults_in s w last) (mismatch s w (own_of s last) (start_of last)) (back_empty ((c ++ v) ++ m) l h.unbroken) };
       }
-
-  -- a branch at a place
-  pub legal_branch : (all : List ElsifValue) (n : ℕ) (x : ElsifValue) → n < length all → x ≡ get_or all n x → AreLegalBranches s (map branch_of all) → IsLegalExpression s (expr_tree x.condition) × IsLegalExpression s (expr_tree x.value)
-  legal_branch [] n x less is h = absurd (omega (arith, less))
-  legal_branch (e ∷ all) zero x less is h = (subst (λ y. IsLegalExpression s (expr_tree y.condition)) (sym is) h.0, subst (λ y. IsLegalExpression s (expr_tree y.value)) (sym is) h.1)
-  legal_branch (e ∷ all) (suc n) x less is h = legal_branch all n x (omega (arith, less)) is h.2
-
--- the trees of all branches
-pub branches_are : (all : List ElsifValue) → in_front (map branch_of all) NoElsifValues ≡ elsif_value_trees all
-branches_are [] = refl
-branches_are (e ∷ all) = ap (MoreElsifValues (expr_tree e.condition) (expr_tree e.value)) (branches_are all)
 
 chosen : (b : Bool) (x y : Bool) → b ≡ true → cond b x y ≡ true → x ≡ true
 chosen true x y e h = h

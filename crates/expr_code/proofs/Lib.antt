@@ -14,7 +14,6 @@ pub mod Growing
 pub mod Flowing
 pub mod Legal
 mod Emitted
-mod Branching
 pub mod Names
 pub mod Checking
 mod Conversions
@@ -27,7 +26,6 @@ pub mod FitShapes
 mod LegalNames
 pub mod Externals
 pub mod Language
-pub mod Shallow
 pub mod PeakSlots
 pub mod NamedBehind
 pub mod ThroughObjects

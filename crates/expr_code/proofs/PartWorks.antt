@@ -46,7 +46,7 @@ use Rattle.expr_code.specs.ExpressionCode.{at_offset_code, at_offset_shift, both
 use Rattle.expr_code.specs.Going.{EndsAt, IsLegalPart, IsLegalPath, Selects}
 use Rattle.expr_code.specs.Locating.{AreTwo, IsAtOffset, IsByWords, IsLessFirst, IsNear, IsOffset, IsPath}
 use Rattle.expr_code.specs.Pieces.{Piece, nothing, one, ◌▸◌}
-use Rattle.expr_code.specs.Refusing.{HasUnfitObject, IsUnfit, KeepsFit, checked_peak, peak, selectors_peak, words_below}
+use Rattle.expr_code.specs.Refusing.{HasUnfitObject, IsUnfit, checked_peak, peak, selectors_peak, words_below}
 use Rattle.expr_code.specs.declared.visible.Slot.{Slot}
 use Rattle.expr_code.specs.Seeing.{Package, Sees, Suits, library_of}
 use Rattle.expr_code.specs.Seeing.{slot_of}
@@ -530,34 +530,6 @@ module _ (v : Visible) where
       ∙ path_ends q rest (further_path s p.subtype it.2 (Arguments a) rest legal selects) r
       ∙ ap (λ y. standing.Part r (path_part s y rest).subtype) (sym same)
   path_ends p (MoreSelectors (Attribute name) rest) legal r =
-      (let no = (first_part v.scope p.subtype (Attribute name) rest legal).component in absurd cc)
-
-  -- a part is fit where the whole is
-  pub path_keeps : SoundScope v.scope → (p : PartAt) (all : SelectorTrees) → IsLegalPath v.scope p.subtype all
-      → KeepsFit v.scope p.subtype (path_part v.scope p all).subtype
-  path_keeps sound p NoSelectors legal h = h
-  path_keeps sound p (MoreSelectors (Component name) rest) legal h =
-      let s = v.scope in
-      let it = component_there s p.subtype name (first_part s p.subtype (Component name) rest legal) in
-      let at = offset_there (shapes s) it.0 name.name it.1 it.3 in
-      let q : PartAt = record { subtype = it.1; shift = at_offset_shift p.shift (capped at.0) } in
-      let same : field_part p (field_of s (form_at s p.subtype.type_number) name.name) ≡ q =
-      ap (field_part p) (field_is s p.subtype it.0 name.name it.1 it.2 it.3 at.0 at.1) in
-      let selects : Selects s p.subtype (Component name) it.1 = λ k. ap (λ f. component_stands k f name.name) it.2 ∙ ap (part_of k) it.3 in
-      selected_keeps s sound p.subtype it.1 (Component name) selects
-      (path_keeps sound q rest (further_path s p.subtype it.1 (Component name) rest legal selects)
-      (subst (λ y. IsUnfit s (path_part s y rest).subtype) same h))
-  path_keeps sound p (MoreSelectors (Arguments a) rest) legal h =
-      let s = v.scope in
-      let it = array_tree s p.subtype a (first_part s p.subtype (Arguments a) rest legal) in
-      let q : PartAt = record { subtype = it.2; shift = less_first_shift it.0.first (capped (words_of s it.2)) p.shift } in
-      let same : element_part s p (form_at s p.subtype.type_number) ≡ q = ap (element_part s p) it.3 in
-      let selects : Selects s p.subtype (Arguments a) it.2 =
-      λ k. ap (λ f. element_stands k f (is_single a)) it.3 ∙ ap (λ b. element_stands k (Some (Arrays it.0 it.1 it.2)) b) it.4 in
-      selected_keeps s sound p.subtype it.2 (Arguments a) selects
-      (path_keeps sound q rest (further_path s p.subtype it.2 (Arguments a) rest legal selects)
-      (subst (λ y. IsUnfit s (path_part s y rest).subtype) same h))
-  path_keeps sound p (MoreSelectors (Attribute name) rest) legal h =
       (let no = (first_part v.scope p.subtype (Attribute name) rest legal).component in absurd cc)
 
 -- ---- the words of a part

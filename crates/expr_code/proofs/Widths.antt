@@ -1,15 +1,14 @@
 -- The words of the values of legal expressions, by their own types: operands, conditions and what is checked take one, and the values of an if expression the same.
-use Rattle.std.proofs.Common.{◌≡◌, ◌<◌, ◌++◌, ◌⊎◌, inl, inr, ℕ, zero, suc, ℤ, [], ◌∷◌, List, length, map, Bool, true, false, ◌&&◌, ◌||◌, not, Some, None, refl, sym, ap, ◌∙◌, subst, arith}
-use Rattle.std.specs.Prelude.{⊤, cond, get_or, nat_eq, pos, slice_get}
+use Rattle.std.proofs.Common.{◌≡◌, ◌++◌, ◌⊎◌, inl, inr, ℕ, suc, ℤ, [], ◌∷◌, List, Bool, true, false, ◌&&◌, ◌||◌, not, Some, None, refl, sym, ap, ◌∙◌, subst, arith}
+use Rattle.std.specs.Prelude.{⊤, cond, nat_eq, pos, slice_get}
 use Rattle.base.specs.declared.faults.TheConstants.{NAME_NOT_VISIBLE, NO_MEANING}
-use Rattle.ada_tree.specs.declared.expression.ElsifValue.{ElsifValue}
 use Rattle.ada_tree.specs.declared.expression.Identifier.{Identifier}
 use Rattle.ada_tree.specs.declared.expression.UnaryOperator.{UnaryOperator}
 use Rattle.ada_tree.specs.declared.expression.UnaryOperator.TheVariants as unary
 use Rattle.ada_tree.specs.declared.expression.BinaryOperator.{BinaryOperator}
 use Rattle.ada_tree.specs.declared.expression.BinaryOperator.TheVariants as binary
 use Rattle.ada_tree.specs.ExpressionTree as tree
-use Rattle.ada_tree.specs.ExpressionTree.{elsif_value_trees, expr_tree, ExprTree, ElsifValueTrees, NoElsifValues, MoreElsifValues, SelectorTrees, NoSelectors, MoreSelectors, Arguments, ArgumentTrees}
+use Rattle.ada_tree.specs.ExpressionTree.{ExprTree, ElsifValueTrees, NoElsifValues, MoreElsifValues, SelectorTrees, NoSelectors, MoreSelectors, Arguments, ArgumentTrees}
 use Rattle.types.specs.declared.entity.Subtype.{Subtype}
 use Rattle.types.specs.declared.entity.Role.{Role}
 use Rattle.types.specs.declared.entity.Value.{Value as Scalar}
@@ -39,13 +38,12 @@ use Rattle.expr_soundness.proofs.Expressions.{not_false}
 use Rattle.expr_soundness.proofs.Goods.{Good, fixed_suits, good_all, good_first, known_all}
 use Rattle.expr_soundness.proofs.Positions.{named}
 use Rattle.expr_soundness.specs.expr_rules.specs.Laws.{is_value_of}
-use Rattle.expr_code.specs.Branches.{Branch, branch_of, in_front}
+use Rattle.expr_code.specs.Branches.{Branch, in_front}
 use Rattle.expr_code.specs.Emitting.{has_numbers, IsFit, IsLegalExpression, WantedFits}
 use Rattle.expr_code.specs.Providing.{is_passable}
 use Rattle.expr_code.specs.Seeing.{NamesProfile}
 use Rattle.expr_code.specs.Widths.{AreWide, own_words, width_of}
 use Rattle.expr_code.proofs.Conversions.{integers, with_argument}
-use Rattle.expr_code.proofs.Legal.{branches_are}
 
 -- ---- shapes
 
@@ -513,15 +511,6 @@ module _ (s : Scope) where
           whole = inside.1 ∙ ends.left;
         }
 
-    pub conditional_words : (e : ExprTree) (place : ℕ) (condition value : ExprTree) (elsifs : List ElsifValue) (last : ExprTree)
-        → e ≡ tree.Conditional place condition value (elsif_value_trees elsifs) last
-        → IsLegalExpression s e → PartsAreWide condition value (map branch_of elsifs) last e
-    conditional_words e place condition value elsifs last is h =
-        let same : e ≡ tree.Conditional place condition value (in_front (map branch_of elsifs) NoElsifValues) last = is ∙ ap
-        (λ t. tree.Conditional place condition value t last) (sym (branches_are elsifs)) in
-        subst (λ x. PartsAreWide condition value (map branch_of elsifs) last x) (sym same)
-        (conditional_wide place condition value (map branch_of elsifs) last (subst (IsLegalExpression s) same h))
-
     -- a condition, wherever one is wanted
     pub condition_width : (e : ExprTree) → faults_of s boolean_wanted e ≡ [] → width_of s e ≡ 1
     condition_width e h =
@@ -623,16 +612,3 @@ module _ (s : Scope) where
           ∙ ap (λ u. own_words s (own_of_standing (select_all s u NoSelectors))) ends_one
           ∙ words_by_type s t
           ∙ single
-
--- ---- the operand and the branch at a place
-
-pub wide_at : (s : Scope) (width : ℕ) (all : List ElsifValue) (n : ℕ) (x : ElsifValue) → n < length all → x ≡ get_or all n x
-    → AreWide s width (map branch_of all)
-    → (width_of s (expr_tree x.condition) ≡ 1) × (width_of s (expr_tree x.value) ≡ width)
-wide_at s width [] n x less is h = absurd (omega (arith, less))
-wide_at s width (e ∷ all) zero x less is h = (
-  subst (λ y. width_of s (expr_tree y.condition) ≡ 1) (sym is) h.0,
-  subst
-      (λ y. width_of s (expr_tree y.value) ≡ width) (sym is) h.1,
-)
-wide_at s width (e ∷ all) (suc n) x less is h = wide_at s width all n x (omega (arith, less)) is h.2

@@ -1,7 +1,6 @@
 -- What it is that code is added to, and that an image holds it.
-use Rattle.std.specs.Prelude.{◌≡◌, ℕ, ◌≤◌, List, [], ◌∷◌, ◌++◌, length, max, Some, slice_get, slice_set}
+use Rattle.std.specs.Prelude.{◌≡◌, ℕ, ◌≤◌, List, [], ◌∷◌, ◌++◌, length, max, Some, slice_get}
 use Rattle.image.specs.Sections.{Sections}
-use Rattle.image.specs.declared.instruction.Instr.{Instr}
 use Rattle.image.specs.declared.instruction.Operation.{Operation}
 use Rattle.expr_code.specs.declared.code.Code.{Code}
 
@@ -38,10 +37,3 @@ pub record Adds (old : Code) (depth : ℕ) (operation : Operation) (new : Code) 
   pub deeper : old.deepest ≤ new.deepest
   pub within : depth ≤ new.deepest
   pub shallow : IsShallow old new depth
-
--- the instruction at a place is another one, at the same depth; nothing else changes
-pub record Patches (old : Code) (place : ℕ) (operation : Operation) (new : Code) : Type 0 where
-  pub before : Instr
-  pub there : slice_get old.instructions.items place ≡ Some before
-  pub instructions : new.instructions.items ≡ slice_set old.instructions.items place (record { depth = before.depth; operation = operation })
-  pub deepest : new.deepest ≡ old.deepest

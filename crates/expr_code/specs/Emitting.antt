@@ -72,13 +72,3 @@ pub record EmitsChecked (v : Visible) (old : Code) (depth : ℕ) (t : Subtype) (
   -- its value, where there is one, is of the subtype's type
   pub typed : (calls : Calls) (p : Place) → Agrees v.scope p → CallsAnswer calls p → (x : Value) → value_with calls p e ≡ Gives x
       → has_shape (shape_of v.scope t) x ≡ true
-
--- the code of an expression was added, and the check of its value against a subtype of any number of words
-pub record EmitsFitting (v : Visible) (old : Code) (depth : ℕ) (t : Subtype) (e : ExprTree) (new : Code) : Type 0 where
-  pub extends : Extends old new
-  pub sized : here new ≤ here old + (20 * expr_size e + 3)
-  pub computes : (i : Sections) → Holds i (here old) new → (g : Package) → ComputesChecked i (library_of g) (Sees g v) (here old) (here new) t e
-  pub flows : Flows (Suits v) old depth new (depth + words_of v.scope t)
-  pub known : (form : TypeForm) × (form_at v.scope t.type_number ≡ Some form)
-  pub typed : (calls : Calls) (p : Place) → Agrees v.scope p → CallsAnswer calls p → (x : Value) → value_with calls p e ≡ Gives x
-      → has_shape (shape_of v.scope t) x ≡ true

@@ -1,10 +1,9 @@
 -- When code isn't made of an expression: memory was refused, or it may pass a limit of images, which is told.
-use Rattle.std.specs.Prelude.{◌≡◌, ℕ, suc, ◌+◌, ◌*◌, ◌<◌, max, Bool, true, false, ◌&&◌, List, [], ◌∷◌, Option, Some, is_none, ⊤, ◌⊎◌, if◌then◌else◌}
+use Rattle.std.specs.Prelude.{◌≡◌, ℕ, suc, ◌+◌, ◌*◌, ◌<◌, max, Bool, true, false, ◌&&◌, List, [], ◌∷◌, Option, Some, is_none, ⊤, if◌then◌else◌}
 use Rattle.base.specs.declared.limits.TheConstants.{FRAME_WORDS, INSTRUCTIONS}
 use Rattle.image.specs.Rules.{is_block}
 use Rattle.ada_tree.specs.declared.expression.BinaryOperator.{BinaryOperator}
 use Rattle.ada_tree.specs.ExpressionTree.{ExprTree, Number, Named, Parenthesized, Conditional, Unary, Binary, ElsifValueTrees, NoElsifValues, MoreElsifValues, SelectorTrees, NoSelectors, MoreSelectors, SelectorTree, Component, Arguments, Attribute, ArgumentTrees, NoArguments, MoreArguments, ArgumentTree, Value, Text}
-use Rattle.ada_tree.specs.Size.{expr_size, selectors_size}
 use Rattle.types.specs.declared.entity.PredefinedOperation.TheVariants as predefined
 use Rattle.types.specs.declared.entity.Role.{Role}
 use Rattle.types.specs.declared.entity.Subtype.{Subtype}
@@ -16,11 +15,9 @@ use Rattle.types.specs.Scopes.{entity_at, number_of, Scope}
 use Rattle.types.specs.Shapes.{Shape, Shapes, Repeated, Grouped, NoShapes, MoreShapes, shape_of, words}
 use Rattle.types.specs.Standings.{stands_first}
 use Rattle.expr_code.specs.Branches.{Branch}
-use Rattle.expr_code.specs.Code.{here}
 use Rattle.expr_code.specs.OperatorCode.{binary_operation}
 use Rattle.expr_code.specs.Seeing.{slot_of}
 use Rattle.expr_code.specs.Widths.{width_of}
-use Rattle.expr_code.specs.declared.code.Code.{Code}
 use Rattle.expr_code.specs.declared.refusal.ImageLimit.{ImageLimit}
 use Rattle.expr_code.specs.declared.refusal.ImageLimit.TheVariants as limits
 use Rattle.expr_code.specs.declared.refusal.Refusal.{Refusal}
@@ -131,24 +128,6 @@ IsRefusedBeside unfit instructions words (refusal.Limit limit) = MayPass unfit i
 -- a refusal of code for which no object is loaded
 abbrev pub IsRefused : (instructions words : ℕ) → Refusal → Type 0
 IsRefused instructions words = IsRefusedBeside ⊥ instructions words
-
--- the refusal of an expression that finds so many words on the operand stack
-abbrev pub RefusesExpression : Visible → Code → (depth : ℕ) → ExprTree → Refusal → Type 0
-RefusesExpression v old depth e = IsRefusedBeside (HasUnfitObject v) (here old + 20 * expr_size e) (depth + peak v.scope e)
-
--- the refusal of an expression and its check
-abbrev pub RefusesChecked : Visible → Code → (depth : ℕ) → ExprTree → Refusal → Type 0
-RefusesChecked v old depth e = IsRefusedBeside (HasUnfitObject v) (here old + (20 * expr_size e + 3)) (depth + checked_peak (peak v.scope e))
-
--- the refusal of an expression of a subtype that may have several words; values of arrays and records need no check
-abbrev pub RefusesFitting : Visible → Code → (depth : ℕ) → Subtype → ExprTree → Refusal → Type 0
-RefusesFitting v old depth t e =
-    IsRefusedBeside (HasUnfitObject v ⊎ IsUnfit v.scope t) (here old + (20 * expr_size e + 3)) (depth + checked_peak (peak v.scope e))
-
--- the refusal of the address of an object, and of these selectors
-abbrev pub RefusesAddress : Visible → Code → (depth : ℕ) → Subtype → SelectorTrees → Refusal → Type 0
-RefusesAddress v old depth t all =
-    IsRefusedBeside (HasUnfitObject v ⊎ IsUnfit v.scope t) (here old + (20 * selectors_size all + 1)) (depth + selectors_peak v.scope 1 all)
 
 -- the operand stack that the parts of an if expression take
 abbrev pub branches_peak : Scope → List Branch → ℕ

@@ -16,7 +16,7 @@ mod refusal;
 mod visible;
 
 pub use checked::has_numbers;
-pub use code::{Code, above, raised};
+pub use code::Code;
 pub use name::{loaded_at, scalar_word};
 pub use part::PartAt;
 pub use refusal::{ImageLimit, Refusal};

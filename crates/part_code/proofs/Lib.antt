@@ -30,10 +30,7 @@ pub mod PassingWell
 pub mod Initials
 pub mod Selecting
 mod InTurn
-pub mod Lacking
 pub mod FormalsRefused
-pub mod CallsRefused
-mod BodiesRefused
 mod Moves
 mod CodeExamples
 pub mod PieceNeeds
@@ -48,17 +45,13 @@ pub mod RangeWorks
 pub mod CopiesMade
 pub mod CopiesWork
 pub mod AssignmentsRefused
-mod GivenStays
 pub mod MovesRefused
 pub mod CallsShallow
-mod InitialsStay
 pub mod Jumping
 pub mod Jumps
 pub mod Lists
 pub mod FullWords
-mod ObjectBounds
 pub mod ObjectNames
-mod OutsShallow
 pub mod StoresAt
 pub mod Within
 pub mod WrittenActuals

@@ -146,13 +146,6 @@ pub record BeginsWithin (s : Scope) (room : ℕ) (x : PlacedFormal) : Type 0 whe
 abbrev pub HasWord : (offset : ℕ) → Sections → Subprogram → Type 0
 HasWord offset i q = offset < q.locals
 
--- the frame of a subprogram has the words of a parameter
-abbrev pub HasFormalRoom : Scope → PlacedFormal → Sections → Subprogram → Type 0
-HasFormalRoom s x i q = BeginsWithin s q.locals x
-
-abbrev pub HasRoomAt : Scope → (address : ℕ) → PlacedFormal → Sections → Subprogram → Type 0
-HasRoomAt s address x i q = BeginsWithin s q.locals x × (address < q.locals)
-
 abbrev pub HaveFormalRoom : Scope → List PlacedFormal → Sections → Subprogram → Type 0
 HaveFormalRoom s xs i q = All (BeginsWithin s q.locals) xs
 
@@ -200,26 +193,6 @@ abbrev pub IsLoadingCode : Sections → (from to offset size : ℕ) → Type 0
 IsLoadingCode i from to offset size =
     ((size ≡ 1) × At i from (op.LoadLocal offset) × (to ≡ suc from))
     ⊎ (At i from (op.Push (pos offset)) × At i (suc from) (op.LoadBlock regions.Locals size) × (to ≡ suc (suc from)))
-
--- the instructions of one value were added
-pub record AddsLoaded (old : Code) (offset many : ℕ) (new : Code) : Type 0 where
-  pub extends : Extends old new
-  pub sized : here new ≤ here old + 2
-  pub loads : (i : Sections) → Holds i (here old) new → IsLoadingCode i (here old) (here new) offset many
-
--- the code that loads a parameter and the address before it was added
-pub record AddsReturned (s : Scope) (old : Code) (address : ℕ) (x : PlacedFormal) (new : Code) : Type 0 where
-  pub extends : Extends old new
-  pub longer : suc (here old) ≤ here new
-  pub sized : here new ≤ here old + 3
-  pub addresses : (i : Sections) → Holds i (here old) new → At i (here old) (op.LoadLocal address)
-  pub loads : (i : Sections) → Holds i (here old) new → IsLoadingCode i (suc (here old)) (here new) x.offset (words_of s x.subtype)
-
--- of a parameter that is copied back both were added, above so many words of the operand stack; of another one nothing
-pub record ReturnsOne (s : Scope) (old : Code) (depth : ℕ) (x : PlacedFormal) (height : ℕ) (new : Code) : Type 0 where
-  pub none : x.address ≡ None → (new ≡ old) × (height ≡ depth)
-  pub some : (a : ℕ) → x.address ≡ Some a → AddsReturned s old a x new × (height ≡ suc (depth + words_of s x.subtype))
-  pub flows : Flows (HasFormalRoom s x) old depth new height
 
 -- of one that is copied back the address and the value
 abbrev pub ReturnedThen : Sections → Scope → (from to : ℕ) → PlacedFormal → (rest : ℕ → Type 0) → (address : Option ℕ) → Type 0

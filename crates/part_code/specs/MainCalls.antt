@@ -1,7 +1,6 @@
 -- The calls of main (RM 10.2).
 use Rattle.std.specs.Prelude.{◌≡◌, ◌||◌, ℕ, suc, ◌+◌, ◌≤◌, List, [], ◌∷◌, length, Some, true, ⊤}
 use Rattle.std.specs.List.{All}
-use Rattle.ada_tree.specs.declared.expression.Identifier.{Identifier}
 use Rattle.ada_tree.specs.declared.program.MainStatement.{MainStatement}
 use Rattle.ada_tree.specs.declared.program.MainStatement.TheVariants as main
 use Rattle.image.specs.Operations.{called}
@@ -9,7 +8,7 @@ use Rattle.image.specs.Rules.{calls_inside, is_plain}
 use Rattle.image.specs.Sections.{Sections}
 use Rattle.image.specs.declared.instruction.Operation.TheVariants as op
 use Rattle.image.specs.declared.subprograms.Subprogram as code
-use Rattle.expr_code.specs.Code.{Adds, Extends, Holds, here}
+use Rattle.expr_code.specs.Code.{Extends, Holds, here}
 use Rattle.expr_code.specs.Flows.{Flows}
 use Rattle.expr_code.specs.Seeing.{subprogram_of}
 use Rattle.expr_code.specs.Views.{At}
@@ -22,12 +21,6 @@ AreCalls i v from to [] = from ≡ to
 AreCalls i v from to (main.Null place ∷ rest) = AreCalls i v from to rest
 AreCalls i v from to (main.Call package_ procedure ∷ rest) =
     (number : ℕ) × (subprogram_of v procedure.name ≡ Some number) × At i from (op.Call number) × AreCalls i v (suc from) to rest
-
--- the call of this procedure was added
-pub record AddsMainCall (v : Visible) (old : Code) (procedure : Identifier) (new : Code) : Type 0 where
-  pub number : ℕ
-  pub told : subprogram_of v procedure.name ≡ Some number
-  pub adds : Adds old 0 (op.Call number) new
 
 -- the subprogram that is called by a number may be called from this one, and takes and gives nothing
 pub record IsBare (i : Sections) (s : code.Subprogram) (number : ℕ) : Type 0 where

@@ -1,5 +1,5 @@
 -- What code of parts of statements needs, and why it is refused.
-use Rattle.std.specs.Prelude.{◌≡◌, ℕ, suc, ◌+◌, ◌*◌, ◌<◌, max, Bool, true, false, ◌||◌, not, nat_eq, List, [], ◌∷◌, ◌++◌, length, Option, Some, None, is_none}
+use Rattle.std.specs.Prelude.{◌≡◌, ℕ, suc, ◌+◌, ◌<◌, max, Bool, true, false, ◌||◌, not, nat_eq, List, [], ◌∷◌, ◌++◌, length, Option, Some, None, is_none}
 use Rattle.base.specs.declared.limits.TheConstants.{LABELS}
 use Rattle.ada_tree.specs.declared.declaration.Formal.{Formal}
 use Rattle.ada_tree.specs.declared.declaration.Mode.{Mode}
@@ -8,7 +8,7 @@ use Rattle.ada_tree.specs.declared.program.MainStatement.{MainStatement}
 use Rattle.ada_tree.specs.declared.program.MainStatement.TheVariants as main
 use Rattle.ada_tree.specs.ExpressionTree.{ArgumentTree, ArgumentTrees, Conditional, ElsifValueTrees, ExprTree, MoreArguments, MoreElsifValues, Named, NameTree, NoArguments, NoElsifValues, Parenthesized, SelectorTrees, Text, Value}
 use Rattle.ada_tree.specs.StatementTree.{ChoicesTree, DeclarationTree, LocalObject, OtherValues, Values}
-use Rattle.ada_tree.specs.Size.{expr_size, total}
+use Rattle.ada_tree.specs.Size.{total}
 use Rattle.image.specs.declared.instruction.Region.TheVariants as regions
 use Rattle.types.specs.declared.entity.FormalParameter.{FormalParameter}
 use Rattle.types.specs.declared.entity.Subtype.{Subtype}
@@ -34,7 +34,7 @@ use Rattle.expr_code.specs.declared.refusal.Refusal.{Refusal}
 use Rattle.expr_code.specs.declared.refusal.Refusal.TheVariants as refusal
 use Rattle.expr_code.specs.declared.visible.Slot.{Slot}
 use Rattle.expr_code.specs.declared.visible.Visible.{Visible}
-use Rattle.part_code.specs.Formals.{passed_for, placed_words, returned_more}
+use Rattle.part_code.specs.Formals.{passed_for, returned_more}
 use Rattle.part_code.specs.Bounds.{local_words, words_named}
 use Rattle.part_code.specs.EntryNames.{is_own_entry}
 use Rattle.part_code.specs.Lines.{LabelledValue, line_of}
@@ -107,11 +107,6 @@ locals_visible v taken [] = v
 locals_visible v taken (d ∷ ds) = locals_visible (local_visible v taken d) (taken + local_words v.scope d) ds
 
 -- ---- declarations
-
--- that of an initial value of one word
-abbrev pub single_needs : Visible → Option ExprTree → Needs
-single_needs v None = stacked 1
-single_needs v (Some e) = record { stack = checked_peak (peak v.scope e); frame = 0; unfit = has_unfit v }
 
 -- What an initial value of a subtype needs, above the address of several words.
 abbrev pub initial_needs : Visible → Subtype → Option ExprTree → Needs
@@ -339,28 +334,6 @@ abbrev pub HasManyLabels : (labels : List (List ℕ)) → Refusal → Type 0
 HasManyLabels labels (refusal.Limit limits.Labels) = LABELS < length labels
 HasManyLabels labels why = ⊥
 
--- ---- code that is added by parts
-
--- the instructions of an object's initial value, and so many more
-abbrev pub initial_bound : Scope → Subtype → Option ExprTree → ℕ
-initial_bound s t None = words_of s t
-initial_bound s t (Some e) = 3 + 20 * expr_size e
-
-abbrev pub RefusesInitial : Visible → (old : Code) → Subtype → Option ExprTree → (more : ℕ) → Refusal → Type 0
-RefusesInitial v old t value more why = IsNeeding (here old + (more + initial_bound v.scope t value)) (initial_needs v t value) why
-
--- how many instructions the initial value of a single word has at most
-abbrev pub single_bound : Option ExprTree → ℕ
-single_bound None = 1
-single_bound (Some e) = 3 + 20 * expr_size e
-
-abbrev pub RefusesSingle : Visible → (old : Code) → Option ExprTree → (more : ℕ) → Refusal → Type 0
-RefusesSingle v old value more why = IsNeeding (here old + (more + single_bound value)) (single_needs v value) why
-
--- the words of an object without initial value, one by one, above so many others
-abbrev pub RefusesWords : Scope → (old : Code) → (height : ℕ) → Subtype → Refusal → Type 0
-RefusesWords s old height t why = IsRefused (here old + words_of s t) (height + words_of s t) why
-
 -- ---- formal parameters
 
 -- the word behind one, of those that are passed or of the others
@@ -398,25 +371,12 @@ abbrev pub outs_needs : Visible → List PlacedFormal → Needs
 outs_needs v [] = nothing
 outs_needs v (x ∷ xs) = both (out_needs v x) (outs_needs v xs)
 
-abbrev pub RefusesOut : Visible → (old : Code) → PlacedFormal → Refusal → Type 0
-RefusesOut v old x why = IsNeeding (here old + (2 + words_of v.scope x.subtype)) (out_needs v x) why
-
-abbrev pub RefusesOuts : Visible → (old : Code) → List PlacedFormal → Refusal → Type 0
-RefusesOuts v old xs why = IsNeeding (here old + (2 * length xs + total (placed_words v.scope) xs)) (outs_needs v xs) why
-
--- The address and the value that are given back, on the operand stack: a value has a word at least.
-abbrev pub given_back : Scope → PlacedFormal → ℕ
-given_back s x = suc (max 1 (words_of s x.subtype))
-
 abbrev pub given_if_any : Scope → PlacedFormal → ℕ
 given_if_any s x = returned_more x.address (max 1 (words_of s x.subtype)) 0
 
 abbrev pub all_given : Scope → List PlacedFormal → ℕ
 all_given s [] = 0
 all_given s (x ∷ xs) = given_if_any s x + all_given s xs
-
-abbrev pub RefusesReturned : Scope → (old : Code) → List PlacedFormal → Refusal → Type 0
-RefusesReturned s old xs why = IsRefused (here old + suc (3 * length xs)) (all_given s xs) why
 
 -- ---- main
 

@@ -39,7 +39,6 @@ pub mod Refused
 mod MovingParts
 mod Labelled
 mod WholePlaces
-mod WholeRefused
 mod CallsStay
 mod RaisesAdded
 mod ChoiceRows
@@ -92,3 +91,9 @@ mod CallFills
 mod RunMade
 mod BodiesDo
 mod RunJoined
+mod OutsDo
+mod ReturnsDo
+mod WholesMade
+mod JoinedParts
+mod ProceduresJoined
+mod FunctionsJoined

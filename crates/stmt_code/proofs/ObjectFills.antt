@@ -45,7 +45,7 @@ use Rattle.stmt_code.proofs.SimpleFills.{Spans, fills_spans, spans_fits, spans_l
 use Rattle.stmt_code.proofs.CoveredScopes.{IsFull}
 
 -- words that are put on the operand stack one by one
-words_spans : (U : Type 0) (h d : ℕ) (ws : List ℤ) → d + length ws ≤ h → Spans U (length ws) h (words_pushed d ws)
+pub words_spans : (U : Type 0) (h d : ℕ) (ws : List ℤ) → d + length ws ≤ h → Spans U (length ws) h (words_pushed d ws)
 words_spans U h d [] up = spans_none U h
 words_spans U h d (w ∷ ws) up =
     let a = one d (op.Push w) ▸ words_pushed (d + 1) ws in
@@ -53,10 +53,10 @@ words_spans U h d (w ∷ ws) up =
     (spans_then U h 1 (length ws) (one d (op.Push w)) (words_pushed (d + 1) ws) (spans_one U h d (op.Push w) (omega (arith, up)) refl)
     (words_spans U h (d + 1) ws (omega (arith, up))))
 
-le_of : (m k : ℕ) → nat_le m k ≡ true → m ≤ k
+pub le_of : (m k : ℕ) → nat_le m k ≡ true → m ≤ k
 le_of m k e = search rules
 
-some_block : (n : ℕ) → nat_eq n 0 ≡ false → n ≤ WORDS → is_block n ≡ true
+pub some_block : (n : ℕ) → nat_eq n 0 ≡ false → n ≤ WORDS → is_block n ≡ true
 some_block zero some up = cc
 some_block (suc n) some up = both (nat_le 1 (suc n)) (nat_le (suc n) WORDS) (le_true 1 (suc n) (omega arith)) (le_true (suc n) WORDS up)
   where

@@ -1,28 +1,31 @@
--- Code of a body that was put together and joined to that of a program: what was added, how much it is, and which limit it may have passed.
-use Rattle.std.proofs.Common.{◌≡◌, ◌≤◌, ℕ, ◌+◌, All, length, max, true, inl, inr, refl, sym, ap, ◌∙◌, subst, arith, length-append}
-use Rattle.std.specs.Prelude.{slice_get}
+-- Code that was put together and joined to that of a program: which limit it may have passed; and of a body, what was added, and how much it is.
+use Rattle.std.proofs.Common.{◌≡◌, ◌≤◌, ℕ, ◌+◌, List, All, length, max, true, inl, inr, refl, sym, ap, ◌∙◌, subst, arith, length-append}
+use Rattle.std.specs.Prelude.{slice_get, ◌⊎◌}
 use Rattle.std.proofs.lemmas.List.Elements.{All-weaker}
 use Rattle.handlers.specs.declared.rows.Row.{Row}
 use Rattle.ada_tree.specs.ProgramTree.{BodyTree}
-use Rattle.expr_code.specs.Appending.{Misfits, PassesLimit}
+use Rattle.image.specs.declared.instruction.Instr.{Instr}
+use Rattle.expr_code.specs.Appending.{Misfits}
 use Rattle.expr_code.specs.Code.{here}
-use Rattle.expr_code.specs.declared.refusal.ImageLimit.{ImageLimit}
+use Rattle.expr_code.specs.Pieces.{deepest_of}
+use Rattle.expr_code.specs.Refusing.{IsRefusedBeside}
+use Rattle.expr_code.specs.declared.code.Code.{Code}
 use Rattle.expr_code.specs.declared.refusal.ImageLimit.TheVariants as limits
 use Rattle.expr_code.specs.declared.refusal.Refusal.{Refusal}
 use Rattle.expr_code.specs.declared.refusal.Refusal.TheVariants as refusal
 use Rattle.expr_code.specs.declared.visible.Visible.{Visible}
-use Rattle.expr_code.proofs.StandingPieces.{one_unfit}
+use Rattle.expr_code.proofs.StandingPieces.{FitOr, one_unfit}
 use Rattle.part_code.specs.Bounds.{run_bound}
 use Rattle.part_code.specs.Labels.{handlers_labels, stmts_labels}
 use Rattle.part_code.specs.Needs.{HasManyLabels, IsNeeding, Needs}
 use Rattle.part_code.specs.Rows.{LiesWithin, handlers_rows, stmts_rows}
+use Rattle.part_code.proofs.Within.{code_refused, stack_within}
 use Rattle.stmt_code.specs.Drafting.{CodePart, Drafted, Start, adds}
 use Rattle.stmt_code.specs.Emitting.{AddsRows, FindsException}
 use Rattle.stmt_code.specs.Joining.{HasWideFrame, IsJoined, Overflows, begun_from}
 use Rattle.stmt_code.specs.Placing.{StandsBetween}
-use Rattle.stmt_code.specs.Refusing.{RefusesRun, run_needs}
+use Rattle.stmt_code.specs.Refusing.{run_needs}
 use Rattle.stmt_code.specs.StatementCode.{run_code}
-use Rattle.stmt_code.specs.Staying.{StaysRun}
 use Rattle.stmt_code.specs.declared.draft.Draft.{Draft}
 use Rattle.stmt_code.proofs.BodiesDo.{AddsRun, run_of, site_of, start_of}
 use Rattle.stmt_code.proofs.PartsFill.{Fills}
@@ -101,44 +104,32 @@ module _ (v : Visible) (old new : Draft) (b : BodyTree) (h : IsJoined old (run_o
         placed = refl;
       }
 
-      pub run_stays : StaysRun v old b.declarations b.statements b.handlers new
-      run_stays = record {
-        labels = h.labels ∙ f.named (start_of old);
-        rows = ap length h.rows ∙ length-append old.rows.items m.rows ∙ f.many (start_of old) (length old.rows.items);
-        stack = (let deep = h.code.deepest in let up = f.low (start_of old) in omega (arith, deep, up));
-        frame = (let most = h.most in let up = f.most (start_of old) in omega (arith, most, up));
-      }
-
 -- ---- where it passes a limit
 
-module _ (v : Visible) (old : Draft) (b : BodyTree)
-    (f : Fills (run_needs v old.words.taken b.declarations b.statements b.handlers) (run_bound v.scope b.declarations b.statements b.handlers)
-    (λ l. handlers_labels (stmts_labels l b.statements) b.handlers) (λ r. handlers_rows (stmts_rows r b.statements) b.handlers)
-    (run_code (site_of v old) b)) where
+-- instructions of at most so many words, that have operands an image may have or this is so
+pub code_beside : (U : Type 0) (old : Code) (code : List Instr) (long high : ℕ) → length code ≤ long → deepest_of code ≤ high → FitOr U code → (why : Refusal)
+    → Misfits old code why → IsRefusedBeside U (here old + long) high why
+code_beside U old code long high few low fit refusal.Memory h = tt
+code_beside U old code long high few low fit (refusal.Limit limits.Instructions) h = omega (arith, few, h)
+code_beside U old code long high few low fit (refusal.Limit limits.Frame) h = omega (arith, low, h)
+code_beside U old code long high few low fit (refusal.Limit limits.Block) h = one_unfit U code fit h
+code_beside U old code long high few low fit (refusal.Limit other) h = absurd h
+
+pub code_needing : (old : Code) (code : List Instr) (n : Needs) (long : ℕ) → length code ≤ long → deepest_of code ≤ n.stack → FitOr (n.unfit ≡ true) code
+    → (why : Refusal) → Misfits old code why → IsNeeding (here old + long) n why
+code_needing old code n long few low fit why h =
+    code_refused (n.unfit ≡ true) (here old + long) (here old + long) n.stack n (omega arith) (stack_within n.stack n (omega arith)) (λ u. u) why
+    (code_beside (n.unfit ≡ true) old code long n.stack few low fit why h)
+
+module _ (old : Draft) (n : Needs) (long : ℕ) (labels : List (List ℕ) → List (List ℕ)) (rows : ℕ → ℕ) (a : CodePart) (f : Fills n long labels rows a) where
   abbrev part : Drafted
-  part = run_of v old b
+  part = a (start_of old)
 
-  abbrev n : Needs
-  n = run_needs v old.words.taken b.declarations b.statements b.handlers
-
-  abbrev bound : ℕ
-  bound = here old.code + run_bound v.scope b.declarations b.statements b.handlers
-
-  passed_needs : (limit : ImageLimit) → PassesLimit old.code part.code limit → IsNeeding bound n (refusal.Limit limit)
-  passed_needs limits.Instructions p = (let few = f.sized (start_of old) in omega (arith, p, few))
-  passed_needs limits.Frame p = (let up = f.low (start_of old) in omega (arith, p, up))
-  passed_needs limits.Block p = one_unfit (n.unfit ≡ true) part.code (f.fit (start_of old)) p
-  passed_needs limit p = absurd p
-
-  misfit_needs : (why : Refusal) → Misfits old.code part.code why → IsNeeding bound n why
-  misfit_needs refusal.Memory p = tt
-  misfit_needs (refusal.Limit limit) p = passed_needs limit p
-
-  wide_needs : (why : Refusal) → HasWideFrame part.most why → IsNeeding bound n why
+  wide_needs : (why : Refusal) → HasWideFrame part.most why → IsNeeding (here old.code + long) n why
   wide_needs (refusal.Limit limits.Frame) p = (let up = f.most (start_of old) in omega (arith, p, up))
   wide_needs why p = absurd p
 
-  pub run_refused : (why : Refusal) → Overflows old part why → RefusesRun v old b.declarations b.statements b.handlers why
-  run_refused why (inl p) = inl (misfit_needs why p)
-  run_refused why (inr (inl p)) = inr (subst (λ l. HasManyLabels l why) (f.named (start_of old)) p)
-  run_refused why (inr (inr p)) = inl (wide_needs why p)
+  pub part_refused : (why : Refusal) → Overflows old part why → IsNeeding (here old.code + long) n why ⊎ HasManyLabels (labels old.labels) why
+  part_refused why (inl p) = inl (code_needing old.code part.code n long (f.sized (start_of old)) (f.low (start_of old)) (f.fit (start_of old)) why p)
+  part_refused why (inr (inl p)) = inr (subst (λ l. HasManyLabels l why) (f.named (start_of old)) p)
+  part_refused why (inr (inr p)) = inl (wide_needs why p)

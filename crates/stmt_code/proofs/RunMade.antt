@@ -1,7 +1,6 @@
--- A body whose code was put together and joined to that of a program: what it does, what stays as it was, and where it is refused.
-use Rattle.std.proofs.Common.{◌≡◌, ℕ, List, [], ap, ◌∙◌, subst, length, arith}
+-- What was put together and joined to the code of a program; and of a body, what it does.
+use Rattle.std.proofs.Common.{◌≡◌, [], ap, ◌∙◌, subst, length, arith}
 use Rattle.ada_tree.specs.ProgramTree.{BodyTree}
-use Rattle.ada_tree.specs.declared.expression.Identifier.{Identifier}
 use Rattle.kernel.specs.Laws.{QuietStays}
 use Rattle.handlers.specs.Laws.{RowsAround, RowsInside}
 use Rattle.types.specs.Laws.{InitialValuesHaveShape, PartsHavePlaces, ShapesStay, ValuesHaveWords}
@@ -17,27 +16,25 @@ use Rattle.part_code.specs.Labels.{handlers_labels, stmts_labels}
 use Rattle.part_code.specs.Providing.{HasWhatCodeNeeds}
 use Rattle.part_code.specs.Rows.{handlers_rows, stmts_rows}
 use Rattle.part_code.proofs.PieceNeeds.{laws_of}
-use Rattle.stmt_code.specs.Declaring.{site_at}
-use Rattle.stmt_code.specs.Drafting.{Drafted, Sketched, adds}
-use Rattle.stmt_code.specs.Emitting.{EmitsRun, IsAcceptedRun, no_ways}
+use Rattle.stmt_code.specs.Drafting.{CodePart, Drafted, Sketched, adds}
+use Rattle.stmt_code.specs.Emitting.{EmitsRun, IsAcceptedRun}
 use Rattle.stmt_code.specs.Joining.{IsJoined, Overflows, begun_from}
-use Rattle.stmt_code.specs.Refusing.{RefusesRun, run_needs}
+use Rattle.stmt_code.specs.Refusing.{run_needs}
 use Rattle.stmt_code.specs.StatementCode.{run_code}
-use Rattle.stmt_code.specs.Staying.{StaysRun}
 use Rattle.stmt_code.specs.Timely.{handlers_timely, locals_seen, stmts_timely}
 use Rattle.stmt_code.specs.declared.draft.Draft.{Draft}
 use Rattle.stmt_code.proofs.AssignmentFills.{assignment_fills}
-use Rattle.stmt_code.proofs.BodiesDo.{run_does, run_of, site_of}
+use Rattle.stmt_code.proofs.BodiesDo.{run_does, run_of, site_of, start_of}
 use Rattle.stmt_code.proofs.CallFills.{call_fills}
 use Rattle.stmt_code.proofs.ObjectFills.{object_fills}
 use Rattle.stmt_code.proofs.PartsDo.{StatementLaws}
 use Rattle.stmt_code.proofs.PartsFill.{Fills}
 use Rattle.stmt_code.proofs.RowsKept.{KeepsRows}
-use Rattle.stmt_code.proofs.RunJoined.{part_made, run_joins, run_refused, run_stays}
+use Rattle.stmt_code.proofs.RunJoined.{part_made, run_joins}
 use Rattle.stmt_code.proofs.StatementRows.{run_kept}
 use Rattle.stmt_code.proofs.StatementsFill.{SimpleFillLaws, run_fills}
 
-simple_fill : StatementLaws → SimpleFillLaws
+pub simple_fill : StatementLaws → SimpleFillLaws
 simple_fill laws = record {
   assignment = assignment_fills laws.expressions;
   call = call_fills laws;
@@ -77,41 +74,32 @@ statement_laws quiet typed spared lie words places kept calls shaped stay scopes
       around = around;
     }
 
--- no name in particular
-pub no_name : Identifier
-no_name = record { name = []; place = 0 }
+-- ---- what was put together after a draft, whose labels were taken out, and joined to it
 
-module _ (laws : StatementLaws) (statics : StaticIsValue) (v : Visible) (old before : Draft) (b : BodyTree) (sound : SoundScope v.scope) (entries : HasEntries v)
-    (covered : HasWhatCodeNeeds old.exceptions.items v) (legal : IsAcceptedRun v.scope b.declarations b.statements b.handlers) (rest : before ≡ record old { labels = [] })
-    (first last : Sketched) (begun : first ≡ begun_from old) (taken : ℕ) (exceptions : List (List ℕ)) (same_taken : taken ≡ old.words.taken)
-    (same_exceptions : exceptions ≡ before.exceptions.items) (made : last ≡ adds first (run_code (site_at v taken no_ways exceptions) b))
+module _ (old before : Draft) (a : CodePart) (rest : before ≡ record old { labels = [] }) (first last : Sketched) (begun : first ≡ begun_from old)
+    (made : last ≡ adds first a) where
+  made_is : last.made ≡ a (start_of old)
+  made_is = ap (λ s. s.made) made ∙ (λ j. (adds (begun j) a).made) ∙ part_made old a
+
+  pub part_joined : (new : Draft) → IsJoined before last.made new → IsJoined old (a (start_of old)) new
+  part_joined new joins = subst (λ m. IsJoined old m new) made_is (joined_to old before new last.made rest joins)
+
+  pub part_overflows : (why : Refusal) → Overflows before last.made why → Overflows old (a (start_of old)) why
+  part_overflows why h = subst (λ m. Overflows old m why) made_is (subst (λ d. Overflows d last.made why) rest h)
+
+-- ---- a body
+
+module _ (laws : StatementLaws) (statics : StaticIsValue) (v : Visible) (old : Draft) (b : BodyTree) (sound : SoundScope v.scope) (entries : HasEntries v)
+    (covered : HasWhatCodeNeeds old.exceptions.items v) (legal : IsAcceptedRun v.scope b.declarations b.statements b.handlers)
     (timely : stmts_timely (locals_seen v.scope b.declarations) b.statements × handlers_timely (locals_seen v.scope b.declarations) b.handlers) where
-  made_is : last.made ≡ run_of v old b
-  made_is =
-      let exceptions_are : exceptions ≡ old.exceptions.items = same_exceptions ∙ ap (λ d. d.exceptions.items) rest in
-      ap (λ s. s.made) made
-      ∙ (λ j. (adds (begun j) (run_code (site_at v (same_taken j) no_ways (exceptions_are j)) b)).made)
-      ∙ part_made old (run_code (site_of v old) b)
-
-  fills : Fills (run_needs v old.words.taken b.declarations b.statements b.handlers) (run_bound v.scope b.declarations b.statements b.handlers)
+  pub run_filled : Fills (run_needs v old.words.taken b.declarations b.statements b.handlers) (run_bound v.scope b.declarations b.statements b.handlers)
       (λ l. handlers_labels (stmts_labels l b.statements) b.handlers) (λ k. handlers_rows (stmts_rows k b.statements) b.handlers)
       (run_code (site_of v old) b)
-  fills =
+  run_filled =
       run_fills laws.expressions (simple_fill laws) (site_of v old) b (record { sound = sound; entries = entries; has = covered }) legal timely.0 timely.1
 
-  module _ (new : Draft) (joins : IsJoined before last.made new) where
-    joined : IsJoined old (run_of v old b) new
-    joined = subst (λ m. IsJoined old m new) made_is (joined_to old before new last.made rest joins)
+  kept : KeepsRows (length old.exceptions.items) (run_code (site_of v old) b)
+  kept = run_kept (length old.exceptions.items) (site_of v old) (omega arith) b
 
-    kept : KeepsRows (length old.exceptions.items) (run_code (site_of v old) b)
-    kept = run_kept (length old.exceptions.items) (site_of v old) (omega arith) b
-
-    pub run_emits : EmitsRun v old b.declarations b.statements b.handlers new
-    run_emits = run_does laws statics v old new b sound entries covered legal (run_joins v old new b joined kept fills)
-
-    pub run_stays_made : StaysRun v old b.declarations b.statements b.handlers new
-    run_stays_made = run_stays v old new b joined kept fills
-
-  pub run_overflows : (why : Refusal) → Overflows before last.made why → RefusesRun v old b.declarations b.statements b.handlers why
-  run_overflows why h =
-      run_refused v old b fills why (subst (λ m. Overflows old m why) made_is (subst (λ d. Overflows d last.made why) rest h))
+  pub run_emits : (new : Draft) → IsJoined old (run_of v old b) new → EmitsRun v old b.declarations b.statements b.handlers new
+  run_emits new joined = run_does laws statics v old new b sound entries covered legal (run_joins v old new b joined kept run_filled)

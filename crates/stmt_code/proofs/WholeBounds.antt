@@ -1,5 +1,5 @@
 -- How many instructions whole subprograms have at most.
-use Rattle.std.proofs.Common.{◌≡◌, ℕ, ◌+◌, ◌≤◌, List, [], ◌∷◌, ap, arith}
+use Rattle.std.proofs.Common.{◌≡◌, ℕ, suc, ◌+◌, ◌*◌, ◌≤◌, List, [], ◌∷◌, length, ap, arith}
 use Rattle.ada_tree.specs.declared.declaration.Formal.{Formal}
 use Rattle.ada_tree.specs.declared.program.MainStatement.{MainStatement}
 use Rattle.ada_tree.specs.ExpressionTree.{ExprTree}
@@ -15,7 +15,7 @@ use Rattle.expr_code.specs.declared.code.Code.{Code}
 use Rattle.expr_code.specs.declared.visible.Visible.{Visible}
 use Rattle.expr_code.proofs.Growing.{added_here}
 use Rattle.part_code.specs.Bounds.{formals_words, function_bound, handlers_words, locals_words, main_bound, procedure_bound, run_bound, stmts_words, words_if_any}
-use Rattle.part_code.specs.Formals.{Initialises, PlacesFormals, Returns, StandInTurn, placed_words}
+use Rattle.part_code.specs.Formals.{PlacesFormals, StandInTurn, placed_words}
 use Rattle.part_code.specs.MainCalls.{AddsCalls}
 use Rattle.stmt_code.specs.Subprograms.{fresh}
 use Rattle.part_code.specs.declared.frame_words.FrameWords.{FrameWords}
@@ -35,13 +35,10 @@ formals_total s behind (f ∷ fs) (x ∷ xs) from out last top h =
     let rest = formals_total s behind fs xs h.0 h.1 last top h.5 in
     omega (arith, own, rest)
 
-pub procedure_few : (v later : Visible) (fs : List Formal) (b : BodyTree) (words : FrameWords) (placed : PlacedFormals) (old begun run new : Code) (height : ℕ)
-    → PlacesFormals v fs later words placed
-    → Initialises later.scope old placed.formals.items begun
-    → here run ≤ here begun + run_bound later.scope b.declarations b.statements b.handlers
-    → Returns later.scope run placed.formals.items height new
-    → here new ≤ here old + procedure_bound v.scope fs b
-procedure_few v later fs b words placed old begun run new height p i within r =
+pub procedure_room : (v later : Visible) (fs : List Formal) (b : BodyTree) (words : FrameWords) (placed : PlacedFormals) → PlacesFormals v fs later words placed
+    → (2 * length placed.formals.items + total (placed_words later.scope) placed.formals.items)
+    + (run_bound later.scope b.declarations b.statements b.handlers + suc (3 * length placed.formals.items)) ≤ procedure_bound v.scope fs b
+procedure_room v later fs b words placed p =
     let xs = placed.formals.items in
     let long = placed_long v.scope fs xs 0 placed.passed placed.passed words.taken p.stand in
     let all = formals_total v.scope later.scope fs xs 0 placed.passed placed.passed words.taken p.stand in
@@ -49,9 +46,7 @@ procedure_few v later fs b words placed old begun run new height p i within r =
     let locals = ap (λ s. locals_words s b.declarations) p.scope in
     let inside = ap (λ s. stmts_words (locals_scope s b.declarations) b.statements) p.scope in
     let handled = ap (λ s. handlers_words (locals_scope s b.declarations) b.handlers) p.scope in
-    let first = i.sized in
-    let last = r.sized in
-    omega (arith, long, all, formals, locals, inside, handled, first, within, last)
+    omega (arith, long, all, formals, locals, inside, handled)
 
 -- ---- functions, and main
 

@@ -3,6 +3,7 @@ pub mod Placing
 pub mod SimpleCode
 pub mod Drafting
 pub mod StatementCode
+pub mod WholeCode
 pub mod Declaring
 pub mod Joining
 pub mod Timely
@@ -15,4 +16,3 @@ pub mod Whole
 pub mod Turns
 pub mod Refusing
 pub mod WholeRefusals
-pub mod Staying

@@ -1,16 +1,12 @@
--- When code of statements isn't made: memory was refused, or a limit of images may be passed.
-use Rattle.std.specs.Prelude.{ℕ, ◌+◌, false, List, Option, Some, None, ◌⊎◌}
+-- What code of statements needs, by which a limit of images may refuse it: words of the operand stack and of the frame, and objects that are fit.
+use Rattle.std.specs.Prelude.{ℕ, ◌+◌, false, List, Option, Some, None}
 use Rattle.ada_tree.specs.declared.expression.Identifier.{Identifier}
 use Rattle.ada_tree.specs.ExpressionTree.{ExprTree}
 use Rattle.ada_tree.specs.StatementTree.{AlternativeTrees, Assignment, Block, Call, Case, DeclarationTree, DelayUntil, ElsifTrees, Exit, For, Forever, HandlerTrees, If, IterationTree, Loop, MoreAlternatives, MoreElsifs, MoreHandlers, MoreStmts, NoAlternatives, NoElsifs, NoHandlers, NoStmts, Null, RangeTree, Raise, StmtTree, StmtTrees, While}
 use Rattle.declaration_rules.specs.BodyNames.{loop_scope}
-use Rattle.expr_code.specs.Code.{here}
-use Rattle.expr_code.specs.declared.refusal.Refusal.{Refusal}
 use Rattle.expr_code.specs.declared.visible.Visible.{Visible}
-use Rattle.part_code.specs.Bounds.{locals_words, run_bound}
-use Rattle.part_code.specs.Labels.{handlers_labels, stmts_labels}
-use Rattle.stmt_code.specs.declared.draft.Draft.{Draft}
-use Rattle.part_code.specs.Needs.{Needs, nothing, framed, stacked, both, needs_above, value_needs, with_object, locals_visible, locals_needs, assignment_needs, call_needs, choices_needs, IsNeeding, HasManyLabels}
+use Rattle.part_code.specs.Bounds.{locals_words}
+use Rattle.part_code.specs.Needs.{Needs, nothing, framed, stacked, both, needs_above, value_needs, with_object, locals_visible, locals_needs, assignment_needs, call_needs, choices_needs}
 
 -- ---- what code needs
 
@@ -93,12 +89,6 @@ abbrev mutual
 abbrev pub sequence_needs : Standpoint → StmtTrees → HandlerTrees → Needs
 sequence_needs a body all = both (stmts_needs a body) (handlers_needs a all)
 
--- ---- refusals
-
--- Why code isn't added to a draft behind which there would be these labels.
-abbrev pub Refuses : (old : Draft) → (labels : List (List ℕ)) → (bound : ℕ) → Needs → Refusal → Type 0
-Refuses old labels bound n why = IsNeeding (here old.code + bound) n why ⊎ HasManyLabels labels why
-
 -- ---- bodies
 
 abbrev pub in_body : Visible → (taken : ℕ) → Standpoint
@@ -106,8 +96,3 @@ in_body v taken = record { visible = v; taken = taken }
 
 abbrev pub run_needs : Visible → (taken : ℕ) → List DeclarationTree → StmtTrees → HandlerTrees → Needs
 run_needs v taken ds body all = both (locals_needs v taken ds) (sequence_needs (behind_locals (in_body v taken) ds) body all)
-
-abbrev pub RefusesRun : Visible → (old : Draft) → List DeclarationTree → StmtTrees → HandlerTrees → Refusal → Type 0
-RefusesRun v old ds body all why =
-    Refuses old (handlers_labels (stmts_labels old.labels body) all) (run_bound v.scope ds body all)
-    (run_needs v old.words.taken ds body all) why

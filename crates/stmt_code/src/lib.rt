@@ -1,14 +1,16 @@
 //! The code of statements.
 #![tactic(auto)]
 
-mod body;
 mod draft;
 mod formals;
 pub mod initial_values;
 mod joining;
 pub mod laws;
 mod leaves;
+mod main_calls;
 mod marking;
+mod outs;
+mod returning;
 pub mod selection;
 pub mod simple;
 pub mod sketch;
@@ -19,6 +21,7 @@ mod sketch_handlers;
 mod sketch_loops;
 mod sketch_parts;
 mod sketch_statements;
+mod sketch_subprograms;
 mod subprogram;
 mod tables;
 pub mod turning;

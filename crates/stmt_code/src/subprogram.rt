@@ -19,13 +19,15 @@ ghost use Rattle.stmt_code.specs.Subprograms.{AddsFunction, AddsMain, AddsProced
 ghost use Rattle.expr_soundness.specs.SoundScopes.{SoundScope};
 
 use crate::draft::Draft;
+use crate::laws::body_laws;
+use crate::main_calls::add_main;
+use crate::returning::return_value;
+use crate::selection::narrow;
 use ada_tree::{Body, Expr, Formal, MainStatement};
 use declaration_rules::laws::names_are_added;
 use expr_code::{Refusal, Visible};
-use image::Operation;
-use part_code::{Extent, add_calls, behind, initialise_all, return_all};
+use part_code::{Extent, behind};
 use types::Subtype;
-use types::laws::shapes_stay;
 
 /// How many words a subprogram has (docs/FORMATS.md): those that it is passed, those that it gives back, and the most of its frame and on its operand stack.
 #[derive(Clone, Copy, PartialEq, Eq, Debug)]
@@ -71,21 +73,17 @@ impl Draft {
         ensures same { OnOk result (visible.new ≡ visible.old) }
     {
         names_are_added();
-        shapes_stay();
+        body_laws();
         let extent = Extent::of(visible, self.words);
         let placed = self.formals(visible, formals)?;
         self.code.deepest = 0;
-        initialise_all(&mut self.code, visible, &placed.formals)?;
-        self.run(
-            visible,
-            &body.declarations,
-            &body.statements,
-            &body.handlers,
-        )?;
-        let results = return_all(&mut self.code, &visible.scope, &placed.formals)?;
+        let taken = usize::from(self.words.taken);
+        let mut sketch = self.sketch();
+        let height = sketch.procedure(visible, taken, &self.exceptions, &placed.formals, body)?;
+        self.join(sketch)?;
         let words = SubprogramWords {
             passed: placed.passed,
-            results,
+            results: narrow(height),
             locals: self.words.most,
             stack: self.code.deepest,
         }
@@ -118,12 +116,13 @@ impl Draft {
         ensures same { OnOk result (visible.new ≡ visible.old) }
     {
         names_are_added();
-        shapes_stay();
+        body_laws();
         let extent = Extent::of(visible, self.words);
         let placed = self.formals(visible, formals)?;
         self.code.deepest = 0;
-        self.code.checked(visible, 0, subtype, value)?;
-        self.code.emit(1, Operation::Return)?;
+        let mut fragment = self.code.fragment();
+        return_value(&mut fragment, visible, subtype, value)?;
+        self.code.append(&fragment)?;
         let words = SubprogramWords {
             passed: placed.passed,
             results: 1,
@@ -150,8 +149,9 @@ impl Draft {
         ensures keeps { IfOk result (λ words. KeepsRules true visible.now self.old words self.new) }
     {
         self.code.deepest = 0;
-        add_calls(&mut self.code, visible, statements)?;
-        self.code.emit(0, Operation::Return)?;
+        let mut fragment = self.code.fragment();
+        add_main(&mut fragment, visible, statements)?;
+        self.code.append(&fragment)?;
         let words = SubprogramWords {
             passed: 0,
             results: 0,
