@@ -1,5 +1,5 @@
 -- The handlers of a program: each is a procedure without parameters of a protected object with the highest ceiling (RM C.3.1, D.3).
-use Rattle.std.proofs.Common.{◌≡◌, ◌⊎◌, inl, inr, ℕ, zero, suc, pos, negsuc, List, [], ◌∷◌, ◌++◌, map, not, Bool, true, false, cond, ◌&&◌, ◌||◌, Option, Some, None, refl, sym, ap, ◌∙◌, subst, arith}
+use Rattle.std.proofs.Common.{◌≡◌, ◌⊎◌, inl, inr, ℕ, zero, suc, pos, negsuc, List, [], ◌∷◌, ◌++◌, not, Bool, true, false, cond, ◌&&◌, ◌||◌, Option, Some, None, refl, sym, ap, ◌∙◌, subst, arith}
 use Rattle.std.specs.Prelude.{bytes_eq, is_some, nat_eq, nat_le, option_map, position, slice_get}
 use Rattle.std.specs.List.{list_any}
 use Rattle.std.proofs.lemmas.Bool.{eqb-true}
@@ -10,26 +10,26 @@ use Rattle.expr_soundness.specs.ada_tree.specs.StatementTree.{AspectTree, Operat
 use Rattle.expr_soundness.specs.ada_tree.specs.StatementTree as operation
 use Rattle.expr_soundness.specs.ada_tree.specs.ProgramTree.{BodyItemTree, OfItem, SubprogramBody, TaskBody, ProtectedBody, OfType, OfObject, OfException, OfSubprogram, OfTask, OfProtected}
 use Rattle.types.specs.declared.entity.RecordComponent.{RecordComponent}
-use Rattle.types.specs.Entities.{Doubtful, Entity, Operation, Profile, Protected, ProtectedObject}
+use Rattle.types.specs.Entities.{Doubtful, Entity, Operation, Protected, ProtectedObject}
 use Rattle.types.specs.Places.{ceiling_of}
 use Rattle.types.specs.Scopes.{Scope, integer_type, is_visible, protected_count, protected_of}
 use Rattle.types.specs.Values.{Value, Number, Truth, Array, Record}
 use Rattle.expr_soundness.specs.expr_rules.proofs.TypedLaw.{back_empty, front_empty, unbroken}
-use Rattle.expr_soundness.specs.expr_rules.specs.Faults.{Faults, rule}
+use Rattle.expr_soundness.specs.expr_rules.specs.Faults.{rule}
 use Rattle.expr_soundness.specs.expr_rules.specs.StaticRules.{static_scalar}
 use Rattle.expr_soundness.specs.expr_rules.specs.declared.own.Wanted.TheVariants as wanted
 use Rattle.expr_soundness.specs.base.specs.declared.faults.TheConstants.{WRONG_ASPECT}
 use Rattle.expr_soundness.specs.type_rules.specs.ProfileRules.{formal_parameters, profile_with}
 use Rattle.declaration_rules.specs.HandlerChannels.{attached_channel}
-use Rattle.declaration_rules.specs.ProtectedRules.{default_ceiling, has_handler, is_entry, is_handler, is_operation_in, is_operation_like, object_components, object_operations, object_with, operation_faults, operation_name, operation_profile, operation_profile_faults, operations_faults, protected_entity, protected_faults}
+use Rattle.declaration_rules.specs.ProtectedRules.{default_ceiling, has_handler, is_entry, is_handler, is_operation_in, object_components, object_operations, object_with, operation_faults, operation_name, operation_profile, operation_profile_faults, operations_faults, protected_entity, protected_faults}
 use Rattle.declaration_rules.specs.TaskRules.{is_attachment, is_priority, priority_of, priority_within}
 use Rattle.ravenscar.specs.HandlerRules.{attachment_faults, ceiling_faults, has_formals, is_highest, is_lower, none_taken, operation_aspect_faults, operations_aspects_faults, taken_behind}
 use Rattle.ravenscar.specs.TaskingRules.{aspect_faults, entries_faults, gives_priority, is_priority_value}
 use Rattle.ravenscar.specs.TaskingRules as restricted
-use Rattle.expr_soundness.proofs.Positions.{first_place, found_at, place_is}
-use Rattle.expr_soundness.specs.meaning.specs.Programs.{Attached, Parameter, Program, attached_by, attached_operation, attached_operations, handler_at, handlers_among, items_among, object_numbered}
+use Rattle.expr_soundness.proofs.Positions.{found_at, place_is}
+use Rattle.expr_soundness.specs.meaning.specs.Programs.{Attached, Program, attached_by, attached_operation, attached_operations, handler_at, handlers_among, items_among, object_numbered}
 use Rattle.expr_soundness.specs.meaning.specs.Calls.{procedure_among}
-use Rattle.step_soundness.specs.Fitting.{IsCalled, IsOperation, IsProcedure, formal_of}
+use Rattle.step_soundness.specs.Fitting.{IsCalled, IsOperation, IsProcedure}
 use Rattle.step_soundness.specs.Starting.{IsSoundHandler}
 use Rattle.program_soundness.specs.Fronts.{scope_at}
 use Rattle.program_soundness.proofs.Listing.{passes_at, same_some}

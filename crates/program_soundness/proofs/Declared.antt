@@ -3,7 +3,7 @@ use Rattle.std.proofs.Common.{◌≡◌, ◌++◌, length, List, [], ◌∷◌, 
 use Rattle.std.specs.Prelude.{nat_le}
 use Rattle.std.proofs.lemmas.Bool.{or_parts}
 use Rattle.expr_soundness.specs.base.specs.declared.faults.TheConstants.{DECLARED_TWICE, LIMIT_PASSED, NOT_STATIC, WRONG_FUNCTION}
-use Rattle.expr_soundness.specs.base.specs.declared.limits.TheConstants.{CEILING, FORMALS, TASK_PRIORITY}
+use Rattle.expr_soundness.specs.base.specs.declared.limits.TheConstants.{CEILING, FORMALS}
 use Rattle.expr_soundness.specs.ada_tree.specs.declared.declaration.Formal.{Formal}
 use Rattle.expr_soundness.specs.ada_tree.specs.declared.declaration.Mode.{Mode}
 use Rattle.expr_soundness.specs.ada_tree.specs.declared.declaration.Mode.TheVariants as mode

@@ -3,7 +3,6 @@ use Rattle.std.proofs.Common.{◌≡◌, ◌++◌, ℕ, drop, length, take, List
 use Rattle.std.specs.Prelude.{cond}
 use Rattle.std.proofs.lemmas.List.{append_assoc, append-nil, take-append-drop}
 use Rattle.std.proofs.Math.Seq.{take-append_seam}
-use Rattle.expr_soundness.specs.ada_tree.specs.declared.declaration.Formal.{Formal}
 use Rattle.expr_soundness.specs.ada_tree.specs.declared.expression.Identifier.{Identifier}
 use Rattle.expr_soundness.specs.ada_tree.specs.ProgramTree.{BodyItemTree, OfItem, SubprogramBody, TaskBody, ProtectedBody, ItemTree, OfType, OfObject, OfException, OfSubprogram, OfTask, OfProtected, OperationBody, EntryBody, ProtectedItemTree}
 use Rattle.types.specs.declared.entity.RecordComponent.{RecordComponent}
@@ -11,8 +10,8 @@ use Rattle.types.specs.declared.entity.Subtype.{Subtype}
 use Rattle.types.specs.Entities.{Entity, Object, Operation}
 use Rattle.types.specs.Scopes.{Named, Scope, entity_at, entity_of, is_visible, number_of, with_name}
 use Rattle.expr_soundness.specs.type_rules.specs.SubtypeNames.{entity_at_or_none, named_entity, subtype_in, subtype_of}
-use Rattle.declaration_rules.specs.BodyNames.{component_role, components_scope, formal_scope, formals_scope, operation_entity, operations_scope}
-use Rattle.declaration_rules.specs.ItemRules.{item_scope, items_scope}
+use Rattle.declaration_rules.specs.BodyNames.{component_role, components_scope, operation_entity, operations_scope}
+use Rattle.declaration_rules.specs.ItemRules.{item_scope}
 use Rattle.declaration_rules.specs.Laws.{StandsFirst}
 use Rattle.declaration_rules.specs.PackageNames.{body_item_scope, body_items_scope}
 use Rattle.unit_rules.specs.ProtectedBodyRules.{protected_item_scope, protected_items_scope}
@@ -59,10 +58,6 @@ item_extends s (OfSubprogram d) = name_extends s _ _
 item_extends s (OfTask d) = name_extends s _ _
 item_extends s (OfProtected d) = name_extends s _ _
 
-pub items_extend : (s : Scope) (ds : List ItemTree) → Extends s (items_scope s ds)
-items_extend s [] = extends_self s
-items_extend s (d ∷ ds) = extends_more s (item_scope s d) (items_scope (item_scope s d) ds) (item_extends s d) (items_extend (item_scope s d) ds)
-
 pub body_item_extends : (s : Scope) (i : BodyItemTree) → Extends s (body_item_scope s i)
 body_item_extends s (OfItem d) = item_extends s d
 body_item_extends s (SubprogramBody d b) = name_extends s _ _
@@ -74,22 +69,11 @@ body_items_extend s [] = extends_self s
 body_items_extend s (i ∷ is) =
     extends_more s (body_item_scope s i) (body_items_scope (body_item_scope s i) is) (body_item_extends s i) (body_items_extend (body_item_scope s i) is)
 
-pub formals_extend : (s : Scope) (fs : List Formal) → Extends s (formals_scope s fs)
-formals_extend s [] = extends_self s
-formals_extend s (f ∷ fs) = extends_more s (formal_scope s f) (formals_scope (formal_scope s f) fs) (name_extends s _ _) (formals_extend (formal_scope s f) fs)
-
 pub operations_extend : (s : Scope) (os : List Operation) → Extends s (operations_scope s os)
 operations_extend s [] = extends_self s
 operations_extend s (o ∷ os) =
     let next = with_name s o.name (operation_entity o) in
     extends_more s next (operations_scope next os) (name_extends s o.name (operation_entity o)) (operations_extend next os)
-
-pub components_extend : (s : Scope) (is_function : Bool) (cs : List RecordComponent) → Extends s (components_scope s is_function cs)
-components_extend s is_function [] = extends_self s
-components_extend s is_function (c ∷ cs) =
-    let part = Object (component_role is_function) c.subtype in
-    let next = with_name s c.name part in
-    extends_more s next (components_scope next is_function cs) (name_extends s c.name part) (components_extend next is_function cs)
 
 pub protected_item_extends : (s : Scope) (i : ProtectedItemTree) → Extends s (protected_item_scope s i)
 protected_item_extends s (OperationBody d b) = name_extends s _ _

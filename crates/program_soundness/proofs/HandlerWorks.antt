@@ -1,6 +1,5 @@
 -- What a handler has to do at each of its starts breaks no rule (RM C.3.1).
-use Rattle.std.proofs.Common.{◌≡◌, inl, ℕ, List, [], ◌∷◌, Option, Some, None, refl, sym, subst}
-use Rattle.step_soundness.specs.stmt_rules.specs.declared.around.Around.{Around}
+use Rattle.std.proofs.Common.{inl, [], ◌∷◌, Some, None, refl, sym, subst}
 use Rattle.step_soundness.specs.stmt_rules.specs.declared.around.BodyKind.TheVariants as kind
 use Rattle.step_soundness.specs.stmt_rules.specs.StatementRules.{in_body}
 use Rattle.expr_soundness.specs.meaning.specs.Programs.{Attached, Procedure, Program}

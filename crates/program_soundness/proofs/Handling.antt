@@ -1,7 +1,7 @@
 -- Which actions tasks and handlers have open, and that a handler begins with what its start needs (RM C.3.1).
-use Rattle.std.proofs.Common.{◌≡◌, ◌⊎◌, inl, inr, ℕ, ◌≤◌, List, [], ◌∷◌, true, false, Some, sym, ap, ◌∙◌, subst, arith, ⊎_elim}
+use Rattle.std.proofs.Common.{◌≡◌, ◌⊎◌, ℕ, ◌≤◌, List, [], ◌∷◌, true, false, Some, sym, ap, ◌∙◌, subst, arith, ⊎_elim}
 use Rattle.std.proofs.lemmas.Bool.{true≢false, cases_lt, le-ltb, lt-ltb}
-use Rattle.kernel.specs.State.{Action, Interrupt, Kernel, Writes, actor, is_task, put}
+use Rattle.kernel.specs.State.{Action, Interrupt, Kernel, Writes, actor, is_task}
 use Rattle.kernel.specs.Invariant.{IsInOwn}
 use Rattle.kernel.specs.Laws.{HandlerBegins, SettlesTo}
 use Rattle.kernel.specs.PutLaws.{by_put}

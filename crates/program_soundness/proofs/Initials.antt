@@ -9,7 +9,7 @@ use Rattle.expr_soundness.specs.ada_tree.specs.declared.expression.UnaryOperator
 use Rattle.expr_soundness.specs.ada_tree.specs.declared.expression.BinaryOperator.{BinaryOperator}
 use Rattle.expr_soundness.specs.ada_tree.specs.declared.expression.BinaryOperator.TheVariants as binary
 use Rattle.expr_soundness.specs.ada_tree.specs.ExpressionTree as tree
-use Rattle.expr_soundness.specs.ada_tree.specs.ExpressionTree.{ExprTree, Named, Parenthesized, Conditional, Unary, Binary, SelectorTrees, NoSelectors, MoreSelectors, Arguments, ArgumentTrees, NoArguments, MoreArguments, bare_name}
+use Rattle.expr_soundness.specs.ada_tree.specs.ExpressionTree.{ExprTree, Named, Parenthesized, Conditional, Unary, Binary, SelectorTrees, NoSelectors, MoreSelectors, Arguments, NoArguments, MoreArguments}
 use Rattle.types.specs.declared.entity.Subtype.{Subtype}
 use Rattle.types.specs.declared.entity.Value.{Value as Scalar}
 use Rattle.types.specs.declared.entity.Value.TheVariants as scalar

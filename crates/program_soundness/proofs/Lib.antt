@@ -7,11 +7,8 @@ mod Parts
 mod Walks
 mod Lists
 mod Origins
-mod Matches
 mod Profiles
-mod Functions
 pub mod Declaring
-mod Globals
 mod Variables
 pub mod Objects
 pub mod Barriers

@@ -113,6 +113,3 @@ or_else_some None b x h = inr (refl, h)
 
 pub first_some : {X : Type 0} (a b : Option X) (x : X) → a ≡ Some x → or_else a b ≡ Some x
 first_some a b x h = ap (λ o. or_else o b) h
-
-pub second_some : {X : Type 0} (a b : Option X) → a ≡ None → or_else a b ≡ b
-second_some a b h = ap (λ o. or_else o b) h

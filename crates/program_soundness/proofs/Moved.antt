@@ -97,16 +97,6 @@ hidden_stands s n name e h = by_case (stands_hidden s n name)
 pub hidden_none : (s : Scope) (n : ℕ) (name : List ℕ) → stands s name ≡ None → stands (with_operations s n []) name ≡ None
 hidden_none s n name h = elim (stands_hidden s n name) [ inl i ↦ i ∙ h | inr i ↦ i ∙ ap (option_map (offering [])) h ]
 
-pub none_hidden : (s : Scope) (n : ℕ) (name : List ℕ) → stands (with_operations s n []) name ≡ None → stands s name ≡ None
-none_hidden s n name h = by_case (stands s name) refl (stands_hidden s n name)
-  where
-    by_case : (o : Option Entity) → stands s name ≡ o
-        → (stands (with_operations s n []) name ≡ stands s name) ⊎ (stands (with_operations s n []) name ≡ option_map (offering []) (stands s name))
-        → stands s name ≡ None
-    by_case None i k = i
-    by_case (Some e) i (inl k) = sym k ∙ h
-    by_case (Some e) i (inr k) = let bad = sym h ∙ k ∙ ap (option_map (offering [])) i in cc
-
 pub offering_kind : (e : Entity) → kind (offering [] e) ≡ kind e
 offering_kind (Protected o) = refl
 offering_kind e = refl

@@ -3,11 +3,11 @@ use Rattle.std.proofs.Common.{◌≡◌, ◌<◌, ℕ, zero, suc, List, [], ◌�
 use Rattle.std.specs.Prelude.{is_some, slice_get}
 use Rattle.expr_soundness.specs.ada_tree.specs.declared.expression.Identifier.{Identifier}
 use Rattle.expr_soundness.specs.ada_tree.specs.ExpressionTree.{ExprTree}
-use Rattle.expr_soundness.specs.ada_tree.specs.StatementTree.{EntryTree, OperationTree, ProtectedTree, SubprogramTree}
+use Rattle.expr_soundness.specs.ada_tree.specs.StatementTree.{EntryTree, OperationTree, SubprogramTree}
 use Rattle.expr_soundness.specs.ada_tree.specs.StatementTree as operation
 use Rattle.expr_soundness.specs.ada_tree.specs.ProgramTree.{BodyTree, BodyItemTree, OfItem, ProtectedBody, OfProtected, ProtectedItemTree, OperationBody, EntryBody}
 use Rattle.types.specs.declared.entity.Subtype.{Subtype}
-use Rattle.types.specs.Entities.{Entity, Operation, Profile, ProtectedObject, Protected, Subprogram}
+use Rattle.types.specs.Entities.{Entity, Profile, ProtectedObject, Protected, Subprogram}
 use Rattle.types.specs.Entities as entity
 use Rattle.types.specs.Scopes.{Scope}
 use Rattle.types.specs.Evaluating.{formal_subtype}

@@ -3,7 +3,7 @@ use Rattle.std.proofs.Common.{◌≡◌, ℕ, zero, suc, ◌+◌, List, [], ◌�
 use Rattle.std.specs.Prelude.{bytes_eq, option_map, position, slice_get}
 use Rattle.std.specs.List.{list_any}
 use Rattle.expr_soundness.specs.ada_tree.specs.declared.expression.Identifier.{Identifier}
-use Rattle.expr_soundness.specs.ada_tree.specs.StatementTree.{OperationTree, ProtectedTree}
+use Rattle.expr_soundness.specs.ada_tree.specs.StatementTree.{OperationTree}
 use Rattle.expr_soundness.specs.ada_tree.specs.StatementTree as operation
 use Rattle.expr_soundness.specs.ada_tree.specs.ProgramTree.{BodyItemTree, OfItem, SubprogramBody, TaskBody, ProtectedBody, OfProtected, ProtectedItemTree, OperationBody, EntryBody}
 use Rattle.types.specs.declared.entity.Subtype.{Subtype}

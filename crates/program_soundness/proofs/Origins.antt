@@ -1,10 +1,8 @@
--- Where the names of a package come from: each is visible in front of it, or declared by one of its items.
-use Rattle.std.proofs.Common.{◌≡◌, ◌++◌, ℕ, List, [], ◌∷◌, map, Bool, true, false, ◌⊎◌, inl, inr, Some, refl, sym, ap, ◌∙◌, subst}
-use Rattle.std.specs.Prelude.{cond}
-use Rattle.std.proofs.lemmas.List.{append_assoc, append-nil}
-use Rattle.expr_soundness.specs.ada_tree.specs.ProgramTree.{BodyItemTree, OfItem, SubprogramBody, TaskBody, ProtectedBody, ItemTree, OfType, OfObject, OfException, OfSubprogram, OfTask, OfProtected, PackageTree, ProgramTree}
+-- A package as one list of items, and what is known at each item of a legal one.
+use Rattle.std.proofs.Common.{◌≡◌, ◌++◌, List, [], ◌∷◌, map, Some, refl, sym, ap, ◌∙◌, subst}
+use Rattle.expr_soundness.specs.ada_tree.specs.ProgramTree.{BodyItemTree, OfItem, ItemTree, OfType, OfObject, OfException, OfSubprogram, OfTask, OfProtected, PackageTree, ProgramTree}
 use Rattle.types.specs.Entities.{Entity, Exception, Task}
-use Rattle.types.specs.Scopes.{Scope, is_visible, standard, with_name}
+use Rattle.types.specs.Scopes.{Scope, standard, with_name}
 use Rattle.expr_soundness.specs.base.specs.declared.limits.TheConstants.{TASK_PRIORITY}
 use Rattle.expr_soundness.specs.expr_rules.proofs.TypedLaw.{back_empty, front_empty}
 use Rattle.expr_soundness.specs.type_rules.specs.ObjectRules.{package_object_entity}
@@ -18,9 +16,7 @@ use Rattle.declaration_rules.specs.PackageNames.{body_item_scope, body_items_sco
 use Rattle.unit_rules.specs.PackageBodyRules.{body_item_faults, body_items_faults}
 use Rattle.legality.specs.ProgramRules.{IsLegal}
 use Rattle.expr_soundness.specs.SoundScopes.{SoundScope}
-use Rattle.step_soundness.specs.Fitting.{entity_named}
-use Rattle.step_soundness.proofs.Lookups.{named_added, named_behind, same_bytes}
-use Rattle.program_soundness.proofs.Extending.{Extends, body_items_extend, stands_first}
+use Rattle.program_soundness.proofs.Extending.{Extends, body_items_extend}
 use Rattle.program_soundness.proofs.Lists.{step_split}
 use Rattle.program_soundness.proofs.Parts.{items_behind, legal_package, scopes_joined}
 use Rattle.program_soundness.proofs.Walks.{body_items_sound, inside_sound}
@@ -66,12 +62,6 @@ declared_item s (OfSubprogram d) = profile_entity (profile_with s (formal_parame
 declared_item s (OfTask d) = Task (priority_of s TASK_PRIORITY default_priority d.aspect)
 declared_item s (OfProtected d) = protected_entity s d
 
--- the item declares this name, and it stands for this
-abbrev pub Declares : Scope → BodyItemTree → (name : List ℕ) → Entity → Type 0
-Declares s (OfItem d) name e = (name ≡ (item_name d).name) × (declared_item s d ≡ e)
-Declares s (SubprogramBody d b) name e = (name ≡ d.name.name) × (declared_item s (OfSubprogram d) ≡ e)
-Declares s i name e = ⊥
-
 pub item_named : (s : Scope) (d : ItemTree) → item_scope s d ≡ with_name s (item_name d).name (declared_item s d)
 item_named s (OfType d) = refl
 item_named s (OfObject d) = refl
@@ -79,76 +69,6 @@ item_named s (OfException name) = refl
 item_named s (OfSubprogram d) = refl
 item_named s (OfTask d) = refl
 item_named s (OfProtected d) = refl
-
--- it is declared, and was not visible
-pub record IsNew (s : Scope) (i : BodyItemTree) (name : List ℕ) (e : Entity) : Type 0 where
-  pub declares : Declares s i name e
-  pub hidden : is_visible s name ≡ false
-
-pub with_one : (s : Scope) (name : List ℕ) (x : Entity) (other : List ℕ) (e : Entity) → entity_named (with_name s name x) other ≡ Some e
-    → (entity_named s other ≡ Some e) ⊎ ((other ≡ name) × (x ≡ e) × (is_visible s name ≡ false))
-with_one s name x other e h = by_visible (is_visible s name) refl
-  where
-    by_visible : (b : Bool) → is_visible s name ≡ b → (entity_named s other ≡ Some e) ⊎ ((other ≡ name) × (x ≡ e) × (is_visible s name ≡ false))
-    by_visible true v = inl (ap (λ b. entity_named (cond b s (s ++ record { name = name; entity = x } ∷ [])) other) (sym v) ∙ h)
-    by_visible false v = elim (named_added s name x v other e h) [ inl k ↦ inl k | inr k ↦ inr (same_bytes other name k.0, k.1, v) ]
-
-pub item_adds : (s : Scope) (i : BodyItemTree) (name : List ℕ) (e : Entity) → entity_named (body_item_scope s i) name ≡ Some e
-    → (entity_named s name ≡ Some e) ⊎ IsNew s i name e
-item_adds s (OfItem d) name e h =
-    elim (with_one s (item_name d).name (declared_item s d) name e (ap (λ u. entity_named u name) (sym (item_named s d)) ∙ h)) [
-      | inl k ↦ inl k
-      | inr k ↦ inr (record { declares = (k.0, k.1); hidden = ap (is_visible s) k.0 ∙ k.2 })
-    ]
-item_adds s (SubprogramBody d b) name e h =
-    elim (with_one s d.name.name (declared_item s (OfSubprogram d)) name e h) [
-      | inl k ↦ inl k
-      | inr k ↦ inr (record { declares = (k.0, k.1); hidden = ap (is_visible s) k.0 ∙ k.2 })
-    ]
-item_adds s (TaskBody n b) name e h = inl h
-item_adds s (ProtectedBody n items end_name) name e h = inl h
-
--- ---- all of them
-
-module _ (p : PackageTree) where
-  pub record IsDeclared (before : List BodyItemTree) (name : List ℕ) (e : Entity) : Type 0 where
-    pub front : List BodyItemTree
-    pub item : BodyItemTree
-    pub middle : List BodyItemTree
-    pub split : before ≡ front ++ item ∷ middle
-    pub new : IsNew (scope_of p front) item name e
-
-  abbrev pub Origin : (before : List BodyItemTree) → (name : List ℕ) → Entity → Type 0
-  Origin before name e = (entity_named (front_scope p) name ≡ Some e) ⊎ IsDeclared before name e
-
-  abbrev HaveOrigins : List BodyItemTree → Type 0
-  HaveOrigins before = (name : List ℕ) (e : Entity) → entity_named (scope_of p before) name ≡ Some e → Origin before name e
-
-  wider_origin : (done : List BodyItemTree) (i : BodyItemTree) (name : List ℕ) (e : Entity) → Origin done name e → Origin (done ++ i ∷ []) name e
-  wider_origin done i name e (inl h) = inl h
-  wider_origin done i name e (inr x) =
-      inr (record {
-        front = x.front;
-        item = x.item;
-        middle = x.middle ++ i ∷ [];
-        split = ap (λ l. l ++ i ∷ []) x.split ∙ append_assoc x.front (x.item ∷ x.middle) (i ∷ []);
-        new = x.new;
-      })
-
-  origin_step : (done : List BodyItemTree) (i : BodyItemTree) → HaveOrigins done → HaveOrigins (done ++ i ∷ [])
-  origin_step done i all name e h =
-      elim (item_adds (scope_of p done) i name e (ap (λ s. entity_named s name) (sym (scopes_joined (front_scope p) done (i ∷ []))) ∙ h)) [
-        | inl k ↦ wider_origin done i name e (all name e k)
-        | inr k ↦ inr (record { front = done; item = i; middle = []; split = refl; new = k })
-      ]
-
-  origins_from : (done more : List BodyItemTree) → HaveOrigins done → HaveOrigins (done ++ more)
-  origins_from done [] all = subst HaveOrigins (sym (append-nil done)) all
-  origins_from done (i ∷ more) all = subst HaveOrigins (sym (step_split done i more)) (origins_from (done ++ i ∷ []) more (origin_step done i all))
-
-  -- what a name stands for behind these items
-  pub origin : (before : List BodyItemTree) (name : List ℕ) (e : Entity) → entity_named (scope_of p before) name ≡ Some e → Origin before name e
-  origin before = origins_from [] before (λ name e h. inl h)
 
 -- ---- in a legal program
 
@@ -185,11 +105,3 @@ module _ (t : ProgramTree) (p : PackageTree) (legal : IsLegal t) (is : t.package
         here = prefix before (i ∷ behind) split;
         next = prefix (before ++ i ∷ []) behind (split ∙ step_split before i behind);
       }
-
-  -- what a name stands for in the program
-  pub named_whole : (before rest : List BodyItemTree) → all_items p ≡ before ++ rest → (name : List ℕ) (e : Entity) → entity_named (scope_of p before) name ≡ Some e
-      → entity_named (program_scope t) name ≡ Some e
-  named_whole before rest split name e h = named_behind (scope_of p before) (program_scope t) (stands_first (scope_of p before) (program_scope t) (prefix before rest split)) name e h
-
-  pub whole_origin : (name : List ℕ) (e : Entity) → entity_named (program_scope t) name ≡ Some e → Origin p (all_items p) name e
-  whole_origin name e h = origin p (all_items p) name e (ap (λ s. entity_named s name) (sym whole_is) ∙ h)

@@ -1,5 +1,5 @@
 -- All tasks behind a step: the one that ran, those that it reaches and those that only wait or stand ready (RM 9.5.3).
-use Rattle.std.proofs.Common.{◌≡◌, ◌≢◌, inl, inr, ℕ, List, [], ◌∷◌, Bool, Option, Some, None, refl, sym, ap, ◌∙◌, subst, ⊎_elim}
+use Rattle.std.proofs.Common.{◌≡◌, ◌≢◌, inl, inr, ℕ, List, ◌∷◌, Bool, Option, Some, None, refl, sym, ap, ◌∙◌, subst, ⊎_elim}
 use Rattle.kernel.specs.State.{Action, Kernel, Serves, Writes, put}
 use Rattle.kernel.specs.Invariant.{HasAction, Kept, ServesCall}
 use Rattle.kernel.specs.Laws.{FourHold, SettlesTo, StepsSettle}

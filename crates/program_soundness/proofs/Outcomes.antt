@@ -1,5 +1,5 @@
 -- What a run comes to, once a task has taken its step, has a meaning: dispatching and the clock end it in order (RM 9.3).
-use Rattle.std.proofs.Common.{◌≡◌, ℕ, ℤ, List, [], ◌∷◌, Option, Some, None, sym, ◌∙◌, subst}
+use Rattle.std.proofs.Common.{◌≡◌, ℕ, ℤ, List, [], Option, Some, None, sym, ◌∙◌, subst}
 use Rattle.std.specs.Prelude.{int_lt}
 use Rattle.kernel.specs.State.{Ended, Kernel, WaitsForever}
 use Rattle.kernel.specs.Dispatching.{becomes_ready, dispatch, leaves}

@@ -30,7 +30,7 @@ use Rattle.expr_soundness.specs.SoundScopes.{SoundScope}
 use Rattle.expr_soundness.specs.Laws.{ScopesAreSound}
 use Rattle.expr_soundness.proofs.Positions.{item_of_added}
 use Rattle.expr_soundness.specs.meaning.specs.Programs.{Duty, OfBody, OfMain, Parameter, Procedure, Program, Task, body_among, items_among, task_with, tasks_among}
-use Rattle.expr_soundness.specs.meaning.specs.Works.{Activation, Declares, DoesMain, Goes, Item, Sequence, Store, TaskWork}
+use Rattle.expr_soundness.specs.meaning.specs.Works.{Declares, DoesMain, Goes, Item, Sequence, Store}
 use Rattle.expr_soundness.specs.meaning.specs.Calls.{procedure_among, procedure_here}
 use Rattle.expr_soundness.specs.meaning.specs.Source.{duty_items, items_work, task_items, task_work}
 use Rattle.step_soundness.specs.Fitting.{FitsScope, formal_of}
@@ -181,9 +181,6 @@ module _ (program : Program) (s : Scope) (all : List BodyItemTree) (w : IsPackag
   -- ---- procedures
 
   module _ (k : ℕ) (d : SubprogramTree) (b : BodyTree) (at : slice_get all k ≡ Some (SubprogramBody d b)) (none : d.result ≡ None) where
-    here : Scope
-    here = scope_at s all k
-
     next_is : scope_at s all (suc k) ≡ subprogram_scope (scope_at s all k) d
     next_is = scope_next s all k (SubprogramBody d b) at
 
@@ -234,9 +231,6 @@ module _ (program : Program) (s : Scope) (all : List BodyItemTree) (w : IsPackag
       (legal_body p.place p.subprogram p.body p.at (ap (λ v. v.result) (sym p.is) ∙ none)))
 
   -- ---- tasks
-
-  nothing : Activation
-  nothing = record { within = None; locals = [] }
 
   task_with_items : (u : Scope) → ((p : Place) → FitsScope program u (in_package program s all w m memory p)) → (a : Around) (items : List Item)
       → IsReady program (record { within = None; locals = [] }) u [] a items

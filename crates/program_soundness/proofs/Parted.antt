@@ -1,5 +1,5 @@
 -- The components of protected objects among what the program declares, by the numbers of the objects (RM 9.4).
-use Rattle.std.proofs.Common.{◌≡◌, ◌≤◌, ℕ, zero, suc, ◌+◌, List, [], ◌∷◌, ◌++◌, map, Bool, true, false, cond, ◌||◌, Option, Some, None, refl, sym, ap, ◌∙◌, arith}
+use Rattle.std.proofs.Common.{◌≡◌, ◌≤◌, ℕ, zero, suc, ◌+◌, List, [], ◌∷◌, ◌++◌, map, Bool, true, false, cond, Option, Some, None, refl, sym, ap, ◌∙◌, arith}
 use Rattle.std.specs.Prelude.{bytes_eq, slice_get}
 use Rattle.expr_soundness.specs.ada_tree.specs.StatementTree.{ProtectedComponentTree, ProtectedTree}
 use Rattle.expr_soundness.specs.ada_tree.specs.ProgramTree.{BodyItemTree, OfItem, SubprogramBody, TaskBody, ProtectedBody, OfType, OfObject, OfException, OfSubprogram, OfTask, OfProtected}
@@ -12,7 +12,7 @@ use Rattle.types.specs.Places as places
 use Rattle.types.proofs.Seeing.{either_way}
 use Rattle.expr_soundness.specs.type_rules.specs.SubtypeNames.{subtype_of}
 use Rattle.declaration_rules.specs.BodyNames.{component_role}
-use Rattle.declaration_rules.specs.ProtectedRules.{is_component_in, object_components, protected_entity}
+use Rattle.declaration_rules.specs.ProtectedRules.{object_components, protected_entity}
 use Rattle.declaration_rules.specs.PackageNames.{body_item_scope}
 use Rattle.unit_rules.specs.PackageBodyRules.{body_item_faults}
 use Rattle.expr_soundness.specs.meaning.specs.Programs.{component, components_among, items_among, subtype_named}
@@ -56,16 +56,6 @@ pub component_found : (whole u : Scope) (f : Bool) (cs : List ProtectedComponent
     → object_components u cs ≡ Some parts → found_in (components_named f parts) name ≡ Some e
     → (x : places.Object) × (object_of (map (component whole) cs) name ≡ Some x) × (e ≡ Object (component_role f) x.subtype)
 component_found whole u f cs parts name e same h found = component_object_in whole u f cs parts name e same h found
-
-pub no_component_object : (whole : Scope) (cs : List ProtectedComponentTree) (name : List ℕ) → is_component_in cs name ≡ false
-    → object_of (map (component whole) cs) name ≡ None
-no_component_object whole [] name h = refl
-no_component_object whole (c ∷ cs) name h = by_test (bytes_eq c.name.name name) h (λ k. no_component_object whole cs name k)
-  where
-    by_test : (b : Bool) → (b || is_component_in cs name) ≡ false → (is_component_in cs name ≡ false → object_of (map (component whole) cs) name ≡ None)
-        → cond b (Some (component whole c)) (object_of (map (component whole) cs) name) ≡ None
-    by_test true k later = cc
-    by_test false k later = later k
 
 -- nor is one found where no component has the name
 none_both : (a b : Option Entity) → or_else a b ≡ None → (a ≡ None) × (b ≡ None)

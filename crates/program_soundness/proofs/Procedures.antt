@@ -6,7 +6,7 @@ use Rattle.expr_soundness.specs.ada_tree.specs.ExpressionTree.{ExprTree}
 use Rattle.expr_soundness.specs.ada_tree.specs.StatementTree.{EntryTree, SubprogramTree}
 use Rattle.expr_soundness.specs.ada_tree.specs.ProgramTree.{BodyTree, BodyItemTree, ProtectedBody, ProtectedItemTree, OperationBody, EntryBody}
 use Rattle.types.specs.declared.entity.RecordComponent.{RecordComponent}
-use Rattle.types.specs.Entities.{Entity, Profile, ProtectedObject, Protected, Subprogram, Doubtful}
+use Rattle.types.specs.Entities.{Entity, ProtectedObject, Protected, Subprogram, Doubtful}
 use Rattle.types.specs.Scopes.{Scope}
 use Rattle.expr_soundness.specs.expr_rules.proofs.TypedLaw.{back_empty, front_empty}
 use Rattle.expr_soundness.specs.type_rules.specs.SubtypeNames.{end_rule}
@@ -40,7 +40,6 @@ use Rattle.program_soundness.proofs.FormalTrees.{new_formals, text_formals, unse
 use Rattle.program_soundness.proofs.BodySound.{IsLegalBody, procedure_sound}
 use Rattle.program_soundness.proofs.PackageBodies.{package_procedure}
 use Rattle.program_soundness.proofs.Moved.{profile_moved}
-use Rattle.program_soundness.proofs.ObjectBodies.{unit_entity, unit_name}
 use Rattle.program_soundness.proofs.ObjectBodies as bodies
 use Rattle.program_soundness.proofs.ObjectFits.{CameTo, came_seen, object_fits, profile_no_type, seen_types}
 
@@ -50,9 +49,6 @@ restricted_item cs [] j i h at = cc
 restricted_item cs (x ∷ xs) zero i h at =
     subst (λ y. profile.operation_faults cs y ≡ []) (same_some x i at) (front_empty (profile.operation_faults cs x) (profile.operations_faults cs xs) h)
 restricted_item cs (x ∷ xs) (suc j) i h at = restricted_item cs xs j i (back_empty (profile.operation_faults cs x) (profile.operations_faults cs xs) h) at
-
-same_plain : (p q : Profile) → Some p ≡ Some q → p ≡ q
-same_plain p q h = same_some p q h
 
 module _ (program : Program) (s : Scope) (all : List BodyItemTree) (w : IsPackage program s all) (laws : Premises program) (scopes : ScopesAreSound)
     (m : Store) (memory : IsSoundMemory program m)

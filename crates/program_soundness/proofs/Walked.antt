@@ -9,7 +9,7 @@ use Rattle.types.specs.declared.entity.RecordComponent.{RecordComponent}
 use Rattle.types.specs.declared.entity.Role.TheVariants as role
 use Rattle.types.specs.declared.entity.Subtype.{Subtype}
 use Rattle.types.specs.declared.entity.Value.{Value as Scalar}
-use Rattle.types.specs.Entities.{Entity, Operation, Profile, TypeForm, Constant, Doubtful, Entry, Exception, LibraryUnit, Literal, Object, Predefined, Protected, Put, Subprogram, Task}
+use Rattle.types.specs.Entities.{Entity, Operation, Profile, Constant, Doubtful, Entry, Exception, LibraryUnit, Literal, Object, Predefined, Protected, Put, Subprogram, Task}
 use Rattle.types.specs.Entities as entity
 use Rattle.types.specs.Places.{or_else}
 use Rattle.types.specs.Scopes.{Named, Scope, is_visible}

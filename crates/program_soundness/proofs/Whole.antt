@@ -12,7 +12,7 @@ use Rattle.types.specs.declared.entity.Subtype.{Subtype}
 use Rattle.types.specs.Entities.{Entity, Profile, ProtectedObject, Object, Subprogram, Protected, Doubtful}
 use Rattle.types.specs.Entities as entity
 use Rattle.types.specs.Scopes.{Scope, protected_count}
-use Rattle.types.specs.Places.{Function, function_of, is_of, object_of, or_else}
+use Rattle.types.specs.Places.{object_of, or_else}
 use Rattle.types.specs.Places as places
 use Rattle.expr_soundness.specs.expr_rules.proofs.TypedLaw.{front_empty}
 use Rattle.expr_soundness.specs.type_rules.specs.SubtypeNames.{declared_twice, named_entity, subtype_faults, subtype_in, subtype_of, subtype_rule}

@@ -174,7 +174,3 @@ form_with s name e n h = by_test (is_visible s name)
     by_test : (b : Bool) → form_at (cond b s (s ++ record { name = name; entity = e } ∷ [])) n ≡ form_at s n
     by_test true = refl
     by_test false = form_added s (record { name = name; entity = e }) n h
-
-pub form_with_all : (s : Scope) (xs : List Named) (n : ℕ) → NoTypes xs → form_at (with_all s xs) n ≡ form_at s n
-form_with_all s [] n h = refl
-form_with_all s (x ∷ xs) n h = form_with_all (with_name s x.name x.entity) xs n h.1 ∙ form_with s x.name x.entity n h.0
