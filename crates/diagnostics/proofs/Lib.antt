@@ -7,3 +7,4 @@ pub mod Joined
 pub mod Lines
 pub mod Unexpected
 pub mod Pieces
+pub mod Named

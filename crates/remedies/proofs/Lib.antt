@@ -1,2 +1,4 @@
 mod Searching
 pub mod Fitting
+mod Kept
+pub mod Ordered

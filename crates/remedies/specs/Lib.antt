@@ -8,3 +8,4 @@ pub mod Likeness
 pub mod Misuse
 pub mod Doubts
 pub mod Misspelled
+pub mod TextTokens

@@ -1,10 +1,10 @@
 //! What is declared with a name like one that isn't visible.
-ghost use Rattle.std.specs.Prelude.{◌≡◌, ◌≤◌, ◌-◌, length, option_map};
-ghost use Rattle.remedies.specs.Likeness.{are_exchanged, declares_near, first_predefined, first_reserved, first_where, introduces, introduces_same, is_changed, is_colon, is_like, is_near, is_same, kind_before, like_at, like_later, like_near, name_of, near_declared, near_predefined, near_reserved};
+ghost use Rattle.std.specs.Prelude.{◌≡◌, option_map};
+ghost use Rattle.remedies.specs.Likeness.{are_exchanged, first_predefined, first_reserved, introduces, is_changed, is_colon, is_like, is_near, is_same, kind_before, like_at, like_later, like_near, name_of, near_declared, near_predefined, near_reserved};
 
 use crate::name::{Name, name_text};
-use crate::recognition::count_before;
 use crate::row::kind_at;
+use crate::text_tokens::TextTokens;
 use lexer::{Delimiter, Token, TokenKind, Word};
 
 /// What is declared with a name like one that isn't visible. Tokens are given by how many are before them.
@@ -101,8 +101,8 @@ pub fn name_of(kind: Option<&TokenKind>) -> Option<&[u8]>
     }
 }
 
-// Whether a name that follows is declared by this word, or has its body there.
-fn introduces(kind: Option<&TokenKind>) -> bool
+/// Whether a name that follows is declared by this word, or has its body there.
+pub(crate) fn introduces(kind: Option<&TokenKind>) -> bool
     ensures { result ≡ introduces (option_map (λ k. k.now) kind.entry) }
 {
     matches!(
@@ -148,58 +148,14 @@ pub(crate) fn is_same(name: &[u8], other: Option<&[u8]>) -> bool
     }
 }
 
-fn is_near(name: &[u8], other: Option<&[u8]>) -> bool
+/// Whether the other one is a name like this one.
+pub(crate) fn is_near(name: &[u8], other: Option<&[u8]>) -> bool
     ensures { result ≡ is_near name.now (option_map (λ n. n.now) other.entry) }
 {
     match other {
         Some(other) => is_like(name, other),
         None => false,
     }
-}
-
-// Whether the token with so many before it is this name, which a word introduces.
-fn introduces_same(name: &[u8], tokens: &[Token], number: usize) -> bool
-    ensures { result ≡ introduces_same name.now tokens.now number }
-{
-    introduces(kind_before(number, tokens)) && is_same(name, name_of(kind_at(number, tokens)))
-}
-
-// Whether it is a name like this one, which a word introduces, or which a colon follows.
-fn declares_near(name: &[u8], tokens: &[Token], number: usize) -> bool
-    requires { number ≤ length tokens.now }
-    ensures { result ≡ declares_near name.now tokens.now number }
-{
-    (introduces(kind_before(number, tokens)) || is_colon(kind_at(number + 1, tokens)))
-        && is_near(name, name_of(kind_at(number, tokens)))
-}
-
-/// The first token from the one with so many before it on that is the name, and introduced by a word as `procedure` or `task`: where it is declared, or has
-/// its body; None where there is none.
-pub fn first_same(name: &[u8], tokens: &[Token], from: usize) -> Option<usize>
-    ensures { result ≡ first_where (introduces_same name.now tokens.now) from (length tokens.now - from) }
-{
-    let mut number = from;
-    while number < tokens.len() {
-        if introduces_same(name, tokens, number) {
-            return Some(number);
-        }
-        number += 1;
-    }
-    None
-}
-
-// The first token that declares a name like this one.
-fn first_near(name: &[u8], tokens: &[Token]) -> Option<usize>
-    ensures { result ≡ first_where (declares_near name.now tokens.now) 0 (length tokens.now) }
-{
-    let mut number = 0;
-    while number < tokens.len() {
-        if declares_near(name, tokens, number) {
-            return Some(number);
-        }
-        number += 1;
-    }
-    None
 }
 
 // The first of these names of the language that is like it.
@@ -253,17 +209,17 @@ fn near_declared(name: &[u8], declared: Option<usize>) -> Option<Like>
     }
 }
 
-fn like_near(name: &[u8], tokens: &[Token]) -> Option<Like>
+fn like_near(name: &[u8], tokens: &TextTokens) -> Option<Like>
     ensures { result ≡ like_near name.now tokens.now }
 {
     if name.len() >= LEAST_LETTERS {
-        near_declared(name, first_near(name, tokens))
+        near_declared(name, tokens.first_near(name))
     } else {
         None
     }
 }
 
-fn like_later(name: &[u8], tokens: &[Token], later: Option<usize>) -> Option<Like>
+fn like_later(name: &[u8], tokens: &TextTokens, later: Option<usize>) -> Option<Like>
     ensures { result ≡ like_later name.now tokens.now later }
 {
     match later {
@@ -275,10 +231,10 @@ fn like_later(name: &[u8], tokens: &[Token], later: Option<usize>) -> Option<Lik
 /// What is declared with a name like the one at this place of a text with these tokens: the same name, which a word introduces after the place; else the first
 /// one with a letter more, less or other, or two exchanged, of the text or of the language, or such a reserved word; None where there is no name at the place,
 /// or none like it.
-pub fn like_at(place: u32, tokens: &[Token]) -> Option<Like>
+pub fn like_at(place: u32, tokens: &TextTokens) -> Option<Like>
     ensures { result ≡ like_at place tokens.now }
 {
-    let number = count_before(place, tokens);
-    let name = name_of(kind_at(number, tokens))?;
-    like_later(name, tokens, first_same(name, tokens, number))
+    let number = tokens.count_before(place);
+    let name = name_of(kind_at(number, tokens.tokens()))?;
+    like_later(name, tokens, tokens.first_same(name, number))
 }

@@ -1,13 +1,12 @@
 //! What a name is that has no meaning where it is, by the word that introduces it; a component of a protected object outside of its body.
 ghost use Rattle.std.specs.Prelude.{◌≡◌, ◌≤◌, length, option_map};
-ghost use Rattle.remedies.specs.Likeness.{first_where};
-ghost use Rattle.remedies.specs.Misuse.{begins_part, component_after, declares_same, introduced_as, is_dot, is_predefined_type, misused_at, misused_here, misused_name, named_component, or_predefined, outside_at, unless_part, without_type, word_construct};
+ghost use Rattle.remedies.specs.Misuse.{begins_part, component_after, introduced_as, is_dot, is_predefined_type, misused_at, misused_here, misused_name, named_component, or_predefined, outside_at, unless_part, without_type, word_construct};
 
 use crate::construct::Construct;
-use crate::likeness::{first_same, is_colon, is_same, kind_before, name_of};
+use crate::likeness::{kind_before, name_of};
 use crate::name::{Name, name_text};
-use crate::recognition::count_before;
 use crate::row::{kind_at, kind_from_end};
+use crate::text_tokens::TextTokens;
 use base::faults::{NAME_NOT_VISIBLE, NO_MEANING};
 use lexer::{Delimiter, Token, TokenKind, Word};
 
@@ -61,11 +60,14 @@ fn or_predefined(name: &[u8], construct: Option<Construct>) -> Option<Construct>
     }
 }
 
-fn misused_name(tokens: &[Token], name: Option<&[u8]>) -> Option<Construct>
+fn misused_name(tokens: &TextTokens, name: Option<&[u8]>) -> Option<Construct>
     ensures { result ≡ misused_name tokens.now (option_map (λ n. n.now) name.entry) }
 {
     match name {
-        Some(name) => or_predefined(name, introduced_as(tokens, first_same(name, tokens, 0))),
+        Some(name) => {
+            let number = tokens.first_same(name, 0);
+            or_predefined(name, introduced_as(tokens.tokens(), number))
+        }
         None => None,
     }
 }
@@ -99,12 +101,12 @@ fn unless_part(next: Option<&TokenKind>, construct: Option<Construct>) -> Option
     }
 }
 
-fn misused_here(number: usize, tokens: &[Token]) -> Option<Construct>
+fn misused_here(number: usize, tokens: &TextTokens) -> Option<Construct>
     requires { number ≤ length tokens.now }
     ensures { result ≡ misused_here number tokens.now }
 {
-    let construct = misused_name(tokens, name_of(kind_at(number, tokens)));
-    unless_part(kind_at(number + 1, tokens), construct)
+    let construct = misused_name(tokens, name_of(kind_at(number, tokens.tokens())));
+    unless_part(kind_at(number + 1, tokens.tokens()), construct)
 }
 
 fn is_dot(kind: Option<&TokenKind>) -> bool
@@ -113,33 +115,11 @@ fn is_dot(kind: Option<&TokenKind>) -> bool
     matches!(kind, Some(TokenKind::Delimiter(Delimiter::Dot)))
 }
 
-// Whether the token with so many before it is this name, which a colon follows.
-fn declares_same(name: &[u8], tokens: &[Token], number: usize) -> bool
-    requires { number ≤ length tokens.now }
-    ensures { result ≡ declares_same name.now tokens.now number }
-{
-    is_colon(kind_at(number + 1, tokens)) && is_same(name, name_of(kind_at(number, tokens)))
-}
-
-// The first token that is the name, and that a colon follows.
-fn first_declared(name: &[u8], tokens: &[Token]) -> Option<usize>
-    ensures { result ≡ first_where (declares_same name.now tokens.now) 0 (length tokens.now) }
-{
-    let mut number = 0;
-    while number < tokens.len() {
-        if declares_same(name, tokens, number) {
-            return Some(number);
-        }
-        number += 1;
-    }
-    None
-}
-
-fn named_component(tokens: &[Token], name: Option<&[u8]>) -> Option<Construct>
+fn named_component(tokens: &TextTokens, name: Option<&[u8]>) -> Option<Construct>
     ensures { result ≡ named_component tokens.now (option_map (λ n. n.now) name.entry) }
 {
     match name {
-        Some(name) => match first_declared(name, tokens) {
+        Some(name) => match tokens.first_declared(name) {
             Some(_) => Some(Construct::ComponentOutside),
             None => None,
         },
@@ -149,7 +129,7 @@ fn named_component(tokens: &[Token], name: Option<&[u8]>) -> Option<Construct>
 
 fn component_after(
     object: Option<Construct>,
-    tokens: &[Token],
+    tokens: &TextTokens,
     name: Option<&[u8]>,
 ) -> Option<Construct>
     ensures { result ≡ component_after object tokens.now (option_map (λ n. n.now) name.entry) }
@@ -160,14 +140,14 @@ fn component_after(
     }
 }
 
-fn outside_at(number: usize, tokens: &[Token]) -> Option<Construct>
+fn outside_at(number: usize, tokens: &TextTokens) -> Option<Construct>
     requires { number ≤ length tokens.now }
     ensures { result ≡ outside_at number tokens.now }
 {
-    let (front, _) = tokens.split_at(number);
+    let (front, _) = tokens.tokens().split_at(number);
     if is_dot(kind_from_end(0, front)) {
         let object = misused_name(tokens, name_of(kind_from_end(1, front)));
-        component_after(object, tokens, name_of(kind_at(number, tokens)))
+        component_after(object, tokens, name_of(kind_at(number, tokens.tokens())))
     } else {
         None
     }
@@ -175,10 +155,10 @@ fn outside_at(number: usize, tokens: &[Token]) -> Option<Construct>
 
 /// What the name at the place of a fault is: of a fault 12 what is no value, and no call: a procedure, a type, a task, the package, a protected object; of a
 /// fault 10 a component, where the name of a protected object and a dot are before it. None where there is no name, or another one, and of other faults.
-pub fn misused_at(fault: u64, place: u32, tokens: &[Token]) -> Option<Construct>
+pub fn misused_at(fault: u64, place: u32, tokens: &TextTokens) -> Option<Construct>
     ensures { result ≡ misused_at fault place tokens.now }
 {
-    let number = count_before(place, tokens);
+    let number = tokens.count_before(place);
     if fault == u64::from(NO_MEANING) {
         misused_here(number, tokens)
     } else if fault == u64::from(NAME_NOT_VISIBLE) {

@@ -10,6 +10,7 @@ use crate::opening::Opening;
 use crate::openings::open_after;
 use crate::row::{Region, Row, fits, fits_tokens, is_in, kind_at, kind_from_end};
 use crate::rule_rows::RULE_ROWS;
+use crate::text_tokens::TextTokens;
 use base::faults::{NAME_NOT_VISIBLE, UNEXPECTED_TOKEN};
 use lexer::{Token, TokenKind, Word};
 use std::alloc::{AllocError, Global};
@@ -157,11 +158,11 @@ pub fn construct_at(
     alloc: Global,
     fault: u64,
     place: u32,
-    tokens: &[Token],
+    tokens: &TextTokens,
 ) -> Result<Option<Construct>, AllocError>
     ensures { IfOk result (λ construct. construct ≡ construct_at fault place tokens.now) }
 {
-    let (front, back) = tokens.split_at(count_before(place, tokens));
+    let (front, back) = tokens.tokens().split_at(tokens.count_before(place));
     construct_between(alloc, fault, front, back)
 }
 

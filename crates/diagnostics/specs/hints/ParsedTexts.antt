@@ -12,9 +12,9 @@ use Rattle.diagnostics.specs.declared.hints.parsed_text.Reading.TheVariants as r
 -- the text breaks a rule of spelling; or tokens spell it, and these have a fault of the grammar, or a tree derives them, of whose types these remarks are
 abbrev pub IsReadingOf : (text : List ℕ) → Reading → Type 0
 IsReadingOf text readings.Misspelled = IsUnspelled text
-IsReadingOf text (readings.Treeless tokens fault) = Spells text tokens.items × IsFaulty tokens.items fault
+IsReadingOf text (readings.Treeless tokens fault) = Spells text tokens × IsFaulty tokens fault
 IsReadingOf text (readings.Derived tokens program remarks) =
-    Spells text tokens.items × (Derives (program_tree program) tokens.items × AreRemarksOf (program_tree program) remarks)
+    Spells text tokens × (Derives (program_tree program) tokens × AreRemarksOf (program_tree program) remarks)
 
 -- the tokens that spell a text; none of one that breaks a rule of spelling
 abbrev pub AreTokensOf : (text : List ℕ) → Option Tokens → Type 0

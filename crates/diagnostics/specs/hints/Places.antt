@@ -39,6 +39,10 @@ abbrev pub name_of_kind : TokenKind → Option (List ℕ)
 name_of_kind (kinds.Identifier name) = Some name
 name_of_kind kind = None
 
+abbrev pub name_of_token : Option Token → Option (List ℕ)
+name_of_token (Some t) = name_of_kind t.kind
+name_of_token None = None
+
 abbrev pub name_at : ℕ → Tokens → Option (List ℕ)
 name_at place [] = None
 name_at place (t ∷ tokens) = if nat_eq t.start place then name_of_kind t.kind else name_at place tokens

@@ -5,7 +5,7 @@ ghost use Rattle.diagnostics.specs.hints.Calls as calls;
 use crate::hints::places::{name_or_none, put_place, start_at};
 use itoa::Buffer;
 use lexer::{Delimiter, Token, TokenKind};
-use remedies::{count_before, first_same, kind_at, name_of};
+use remedies::{TextTokens, kind_at, name_of};
 use std::alloc::AllocError;
 
 fn is_mark(delimiter: Delimiter, kind: &TokenKind) -> bool
@@ -69,30 +69,30 @@ fn called_number(first: usize, tokens: &[Token]) -> usize
     }
 }
 
-fn introduced(name: Option<&[u8]>, tokens: &[Token], from: usize) -> Option<usize>
+fn introduced(name: Option<&[u8]>, tokens: &TextTokens, from: usize) -> Option<usize>
     ensures { result ≡ calls.introduced (option_map (λ n. n.now) name.entry) tokens.now from }
 {
     match name {
-        Some(name) => first_same(name, tokens, from),
+        Some(name) => tokens.first_same(name, from),
         None => None,
     }
 }
 
-fn declared_from(first: usize, called: usize, tokens: &[Token]) -> usize
+fn declared_from(first: usize, called: usize, tokens: &TextTokens) -> usize
     ensures { result ≡ calls.declared_from first called tokens.now }
 {
     if first == called {
         0
     } else {
-        introduced(name_of(kind_at(first, tokens)), tokens, 0).unwrap_or(0)
+        introduced(name_of(kind_at(first, tokens.tokens())), tokens, 0).unwrap_or(0)
     }
 }
 
-fn declared_number(first: usize, called: usize, tokens: &[Token]) -> Option<usize>
+fn declared_number(first: usize, called: usize, tokens: &TextTokens) -> Option<usize>
     ensures { result ≡ calls.declared_number first called tokens.now }
 {
     let from = declared_from(first, called, tokens);
-    introduced(name_of(kind_at(called, tokens)), tokens, from)
+    introduced(name_of(kind_at(called, tokens.tokens())), tokens, from)
 }
 
 #[tactic(auto, unfolding(crate::specs::hints::Calls::actuals_part))]
@@ -165,13 +165,13 @@ fn put_call_lines(
 pub(crate) fn put_call_lines_at(
     out: &mut Vec<u8>,
     text: &[u8],
-    tokens: &[Token],
+    tokens: &TextTokens,
     place: u32,
 ) -> Result<(), AllocError>
     ensures { OnOk result (out.new.items ≡ out.old.items ++ calls.call_lines_at text.now tokens.now place) }
 {
-    let first = count_before(place, tokens);
-    let called = called_number(first, tokens);
+    let first = tokens.count_before(place);
+    let called = called_number(first, tokens.tokens());
     let declared = declared_number(first, called, tokens);
-    put_call_lines(out, text, tokens, called, declared)
+    put_call_lines(out, text, tokens.tokens(), called, declared)
 }

@@ -2,9 +2,9 @@
 ghost use Rattle.std.specs.Prelude.{◌≡◌, option_map};
 ghost use Rattle.diagnostics.specs.hints.Conversions.{class_of, conversion_of, conversion_text, declared_class, expected_conversion, is_is, is_range, is_range_type, operands_conversion};
 
-use lexer::{Token, TokenKind, Word};
+use lexer::{TokenKind, Word};
 use mismatches::{NamedType, PredefinedType, Remark};
-use remedies::{count_before, kind_at};
+use remedies::{TextTokens, kind_at};
 
 /// Types as far as they decide what to write for them.
 #[derive(Clone, Copy)]
@@ -64,14 +64,15 @@ fn is_range(kind: Option<&TokenKind>) -> bool
 }
 
 // Whether the name at this place is that of an integer type: `is range` follows it (RM 3.5.4).
-fn is_range_type(place: u32, list: &[Token]) -> bool
+fn is_range_type(place: u32, list: &TextTokens) -> bool
     ensures { result ≡ is_range_type place list.now }
 {
-    let number = count_before(place, list);
-    is_is(kind_at(number + 1, list)) && is_range(kind_at(number + 2, list))
+    let number = list.count_before(place);
+    let tokens = list.tokens();
+    is_is(kind_at(number + 1, tokens)) && is_range(kind_at(number + 2, tokens))
 }
 
-fn declared_class(place: u32, list: &[Token]) -> TypeClass
+fn declared_class(place: u32, list: &TextTokens) -> TypeClass
     ensures { result ≡ declared_class place list.now }
 {
     if is_range_type(place, list) {
@@ -81,7 +82,7 @@ fn declared_class(place: u32, list: &[Token]) -> TypeClass
     }
 }
 
-fn class_of(named: NamedType, list: &[Token]) -> TypeClass
+fn class_of(named: NamedType, list: &TextTokens) -> TypeClass
     ensures { result ≡ class_of named list.now }
 {
     match named {
@@ -131,7 +132,7 @@ fn operands_conversion(left: TypeClass, right: TypeClass) -> Option<Conversion>
 }
 
 /// What may be written instead, by the two types that don't match; None where nothing helps in general.
-pub(crate) fn conversion_of(remark: Remark, list: &[Token]) -> Option<Conversion>
+pub(crate) fn conversion_of(remark: Remark, list: &TextTokens) -> Option<Conversion>
     ensures { result ≡ conversion_of remark list.now }
 {
     match remark {

@@ -15,8 +15,8 @@ use base::faults::{
 };
 use lexer::{Token, Word};
 use remedies::{
-    Construct, Doubt, Like, Opening, closing_of, construct_at, doubtful_from, like_at, misused_at,
-    name_text, of_byte, of_label, of_number, part_of, unclosed_at,
+    Construct, Doubt, Like, Opening, TextTokens, closing_of, construct_at, doubtful_from, like_at,
+    misused_at, name_text, of_byte, of_label, of_number, part_of, unclosed_at,
 };
 use std::alloc::{AllocError, Global};
 
@@ -151,12 +151,12 @@ fn put_like_lines(
     number: u64,
     place: u32,
     text: &[u8],
-    list: &[Token],
+    list: &TextTokens,
 ) -> Result<(), AllocError>
     ensures { OnOk result (out.new.items ≡ out.old.items ++ like_lines number place text.now list.now) }
 {
     if number == u64::from(NAME_NOT_VISIBLE) {
-        put_like_line(out, text, list, like_at(place, list))
+        put_like_line(out, text, list.tokens(), like_at(place, list))
     } else {
         Ok(())
     }
@@ -247,13 +247,13 @@ fn put_doubt_lines(
     number: u64,
     place: u32,
     text: &[u8],
-    list: &[Token],
+    list: &TextTokens,
     doubt: Option<Doubt>,
 ) -> Result<(), AllocError>
     ensures { OnOk result (out.new.items ≡ out.old.items ++ doubt_lines number place text.now list.now doubt) }
 {
     match doubt {
-        Some(doubt) => put_doubt_line(out, text, list, doubt),
+        Some(doubt) => put_doubt_line(out, text, list.tokens(), doubt),
         None => put_like_lines(out, number, place, text, list),
     }
 }
@@ -264,7 +264,7 @@ fn put_missing_lines(
     number: u64,
     place: u32,
     text: &[u8],
-    list: &[Token],
+    list: &TextTokens,
     advice: Advice,
 ) -> Result<(), AllocError>
     ensures { OnOk result (out.new.items ≡ out.old.items ++ missing_lines number place text.now list.now advice) }
@@ -281,7 +281,7 @@ fn put_construct_lines(
     number: u64,
     place: u32,
     text: &[u8],
-    list: &[Token],
+    list: &TextTokens,
     advice: Advice,
 ) -> Result<(), AllocError>
     ensures { OnOk result (out.new.items ≡ out.old.items ++ construct_lines number place text.now list.now advice) }
@@ -299,13 +299,13 @@ fn put_advice_lines(
     number: u64,
     place: u32,
     text: &[u8],
-    list: &[Token],
+    list: &TextTokens,
     advice: Advice,
 ) -> Result<(), AllocError>
     ensures { OnOk result (out.new.items ≡ out.old.items ++ advice_lines number place text.now list.now advice) }
 {
     match advice.misspelling {
-        Some(misspelling) => put_misspelling_line(alloc, out, text, list, misspelling),
+        Some(misspelling) => put_misspelling_line(alloc, out, text, list.tokens(), misspelling),
         None => put_construct_lines(out, number, place, text, list, advice),
     }
 }
@@ -358,15 +358,20 @@ fn opening_at(
     }
 }
 
-fn advice_at(alloc: Global, number: u64, place: u32, list: &[Token]) -> Result<Advice, AllocError>
+fn advice_at(
+    alloc: Global,
+    number: u64,
+    place: u32,
+    list: &TextTokens,
+) -> Result<Advice, AllocError>
     ensures { IfOk result (λ advice. IsAdvice number place list.now advice) }
 {
-    let opening = opening_at(alloc, number, place, list)?;
-    let misspelling = misspelling_at(alloc, number, place, list)?;
+    let opening = opening_at(alloc, number, place, list.tokens())?;
+    let misspelling = misspelling_at(alloc, number, place, list.tokens())?;
     let recognized = construct_at(alloc, number, place, list)?;
     let construct = or_misused(recognized, misused_at(number, place, list));
-    let doubt = doubt_in(list, opening);
-    let missing = missing_where(alloc, number, place, list, opening)?;
+    let doubt = doubt_in(list.tokens(), opening);
+    let missing = missing_where(alloc, number, place, list.tokens(), opening)?;
     Ok(Advice {
         opening,
         misspelling,
@@ -381,14 +386,14 @@ fn hints_of_tokens(
     number: u64,
     place: u32,
     text: &[u8],
-    list: &[Token],
+    list: &TextTokens,
 ) -> Result<Vec<u8>, AllocError>
     ensures { IfOk result (λ hints. AreHintsOfTokens number place text.now list.now hints.items) }
 {
     let mut lines = Vec::new(alloc);
     let advice = advice_at(alloc, number, place, list)?;
     put_advice_lines(alloc, &mut lines, number, place, text, list, advice)?;
-    put_opening_lines(&mut lines, text, list, advice.opening)?;
+    put_opening_lines(&mut lines, text, list.tokens(), advice.opening)?;
     after_empty(alloc, &lines)
 }
 

@@ -5,8 +5,8 @@ ghost use Rattle.diagnostics.specs.hints.Mismatched.{advice_line, advised_lines,
 
 use crate::hints::conversion::{Conversion, conversion_of, conversion_text};
 use crate::hints::places::{name_at, put_place};
-use lexer::Token;
 use mismatches::{NamedType, PredefinedType, Remark};
+use remedies::TextTokens;
 use std::alloc::AllocError;
 
 fn predefined_name(predefined: PredefinedType) -> &'static str
@@ -23,7 +23,7 @@ fn predefined_name(predefined: PredefinedType) -> &'static str
 fn put_declared(
     out: &mut Vec<u8>,
     text: &[u8],
-    list: &[Token],
+    list: &TextTokens,
     place: u32,
 ) -> Result<(), AllocError>
     ensures { OnOk result (out.new.items ≡ out.old.items ++ declared_text text.now list.now place) }
@@ -48,7 +48,7 @@ fn put_predefined(out: &mut Vec<u8>, predefined: PredefinedType) -> Result<(), A
 fn put_type(
     out: &mut Vec<u8>,
     text: &[u8],
-    list: &[Token],
+    list: &TextTokens,
     named: NamedType,
 ) -> Result<(), AllocError>
     ensures { OnOk result (out.new.items ≡ out.old.items ++ type_text text.now list.now named) }
@@ -83,7 +83,7 @@ fn put_type(
 fn put_unexpected(
     out: &mut Vec<u8>,
     text: &[u8],
-    list: &[Token],
+    list: &TextTokens,
     expected: NamedType,
     found: NamedType,
 ) -> Result<(), AllocError>
@@ -101,7 +101,7 @@ fn put_unexpected(
 fn put_left_part(
     out: &mut Vec<u8>,
     text: &[u8],
-    list: &[Token],
+    list: &TextTokens,
     left: NamedType,
 ) -> Result<(), AllocError>
     ensures { OnOk result (out.new.items ≡ out.old.items ++ left_part text.now list.now left) }
@@ -115,7 +115,7 @@ fn put_left_part(
 fn put_right_part(
     out: &mut Vec<u8>,
     text: &[u8],
-    list: &[Token],
+    list: &TextTokens,
     right: NamedType,
 ) -> Result<(), AllocError>
     ensures { OnOk result (out.new.items ≡ out.old.items ++ right_part text.now list.now right) }
@@ -129,7 +129,7 @@ fn put_right_part(
 fn put_operands(
     out: &mut Vec<u8>,
     text: &[u8],
-    list: &[Token],
+    list: &TextTokens,
     left: NamedType,
     right: NamedType,
 ) -> Result<(), AllocError>
@@ -153,7 +153,7 @@ fn put_no_variable(out: &mut Vec<u8>) -> Result<(), AllocError>
 fn put_remark(
     out: &mut Vec<u8>,
     text: &[u8],
-    list: &[Token],
+    list: &TextTokens,
     remark: Remark,
 ) -> Result<(), AllocError>
     ensures { OnOk result (out.new.items ≡ out.old.items ++ remark_lines text.now list.now remark) }
@@ -188,7 +188,7 @@ fn put_conversion(out: &mut Vec<u8>, conversion: Option<Conversion>) -> Result<(
 fn put_remark_and_advice(
     out: &mut Vec<u8>,
     text: &[u8],
-    list: &[Token],
+    list: &TextTokens,
     remark: Remark,
 ) -> Result<(), AllocError>
     ensures { OnOk result (out.new.items ≡ out.old.items ++ advised_lines text.now list.now remark) }
@@ -204,7 +204,7 @@ fn put_remark_and_advice(
 pub(crate) fn put_mismatch_lines(
     out: &mut Vec<u8>,
     text: &[u8],
-    list: &[Token],
+    list: &TextTokens,
     remark: Option<Remark>,
 ) -> Result<(), AllocError>
     ensures { OnOk result (out.new.items ≡ out.old.items ++ mismatch_lines text.now list.now remark) }

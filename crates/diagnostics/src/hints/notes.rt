@@ -46,7 +46,7 @@ fn notes_of_text(alloc: Global, text: &ParsedText) -> Result<Vec<u8>, AllocError
     ensures { IfOk result (λ notes. AreNotesOfText text.now notes.items) }
 {
     match text.reading() {
-        Reading::Treeless { tokens, fault } => notes_of_fault(alloc, text, tokens, fault),
+        Reading::Treeless { tokens, fault } => notes_of_fault(alloc, text, tokens.tokens(), fault),
         Reading::Misspelled | Reading::Derived { .. } => Ok(Vec::new(alloc)),
     }
 }

@@ -5,9 +5,10 @@ ghost use Rattle.diagnostics.specs.hints.ParsedTexts.{AreTokensOf, IsReadingOf};
 
 use ada_tree::Program;
 use base::faults::MEMORY_REFUSED;
-use lexer::{Fault, Token, tokens};
+use lexer::{Fault, Token, spelled_in_order, tokens};
 use mismatches::Remarks;
 use parser::parse;
+use remedies::TextTokens;
 use std::alloc::{AllocError, Global};
 use std::marker::Model;
 
@@ -18,12 +19,12 @@ pub(crate) enum Reading {
     Misspelled,
     /// Its tokens, which no tree derives, and the fault of these.
     Treeless {
-        tokens: Vec<Token>,
+        tokens: TextTokens,
         fault: Fault,
     },
     /// Its tokens, the tree that derives them, and what is said of conflicts in it.
     Derived {
-        tokens: Vec<Token>,
+        tokens: TextTokens,
         program: Program,
         remarks: Remarks,
     },
@@ -47,11 +48,19 @@ impl<'a> Model for ParsedText<'a> {
     ghost invariant = { λ p. IsReadingOf p.text.now p.reading };
 }
 
-fn reading_of_tokens(alloc: Global, text: &[u8], tokens: Vec<Token>) -> Result<Reading, AllocError>
+fn text_tokens(alloc: Global, text: &[u8], tokens: Vec<Token>) -> Result<TextTokens, AllocError>
     requires { Spells text.now tokens.items }
+    ensures { IfOk result (λ list. Spells text.now list) }
+{
+    spelled_in_order();
+    TextTokens::new(alloc, tokens)
+}
+
+fn reading_of_tokens(alloc: Global, text: &[u8], tokens: TextTokens) -> Result<Reading, AllocError>
+    requires { Spells text.now tokens }
     ensures { IfOk result (λ reading. IsReadingOf text.now reading) }
 {
-    match parse(alloc, &tokens) {
+    match parse(alloc, tokens.tokens()) {
         Ok(program) => {
             let remarks = Remarks::of(alloc, &program)?;
             Ok(Reading::Derived {
@@ -74,7 +83,10 @@ fn reading_of(alloc: Global, text: &[u8]) -> Result<Reading, AllocError>
     ensures { IfOk result (λ reading. IsReadingOf text.now reading) }
 {
     match tokens(alloc, text) {
-        Ok(list) => reading_of_tokens(alloc, text, list),
+        Ok(list) => {
+            let list = text_tokens(alloc, text, list)?;
+            reading_of_tokens(alloc, text, list)
+        }
         Err(fault) => {
             if fault.number == MEMORY_REFUSED {
                 Err(AllocError)
@@ -112,7 +124,7 @@ impl<'a> ParsedText<'a> {
     }
 
     /// The tokens of the text; None where it breaks a rule of spelling.
-    pub(crate) fn tokens(&self) -> Option<&[Token]>
+    pub(crate) fn tokens(&self) -> Option<&TextTokens>
         ensures { AreTokensOf self.now (option_map (λ list. list.now) result) }
     {
         match self.reading() {

@@ -1,11 +1,12 @@
 //! Places of a text.
 ghost use Rattle.std.specs.Prelude.{◌≡◌, ◌≤◌, ◌++◌, IfOk, length, OnOk, option_map, slice_get};
-ghost use Rattle.diagnostics.specs.hints.Places.{after_empty, column_from, line_from, line_start, name_at, name_of_kind, name_or_none, place_text, start_of};
+ghost use Rattle.diagnostics.specs.hints.Places.{after_empty, column_from, line_from, line_start, name_at, name_of_kind, name_of_token, name_or_none, place_text, start_of};
 ghost use Rattle.remedies.specs.Likeness.{name_of};
 ghost use Rattle.remedies.specs.Recognition.{kind_at};
 
 use itoa::Buffer;
 use lexer::{Text, Token, TokenKind};
+use remedies::TextTokens;
 use std::alloc::{AllocError, Global};
 
 fn name_of_kind(kind: &TokenKind) -> Option<&Text>
@@ -17,8 +18,24 @@ fn name_of_kind(kind: &TokenKind) -> Option<&Text>
     }
 }
 
+fn name_of_token(token: Option<&Token>) -> Option<&Text>
+    ensures { option_map (λ name. name.now) result ≡ name_of_token (option_map (λ t. t.now) token.entry) }
+{
+    match token {
+        Some(token) => name_of_kind(&token.kind),
+        None => None,
+    }
+}
+
 /// The name of the identifier that begins at the place, if one does.
-pub(crate) fn name_at(place: u32, tokens: &[Token]) -> Option<&Text>
+pub(crate) fn name_at(place: u32, tokens: &TextTokens) -> Option<&Text>
+    ensures { option_map (λ name. name.now) result ≡ name_at place tokens.now }
+{
+    name_of_token(tokens.at(place))
+}
+
+/// The name of the first of these tokens that begins at the place, if it is an identifier.
+pub(crate) fn first_name_at(place: u32, tokens: &[Token]) -> Option<&Text>
     ensures { option_map (λ name. name.now) result ≡ name_at place tokens.now }
 {
     for token in tokens {

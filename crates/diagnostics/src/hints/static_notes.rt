@@ -8,8 +8,9 @@ use crate::hints::places::{name_at, put_place};
 use crate::hints::stopped::put_named_place;
 use ada_tree::Program;
 use itoa::Buffer;
-use lexer::{Text, Token};
+use lexer::Text;
 use mismatches::{Obstacle, Remark};
+use remedies::TextTokens;
 use std::alloc::AllocError;
 
 fn declared_place(program: &Program, place: u32, name: Option<&Text>) -> Option<u32>
@@ -25,13 +26,13 @@ fn declared_place(program: &Program, place: u32, name: Option<&Text>) -> Option<
 fn put_obstacle_part(
     out: &mut Vec<u8>,
     text: &[u8],
-    list: &[Token],
+    list: &TextTokens,
     place: u32,
 ) -> Result<(), AllocError>
     ensures { OnOk result (out.new.items ≡ out.old.items ++ obstacle_part text.now list.now place) }
 {
     out.extend_from_slice(b"not static: ")?;
-    put_named_place(out, text, list, place)?;
+    put_named_place(out, text, list.tokens(), place)?;
     Ok(())
 }
 
@@ -66,7 +67,7 @@ fn put_if_part(out: &mut Vec<u8>, text: &[u8], place: u32) -> Result<(), AllocEr
 fn put_obstacle_lines(
     out: &mut Vec<u8>,
     text: &[u8],
-    list: &[Token],
+    list: &TextTokens,
     program: &Program,
     obstacle: Obstacle,
 ) -> Result<(), AllocError>
@@ -156,7 +157,7 @@ fn put_raising_line(out: &mut Vec<u8>) -> Result<(), AllocError>
 pub(crate) fn put_static_lines(
     out: &mut Vec<u8>,
     text: &[u8],
-    list: &[Token],
+    list: &TextTokens,
     program: &Program,
     remark: Option<Remark>,
 ) -> Result<(), AllocError>

@@ -2,7 +2,7 @@
 ghost use Rattle.std.specs.Prelude.{◌≡◌, ◌++◌, decimal, IfOk, OnOk};
 ghost use Rattle.diagnostics.specs.hints.Stopped.{frame_line, instructions_line, named_place, rows_line};
 
-use crate::hints::places::{name_at, put_place};
+use crate::hints::places::{first_name_at, put_place};
 use base::limits::{FRAME_WORDS, INSTRUCTIONS, ROWS};
 use itoa::Buffer;
 use lexer::Token;
@@ -26,7 +26,7 @@ pub(crate) fn put_named_place(
 ) -> Result<(), AllocError>
     ensures { OnOk result (out.new.items ≡ out.old.items ++ named_place text.now list.now place) }
 {
-    match name_at(place, list) {
+    match first_name_at(place, list) {
         Some(name) => out.extend_from_slice(name.as_bytes())?,
         None => {}
     }

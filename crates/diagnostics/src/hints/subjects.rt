@@ -18,8 +18,8 @@ use base::faults::{
     DECLARED_TWICE, NO_MEANING, NOT_STATIC, UNMATCHED_BODY, WRONG_ARGUMENT_COUNT, WRONG_END_NAME,
     WRONG_STATIC_VALUE,
 };
-use lexer::Token;
 use mismatches::Remarks;
+use remedies::TextTokens;
 use std::alloc::{AllocError, Global};
 
 /// What a fault is about of which the tree says something.
@@ -74,7 +74,7 @@ fn other_of(subject: Subject, program: &Program, name: &[u8], place: u32) -> Opt
     }
 }
 
-fn other_place(subject: Subject, program: &Program, list: &[Token], place: u32) -> Option<u32>
+fn other_place(subject: Subject, program: &Program, list: &TextTokens, place: u32) -> Option<u32>
     ensures { result ≡ other_place subject (program_tree program.now) list.now place }
 {
     match name_at(place, list) {
@@ -101,7 +101,7 @@ fn put_subject_lines(
     out: &mut Vec<u8>,
     subject: Subject,
     text: &[u8],
-    list: &[Token],
+    list: &TextTokens,
     program: &Program,
     place: u32,
     remarks: &Remarks,

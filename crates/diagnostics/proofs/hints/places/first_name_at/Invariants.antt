@@ -1,6 +1,6 @@
 use Rattle.std.proofs.Common.{◌≡◌, drop}
 use Rattle.diagnostics.specs.hints.Places.{name_at}
-use Rattle.diagnostics.proofs.hints.places.name_at.Given as goal
+use Rattle.diagnostics.proofs.hints.places.first_name_at.Given as goal
 
 -- what is left decides
 abbrev pub invariant-loop-token : goal.invariant-loop-token
