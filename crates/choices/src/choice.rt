@@ -112,14 +112,16 @@ impl Choice {
 
     /// Whether it takes the first alternative of each slot after the first `front` ones, so that no earlier choice has the same alternatives of those.
     pub fn is_first_after(&self, front: usize) -> bool {
-        let mut at = front;
-        while at < self.places.len() {
-            if self.places[at] != 0 {
-                return false;
-            }
-            at += 1;
+        self.first_from() <= front
+    }
+
+    /// After how many first slots it takes the first alternative of each slot: the least such number.
+    pub fn first_from(&self) -> usize {
+        let mut at = self.places.len();
+        while 0 < at && self.places[at - 1] == 0 {
+            at -= 1;
         }
-        true
+        at
     }
 
     /// How far it is in the order of the alternatives: about how many millionths of the choices are before it.
@@ -145,7 +147,7 @@ impl Choice {
     {
         let slots = choices.slots();
         let places = self.places.as_slice();
-        let mut lines = Vec::new(alloc);
+        let mut lines = Vec::with_capacity(alloc, slots.len())?;
         let mut at = 0;
         while at < slots.len() {
             let slot = &slots[at];

@@ -211,6 +211,16 @@ pub(crate) fn is_known(
     }
 }
 
+/// The first front from this one on, of those before the slots of one time, that is not before `first`: from there on a choice takes the first alternative of
+/// each slot, so that it may meet an earlier one, and be met.
+pub(crate) fn meeting_front(slots: &[Slot], first: usize, front: usize) -> usize {
+    let mut at = front;
+    while at < first && at < slots.len() {
+        at = next_time(slots, at);
+    }
+    at
+}
+
 // The digest of a row, by that of its world.
 fn row_digest(world: u64, slots: &[Slot], front: usize, time: i64, schedule: &Schedule) -> u64 {
     let last = time.saturating_sub(1);

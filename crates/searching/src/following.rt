@@ -83,6 +83,7 @@ pub(crate) fn follow<R: Ready, D: Delays, L: Ledger>(
     outcome_stays();
     left_unmoved();
     let slots = choices.slots();
+    let first = choice.first_from();
     let mut now = time_of(execution);
     let mut left = midst.left;
     let mut front = midst.front;
@@ -94,7 +95,7 @@ pub(crate) fn follow<R: Ready, D: Delays, L: Ledger>(
         if left == 0 {
             return Ok(Followed::TooLong(now));
         }
-        let moment = Moment::of(alloc, execution, choices, schedule, front, table)?;
+        let moment = Moment::of(alloc, execution, choices, schedule, first, front, table)?;
         let told = execution.step(steps);
         match wanted_line(execution.image(), wanted, until, told) {
             Some(line) => return Ok(Followed::Found(Finding::Line(line))),

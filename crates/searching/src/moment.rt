@@ -5,7 +5,7 @@ ghost use Rattle.likeness.specs.Schedules.{reads_input};
 ghost use Rattle.likeness.specs.Worlds.{ReadsNothing};
 ghost use Rattle.searching.specs.Following.{IsMomentOf, IsPauseOf, NoneBefore};
 
-use crate::crossing::is_known;
+use crate::crossing::{is_known, meeting_front};
 use crate::table::Table;
 use crate::world::World;
 use choices::{Choices, Slot};
@@ -39,8 +39,9 @@ impl Model for Moment {
 }
 
 impl Moment {
-    /// The world in which a run is, if its next step may be the last one before the time of the slot after the first `front` ones: no task is ready, nobody
-    /// wakes sooner, and the step may leave the processor.
+    /// The world in which a run is, if its next step may be the last one before the time of a slot that comes after the first `front` ones and not before the
+    /// first `first` ones, after which the choice of the run takes the first alternative of each slot: no task is ready, nobody wakes sooner, and the step may
+    /// leave the processor.
     ///
     /// # Errors
     /// Where memory was refused.
@@ -49,6 +50,7 @@ impl Moment {
         execution: &Execution<'_, '_, R, D>,
         choices: &Choices,
         schedule: &Schedule,
+        first: usize,
         front: usize,
         table: &Table,
     ) -> Result<Option<Moment>, AllocError>
@@ -58,16 +60,16 @@ impl Moment {
             return Ok(None);
         }
         let slots = choices.slots();
-        if !may_pass(execution, slots, front) {
+        let Some(front) = front_ahead(execution, slots, first, front) else {
             return Ok(None);
-        }
+        };
         let world = World::of(alloc, execution)?;
         let Some(world) = world else {
             return Ok(None);
         };
         let digest = world.digest();
         let is_known = is_known(slots, schedule, front, digest, table);
-        let pause = pause_of(alloc, execution, is_known)?;
+        let pause = pause_if_new(alloc, execution, is_known)?;
         let tasking = execution.tasking();
         let next = tasking.next_interrupt();
         Ok(Some(Moment {
@@ -115,6 +117,27 @@ impl Moment {
     }
 }
 
+// After how many first slots the run may meet an earlier one, or be met, by its next step, if it may: the least such number from `front` on.
+fn front_ahead<R: Ready, D: Delays>(
+    execution: &Execution<'_, '_, R, D>,
+    slots: &[Slot],
+    first: usize,
+    front: usize,
+) -> Option<usize> {
+    if !may_pass(execution, slots, front) {
+        return None;
+    }
+    if first <= front {
+        return Some(front);
+    }
+    let meeting = meeting_front(slots, first, front);
+    if may_pass(execution, slots, meeting) {
+        Some(meeting)
+    } else {
+        None
+    }
+}
+
 // Whether the next step may lead to the time of the slot after the first `front` ones or past it: nobody wakes sooner.
 fn may_pass<R: Ready, D: Delays>(
     execution: &Execution<'_, '_, R, D>,
@@ -137,8 +160,7 @@ fn may_pass<R: Ready, D: Delays>(
 }
 
 // A copy of the tasks and objects of a run, for later runs to go on from, if nothing is known of its world.
-#[inline(never)]
-fn pause_of<R: Ready, D: Delays>(
+fn pause_if_new<R: Ready, D: Delays>(
     alloc: Global,
     execution: &Execution<'_, '_, R, D>,
     is_known: bool,
@@ -148,6 +170,17 @@ fn pause_of<R: Ready, D: Delays>(
     if is_known {
         return Ok(None);
     }
+    pause_of(alloc, execution)
+}
+
+// A copy of the tasks and objects of a run, if no task is ready and there is no outcome. The 30 KB of its frame are filled at each call.
+#[inline(never)]
+fn pause_of<R: Ready, D: Delays>(
+    alloc: Global,
+    execution: &Execution<'_, '_, R, D>,
+) -> Result<Option<Box<Pause>>, AllocError>
+    ensures { IfOk result (λ pause. IfSome (option_map (λ b. b.value) pause) (IsPauseOf execution.now)) }
+{
     let tasking = execution.tasking();
     let Some(pause) = tasking.pause() else {
         return Ok(None);

@@ -9,7 +9,7 @@ pub returns : goal.returns
 returns g c =
     let same = c.tasking-tasking.ensures.same in
     record {
-      seen = subst (λ o. IfSome o (IsSeenIn c.args.execution.now)) c.in-Some.is c.in_ok-world.ensures;
+      seen = subst (λ o. IfSome o (IsSeenIn c.args.execution.now)) c.in-Some-world.is c.in_ok-world.ensures;
       pause = c.in_ok-pause.ensures;
       next = c.next_interrupt-next.ensures ∙ ap (λ t. time_ahead (kernel_of t).pending) same;
       blind = c.may_leave.ensures (search (rules, c.if-not-may_leave.false));
