@@ -57,6 +57,7 @@ FIRST_LINES = [
     (["simulate", "long.adb"], "stdout", SILENT),
     (["trace", "long.adb", "empty", "100000"], "stdout", CANNOT_WRITE),
     (["trace", "--vcd", "long.adb", "empty", "100000"], "stdout", CANNOT_WRITE),
+    (["trace", "--vcd", "--time", "long.adb", "empty", "100000"], "stdout", CANNOT_WRITE),
     (["run", "long.img", "empty", "100000"], "stdout", CANNOT_WRITE),
     (["list", "every.img"], "stdout", CANNOT_WRITE),
     (["search", "long.adb", "many", "20000", "100000", "line", "n"], "stdout", CANNOT_WRITE),
@@ -149,6 +150,7 @@ def calls_of_commands(program, folder):
     words = [
         ["trace", "tank.adb", "tank.schedule", "60"],
         ["trace", "--vcd", "tank.adb", "tank.schedule", "60"],
+        ["trace", "--vcd", "--time", "tank.adb", "tank.schedule", "60"],
         ["trace", "--chart", "tank.adb", "tank.schedule", "60"],
         ["measure", "tank.adb", "tank.schedule", "60"],
         ["search", "tank.adb", "choices", "20000", "1000"],

@@ -31,7 +31,7 @@ def blocks_of(text):
         before = part
     return found
 
-OPTION = r" \[(--(?:quiet|tsv|until TIME))\]"
+OPTION = r" \[(--(?:quiet|tsv|time|until TIME))\]"
 
 
 class Checker:

@@ -134,6 +134,7 @@ def calls_of_commands(program, folder):
         ("simulate of an exception", ["simulate", "main.adb"], {"main.adb": raised}, (raised_lines, b"", raised_status)),
         ("trace", ["trace", "main.adb", "input", "1000"], files, None),
         ("trace --vcd", ["trace", "--vcd", "main.adb", "input", "1000"], files, None),
+        ("trace --vcd --time", ["trace", "--vcd", "--time", "main.adb", "input", "1000"], files, None),
         ("trace --chart", ["trace", "--chart", "main.adb", "input", "1000"], files, None),
         ("measure", ["measure", "main.adb", "input", "1000"], files, None),
         ("search that finds none", ["search", "main.adb", "choices", "20000", "1000"], {"main.adb": tank, "choices": choices}, "the answer"),

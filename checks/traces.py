@@ -72,12 +72,12 @@ def bodies_of(source):
     return re.findall(r"\b(?:PROCEDURE|FUNCTION|ENTRY|TASK\s+BODY)\s+(\w+)\s*(?:\([^()]*\)\s*)?(?:RETURN\s+\w+\s+)?(?:WHEN\s+\w+\s+)?IS\b", text)
 
 
-def world_of(program, folder, source, schedule, names=(), bodies=()):
+def world_of(program, folder, source, schedule, names=(), bodies=(), kind=World):
     """The reference's world at the start of what the program compiles of a source."""
     write(os.path.join(folder, "main.adb"), source)
     subprocess.run([program, "compile", "main.adb", "main.img"], cwd=folder, capture_output=True, check=False)
     lines = [tuple(map(int, line.split())) for line in schedule.decode().splitlines()]
-    return World(read(os.path.join(folder, "main.img")), lines, names, bodies)
+    return kind(read(os.path.join(folder, "main.img")), lines, names, bodies)
 
 
 def write(path, content):

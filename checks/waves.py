@@ -1,10 +1,12 @@
 #!/usr/bin/env python3
-"""Reads the value change dumps of sources in the tables, of full_programs.py and of the examples, and compares each value at each tick with those of bench/reference.py.
+"""Reads the value change dumps of sources in the tables, of full_programs.py and of the examples, over steps and over virtual time, and compares each value at each
+tick with those of bench/reference.py: after each step, and where the reference's clock moves on.
 
     waves.py PROGRAM FOLDER EXAMPLES SCRATCH
 
 FOLDER has the tables of rows.py, EXAMPLES programs NAME.adb, some with a NAME.schedule. The reader is written from the standard (IEEE 1364-2005, section 18.2) and
-refuses what that doesn't allow. Each is dumped up to a time, too. Where GTKWave's vcd2fst and fst2vcd are installed, the examples' dumps go through both, and what comes back has the same values.
+refuses what that doesn't allow. Each is dumped up to a time, too. Where GTKWave's vcd2fst and fst2vcd are installed, the examples' dumps go through both, and what
+comes back has the same values.
 """
 import os
 import re
@@ -17,7 +19,7 @@ import full_programs
 import rows
 
 sys.path.insert(0, os.path.join(os.path.dirname(os.path.abspath(__file__)), "..", "bench"))
-from reference import STATUSES  # noqa: E402
+from reference import STATUSES, World  # noqa: E402
 
 TABLES = ("delays", "tasks", "protected", "entries", "interrupts", "traces")
 STATES = {"ready": 0, "running": 1, "asleep": 2, "queued": 3, "served": 4, "finished": 5}
@@ -37,10 +39,11 @@ def need(test, told):
 
 
 class Dump:
-    """A dump: its signals in the order in which they are declared, (scopes and name, bits), what changes at each tick, and the last tick."""
+    """A dump: how long a tick is, its signals in the order in which they are declared, (scopes and name, bits), what changes at each tick, and the last tick."""
 
     def __init__(self, text):
         self.words, self.signals, self.codes, self.changes, self.end, self.comments = iter(text.split()), [], {}, {}, None, []
+        self.timescale = None
         self.declarations()
         self.simulation()
 
@@ -65,7 +68,8 @@ class Dump:
             elif word == "$var":
                 self.declare(scopes, words)
             elif word == "$timescale":
-                need(re.match(r"(1|10|100) ?(s|ms|us|ns|ps|fs)$", " ".join(words)), f"timescale {words}")
+                self.timescale = " ".join(words)
+                need(re.match(r"(1|10|100) ?(s|ms|us|ns|ps|fs)$", self.timescale), f"timescale {words}")
             elif word == "$enddefinitions":
                 need(not scopes and not words, "$enddefinitions")
                 return
@@ -149,16 +153,62 @@ def values_of(world):
     return values
 
 
+class Watched(World):
+    """A world that keeps what its signals have where its clock moves on from a time: nobody runs or is ready, and those due sleep still."""
+
+    @property
+    def now(self):
+        return self.time
+
+    @now.setter
+    def now(self, time):
+        if not hasattr(self, "time"):
+            self.instants = []
+        elif time > self.time:
+            self.instants.append((self.time, values_of(self)))
+        self.time = time
+
+
+def differing(told, values):
+    """The values that are other ones than those that were told last."""
+    return {signal: value for signal, value in enumerate(values) if value != told[signal]}
+
+
+def declared(dump, world, objects, timescale):
+    need(dump.timescale == timescale, f"timescale {dump.timescale}")
+    need(dump.signals == signals_of(world, objects), f"signals {dump.signals}")
+    need(list(dump.codes) == [code_of(signal) for signal in range(len(dump.signals))], f"codes {list(dump.codes)}")
+
+
+def compare_times(dump, world, objects, limit, until):
+    """Each value at each instant is the one that the reference has at its end, nothing else is told to change, and all instants are there, and no others. The
+    first word of the last line is returned."""
+    declared(dump, world, objects, "1 us")
+    steps, now, values = 0, world.now, values_of(world)
+    while steps < limit and world.outcome is None and not world.is_past(until):
+        now, values = world.now, values_of(world)
+        world.step()
+        steps += 1
+    instants = [*world.instants[:-1], (now, values)] if world.is_past(until) else [*world.instants, (world.now, values_of(world))]
+    told, changes = [None] * len(dump.signals), {}
+    for time, values in instants:
+        changes[time], told = differing(told, values), values
+    wrong = [time for time in {**changes, **dump.changes} if changes.get(time) != dump.changes.get(time)]
+    need(not wrong, f"at time {wrong[:1]}: the reference changes {[changes.get(time) for time in wrong[:1]]}")
+    need(list(dump.changes) == list(changes) and dump.end == instants[-1][0], f"the dump ends at {dump.end}")
+    need(dump.comments == [world.last_line(now, until)], f"comments {dump.comments}")
+    return world.last_line(now, until).split()[0]
+
+
 def compare(dump, world, objects, limit, until):
     """Each value at each tick is the reference's, nothing else is told to change, and the dump ends after the last step: the last one before the clock passes the
     time, if one is given. The first word of the last line is returned."""
-    need(dump.signals == signals_of(world, objects), f"signals {dump.signals}")
-    need(list(dump.codes) == [code_of(signal) for signal in range(len(dump.signals))], f"codes {list(dump.codes)}")
+    declared(dump, world, objects, "1 ns")
     told, steps, now = [None] * len(dump.signals), 0, world.now
     while not world.is_past(until):
         values = values_of(world)
-        differing = {signal: value for signal, value in enumerate(values) if value != told[signal]}
-        need(dump.changes.pop(steps, {}) == differing, f"at step {steps}: the reference changes {differing}")
+        changes = differing(told, values)
+        need(dump.changes.pop(steps, {}) == changes, f"at step {steps}: the reference changes {changes}")
         told = values
         if steps == limit or world.outcome is not None:
             break
@@ -197,15 +247,21 @@ class Checker:
         return os.path.join(self.folder, name)
 
     def check(self, name, source, schedule, limit, until=None):
+        """The dumps over steps and over virtual time."""
         for file, content in (("main.adb", source), ("input", schedule)):
             with open(self.path(file), "wb") as written:
                 written.write(content)
-        world = world_of(self.program, self.folder, source, schedule)
-        run = self.call(self.program, "trace", "--vcd", "main.adb", "input", str(limit), *([] if until is None else ["--until", str(until)]))
+        steps = self.check_dump(name, source, schedule, limit, until, World, compare)
+        return steps, self.check_dump(f"{name} over time", source, schedule, limit, until, Watched, compare_times, "--time")
+
+    def check_dump(self, name, source, schedule, limit, until, kind, by, *options):
+        world = world_of(self.program, self.folder, source, schedule, kind=kind)
+        timed = [] if until is None else ["--until", str(until)]
+        run = self.call(self.program, "trace", "--vcd", *options, "main.adb", "input", str(limit), *timed)
         try:
             dump = Dump(run.stdout.decode("ascii"))
             self.ticks += len(dump.changes)
-            status = STATUSES[compare(dump, world, protected_names(source), limit, until)]
+            status = STATUSES[by(dump, world, protected_names(source), limit, until)]
             need((run.stderr, run.returncode) == (b"", status), f"status {run.returncode}, {run.stderr!r}")
         except (Wrong, ValueError) as wrong:
             self.wrong.append(f"{name}: {wrong}")
@@ -232,10 +288,11 @@ def main():
         checker.check(name, source, schedule, STEPS, UNTIL)
         sources += 1
     for name, source, schedule, _ in examples_of(examples):
-        text = checker.check(name, source, schedule, ALL_STEPS)
+        texts = checker.check(name, source, schedule, ALL_STEPS)
         checker.check(name, source, schedule, ALL_STEPS, UNTIL)
         if installed:
-            checker.convert(name, text)
+            for text in texts:
+                checker.convert(name, text)
         sources += 1
     for told in checker.wrong:
         print(f"waves: {told}", file=sys.stderr)

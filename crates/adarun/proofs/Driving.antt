@@ -1,14 +1,19 @@
 -- What the work over files leaves.
-use Rattle.std.proofs.Common.{◌≡◌, ◌<◌, ℕ, ℤ, arith, List, length, Option, Bool, true, false, cond, inr, refl, sym, ap, subst, Ok, Err}
-use Rattle.std.specs.Prelude.{◌⊎◌, nat_eq}
+use Rattle.std.proofs.Common.{◌≡◌, ◌<◌, ℕ, ℤ, arith, List, length, Option, Bool, true, false, cond, inl, inr, refl, sym, ap, subst, Ok, Err}
+use Rattle.std.specs.Io.KnownBytes.{Appends}
+use Rattle.std.specs.Prelude.{◌⊎◌, IfOk, OnOk, Result, nat_eq}
 use denote.Enum.Declared.{tag_of}
 use Rattle.compiler.specs.stmt_code.specs.declared.tables.PlaceRow.{PlaceRow}
 use Rattle.base.specs.declared.faults.TheConstants.{MEMORY_REFUSED}
 use Rattle.base.specs.declared.schedule.ScheduleLine.{ScheduleLine}
+use Rattle.image.specs.Code.{code}
 use Rattle.image.specs.Sections.{Sections}
 use Rattle.lexer.specs.declared.fault.Fault.{Fault}
+use Rattle.machine.specs.Bounds.{IsBound}
+use Rattle.machine.specs.Stands.{EndsBy}
 use Rattle.machine.specs.declared.bound.Bound.{Bound}
 use Rattle.machine.specs.declared.bound.Cut.{Cut}
+use Rattle.machine.specs.declared.fault.RunFault.{RunFault}
 use Rattle.machine.specs.declared.reports.Outcome.{Outcome}
 use Rattle.machine.specs.declared.reports.Outcome.TheVariants as outcomes
 use Rattle.file_limits.specs.declared.TheConstants.{IMAGE_BYTES, SCHEDULE_BYTES, SOURCE_BYTES}
@@ -23,10 +28,11 @@ use Rattle.command_line.specs.declared.WordsError.TheVariants.{Usage}
 use Rattle.adarun.specs.Accepted.{RefusesText}
 use Rattle.adarun.specs.Headline.{Runs}
 use Rattle.adarun.specs.Stopping.{RefusesRunning}
-use Rattle.adarun.specs.Driving.{HasLoaded, HasRun, HasRunImage, HasRunUntil, HasTraced, KeepsSink, LeavesGo, LeavesRun, LeavesTrace, LeavesUntil, number_of, status_of, text_of}
+use Rattle.adarun.specs.Driving.{HasLoaded, HasRun, HasRunImage, HasRunUntil, HasTraced, IsViewed, KeepsSink, LeavesCompile, LeavesGo, LeavesRun, LeavesTrace, LeavesUntil, named_text, number_of, status_of, text_of}
 use Rattle.adarun.specs.Origins.{known_in}
 use Rattle.adarun.specs.Reading.{Contents, IsBeginningRead}
 use Rattle.adarun.specs.Timed.{WritesItsMeaningUntil}
+use Rattle.adarun.specs.declared.compilation.Named.{Named}
 use Rattle.adarun.specs.declared.going.GoFault.{GoFault}
 use Rattle.adarun.specs.declared.going.GoFault.TheVariants as faults
 use Rattle.adarun.specs.contracts.program.Status as status_type
@@ -139,6 +145,31 @@ module _ (contents : Contents) (name schedule : List ℕ) (limit : ℕ) (old new
       subst (λ s. LeavesRun contents name schedule limit s old new) (sym e)
       (unscheduled_image (nat_eq fault.number MEMORY_REFUSED) fault image given input refl loaded read same refused unwritten)
 
+-- ---- `compile`: a source that is refused, and memory that is, leave each file as it was
+module _ (contents : Contents) (source name : List ℕ) (written : Option (List ℕ)) where
+  uncompiled : (b : Bool) (fault : Fault) (text : List ℕ) → nat_eq fault.number MEMORY_REFUSED ≡ b → IsBeginningRead (contents source) SOURCE_BYTES text
+      → RefusesText text fault → LeavesCompile contents contents source name (cond b NoMemory SourceRefused) written written
+  uncompiled true fault text e read refused = (refl, inl (λ other. refl))
+  uncompiled false fault text e read refused = (
+    λ other. refl,
+    record {
+      text = text;
+      source_read = read;
+      fault = fault;
+      refused = refused;
+      not_memory = λ h. let is = ap (λ n. nat_eq n MEMORY_REFUSED) h in absurd cc;
+      unwritten = refl;
+    },
+  )
+
+  pub refused_compile : (status : Status) (fault : Fault) (text : List ℕ) → status ≡ cond (nat_eq fault.number MEMORY_REFUSED) NoMemory SourceRefused
+      → IsBeginningRead (contents source) SOURCE_BYTES text → RefusesText text fault → LeavesCompile contents contents source name status written written
+  refused_compile status fault text e read refused =
+      subst (λ s. LeavesCompile contents contents source name s written written) (sym e) (uncompiled (nat_eq fault.number MEMORY_REFUSED) fault text refl read refused)
+
+  pub unmade_compile : (status : Status) → status ≡ NoMemory → LeavesCompile contents contents source name status written written
+  unmade_compile status e = subst (λ s. LeavesCompile contents contents source name s written written) (sym e) (refl, inl (λ other. refl))
+
 -- what was loaded of a beginning of a file is the image of the file
 pub image_loaded : (contents : Contents) (name : List ℕ) (image : Sections) (text lent : List ℕ) → lent ≡ text → IsBeginningRead (contents name) IMAGE_BYTES text → bytes_of image ≡ lent
     → length (bytes_of image) < IMAGE_BYTES → IsLoaded lent image → HasLoaded contents name image
@@ -166,6 +197,14 @@ told_alike view W image places lines bound lent names own bodies shown text same
     subst (λ n. W (text_of view image n (known_in text image places bodies) lines bound)) same_names
     (subst (λ o. W (text_of view image lent (known_in text image places o) lines bound)) same_bodies
     (subst (λ t. W (text_of view image lent (known_in t image places own) lines bound)) same_text told))
+
+-- a view whose text was written, and whose run has an outcome
+module _ (view : View) (text : List ℕ) (named : Named) (lines : List ScheduleLine) (until : Option ℤ) (limit : ℕ) (old new : Option (List ℕ)) (bound : Bound)
+    (bounded : IsBound named.image lines until limit bound) where
+  pub viewed : (r : Result Outcome RunFault) → OnOk r (Appends old new (named_text view text named lines bound))
+      → IfOk r (λ outcome. EndsBy outcome (code named.image lines bound.steps)) → IfOk r (IsViewed view text named lines until limit old new)
+  viewed (Ok outcome) written ends = record { bound = bound; bounded = bounded; written = written; ends = ends }
+  viewed (Err fault) written ends = tt
 
 -- a schedule that is refused leaves what it leaves to `go`
 

@@ -36,13 +36,14 @@ use Rattle.tracing.specs.Known.{Known}
 use Rattle.tracing.specs.Traces.{trace_text}
 use Rattle.measuring.specs.Text.{measures_text}
 use Rattle.measuring.specs.declared.text.Form.TheVariants as tables
+use Rattle.waveforms.specs.TimeWaves.{time_waves_text}
 use Rattle.waveforms.specs.Waves.{waves_text}
 use Rattle.command_line.specs.Words.{CheckText, Command, CompileText, ExplainFault, ExplainText, GoText, ListImage, Nothing, RunImage, ShowManual, ShowVersion, SearchText, SimulateText, TraceText, asked, is_told}
 use Rattle.command_line.specs.Words as words_of
 use Rattle.adarun.specs.Accepted.{Compiles, RefusesText}
 use Rattle.adarun.specs.CodeTold.{IsCodeTold}
 use Rattle.adarun.specs.Headline.{Runs, WritesBeginning, WritesItsMeaning}
-use Rattle.adarun.specs.Naming.{object_names}
+use Rattle.adarun.specs.Naming.{names_alone, object_names}
 use Rattle.adarun.specs.Operations.{subprogram_names}
 use Rattle.adarun.specs.Origins.{known_in}
 use Rattle.adarun.specs.Reading.{Contents, IsBeginningRead, IsContentRead, with_input}
@@ -52,6 +53,7 @@ use Rattle.adarun.specs.TextFaults.{AreTextFaults}
 use Rattle.adarun.specs.Timed.{WritesBeginningUntil, WritesItsMeaningUntil}
 use Rattle.adarun.specs.Reporting.{IsFaultReport}
 use Rattle.compiler.specs.expr_rules.specs.Faults.{Faults}
+use Rattle.adarun.specs.declared.compilation.Named.{Named}
 use Rattle.adarun.specs.declared.exploring.SearchOutcome.{SearchOutcome}
 use Rattle.adarun.specs.declared.exploring.SearchOutcome.TheVariants as searches
 use Rattle.adarun.specs.declared.files.ReadError.{ReadError}
@@ -175,14 +177,34 @@ input_of contents (Some name) = contents name
 
 -- ---- `trace`
 
--- what is written of a run, by its image, the names of its objects, what is known of its source, its schedule and its bound: rows, a value change dump, a
--- chart, or what is measured of it, as a table or as fields
+-- what is written of a run, by its image, the names of its objects, what is known of its source, its schedule and its bound: rows, a value change dump over
+-- steps or over virtual time, a chart, or what is measured of it, as a table or as fields
 abbrev pub text_of : View → Sections → List (List ℕ) → Known → List ScheduleLine → Bound → List ℕ
 text_of views.Rows = trace_text
 text_of views.Dump = λ i objects known. waves_text i objects
+text_of views.TimeDump = λ i objects known. time_waves_text i objects
 text_of views.Chart = λ i objects known. chart_text i objects
 text_of views.Measures = λ i objects known. measures_text tables.Table i objects
 text_of views.MeasuredFields = λ i objects known. measures_text tables.Fields i objects
+
+-- what this view has of a run of a named image, by the text that it was compiled of
+abbrev pub named_text : View → (text : List ℕ) → Named → List ScheduleLine → Bound → List ℕ
+named_text view text named = text_of view named.image (names_alone named.objects.items) (known_in text named.image named.places named.subprograms.items)
+
+-- this view of a run of a named image, up to a time if one is given, was written, with this outcome
+pub record IsViewed (view : View) (text : List ℕ) (named : Named) (lines : List ScheduleLine) (until : Option ℤ) (limit : ℕ) (old new : Option (List ℕ))
+    (outcome : Outcome) : Type 0 where
+  pub bound : Bound
+  pub bounded : IsBound named.image lines until limit bound
+  pub written : Appends old new (named_text view text named lines bound)
+  pub ends : EndsBy outcome (code named.image lines bound.steps)
+
+-- a beginning of that view was written
+pub record IsViewBegun (view : View) (text : List ℕ) (named : Named) (lines : List ScheduleLine) (until : Option ℤ) (limit : ℕ) (old new : Option (List ℕ))
+    : Type 0 where
+  pub bound : Bound
+  pub bounded : IsBound named.image lines until limit bound
+  pub begins : AppendsBeginning old new (named_text view text named lines bound)
 
 -- the file was read, and its lines are a schedule
 pub record HasSchedule (contents : Contents) (name : List ℕ) : Type 0 where

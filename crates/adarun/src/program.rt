@@ -2,16 +2,16 @@
 ghost use Rattle.std.specs.Prelude.{◌≡◌, ◌≢◌, ◌<◌, ◌⊎◌, ℕ, Err, IfOk, List, OnOk, Option, map, nat_eq, option_map, if◌then◌else◌};
 ghost use Rattle.base.specs.declared.faults.TheConstants.{MEMORY_REFUSED};
 ghost use Rattle.adarun.specs.Driving as driving;
-ghost use Rattle.adarun.specs.Driving.{AnswersStatus, IsFaultPlace, IsWholeTold, KeepsSink, LeavesCheck, LeavesCompile, LeavesExplain, LeavesExplainText, LeavesGo, LeavesList, LeavesRun, LeavesShown, LeavesSimulate, LeavesTrace, LeavesUntil, input_of, text_of};
-ghost use Rattle.adarun.specs.Reading.{IsBeginningRead, with_input};
-ghost use Rattle.file_limits.specs.declared.TheConstants.{SCHEDULE_BYTES};
+ghost use Rattle.adarun.specs.Driving.{AnswersStatus, IsFaultPlace, IsViewBegun, IsViewed, IsWholeTold, KeepsSink, LeavesCheck, LeavesCompile, LeavesExplain, LeavesExplainText, LeavesGo, LeavesList, LeavesRun, LeavesShown, LeavesSimulate, LeavesTrace, LeavesUntil, input_of, text_of};
+ghost use Rattle.adarun.specs.Reading.{Contents, IsBeginningRead, with_input};
+ghost use Rattle.file_limits.specs.declared.TheConstants.{IMAGE_BYTES, SCHEDULE_BYTES, SOURCE_BYTES};
 ghost use Rattle.image.specs.Code.{code};
 ghost use Rattle.machine.specs.Stands.{EndsBy};
 ghost use Rattle.machine.specs.Written.{AppendsBeginning};
 ghost use Rattle.std.specs.Io.KnownBytes.{Appends};
 
 use crate::code_told::told_of_limit;
-use crate::compilation::{compile, compile_named};
+use crate::compilation::{Named, compile, compile_named};
 use crate::files::{FileStore, ReadError, WriteError, read_source};
 use crate::going::{GoFault, go};
 use crate::naming::names_alone;
@@ -39,7 +39,7 @@ use measuring::{Form, measure};
 use std::alloc::{AllocError, Global};
 use std::sync::ledger::Ledger;
 use tracing::{Origins, trace};
-use waveforms::waves;
+use waveforms::{time_waves, waves};
 
 // The most bytes of a line that is reported in one write.
 const LINE_BYTES: usize = 256;
@@ -182,9 +182,23 @@ fn compile_to<F: FileStore, E: Sink>(
         Ok(text) => text,
         Err(error) => return unread(err, error, source),
     };
-    let compiled = match compile(alloc, &text) {
+    compile_text(alloc, files, &text, image, err)
+}
+
+// Writes the image's file of a source that has been read.
+fn compile_text<F: FileStore, E: Sink>(
+    alloc: Global,
+    files: &mut F,
+    text: &[u8],
+    image: &str,
+    err: &mut E,
+) -> Status
+    ensures { (source : List ℕ) (written : Option (List ℕ)) → IsBeginningRead (F.contents files.old source) SOURCE_BYTES text.now
+        → LeavesCompile (F.contents files.old) (F.contents files.new) source image.now result written written }
+{
+    let compiled = match compile(alloc, text) {
         Ok(compiled) => compiled,
-        Err(fault) => return refuse_source(err, &text, &fault),
+        Err(fault) => return refuse_source(err, text, &fault),
     };
     let bytes = match encode(alloc, &compiled) {
         Ok(bytes) => bytes,
@@ -211,7 +225,16 @@ fn drive_list<F: FileStore, O: Sink, E: Sink>(
         Ok(bytes) => bytes,
         Err(error) => return unread(err, error, name),
     };
-    let image = match load(alloc, &bytes) {
+    list_bytes(alloc, &bytes, out, err)
+}
+
+// Lists the image that the bytes of a file are, which have been read.
+fn list_bytes<O: Sink, E: Sink>(alloc: Global, bytes: &[u8], out: &mut O, err: &mut E) -> Status
+    ensures leaves { (contents : Contents) (name : List ℕ) → IsBeginningRead (contents name) IMAGE_BYTES bytes.now
+        → LeavesList contents name result (O.bytes out.old) (O.bytes out.new) }
+    ensures sink { KeepsSink result (out.new ≡ out.old) (O.failures out.old) (O.failures out.new) }
+{
+    let image = match load(alloc, bytes) {
         Ok(image) => image,
         Err(fault) => return refuse_image(err, &fault),
     };
@@ -247,12 +270,30 @@ fn drive_run<F: FileStore, O: Sink, E: Sink, L: Ledger>(
         Ok(lines) => lines,
         Err(error) => return unread(err, error, schedule),
     };
-    let image = match load(alloc, &bytes) {
+    run_bytes(alloc, &bytes, &lines, limit, out, err, steps)
+}
+
+// Runs the image that the bytes of a file are under a schedule, both of which have been read.
+fn run_bytes<O: Sink, E: Sink, L: Ledger>(
+    alloc: Global,
+    bytes: &[u8],
+    lines: &[u8],
+    limit: u64,
+    out: &mut O,
+    err: &mut E,
+    steps: &mut Steps<L>,
+) -> Status
+    ensures leaves { (contents : Contents) (name schedule : List ℕ) → IsBeginningRead (contents name) IMAGE_BYTES bytes.now
+        → IsBeginningRead (contents schedule) SCHEDULE_BYTES lines.now
+        → LeavesRun contents name schedule limit result (O.bytes out.old) (O.bytes out.new) }
+    ensures sink { KeepsSink result (out.new ≡ out.old) (O.failures out.old) (O.failures out.new) }
+{
+    let image = match load(alloc, bytes) {
         Ok(image) => image,
         Err(fault) => return refuse_image(err, &fault),
     };
     image_ends(&image);
-    let schedule = match Schedule::read(alloc, &lines) {
+    let schedule = match Schedule::read(alloc, lines) {
         Ok(schedule) => schedule,
         Err(fault) => return refuse_schedule(err, &fault),
     };
@@ -453,35 +494,78 @@ fn drive_trace<F: FileStore, O: Sink, E: Sink, L: Ledger>(
         Ok(lines) => lines,
         Err(error) => return unread(err, error, schedule),
     };
-    let named = match compile_named(alloc, &text) {
+    trace_texts(alloc, view, &text, &lines, until, limit, out, err, steps)
+}
+
+// Writes this view of the run of a source under a schedule, both of which have been read.
+fn trace_texts<O: Sink, E: Sink, L: Ledger>(
+    alloc: Global,
+    view: View,
+    text: &[u8],
+    lines: &[u8],
+    until: Option<i64>,
+    limit: u64,
+    out: &mut O,
+    err: &mut E,
+    steps: &mut Steps<L>,
+) -> Status
+    ensures leaves { (contents : Contents) (source schedule : List ℕ) → IsBeginningRead (contents source) SOURCE_BYTES text.now
+        → IsBeginningRead (contents schedule) SCHEDULE_BYTES lines.now
+        → LeavesTrace view contents source schedule until limit result (O.bytes out.old) (O.bytes out.new) }
+    ensures sink { KeepsSink result (out.new ≡ out.old) (O.failures out.old) (O.failures out.new) }
+{
+    let named = match compile_named(alloc, text) {
         Ok(named) => named,
-        Err(fault) => return refuse_source(err, &text, &fault),
+        Err(fault) => return refuse_source(err, text, &fault),
     };
-    let schedule = match Schedule::read(alloc, &lines) {
+    let schedule = match Schedule::read(alloc, lines) {
         Ok(schedule) => schedule,
         Err(fault) => return refuse_schedule(err, &fault),
     };
-    let bound = match bound_of(alloc, &named.image, &schedule, until, limit, steps) {
-        Ok(bound) => bound,
-        Err(_) => return no_memory(err),
-    };
-    let origins = Statements {
-        text: &text,
-        image: &named.image,
-        places: &named.places,
-        subprograms: &named.subprograms,
-    };
-    let Ok(objects) = names_alone(alloc, &named.objects) else {
-        return no_memory(err);
-    };
-    let image = &named.image;
-    match write_view(
-        alloc, view, image, &objects, &origins, &schedule, bound, out, steps,
+    match write_named(
+        alloc, view, text, &named, &schedule, until, limit, out, steps,
     ) {
         Ok(outcome) => status_of(&outcome),
         Err(RunFault::Memory) => no_memory(err),
         Err(RunFault::Write) => cannot_write(err),
     }
+}
+
+// Writes this view of a run of what a source was compiled to.
+fn write_named<O: Sink, L: Ledger>(
+    alloc: Global,
+    view: View,
+    text: &[u8],
+    named: &Named,
+    schedule: &Schedule,
+    until: Option<i64>,
+    limit: u64,
+    out: &mut O,
+    steps: &mut Steps<L>,
+) -> Result<Outcome, RunFault>
+    ensures written { IfOk result (IsViewed view text.now named.now schedule.now until limit (O.bytes out.old) (O.bytes out.new)) }
+    ensures kept { OnOk result (O.failures out.new ≡ O.failures out.old) }
+    ensures memory { result ≡ Err RunFault.Memory → out.new ≡ out.old }
+    ensures failed { result ≡ Err RunFault.Write → O.failures out.old < O.failures out.new }
+    ensures begins { result ≡ Err RunFault.Write → IsViewBegun view text.now named.now schedule.now until limit (O.bytes out.old) (O.bytes out.new) }
+{
+    let image = &named.image;
+    let bound = match bound_of(alloc, image, schedule, until, limit, steps) {
+        Ok(bound) => bound,
+        Err(_) => return Err(RunFault::Memory),
+    };
+    let origins = Statements {
+        text,
+        image,
+        places: &named.places,
+        subprograms: &named.subprograms,
+    };
+    let Ok(objects) = names_alone(alloc, &named.objects) else {
+        return Err(RunFault::Memory);
+    };
+    write_view(
+        alloc, view, image, &objects, &origins, schedule, bound, out, steps,
+    )
 }
 
 // Writes this view of a run; its protected objects have these names.
@@ -506,6 +590,7 @@ fn write_view<P: Origins, O: Sink, L: Ledger>(
     match view {
         View::Rows => trace(alloc, image, objects, origins, schedule, bound, out, steps),
         View::Dump => waves(alloc, image, objects, schedule, bound, out, steps),
+        View::TimeDump => time_waves(alloc, image, objects, schedule, bound, out, steps),
         View::Chart => chart(alloc, image, objects, schedule, bound, out, steps),
         View::Measures => measure(
             alloc,

@@ -89,14 +89,20 @@ is_plain (c ∷ d ∷ rest) = not (nat_eq c 45)
 
 -- ---- `trace` with an option, and `measure`
 
--- what an option directly after `trace` asks for
-abbrev pub option_view : List ℕ → Option View
-option_view option =
-    if bytes_eq option (codes "--vcd") then Some views.Dump else (if bytes_eq option (codes "--chart") then Some views.Chart else None)
+-- `--time`, directly after `--vcd`, asks for a dump over virtual time; and the words after it
+abbrev pub dumped_in : List (List ℕ) → View × List (List ℕ)
+dumped_in [] = (views.Dump, [])
+dumped_in (mark ∷ rest) = if bytes_eq mark (codes "--time") then (views.TimeDump, rest) else (views.Dump, mark ∷ rest)
 
--- that, and the words after it
+-- what an option directly after `trace` asks for, with these words after it
+abbrev pub viewed_in : (option : List ℕ) → List (List ℕ) → Option (View × List (List ℕ))
+viewed_in option rest =
+    if bytes_eq option (codes "--vcd") then Some (dumped_in rest)
+    else (if bytes_eq option (codes "--chart") then Some (views.Chart, rest) else None)
+
+-- that, and the words after the option
 abbrev pub behind_option : List (List ℕ) → Option (View × List (List ℕ))
-behind_option (name ∷ option ∷ rest) = if bytes_eq name (codes "trace") then option_map (λ view. (view, rest)) (option_view option) else None
+behind_option (name ∷ option ∷ rest) = if bytes_eq name (codes "trace") then viewed_in option rest else None
 behind_option words = None
 
 -- what these ask for: a word `--` before them lets names begin with `-`

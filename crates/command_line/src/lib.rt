@@ -102,8 +102,10 @@ pub enum Request<'a> {
 pub enum View {
     /// A row for each event (docs/FORMATS.md, "Traces").
     Rows,
-    /// A value change dump (docs/FORMATS.md, "Value change dumps").
+    /// A value change dump over the steps of the run (docs/FORMATS.md, "Value change dumps").
     Dump,
+    /// A value change dump over virtual time.
+    TimeDump,
     /// A chart over virtual time (docs/FORMATS.md, "Charts").
     Chart,
     /// What is measured, as a table (docs/FORMATS.md, "Measures").

@@ -1,30 +1,37 @@
 //! The words after `measure`, and after `trace` with an option, which are read without clap.
 ghost use Rattle.std.specs.Prelude.{◌≡◌, if◌then◌else◌, map, option_map};
-ghost use Rattle.command_line.specs.Words.{AnswersWords, Nothing, seen, view_asked, within};
+ghost use Rattle.command_line.specs.Words.{AnswersWords, Nothing, dumped_in, seen, view_asked, within};
 ghost use Rattle.command_line.specs.Words as words_of;
 
 use crate::{Request, View, WordsError, are_plain, numeral_of};
 
-// What an option directly after `trace` asks for.
-fn option_view(option: &str) -> Option<View>
-    ensures { result ≡ words_of.option_view option.now }
+// A dump over virtual time, where the first word asks for it, or else over steps; and the words after it.
+fn dumped_in<'a>(words: &'a [&'a str]) -> (View, &'a [&'a str])
+    ensures { (result.0, map (λ w. w.now) result.1.now) ≡ dumped_in (map (λ w. w.now) words.now) }
+{
+    match words {
+        [mark, rest @ ..] if *mark == "--time" => (View::TimeDump, rest),
+        _ => (View::Dump, words),
+    }
+}
+
+// What an option directly after `trace` asks for, with these words after it.
+fn viewed_in<'a>(option: &str, words: &'a [&'a str]) -> Option<(View, &'a [&'a str])>
+    ensures { option_map (λ found. (found.0, map (λ w. w.now) found.1.now)) result ≡ words_of.viewed_in option.now (map (λ w. w.now) words.now) }
 {
     match option {
-        "--vcd" => Some(View::Dump),
-        "--chart" => Some(View::Chart),
+        "--vcd" => Some(dumped_in(words)),
+        "--chart" => Some((View::Chart, words)),
         _ => None,
     }
 }
 
-/// What the option directly after `trace` asks for, and the words after it.
+/// What the options directly after `trace` ask for, and the words after them.
 pub(crate) fn behind_option<'a>(words: &'a [&'a str]) -> Option<(View, &'a [&'a str])>
     ensures { option_map (λ found. (found.0, map (λ w. w.now) found.1.now)) result ≡ words_of.behind_option (map (λ w. w.now) words.now) }
 {
     match words {
-        [name, option, rest @ ..] if *name == "trace" => {
-            let view = option_view(option)?;
-            Some((view, rest))
-        }
+        [name, option, rest @ ..] if *name == "trace" => viewed_in(option, rest),
         _ => None,
     }
 }

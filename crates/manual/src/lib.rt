@@ -21,8 +21,9 @@ COMMANDS
     adarun trace SRC SCHED LIMIT [--until TIME]
         reports the run row by row: who runs, waits, is preempted, enters and leaves objects,
         queues and is served, what is raised and where, and what is refused
-    adarun trace --vcd SRC SCHED LIMIT [--until TIME]
-        writes the run as a value change dump, for viewers of waveforms
+    adarun trace --vcd [--time] SRC SCHED LIMIT [--until TIME]
+        writes the run as a value change dump, for viewers of waveforms: over its steps, or with
+        --time over virtual time
     adarun trace --chart SRC SCHED LIMIT [--until TIME]
         writes the run as a chart over virtual time: a row for each task and each object
     adarun measure [--tsv] SRC SCHED LIMIT [--until TIME]
@@ -62,7 +63,7 @@ WORDS
     NUMBER  the number of a fault
 
     A longer name that begins with a hyphen comes after the word --, as in
-    adarun go -- -main.adb /dev/null 1000000. There are no options but --vcd,
+    adarun go -- -main.adb /dev/null 1000000. There are no options but --vcd, --time,
     --chart, --tsv, --part, --quiet and --until, which doesn't come after that word.
 
 FORMATS

@@ -8,7 +8,7 @@ use Rattle.image.specs.Sections.{Sections}
 use Rattle.image_laws.specs.Laws.{OutcomeStays}
 use Rattle.tasking.specs.Held.{kernel_of}
 use Rattle.execution.specs.Held.{HeldWorld, world_of}
-use Rattle.machine.specs.Stands.{EndsBy, HoldsWorld, ShowsText}
+use Rattle.machine.specs.Stands.{EndsBy, HoldsWorld}
 use Rattle.machine.specs.Written.{AppendsBeginning}
 use Rattle.machine.specs.declared.reports.Event.{Event}
 use Rattle.machine.specs.declared.reports.Outcome.{Outcome}
@@ -17,6 +17,7 @@ use Rattle.waveforms.specs.Signals.{values}
 use Rattle.waveforms.specs.Waves.{one_without, step_text, steps_taken, steps_text}
 use Rattle.waveforms.proofs.Changes.{step_without}
 use Rattle.waveforms.proofs.HeldValues.{values_held}
+use Rattle.waveforms.proofs.Standing.{StepsBy, ends_here, stands_on}
 
 module _ (i : Sections) (schedule : List ScheduleLine) where
   abbrev values_at : ℕ → List ℕ
@@ -71,22 +72,13 @@ pub dumped_nothing : (h : HeldWorld) (told : List ℕ) (old : Option (List ℕ))
 dumped_nothing h told old before stands are =
     record { image = refl; schedule_is = refl; stands = stands; values_are = are; taken = refl; written = appends_nothing old; kept = refl }
 
--- a machine's step, as its contract has it
-abbrev pub StepsBy : HeldWorld → HeldWorld → Event → Type 0
-StepsBy h next told =
-    (m : ℕ) → HoldsWorld h (code h.image h.schedule m) → HoldsWorld next (code h.image h.schedule (m + 1)) × ShowsText h.image (code h.image h.schedule m).kernel (code h.image h.schedule (m + 1)).kernel told
-
 module _ (i : Sections) (schedule : List ScheduleLine) (n : ℕ) (h : HeldWorld) (told : List ℕ) (old new : Option (List ℕ)) (before after : ℕ) (r : Dumped i schedule n h told old new before after) where
   module _ (next : HeldWorld) (shown : Event) (steps : StepsBy h next shown) (going : (kernel_of h.tasking).outcome ≡ None) (later_told : List ℕ) (are : later_told ≡ values (kernel_of next.tasking)) (later : Option (List ℕ)) where
     abbrev text : ℕ → List ℕ
     text m = step_text m told later_told
 
     stepped : HoldsWorld next (code i schedule (suc n))
-    stepped =
-        let e : n + 1 ≡ suc n = omega arith in
-        subst (λ m. HoldsWorld next (code i schedule m)) e
-        (subst (λ s. HoldsWorld h (code i s n) → HoldsWorld next (code i s (n + 1))) r.schedule_is
-        (subst (λ j. HoldsWorld h (code j h.schedule n) → HoldsWorld next (code j h.schedule (n + 1))) r.image (λ holds. (steps n holds).0)) r.stands)
+    stepped = stands_on i schedule n h next shown r.image r.schedule_is r.stands steps
 
     steps_more : steps_text i schedule (suc n) ≡ steps_text i schedule n ++ text (suc n)
     steps_more =
@@ -134,7 +126,7 @@ pub dumped_over : OutcomeStays → (i : Sections) (schedule : List ScheduleLine)
     n ≤ limit → (n ≡ limit) ⊎ ((e : KernelOutcome) × ((kernel_of h.tasking).outcome ≡ Some e)) → (o : Outcome) → EndsBy o (world_of h) → Complete i schedule limit n o old new before after
 dumped_over stays i schedule n limit h told old new before after r le why o ends =
     let at : n + (limit - n) ≡ limit = omega (arith, le) in
-    let here : EndsBy o (code i schedule n) = record { outcome = ap (λ (w : CodeWorld). w.kernel.outcome) r.stands ∙ ends.outcome; time = ap (λ (w : CodeWorld). w.kernel.now) r.stands ∙ ends.time } in
+    let here : EndsBy o (code i schedule n) = ends_here i schedule n h r.stands o ends in
     let over : (e : KernelOutcome) → (kernel_of h.tasking).outcome ≡ Some e → (code i schedule n).kernel.outcome ≡ Some e = λ e is. ap (λ (w : CodeWorld). w.kernel.outcome) r.stands ∙ is in
     let same : (code i schedule limit ≡ code i schedule n) × ((steps_text i schedule limit ≡ steps_text i schedule n) × (steps_taken i schedule limit ≡ steps_taken i schedule n)) =
     ⊎_elim

@@ -16,7 +16,9 @@ use Rattle.image.specs.declared.subprograms.Subprogram.{Subprogram}
 use Rattle.image.specs.declared.tasks.Task.{Task}
 use Rattle.machine.specs.Bounds.{IsBound, at_most}
 use Rattle.machine.specs.declared.bound.Cut.TheVariants.{Time}
-use Rattle.waveforms.specs.Waves.{preamble, waves_text}
+use Rattle.waveforms.specs.TimeWaves.{time_waves_text}
+use Rattle.waveforms.specs.Waves.{declarations_text, preamble, waves_text}
+use Rattle.waveforms.specs.declared.axis.Axis.TheVariants as axes
 
 abbrev at : ℕ → Operation → Instr
 at depth operation = record { depth = depth; operation = operation }
@@ -45,7 +47,7 @@ served =
     ∷ at 0 (op.ProtectedCall 0) ∷ at 0 op.Return ∷ [])
 
 served_waves : waves_text served (codes "DOOR" ∷ []) [] (at_most 100)
-    ≡ preamble
+    ≡ preamble axes.Steps
     ++ codes "$var wire 64 ! time $end\n"
     ++ codes "$scope module CONS $end\n$var wire 3 \" state $end\n$var wire 8 # priority $end\n$upscope $end\n"
     ++ codes "$scope module MAIN $end\n$var wire 3 $ state $end\n$var wire 8 % priority $end\n$upscope $end\n"
@@ -71,7 +73,7 @@ alone =
 
 abbrev until_it_wakes : List ℕ
 until_it_wakes =
-    preamble
+    preamble axes.Steps
     ++ codes "$var wire 64 ! time $end\n"
     ++ codes "$scope module MAIN $end\n$var wire 3 \" state $end\n$var wire 8 # priority $end\n$upscope $end\n"
     ++ codes "$scope module OBJECT_0 $end\n$var wire 8 $ inside $end\n$var wire 8 % queued $end\n$upscope $end\n"
@@ -95,7 +97,7 @@ alone_is_cut =
     record { earlier = omega arith; within = λ natural. natural; passes = past }
 
 alone_timed : waves_text alone (codes "a b" ∷ []) [] (record { steps = 1; cut = Time })
-    ≡ preamble
+    ≡ preamble axes.Steps
     ++ codes "$var wire 64 ! time $end\n"
     ++ codes "$scope module MAIN $end\n$var wire 3 \" state $end\n$var wire 8 # priority $end\n$upscope $end\n"
     ++ codes "$scope module OBJECT_0 $end\n$var wire 8 $ inside $end\n$var wire 8 % queued $end\n$upscope $end\n"
@@ -104,3 +106,45 @@ alone_timed : waves_text alone (codes "a b" ∷ []) [] (record { steps = 1; cut 
     ++ codes "#2\n$comment time limit at 0\n$end\n"
 unfolding digits
 alone_timed = refl
+
+-- Over virtual time: it sleeps from 0 to 500, and is left there by the exception, or runs where the limit cuts it
+
+alone_in_time : time_waves_text alone [] [] (at_most 100)
+    ≡ declarations_text axes.Time [] alone
+    ++ codes "#0\n$dumpvars\nb0 !\nb10 \"\nb101 #\nb0 $\nb0 %\n$end\n"
+    ++ codes "#500\nb111110100 !\nb110 \"\n"
+    ++ codes "$comment unhandled CONSTRAINT_ERROR in MAIN at 500\n$end\n"
+unfolding digits
+alone_in_time = refl
+
+alone_cut_in_time : time_waves_text alone [] [] (at_most 3)
+    ≡ declarations_text axes.Time [] alone
+    ++ codes "#0\n$dumpvars\nb0 !\nb10 \"\nb101 #\nb0 $\nb0 %\n$end\n"
+    ++ codes "#500\nb111110100 !\nb1 \"\n"
+    ++ codes "$comment step limit at 500\n$end\n"
+unfolding digits
+alone_cut_in_time = refl
+
+-- of the time 499 there is the first instant alone, which the cut leaves before its end
+alone_timed_in_time : time_waves_text alone [] [] (record { steps = 1; cut = Time })
+    ≡ declarations_text axes.Time [] alone ++ codes "#0\n$dumpvars\nb0 !\nb1 \"\nb101 #\nb0 $\nb0 %\n$end\n" ++ codes "$comment time limit at 0\n$end\n"
+unfolding digits
+alone_timed_in_time = refl
+
+-- CONS waits in the queue until MAIN, which sleeps from 0 to 500, opens the barrier
+
+abbrev waits : Sections
+waits =
+    image_of (door ∷ []) (sub (ProtectedProcedure 0) 3 1 ∷ sub (EntryBody 0) 4 0 ∷ sub TaskBody 8 1 ∷ sub TaskBody 12 1 ∷ []) (task (codes "CONS") 10 2 ∷ task (codes "MAIN") 5 3 ∷ [])
+    (at 0 (op.Push (pos 1)) ∷ at 1 (op.StoreObject 0) ∷ at 0 op.Return
+    ∷ at 0 op.Return
+    ∷ at 0 (op.EntryCall 0) ∷ at 0 (op.Push (pos 7)) ∷ at 1 (op.PutLine 0) ∷ at 0 op.Return
+    ∷ at 0 (op.Push (pos 500)) ∷ at 1 op.DelayUntil ∷ at 0 (op.ProtectedCall 0) ∷ at 0 op.Return ∷ [])
+
+waits_in_time : time_waves_text waits (codes "DOOR" ∷ []) [] (at_most 100)
+    ≡ declarations_text axes.Time (codes "DOOR" ∷ []) waits
+    ++ codes "#0\n$dumpvars\nb0 !\nb11 \"\nb1010 #\nb10 $\nb101 %\nb0 &\nb1 '\n$end\n"
+    ++ codes "#500\nb111110100 !\nb101 \"\nb101 $\nb0 '\n"
+    ++ codes "$comment ended at 500\n$end\n"
+unfolding digits
+waits_in_time = refl

@@ -13,7 +13,7 @@ inside_beside : (n : ℕ) (k : Kernel) (lines : List Line) (o : ℕ) → inside_
 inside_beside zero k lines o = refl
 inside_beside (suc n) k lines o = ap (λ v. v ++ (if is_object_open o (k.actions n) then n ∷ [] else [])) (inside_beside n k lines o)
 
-values_beside : (k : Kernel) (lines : List Line) → values (record k { lines = lines }) ≡ values k
+pub values_beside : (k : Kernel) (lines : List Line) → values (record k { lines = lines }) ≡ values k
 values_beside k lines = λ j.
     (cast_unsigned w64 k.now ∷ [])
     ++ all_below k.partition.tasks (task_values k)

@@ -4,4 +4,10 @@ mod Changes
 mod Dumped
 mod Examples
 mod HeldValues
+mod InstantTexts
+mod Parts
+mod Standing
+mod TimeWhole
+mod Timed
+mod Waiting
 mod Whole

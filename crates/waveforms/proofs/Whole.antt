@@ -13,14 +13,15 @@ use Rattle.machine.specs.Stands.{EndsBy, HoldsWorld}
 use Rattle.machine.specs.Written.{AppendsBeginning}
 use Rattle.machine.specs.declared.bound.Bound.{Bound}
 use Rattle.machine.specs.declared.reports.Outcome.{Outcome}
-use Rattle.machine.proofs.Runs.{appends_two, beginning_after, beginning_of_more}
 use Rattle.waveforms.specs.Signals.{values}
 use Rattle.waveforms.specs.Waves.{declarations_text, ending_text, start_text, steps_taken, steps_text, waves_text}
+use Rattle.waveforms.specs.declared.axis.Axis.TheVariants as axes
 use Rattle.waveforms.proofs.HeldValues.{values_held}
+use Rattle.waveforms.proofs.Parts as parts
 
 module _ (i : Sections) (names : List (List ℕ)) (schedule : List ScheduleLine) (bound : Bound) where
   abbrev pub front : List ℕ
-  front = declarations_text names i ++ start_text (values (code i schedule 0).kernel)
+  front = declarations_text axes.Steps names i ++ start_text 0 (values (code i schedule 0).kernel)
 
   abbrev pub changes : List ℕ
   changes = steps_text i schedule bound.steps
@@ -30,26 +31,32 @@ module _ (i : Sections) (names : List (List ℕ)) (schedule : List ScheduleLine)
 
   module _ (old middle : Option (List ℕ)) where
     pub front_begun : AppendsBeginning old middle front → AppendsBeginning old middle (waves_text i names schedule bound)
-    front_begun begun = beginning_of_more old middle (front ++ changes) end_ (beginning_of_more old middle front changes begun)
+    front_begun begun = parts.front_begun front changes end_ old middle begun
 
     module _ (wrote : Appends old middle front) (later : Option (List ℕ)) where
       pub changes_begun : AppendsBeginning middle later changes → AppendsBeginning old later (waves_text i names schedule bound)
-      changes_begun begun = beginning_of_more old later (front ++ changes) end_ (beginning_after old middle later front changes wrote begun)
+      changes_begun begun = parts.changes_begun front changes end_ old middle wrote later begun
 
       module _ (wrote_changes : Appends middle later changes) (last : Option (List ℕ)) where
-        two : Appends old later (front ++ changes)
-        two = appends_two old middle later front changes wrote wrote_changes
-
         pub whole : Appends later last end_ → Appends old last (waves_text i names schedule bound)
-        whole app = appends_two old later last (front ++ changes) end_ two app
+        whole app = parts.whole front changes end_ old middle wrote later wrote_changes last app
 
         pub end_begun : AppendsBeginning later last end_ → AppendsBeginning old last (waves_text i names schedule bound)
-        end_begun begun = beginning_after old later last (front ++ changes) end_ two begun
+        end_begun begun = parts.end_begun front changes end_ old middle wrote later wrote_changes last begun
+
+-- the last line of a run, by how it ended
+pub last_is : (i : Sections) (schedule : List ScheduleLine) (bound : Bound) (h : HeldWorld) → h.image ≡ i → h.schedule ≡ schedule → (o : Outcome) (line : List ℕ) →
+    EndsBy o (code h.image h.schedule bound.steps) → line ≡ cut_line bound.cut (names_of i) (ending_of o) (time_of o) →
+    line ≡ (let k = (code i schedule bound.steps).kernel in cut_line bound.cut (names_of i) k.outcome k.now)
+last_is i schedule bound h image schedule_is o line ends said =
+    said
+    ∙ sym (λ j. cut_line bound.cut (names_of i) (ends.outcome j) (ends.time j))
+    ∙ (λ j. let k = (code (image j) (schedule_is j) bound.steps).kernel in cut_line bound.cut (names_of i) k.outcome k.now)
 
 -- what a machine has told of this image and schedule
 module _ (i : Sections) (names : List (List ℕ)) (schedule : List ScheduleLine) (bound : Bound) (h : HeldWorld) (image : h.image ≡ i) (schedule_is : h.schedule ≡ schedule) where
-  pub front_is : HoldsWorld h (code i schedule 0) → (text : List ℕ) → text ≡ declarations_text names i ++ start_text (values (kernel_of h.tasking)) → text ≡ front i names schedule bound
-  front_is stands text is = is ∙ ap (λ v. declarations_text names i ++ start_text v) (sym (values_held h (code i schedule 0) stands))
+  pub front_is : HoldsWorld h (code i schedule 0) → (text : List ℕ) → text ≡ declarations_text axes.Steps names i ++ start_text 0 (values (kernel_of h.tasking)) → text ≡ front i names schedule bound
+  front_is stands text is = is ∙ ap (λ v. declarations_text axes.Steps names i ++ start_text 0 v) (sym (values_held h (code i schedule 0) stands))
 
   pub changes_are : steps_text h.image h.schedule bound.steps ≡ changes i names schedule bound
   changes_are = λ j. steps_text (image j) (schedule_is j) bound.steps
@@ -57,7 +64,5 @@ module _ (i : Sections) (names : List (List ℕ)) (schedule : List ScheduleLine)
   pub end_is : (o : Outcome) (taken : ℕ) (line text : List ℕ) → taken ≡ steps_taken h.image h.schedule bound.steps → EndsBy o (code h.image h.schedule bound.steps) →
       line ≡ cut_line bound.cut (names_of i) (ending_of o) (time_of o) → text ≡ ending_text taken line → text ≡ end_ i names schedule bound
   end_is o taken line text is ends said text_is =
-      let last = said ∙ sym (λ j. cut_line bound.cut (names_of i) (ends.outcome j) (ends.time j)) in
-      text_is
-      ∙ (λ j. ending_text (is j) (last j))
-      ∙ (λ j. let k = (code (image j) (schedule_is j) bound.steps).kernel in ending_text (steps_taken (image j) (schedule_is j) bound.steps) (cut_line bound.cut (names_of i) k.outcome k.now))
+      let last = last_is i schedule bound h image schedule_is o line ends said in
+      text_is ∙ (λ j. ending_text (is j) (last j)) ∙ (λ j. let k = (code i schedule bound.steps).kernel in ending_text (steps_taken (image j) (schedule_is j) bound.steps) (cut_line bound.cut (names_of i) k.outcome k.now))

@@ -1,2 +1,5 @@
 pub mod Signals
 pub mod Waves
+pub mod Instants
+pub mod TimeWaves
+pub mod Told

@@ -10,6 +10,8 @@ use Rattle.image.specs.Texts.{names_of}
 use Rattle.machine.specs.Bounds.{cut_line}
 use Rattle.machine.specs.declared.bound.Bound.{Bound}
 use Rattle.waveforms.specs.Signals.{all_below, values}
+use Rattle.waveforms.specs.declared.axis.Axis.{Axis}
+use Rattle.waveforms.specs.declared.axis.Axis.TheVariants as axes
 use Rattle.waveforms.specs.declared.text.TheConstants.{CODES}
 
 -- Signals are numbered in the order of their declarations, from 0. The code of one is its number in digits of 94, each a printable character
@@ -49,18 +51,28 @@ object_scope names tasks o =
     scope_text (object_name names o) (declaration_text (codes "8") (1 + 2 * (tasks + o)) (codes "inside"))
     (declaration_text (codes "8") (2 + 2 * (tasks + o)) (codes "queued"))
 
+-- what a tick of the axis is
+abbrev pub axis_comment : Axis → List ℕ
+axis_comment axes.Steps = codes "$comment one tick is one step of the run; time is virtual time in microseconds $end\n"
+axis_comment axes.Time = codes "$comment one tick is one microsecond of virtual time; values are those at the end of an instant $end\n"
+
+-- how long viewers take it to be
+abbrev pub timescale : Axis → List ℕ
+timescale axes.Steps = codes "$timescale 1 ns $end\n"
+timescale axes.Time = codes "$timescale 1 us $end\n"
+
 -- what the file says of itself
-abbrev pub preamble : List ℕ
-preamble =
-    codes "$comment one tick is one step of the run; time is virtual time in microseconds $end\n"
+abbrev pub preamble : Axis → List ℕ
+preamble axis =
+    axis_comment axis
     ++ codes "$comment state: 0 ready, 1 running, 2 delayed, 3 queued, 4 served, 5 finished, 6 left by an exception $end\n"
     ++ codes "$comment inside, queued: 0 nobody, else the number of a task in the order below, counted from 1 $end\n"
-    ++ codes "$timescale 1 ns $end\n"
+    ++ timescale axis
     ++ codes "$scope module run $end\n"
 
-abbrev pub declarations_text : List (List ℕ) → Sections → List ℕ
-declarations_text names i =
-    preamble
+abbrev pub declarations_text : Axis → List (List ℕ) → Sections → List ℕ
+declarations_text axis names i =
+    preamble axis
     ++ declaration_text (codes "64") 0 (codes "time")
     ++ all_below (length i.tasks) (task_scope (names_of i).task)
     ++ all_below (length i.objects) (object_scope names (length i.tasks))
@@ -82,13 +94,18 @@ abbrev pub changes_text : ℕ → List ℕ → List ℕ → List ℕ
 changes_text s (v ∷ vs) (w ∷ ws) = (if nat_eq v w then [] else value_text s w) ++ changes_text (suc s) vs ws
 changes_text s _ _ = []
 
--- The axis: the world after n steps stands from tick n to tick n + 1
-
 abbrev pub tick_text : ℕ → List ℕ
 tick_text n = codes "#" ++ decimal n ++ codes "\n"
 
-abbrev pub start_text : List ℕ → List ℕ
-start_text vs = tick_text 0 ++ codes "$dumpvars\n" ++ values_text 0 vs ++ codes "$end\n"
+-- all values, from this tick on
+abbrev pub start_text : ℕ → List ℕ → List ℕ
+start_text n vs = tick_text n ++ codes "$dumpvars\n" ++ values_text 0 vs ++ codes "$end\n"
+
+-- with the last line of the run
+abbrev pub comment_text : List ℕ → List ℕ
+comment_text last = codes "$comment " ++ last ++ codes "$end\n"
+
+-- Steps as the axis: the world after n steps stands from tick n to tick n + 1
 
 -- the text of step n, by the values before and after it: none where it changes none
 abbrev pub step_text : ℕ → List ℕ → List ℕ → List ℕ
@@ -107,15 +124,15 @@ abbrev pub steps_taken : Sections → List ScheduleLine → ℕ → ℕ
 steps_taken i schedule zero = 0
 steps_taken i schedule (suc n) = steps_taken i schedule n + one_without (code i schedule n).kernel.outcome
 
--- the end of the last world's tick, and the last line of the run
+-- the end of the last world's tick
 abbrev pub ending_text : ℕ → List ℕ → List ℕ
-ending_text taken last = tick_text (taken + 1) ++ codes "$comment " ++ last ++ codes "$end\n"
+ending_text taken last = tick_text (taken + 1) ++ comment_text last
 
--- all that is written of a run within a bound, where protected objects have these names
+-- all that is written of a run within a bound, over its steps, where protected objects have these names
 abbrev pub waves_text : Sections → List (List ℕ) → List ScheduleLine → Bound → List ℕ
 waves_text i names schedule bound =
     let k = (code i schedule bound.steps).kernel in
-    declarations_text names i
-    ++ start_text (values (code i schedule 0).kernel)
+    declarations_text axes.Steps names i
+    ++ start_text 0 (values (code i schedule 0).kernel)
     ++ steps_text i schedule bound.steps
     ++ ending_text (steps_taken i schedule bound.steps) (cut_line bound.cut (names_of i) k.outcome k.now)

@@ -9,6 +9,7 @@ ghost use Rattle.waveforms.specs.Waves.{declaration_text, declarations_text, obj
 ghost use Rattle.waveforms.specs.declared.declarations.TheConstants.{DECLARATION_BYTES};
 ghost use Rattle.waveforms.specs.declared.values.TheConstants.{SIGNALS};
 
+use crate::axis::Axis;
 use crate::text::{put, signal_code};
 use crate::values::SIGNALS;
 use arrayvec::ArrayVec;
@@ -140,27 +141,25 @@ fn add_objects(text: &mut Vec<u8>, names: &[Text], tasks: u8, count: u8) -> Resu
 }
 
 // What the file says of itself.
-fn preamble(alloc: Global) -> Result<Vec<u8>, AllocError>
-    ensures { IfOk result (λ text. text.items ≡ waves.preamble) }
+fn preamble(alloc: Global, axis: Axis) -> Result<Vec<u8>, AllocError>
+    ensures { IfOk result (λ text. text.items ≡ waves.preamble axis) }
 {
-    let mut text = Vec::from_slice(
-        alloc,
-        b"$comment one tick is one step of the run; time is virtual time in microseconds $end\n",
-    )?;
+    let mut text = Vec::from_slice(alloc, axis.comment())?;
     text.extend_from_slice(
         b"$comment state: 0 ready, 1 running, 2 delayed, 3 queued, 4 served, 5 finished, 6 left by an exception $end\n",
     )?;
     text.extend_from_slice(
         b"$comment inside, queued: 0 nobody, else the number of a task in the order below, counted from 1 $end\n",
     )?;
-    text.extend_from_slice(b"$timescale 1 ns $end\n")?;
+    text.extend_from_slice(axis.timescale())?;
     text.extend_from_slice(b"$scope module run $end\n")?;
     Ok(text)
 }
 
-/// The declarations of all signals, where the image has so many tasks and objects, and the objects these names.
+/// The declarations of all signals for this axis, where the image has so many tasks and objects, and the objects these names.
 pub(crate) fn declarations(
     alloc: Global,
+    axis: Axis,
     image: &Image,
     names: &[Text],
     tasks: u8,
@@ -170,9 +169,9 @@ pub(crate) fn declarations(
     requires objects { objects ≡ length image.now.objects }
     requires few { tasks ≤ TASKS }
     requires few_objects { objects ≤ OBJECTS }
-    ensures { IfOk result (λ text. text.items ≡ declarations_text names.now image.now) }
+    ensures { IfOk result (λ text. text.items ≡ declarations_text axis names.now image.now) }
 {
-    let mut text = preamble(alloc)?;
+    let mut text = preamble(alloc, axis)?;
     text.extend_from_slice(declaration(b"64", 0, b"time").as_slice())?;
     add_tasks(&mut text, image.tasks(), tasks)?;
     add_objects(&mut text, names, tasks, objects)?;

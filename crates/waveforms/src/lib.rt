@@ -1,9 +1,13 @@
 //! Runs as value change dumps, which viewers of waveforms show (docs/FORMATS.md, "Value change dumps").
 #![tactic(auto)]
 
+mod axis;
+mod before_clock;
 mod declarations;
+mod instants;
 mod text;
 mod values;
 mod waves_of;
 
+pub use instants::time_waves;
 pub use waves_of::waves;

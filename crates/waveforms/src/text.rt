@@ -1,16 +1,17 @@
 //! The texts of values, of the start, of steps and of the end.
-ghost use Rattle.std.specs.Prelude.{◌≡◌, ◌+◌, ◌*◌, ◌<◌, ◌≤◌, ◌++◌, false, length};
+ghost use Rattle.std.specs.Prelude.{◌≡◌, ◌+◌, ◌*◌, ◌<◌, ◌≤◌, ◌++◌, false, length, option_map};
 ghost use Rattle.std.specs.Fmt.{digits};
 ghost use Rattle.arrayvec.specs.ArrayVec.{array_vec_len};
 ghost use Rattle.waveforms.specs.Waves as waves;
-ghost use Rattle.waveforms.specs.Waves.{changes_text, ending_text, start_text, tick_text, value_text, values_text};
+ghost use Rattle.waveforms.specs.TimeWaves.{instant_text};
+ghost use Rattle.waveforms.specs.Waves.{changes_text, comment_text, ending_text, start_text, tick_text, value_text, values_text};
 ghost use Rattle.waveforms.specs.declared.text.TheConstants.{FRONT_BYTES, TICK_BYTES, VALUE_BYTES};
 ghost use Rattle.waveforms.specs.declared.values.TheConstants.{SIGNALS};
 
 use crate::values::{SIGNALS, Values};
 use arrayvec::ArrayVec;
 use itoa::Buffer;
-use machine::LineText;
+use machine::{LINE_BYTES, LineText};
 
 /// The first of the characters of codes.
 const FIRST_CODE: u8 = 33;
@@ -29,6 +30,9 @@ const FRONT_BYTES: usize = TICK_BYTES + 10;
 
 /// The most bytes of a step's text, or of the start's, whose end has 5.
 const STEP_BYTES: usize = FRONT_BYTES + SIGNALS * VALUE_BYTES + 5;
+
+/// The most bytes of a comment with a line of the run.
+const COMMENT_BYTES: usize = LINE_BYTES + 14;
 
 /// The text of a step.
 pub(crate) type StepText = ArrayVec<u8, STEP_BYTES>;
@@ -123,12 +127,12 @@ fn tick_line(tick: u128) -> ArrayVec<u8, TICK_BYTES>
     line
 }
 
-/// The text of the start: all values.
-pub(crate) fn start_text(values: &Values) -> StepText
-    ensures { result.items ≡ start_text values.now.items }
+/// The text of the start, at this tick: all values.
+pub(crate) fn start_text(tick: u64, values: &Values) -> StepText
+    ensures { result.items ≡ start_text tick values.now.items }
 {
     let mut text = ArrayVec::new();
-    put(&mut text, tick_line(0).as_slice());
+    put(&mut text, tick_line(u128::from(tick)).as_slice());
     put(&mut text, b"$dumpvars\n");
     put_values(&mut text, values.as_slice());
     put(&mut text, b"$end\n");
@@ -145,14 +149,34 @@ pub(crate) fn changed_text(step: u64, before: &Values, after: &Values) -> StepTe
     text
 }
 
+/// The text of an instant at this time (microseconds since the start), where these values were written last, if any were.
+#[inline(never)]
+pub(crate) fn instant_text(time: u64, told: &Option<Values>, values: &Values) -> StepText
+    ensures { result.items ≡ instant_text time (option_map (λ v. v.items) told.now) values.now.items }
+{
+    match told {
+        None => start_text(time, values),
+        Some(told) => changed_text(time, told, values),
+    }
+}
+
+/// The comment with the last line of the run.
+pub(crate) fn comment_text(last: &LineText) -> ArrayVec<u8, COMMENT_BYTES>
+    ensures { result.items ≡ comment_text last.now.items }
+{
+    let mut text = ArrayVec::new();
+    put(&mut text, b"$comment ");
+    put(&mut text, last.as_slice());
+    put(&mut text, b"$end\n");
+    text
+}
+
 /// The text of the end, after so many steps, with the last line of the run.
 pub(crate) fn ending_text(taken: u64, last: &LineText) -> StepText
     ensures { result.items ≡ ending_text taken last.now.items }
 {
     let mut text = ArrayVec::new();
     put(&mut text, tick_line(u128::from(taken) + 1).as_slice());
-    put(&mut text, b"$comment ");
-    put(&mut text, last.as_slice());
-    put(&mut text, b"$end\n");
+    put(&mut text, comment_text(last).as_slice());
     text
 }

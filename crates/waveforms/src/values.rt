@@ -20,8 +20,8 @@ pub(crate) const SIGNALS: usize = 1 + 2 * TASKS + 2 * OBJECTS;
 /// The values of all signals, in the order in which these are declared.
 pub(crate) type Values = ArrayVec<u64, SIGNALS>;
 
-// Adds the values of a task's or an object's signals.
-fn add_two(values: &mut Values, first: u64, second: u64)
+/// Adds the values of a task's or an object's signals.
+pub(crate) fn add_two(values: &mut Values, first: u64, second: u64)
     requires { array_vec_len values.old + 2 ≤ SIGNALS }
     ensures items { values.new.items ≡ values.old.items ++ (first ∷ second ∷ []) }
     ensures len { array_vec_len values.new ≡ array_vec_len values.old + 2 }
@@ -30,8 +30,8 @@ fn add_two(values: &mut Values, first: u64, second: u64)
     values.push(second);
 }
 
-// The number that stands for a task's place.
-fn place_number(place: Place) -> u64
+/// The number that stands for a task's place.
+pub(crate) fn place_number(place: Place) -> u64
     ensures { result ≡ signals.place_number (place_of place) }
 {
     match place {
@@ -44,8 +44,8 @@ fn place_number(place: Place) -> u64
     }
 }
 
-// Whether an exception has left the body of a task.
-fn is_left<R: Ready, D: Delays>(machine: &Machine<'_, R, D>, task: u8) -> bool
+/// Whether an exception has left the body of a task.
+pub(crate) fn is_left<R: Ready, D: Delays>(machine: &Machine<'_, R, D>, task: u8) -> bool
     ensures { result ≡ is_left task (kernel_of machine.now.tasking).outcome }
 {
     match machine.outcome() {
@@ -65,8 +65,8 @@ fn state_number<R: Ready, D: Delays>(machine: &Machine<'_, R, D>, task: u8) -> u
     }
 }
 
-// A task's number counted from 1, or 0 for nobody.
-fn from_one(task: Option<u8>) -> u64
+/// A task's number counted from 1, or 0 for nobody.
+pub(crate) fn from_one(task: Option<u8>) -> u64
     ensures { result ≡ signals.from_one task }
 {
     match task {

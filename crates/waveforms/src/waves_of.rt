@@ -6,8 +6,10 @@ ghost use Rattle.machine.specs.Stands.{EndsBy, HoldsWorld};
 ghost use Rattle.machine.specs.Written.{AppendsBeginning};
 ghost use Rattle.tasking.specs.Held.{kernel_of};
 ghost use Rattle.waveforms.specs.Signals.{values};
+ghost use Rattle.waveforms.specs.declared.axis.Axis.TheVariants as axes;
 ghost use Rattle.waveforms.specs.Waves.{declarations_text, start_text, step_text, steps_taken, steps_text, waves_text};
 
+use crate::axis::Axis;
 use crate::declarations::declarations;
 use crate::text::{changed_text, ending_text, start_text};
 use crate::values::{Values, values_of};
@@ -35,10 +37,17 @@ fn beginning<R: Ready, D: Delays>(
     machine: &Machine<'_, R, D>,
 ) -> Result<Vec<u8>, AllocError>
     requires { machine.now.image ≡ image.now }
-    ensures { IfOk result (λ text. text.items ≡ declarations_text names.now image.now ++ start_text (values (kernel_of machine.now.tasking))) }
+    ensures { IfOk result (λ text. text.items ≡ declarations_text axes.Steps names.now image.now ++ start_text 0 (values (kernel_of machine.now.tasking))) }
 {
-    let mut text = declarations(alloc, image, names, machine.tasks(), machine.objects())?;
-    text.extend_from_slice(start_text(&values_of(machine)).as_slice())?;
+    let mut text = declarations(
+        alloc,
+        Axis::Steps,
+        image,
+        names,
+        machine.tasks(),
+        machine.objects(),
+    )?;
+    text.extend_from_slice(start_text(0, &values_of(machine)).as_slice())?;
     Ok(text)
 }
 

@@ -1,4 +1,4 @@
-use Rattle.std.proofs.Common.{◌≡◌, ◌<◌, ◌∙◌, ◌++◌, ap, sym, codes, length, slice_get, ℕ}
+use Rattle.std.proofs.Common.{◌≡◌, ◌∙◌, ◌++◌, ap, sym, codes, length, slice_get}
 use Rattle.std.proofs.lemmas.Bool.{lt-ltb}
 use Rattle.std.specs.Prelude.{◌-◌, if◌then◌else◌}
 use Rattle.image.specs.Texts.{name_of, names_of}
@@ -21,6 +21,6 @@ returns c =
     let time = c.in_ok-extend_from_slice.ensures.items ∙ (λ j. c.in_ok-text.ensures j ++ (c.as_slice.ensures.value ∙ c.declaration.ensures) j) in
     let tasks = c.in_ok-add_tasks.ensures
     ∙ (λ j. time j ++ all_below (c.requires.tasks j) (task_scope (λ t. name_of (slice_get (c.tasks.ensures.same j) t))))
-    ∙ ap (λ v. preamble ++ declaration_text (codes "64") 0 (codes "time") ++ v) scopes in
+    ∙ ap (λ v. preamble c.args.axis ++ declaration_text (codes "64") 0 (codes "time") ++ v) scopes in
     let objects = c.in_ok-add_objects.ensures ∙ (λ j. tasks j ++ all_below (c.requires.objects j) (object_scope c.args.names.now (c.requires.tasks j))) in
     c.in_ok-extend_from_slice-2.ensures.items ∙ ap (λ v. v ++ codes "$upscope $end\n$enddefinitions $end\n") objects

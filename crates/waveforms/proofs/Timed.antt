@@ -1,0 +1,179 @@
+-- A dump over virtual time so far: where the machine stands, which values were told last, and what has been written.
+use Rattle.std.proofs.Common.{◌≡◌, ◌⊎◌, ℕ, ℤ, suc, ◌+◌, ◌-◌, ◌≤◌, ⊎_elim, List, [], ◌∷◌, ◌++◌, Option, Some, None, Bool, true, false, refl, sym, ap, subst, ◌∙◌, arith, append-nil, if◌then◌else◌}
+use Rattle.std.specs.Prelude.{int_lt, unsigned_abs}
+use Rattle.std.specs.Io.KnownBytes.{Appends}
+use Rattle.base.specs.declared.schedule.ScheduleLine.{ScheduleLine}
+use Rattle.kernel.specs.State.{Kernel, Line, Outcome as KernelOutcome}
+use Rattle.image.specs.Code.{CodeWorld, code}
+use Rattle.image.specs.Sections.{Sections}
+use Rattle.image_laws.specs.Laws.{OutcomeStays}
+use Rattle.tasking.specs.Held.{kernel_of}
+use Rattle.execution.specs.Held.{HeldWorld, world_of}
+use Rattle.machine.specs.Stands.{EndsBy, HoldsWorld}
+use Rattle.machine.specs.Written.{AppendsBeginning}
+use Rattle.machine.specs.declared.reports.Event.{Event}
+use Rattle.machine.specs.declared.reports.Outcome.{Outcome}
+use Rattle.machine.proofs.Runs.{appends_nothing, appends_two, beginning_after, beginning_of_more}
+use Rattle.waveforms.specs.Instants.{before_clock, ended, ended_by, instants}
+use Rattle.waveforms.specs.Signals.{values}
+use Rattle.waveforms.specs.TimeWaves.{instant_text, instants_text}
+use Rattle.waveforms.specs.Told.{told_after}
+use Rattle.waveforms.proofs.HeldValues.{values_beside, values_held}
+use Rattle.waveforms.proofs.InstantTexts.{ended_grow, ended_stay, text_more, told_more}
+use Rattle.waveforms.proofs.Standing.{StepsBy, ends_here, stands_on}
+
+-- An instant's text, and the values told then, are the same whatever lines were written.
+
+text_beside : (is_ended : Bool) (told : Option (List ℕ)) (k : Kernel) (lines : List Line) →
+    instants_text told (if is_ended then record k { lines = lines } ∷ [] else []) ≡ instants_text told (if is_ended then k ∷ [] else [])
+text_beside true told k lines = ap (λ v. instant_text (unsigned_abs k.now) told v ++ []) (values_beside k lines)
+text_beside false told k lines = refl
+
+told_beside : (is_ended : Bool) (told : Option (List ℕ)) (k : Kernel) (lines : List Line) →
+    told_after told (if is_ended then record k { lines = lines } ∷ [] else []) ≡ told_after told (if is_ended then k ∷ [] else [])
+told_beside true told k lines = ap (λ v. Some v) (values_beside k lines)
+told_beside false told k lines = refl
+
+module _ (time : ℤ) (told : Option (List ℕ)) (h : HeldWorld) (w : CodeWorld) (stands : HoldsWorld h w) where
+  abbrev k : Kernel
+  k = kernel_of h.tasking
+
+  text_held : instants_text told (ended_by time w.kernel) ≡ instants_text told (ended_by time (kernel_of h.tasking))
+  text_held = ap (λ (v : CodeWorld). instants_text told (ended_by time v.kernel)) stands ∙ text_beside (int_lt time k.now) told (before_clock time k) w.kernel.lines
+
+  told_held : told_after told (ended_by time w.kernel) ≡ told_after told (ended_by time (kernel_of h.tasking))
+  told_held = ap (λ (v : CodeWorld). told_after told (ended_by time v.kernel)) stands ∙ told_beside (int_lt time k.now) told (before_clock time k) w.kernel.lines
+
+-- after n steps: the machine stands for the world, these values were told last, and the instants that these steps end are written
+pub record Timed (i : Sections) (schedule : List ScheduleLine) (n : ℕ) (h : HeldWorld) (told : Option (List ℕ)) (old new : Option (List ℕ)) (before after : ℕ) : Type 0 where
+  pub image : h.image ≡ i
+  pub schedule_is : h.schedule ≡ schedule
+  pub stands : HoldsWorld h (code i schedule n)
+  pub told_is : told ≡ told_after None (ended i schedule n)
+  pub written : Appends old new (instants_text None (ended i schedule n))
+  pub kept : after ≡ before
+
+pub timed_nothing : (h : HeldWorld) (told : Option (List ℕ)) (old : Option (List ℕ)) (before : ℕ) → HoldsWorld h (code h.image h.schedule 0) → told ≡ None →
+    Timed h.image h.schedule 0 h told old old before before
+timed_nothing h told old before stands none =
+    record { image = refl; schedule_is = refl; stands = stands; told_is = none; written = appends_nothing old; kept = refl }
+
+module _ (i : Sections) (schedule : List ScheduleLine) (n : ℕ) (h : HeldWorld) (told : Option (List ℕ)) (old new : Option (List ℕ)) (before after : ℕ) (r : Timed i schedule n h told old new before after) where
+  module _ (next : HeldWorld) (shown : Event) (steps : StepsBy h next shown) (time : ℤ) (time_is : time ≡ (kernel_of h.tasking).now) (later : Option (List ℕ)) where
+    -- the instant that the step ends, if it ends one
+    abbrev piece : List Kernel
+    piece = ended_by time (kernel_of next.tasking)
+
+    stepped : HoldsWorld next (code i schedule (suc n))
+    stepped = stands_on i schedule n h next shown r.image r.schedule_is r.stands steps
+
+    one_more : ended i schedule (suc n) ≡ ended i schedule n ++ ended_by time (code i schedule (suc n)).kernel
+    one_more =
+        ap (λ t. ended i schedule n ++ ended_by t (code i schedule (suc n)).kernel) (ap (λ (w : CodeWorld). w.kernel.now) r.stands ∙ sym time_is)
+
+    text_on : instants_text None (ended i schedule (suc n)) ≡ instants_text None (ended i schedule n) ++ instants_text told piece
+    text_on =
+        ap (instants_text None) one_more
+        ∙ text_more None (ended i schedule n) (ended_by time (code i schedule (suc n)).kernel)
+        ∙ ap (λ t. instants_text None (ended i schedule n) ++ instants_text t (ended_by time (code i schedule (suc n)).kernel)) (sym r.told_is)
+        ∙ ap (λ v. instants_text None (ended i schedule n) ++ v) (text_held time told next (code i schedule (suc n)) stepped)
+
+    told_on : told_after None (ended i schedule (suc n)) ≡ told_after told piece
+    told_on =
+        ap (told_after None) one_more
+        ∙ told_more None (ended i schedule n) (ended_by time (code i schedule (suc n)).kernel)
+        ∙ ap (λ t. told_after t (ended_by time (code i schedule (suc n)).kernel)) (sym r.told_is)
+        ∙ told_held time told next (code i schedule (suc n)) stepped
+
+    pub timed_on : next.image ≡ h.image → next.schedule ≡ h.schedule → (later_told : Option (List ℕ)) (count : ℕ) → later_told ≡ told_after told piece → Appends new later (instants_text told piece) → count ≡ after →
+        Timed i schedule (n + 1) next later_told old later before count
+    timed_on same_image same_schedule later_told count told_so app same =
+        let at : n + 1 ≡ suc n = omega arith in
+        subst (λ m. Timed i schedule m next later_told old later before count) (sym at)
+        (record {
+          image = same_image ∙ r.image;
+          schedule_is = same_schedule ∙ r.schedule_is;
+          stands = stepped;
+          told_is = told_so ∙ sym told_on;
+          written = subst (Appends old later) (sym text_on) (appends_two old new later (instants_text None (ended i schedule n)) (instants_text told piece) r.written app);
+          kept = same ∙ r.kept;
+        })
+
+    -- an instant that could not be written: what is written is a beginning of all instants that are ended
+    pub broken_instant : (limit : ℕ) → n + 1 ≤ limit → AppendsBeginning new later (instants_text told piece) → AppendsBeginning old later (instants_text None (ended i schedule limit))
+    broken_instant limit le begun =
+        let rest = ended_grow i schedule (suc n) (limit - suc n) in
+        let end_ : suc n + (limit - suc n) ≡ limit = omega (arith, le) in
+        let more = instants_text (told_after None (ended i schedule (suc n))) rest.0 in
+        let whole : instants_text None (ended i schedule limit) ≡ (instants_text None (ended i schedule n) ++ instants_text told piece) ++ more =
+        ap (λ m. instants_text None (ended i schedule m)) (sym end_)
+        ∙ ap (instants_text None) rest.1
+        ∙ text_more None (ended i schedule (suc n)) rest.0
+        ∙ ap (λ v. v ++ more) text_on in
+        subst (AppendsBeginning old later) (sym whole)
+        (beginning_of_more old later (instants_text None (ended i schedule n) ++ instants_text told piece) more
+        (beginning_after old new later (instants_text None (ended i schedule n)) (instants_text told piece) r.written begun))
+
+-- what is so up to the outcome, or at the limit, is so at the limit
+pub record Over (i : Sections) (schedule : List ScheduleLine) (limit : ℕ) (h : HeldWorld) (told : Option (List ℕ)) (o : Outcome) (old new : Option (List ℕ)) (before after : ℕ) : Type 0 where
+  pub stands : HoldsWorld h (code i schedule limit)
+  pub told_is : told ≡ told_after None (ended i schedule limit)
+  pub written : Appends old new (instants_text None (ended i schedule limit))
+  pub ends : EndsBy o (code i schedule limit)
+  pub kept : after ≡ before
+
+pub timed_over : OutcomeStays → (i : Sections) (schedule : List ScheduleLine) (n limit : ℕ) (h : HeldWorld) (told : Option (List ℕ)) (old new : Option (List ℕ)) (before after : ℕ) → Timed i schedule n h told old new before after →
+    n ≤ limit → (n ≡ limit) ⊎ ((e : KernelOutcome) × ((kernel_of h.tasking).outcome ≡ Some e)) → (o : Outcome) → EndsBy o (world_of h) → Over i schedule limit h told o old new before after
+timed_over stays i schedule n limit h told old new before after r le why o ends =
+    let at : n + (limit - n) ≡ limit = omega (arith, le) in
+    let here : EndsBy o (code i schedule n) = ends_here i schedule n h r.stands o ends in
+    let over : (e : KernelOutcome) → (kernel_of h.tasking).outcome ≡ Some e → (code i schedule n).kernel.outcome ≡ Some e = λ e is. ap (λ (w : CodeWorld). w.kernel.outcome) r.stands ∙ is in
+    let same : (code i schedule limit ≡ code i schedule n) × (ended i schedule limit ≡ ended i schedule n) =
+    ⊎_elim
+    (λ (e : n ≡ limit). (ap (code i schedule) (sym e), ap (ended i schedule) (sym e)))
+    (λ (q : (e : KernelOutcome) × ((kernel_of h.tasking).outcome ≡ Some e)). (
+      subst (λ x. code i schedule x ≡ code i schedule n) at (stays i schedule n (limit - n) q.0 (over q.0 q.1)),
+      subst (λ x. ended i schedule x ≡ ended i schedule n) at (ended_stay i schedule stays n q.0 (over q.0 q.1) (limit - n)),
+    ))
+    why in
+    record {
+      stands = subst (HoldsWorld h) (sym same.0) r.stands;
+      told_is = r.told_is ∙ ap (told_after None) (sym same.1);
+      written = subst (λ ks. Appends old new (instants_text None ks)) (sym same.1) r.written;
+      ends = subst (EndsBy o) (sym same.0) here;
+      kept = r.kept;
+    }
+
+-- the last instant ends with the run
+pub last_instant : (i : Sections) (schedule : List ScheduleLine) (limit : ℕ) (h : HeldWorld) (told : Option (List ℕ)) (time : ℕ) (vs : List ℕ) → HoldsWorld h (code i schedule limit) →
+    told ≡ told_after None (ended i schedule limit) → time ≡ unsigned_abs (kernel_of h.tasking).now → vs ≡ values (kernel_of h.tasking) →
+    instants_text None (instants i schedule limit) ≡ instants_text None (ended i schedule limit) ++ instant_text time told vs
+last_instant i schedule limit h told time vs stands told_is time_is are =
+    let w = code i schedule limit in
+    let so_far = instants_text None (ended i schedule limit) in
+    let now : unsigned_abs w.kernel.now ≡ time = ap (λ (v : CodeWorld). unsigned_abs v.kernel.now) stands ∙ sym time_is in
+    let values_are : values w.kernel ≡ vs = values_held h w stands ∙ sym are in
+    text_more None (ended i schedule limit) (w.kernel ∷ [])
+    ∙ ap (λ v. so_far ++ v) (append-nil (instant_text (unsigned_abs w.kernel.now) (told_after None (ended i schedule limit)) (values w.kernel)))
+    ∙ (λ j. so_far ++ instant_text (now j) (sym told_is j) (values_are j))
+
+pub ended_begun : (i : Sections) (schedule : List ScheduleLine) (limit : ℕ) (old new : Option (List ℕ)) → AppendsBeginning old new (instants_text None (ended i schedule limit)) →
+    AppendsBeginning old new (instants_text None (instants i schedule limit))
+ended_begun i schedule limit old new begun =
+    let last = (code i schedule limit).kernel ∷ [] in
+    subst (AppendsBeginning old new) (sym (text_more None (ended i schedule limit) last))
+    (beginning_of_more old new (instants_text None (ended i schedule limit)) (instants_text (told_after None (ended i schedule limit)) last) begun)
+
+-- by what the machine is asked for at the end
+module _ (i : Sections) (schedule : List ScheduleLine) (limit : ℕ) (h : HeldWorld) (told : Option (List ℕ)) (time : ℕ) (vs : List ℕ) (stands : HoldsWorld h (code i schedule limit))
+    (told_is : told ≡ told_after None (ended i schedule limit)) (time_is : time ≡ unsigned_abs (kernel_of h.tasking).now) (are : vs ≡ values (kernel_of h.tasking))
+    (old middle new : Option (List ℕ)) (wrote : Appends old middle (instants_text None (ended i schedule limit))) where
+  pub all_instants : (text : List ℕ) → text ≡ instant_text time told vs → Appends middle new text → Appends old new (instants_text None (instants i schedule limit))
+  all_instants text is app =
+      subst (Appends old new) (sym (last_instant i schedule limit h told time vs stands told_is time_is are))
+      (appends_two old middle new (instants_text None (ended i schedule limit)) (instant_text time told vs) wrote (subst (Appends middle new) is app))
+
+  pub last_begun : (text : List ℕ) → text ≡ instant_text time told vs → AppendsBeginning middle new text → AppendsBeginning old new (instants_text None (instants i schedule limit))
+  last_begun text is begun =
+      subst (AppendsBeginning old new) (sym (last_instant i schedule limit h told time vs stands told_is time_is are))
+      (beginning_after old middle new (instants_text None (ended i schedule limit)) (instant_text time told vs) wrote (subst (AppendsBeginning middle new) is begun))

@@ -1,0 +1,11 @@
+use Rattle.std.proofs.Common.{◌≡◌, ◌+◌, ◌*◌, ◌≤◌, ◌++◌}
+use Rattle.arrayvec.specs.ArrayVec.{array_vec_len}
+use Rattle.tasking.specs.Held.{kernel_of}
+use Rattle.waveforms.specs.Instants.{waiting}
+use Rattle.waveforms.specs.Signals.{all_below, task_values}
+use Rattle.waveforms.proofs.before_clock.add_tasks.Given as goal
+
+abbrev pub invariant-loop-task : goal.invariant-loop-task
+invariant-loop-task g l =
+    (l.values.items ≡ l.fn.values.items ++ all_below l.task (task_values (waiting (kernel_of l.fn.machine.tasking))))
+    × (array_vec_len l.values ≤ 1 + 2 * l.task)

@@ -1,0 +1,13 @@
+use Rattle.std.proofs.Common.{◌≤◌, ◌+◌, ◌-◌}
+use Rattle.std.specs.Prelude.{option_map}
+use Rattle.waveforms.proofs.Timed.{Timed}
+use Rattle.waveforms.proofs.instants.write_all_ended.Given as goal
+
+abbrev pub invariant-loop-taken : goal.invariant-loop-taken
+invariant-loop-taken g l =
+    Timed l.fn.machine.image l.fn.machine.schedule l.taken l.machine (option_map (λ v. v.items) l.told) (g.S.Sink.bytes l.fn.sink) (g.S.Sink.bytes l.sink) (g.S.Sink.failures l.fn.sink) (g.S.Sink.failures l.sink)
+    × (l.taken ≤ l.fn.limit)
+    × (l.steps ≤ l.fn.steps + l.taken)
+
+abbrev pub decreases-loop-taken : goal.decreases-loop-taken
+decreases-loop-taken g l = l.fn.limit - l.taken

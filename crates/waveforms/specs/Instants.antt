@@ -1,0 +1,34 @@
+-- The instants of a run's virtual time, and the kernel at the end of each.
+use Rattle.std.specs.Prelude.{ℕ, suc, List, [], ◌∷◌, ◌++◌, None, ℤ, int_lt, if◌then◌else◌}
+use Rattle.base.specs.declared.schedule.ScheduleLine.{ScheduleLine}
+use Rattle.kernel.specs.State.{Kernel, TaskPlace, IsReady, IsRunning, IsAsleep, is_task}
+use Rattle.image.specs.Code.{code}
+use Rattle.image.specs.Sections.{Sections}
+use Rattle.waveforms.specs.Signals.{all_below}
+
+-- An instant ends where the clock moves, within the step that lets it move. Then nobody runs or is ready: who does so in the kernel l after the step has slept
+-- until the clock moved, and a handler that runs there has begun since.
+
+abbrev pub slept : TaskPlace → TaskPlace
+slept IsReady = IsAsleep
+slept IsRunning = IsAsleep
+slept place = place
+
+abbrev pub waiting : Kernel → Kernel
+waiting l = record l { running = None; place = λ t. slept (l.place t); actions = λ t. if is_task l.partition t then l.actions t else [] }
+
+-- the kernel at the end of the instant of this time
+abbrev pub before_clock : (time : ℤ) → Kernel → Kernel
+before_clock time l = record (waiting l) { now = time }
+
+-- that kernel, where a step that was taken at this time and leads to l ends the instant
+abbrev pub ended_by : (time : ℤ) → Kernel → List Kernel
+ended_by time l = if int_lt time l.now then before_clock time l ∷ [] else []
+
+-- those at the ends of the instants that n steps end
+abbrev pub ended : Sections → List ScheduleLine → ℕ → List Kernel
+ended i schedule n = all_below n (λ m. ended_by (code i schedule m).kernel.now (code i schedule (suc m)).kernel)
+
+-- those of all instants of a run of n steps: the last instant ends with the run
+abbrev pub instants : Sections → List ScheduleLine → ℕ → List Kernel
+instants i schedule n = ended i schedule n ++ (code i schedule n).kernel ∷ []

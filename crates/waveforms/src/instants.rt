@@ -1,0 +1,167 @@
+//! Runs as value change dumps over virtual time.
+ghost use Rattle.std.specs.Prelude.{◌≡◌, ◌+◌, ◌<◌, ◌≤◌, Err, IfErr, IfOk, None, OnErr, OnOk, option_map};
+ghost use Rattle.std.specs.Io.KnownBytes.{Appends};
+ghost use Rattle.image.specs.Code.{code};
+ghost use Rattle.machine.specs.Stands.{EndsBy, HoldsWorld};
+ghost use Rattle.machine.specs.Written.{AppendsBeginning};
+ghost use Rattle.tasking.specs.Held.{kernel_of};
+ghost use Rattle.waveforms.specs.Instants.{ended, ended_by, instants};
+ghost use Rattle.waveforms.specs.TimeWaves.{instants_text, time_waves_text};
+ghost use Rattle.waveforms.specs.Told.{told_after};
+
+use crate::axis::Axis;
+use crate::before_clock::values_before_clock;
+use crate::declarations::declarations;
+use crate::text::{comment_text, instant_text};
+use crate::values::{Values, values_of};
+use base::Text;
+use clock::{Delays, HeapDelays, Schedule};
+use dispatch::{Ready, RingReady};
+use image::Image;
+use image_laws::outcome_stays;
+use machine::{Bound, Machine, Outcome, RunFault, Sink, SinkError, Steps, cut_line, write_all};
+use std::alloc::Global;
+use std::sync::ledger::Ledger;
+
+// Writes the instant of this time, where the step has ended it: where the clock has moved from there. Then its values are those that were written last.
+fn write_ended<R: Ready, D: Delays, S: Sink>(
+    time: i64,
+    machine: &Machine<'_, R, D>,
+    told: &mut Option<Values>,
+    sink: &mut S,
+) -> Result<(), SinkError>
+    ensures told { OnOk result (option_map (λ v. v.items) told.new ≡ told_after (option_map (λ v. v.items) told.old)
+        (ended_by time (kernel_of machine.now.tasking))) }
+    ensures whole { OnOk result (Appends (S.bytes sink.old) (S.bytes sink.new)
+        (instants_text (option_map (λ v. v.items) told.old) (ended_by time (kernel_of machine.now.tasking)))) }
+    ensures kept { OnOk result (S.failures sink.new ≡ S.failures sink.old) }
+    ensures failed { OnErr result (S.failures sink.old < S.failures sink.new) }
+    ensures beginning { OnErr result (AppendsBeginning (S.bytes sink.old) (S.bytes sink.new)
+        (instants_text (option_map (λ v. v.items) told.old) (ended_by time (kernel_of machine.now.tasking)))) }
+{
+    if machine.now() <= time {
+        return Ok(());
+    }
+    let values = values_before_clock(machine, time);
+    match write_all(
+        sink,
+        instant_text(time.unsigned_abs(), told, &values).as_slice(),
+    ) {
+        Ok(()) => {
+            *told = Some(values);
+            Ok(())
+        }
+        Err(error) => Err(error),
+    }
+}
+
+// Takes steps up to an outcome, `limit` of them at most, and writes each instant that they end.
+fn write_all_ended<R: Ready, D: Delays, S: Sink, L: Ledger>(
+    machine: &mut Machine<'_, R, D>,
+    limit: u64,
+    told: &mut Option<Values>,
+    sink: &mut S,
+    steps: &mut Steps<L>,
+) -> Result<Outcome, RunFault>
+    requires stands { HoldsWorld machine.old (code machine.old.image machine.old.schedule 0) }
+    requires none { option_map (λ v. v.items) told.old ≡ None }
+    ensures stands { OnOk result (HoldsWorld machine.new (code machine.old.image machine.old.schedule limit)) }
+    ensures told { OnOk result (option_map (λ v. v.items) told.new ≡ told_after None (ended machine.old.image machine.old.schedule limit)) }
+    ensures text { OnOk result (Appends (S.bytes sink.old) (S.bytes sink.new) (instants_text None (ended machine.old.image machine.old.schedule limit))) }
+    ensures ends { IfOk result (λ outcome. EndsBy outcome (code machine.old.image machine.old.schedule limit)) }
+    ensures kept { OnOk result (S.failures sink.new ≡ S.failures sink.old) }
+    ensures fault { IfErr result (λ fault. fault ≡ RunFault.Write) }
+    ensures failed { OnErr result (S.failures sink.old < S.failures sink.new) }
+    ensures beginning { OnErr result (AppendsBeginning (S.bytes sink.old) (S.bytes sink.new)
+        (instants_text None (ended machine.old.image machine.old.schedule limit))) }
+    ensures count { steps.new ≤ steps.old + limit }
+{
+    outcome_stays();
+    let mut taken = 0;
+    while taken < limit {
+        if let Some(outcome) = machine.outcome() {
+            return Ok(outcome);
+        }
+        let time = machine.now();
+        machine.step(steps);
+        taken += 1;
+        match write_ended(time, machine, told, sink) {
+            Ok(()) => {}
+            Err(_) => return Err(RunFault::Write),
+        }
+    }
+    Ok(machine.outcome_or_limit())
+}
+
+// Takes these steps, and writes all instants: the last one ends with the run.
+fn write_instants<R: Ready, D: Delays, S: Sink, L: Ledger>(
+    machine: &mut Machine<'_, R, D>,
+    limit: u64,
+    sink: &mut S,
+    steps: &mut Steps<L>,
+) -> Result<Outcome, RunFault>
+    requires { HoldsWorld machine.old (code machine.old.image machine.old.schedule 0) }
+    ensures text { OnOk result (Appends (S.bytes sink.old) (S.bytes sink.new) (instants_text None (instants machine.old.image machine.old.schedule limit))) }
+    ensures ends { IfOk result (λ outcome. EndsBy outcome (code machine.old.image machine.old.schedule limit)) }
+    ensures kept { OnOk result (S.failures sink.new ≡ S.failures sink.old) }
+    ensures fault { IfErr result (λ fault. fault ≡ RunFault.Write) }
+    ensures failed { OnErr result (S.failures sink.old < S.failures sink.new) }
+    ensures beginning { AppendsBeginning (S.bytes sink.old) (S.bytes sink.new) (instants_text None (instants machine.old.image machine.old.schedule limit)) }
+    ensures count { steps.new ≤ steps.old + limit }
+{
+    let mut told = None;
+    let outcome = write_all_ended(machine, limit, &mut told, sink, steps)?;
+    let time = machine.now().unsigned_abs();
+    match write_all(
+        sink,
+        instant_text(time, &told, &values_of(machine)).as_slice(),
+    ) {
+        Ok(()) => Ok(outcome),
+        Err(_) => Err(RunFault::Write),
+    }
+}
+
+/// Runs an image as `machine::run_within` does, with the same outcome, and writes the run as a value change dump over virtual time: an instant of it has the
+/// values at its end. Protected objects have these names; those that have none here, or no name that Ada allows, have their number. It takes at most as many
+/// steps as the bound has, which are counted.
+///
+/// # Errors
+/// `Memory` where memory was refused, before anything is written; `Write` where a write failed, and what was written then is a beginning of the dump.
+#[inline(never)]
+pub fn time_waves<S: Sink, L: Ledger>(
+    alloc: Global,
+    image: &Image,
+    names: &[Text],
+    schedule: &Schedule,
+    bound: Bound,
+    sink: &mut S,
+    steps: &mut Steps<L>,
+) -> Result<Outcome, RunFault>
+    ensures text { OnOk result (Appends (S.bytes sink.old) (S.bytes sink.new) (time_waves_text image.now names.now schedule.now bound)) }
+    ensures ends { IfOk result (λ outcome. EndsBy outcome (code image.now schedule.now bound.steps)) }
+    ensures kept { OnOk result (S.failures sink.new ≡ S.failures sink.old) }
+    ensures memory { result ≡ Err RunFault.Memory → sink.new ≡ sink.old }
+    ensures failed { result ≡ Err RunFault.Write → S.failures sink.old < S.failures sink.new }
+    ensures beginning { AppendsBeginning (S.bytes sink.old) (S.bytes sink.new) (time_waves_text image.now names.now schedule.now bound) }
+    ensures count { steps.new ≤ steps.old + bound.steps }
+{
+    let mut machine: Machine<'_, RingReady, HeapDelays> = Machine::start(alloc, image, schedule)?;
+    let start = declarations(
+        alloc,
+        Axis::Time,
+        image,
+        names,
+        machine.tasks(),
+        machine.objects(),
+    )?;
+    match write_all(sink, start.as_slice()) {
+        Ok(()) => {}
+        Err(_) => return Err(RunFault::Write),
+    }
+    let outcome = write_instants(&mut machine, bound.steps, sink, steps)?;
+    let last = cut_line(image, &outcome, bound.cut);
+    match write_all(sink, comment_text(&last).as_slice()) {
+        Ok(()) => Ok(outcome),
+        Err(_) => Err(RunFault::Write),
+    }
+}
