@@ -21,36 +21,50 @@ from traces import ALL_STEPS, STEPS, examples_of, objects_of, read, rows_of, wor
 sys.path.insert(0, os.path.join(os.path.dirname(os.path.abspath(__file__)), "..", "bench"))
 from reference import STATUSES  # noqa: E402
 
-ACTORS_HEADING = " priority      jobs     steps   longest  response preempted    queued     worst     total      late     worst     apart task\n"
+WORK_HEADING = " priority      jobs     steps     least   longest  response  blocking preempted task\n"
+WAITS_HEADING = "\n   queued     worst     total      late     worst     apart task\n"
 OBJECTS_HEADING = "\n  ceiling     calls    queued object\n"
+USAGES_HEADING = "\n    calls   longest task object\n"
 INSTANTS_HEADING = "\n    steps at time\n"
 HERE = ("ready", "running")
 
 
 class Actor:
-    """What has happened to a task or handler: when its jobs began, after how many steps; its steps; its waits; how late it was."""
+    """What has happened to a task or handler: when its jobs began, after how many steps, and with which step they were over; its steps; its waits; how late it was."""
 
     def __init__(self):
-        self.jobs, self.steps, self.preempted, self.waits, self.late = [], [], 0, [], []
+        self.jobs, self.over, self.steps, self.preempted, self.waits, self.late = [], [], [], 0, [], []
 
-    def numbers(self):
-        begun = [step for _, step in self.jobs]
-        of_job = [bisect_right(begun, step - 1) - 1 for step in self.steps]
-        times = [time for time, _ in self.jobs]
-        apart = [later - time for time, later in zip(times, times[1:])]
+    def job_of(self, step):
+        """The number of the job that has a step of the run."""
+        return bisect_right([begun for _, begun in self.jobs], step - 1) - 1
+
+    def work(self, blocking):
+        of_job = [self.job_of(step) for step in self.steps]
         return [
             len(self.jobs),
             len(self.steps),
+            min((of_job.count(self.job_of(step)) for step in self.over), default="-"),
             max((of_job.count(job) for job in set(of_job)), default=0),
-            max((step - begun[job] for step, job in zip(self.steps, of_job)), default=0),
+            max((step - self.jobs[job][1] for step, job in zip(self.steps, of_job)), default=0),
+            blocking,
             self.preempted,
-            len(self.waits),
-            max(self.waits, default=0),
-            sum(self.waits),
-            len(self.late),
-            max(self.late, default=0),
-            min(apart) if apart else "-",
         ]
+
+    def waiting(self):
+        times = [time for time, _ in self.jobs]
+        apart = [later - time for time, later in zip(times, times[1:])]
+        return [len(self.waits), max(self.waits, default=0), sum(self.waits), len(self.late), max(self.late, default=0), min(apart, default="-")]
+
+
+class Usage:
+    """What a task or handler has done at an object: its calls, and of each action that it had open the steps that it took meanwhile."""
+
+    def __init__(self):
+        self.calls, self.actions = 0, []
+
+    def longest(self):
+        return max(self.actions, default=0)
 
 
 class Measures:
@@ -60,6 +74,7 @@ class Measures:
         self.world, self.instants = world, []
         self.actors = [Actor() for _ in world.everyone()]
         self.objects = [[0, 0] for _ in world.objects]
+        self.usages = [[Usage() for _ in world.objects] for _ in world.everyone()]
         for task in range(len(world.tasks)):
             self.actors[task].jobs.append((0, 0))
         self.handler_begins(0)
@@ -72,8 +87,11 @@ class Measures:
         self.last = world.last_line(before, until)
 
     def handler_begins(self, number):
+        """The job of a handler, if one begins: inside its object from the start, without a call."""
         if self.world.running is not None and self.world.running >= len(self.world.tasks):
             self.actors[self.world.running].jobs.append((self.world.now, number))
+            for o in self.world.inside(self.world.running):
+                self.usages[self.world.running][o].actions.append(0)
 
     def step(self, number, until):
         """Takes a step, unless the clock passes the time with it."""
@@ -87,8 +105,12 @@ class Measures:
             self.instants.append([0, now])
         self.instants[-1][0] += 1
         self.actors[ran].steps.append(number)
+        for o in inside:
+            self.usages[ran][o].actions[-1] += 1
         self.actors[ran].late += [int(row.split()[-1]) for row in world.asking if row.startswith("is late by ")]
         self.called(ran, set() if over else world.inside(ran), inside)
+        if later or over or world.place(ran)[0] in ("asleep", "queued", "finished"):
+            self.actors[ran].over.append(number)
         for task, (before, place) in enumerate(zip(places, world.places())):
             if place[0] in HERE and (before[0] in ("asleep", "served") or (later and before[0] == "running")):
                 self.actors[task].jobs.append((world.now, number))
@@ -102,26 +124,37 @@ class Measures:
     def called(self, ran, now, before):
         for o in now - before:
             self.objects[o][0] += 1
+            self.usages[ran][o].calls += 1
+            self.usages[ran][o].actions.append(0)
         place = self.world.place(ran)
         if place[0] == "queued":
             self.objects[place[1]][0] += 1
             self.objects[place[1]][1] += 1
+            self.usages[ran][place[1]].calls += 1
+
+    def blocking(self, priority):
+        """The most steps of one action of a task or handler of a lower base priority, at an object whose ceiling is at or above this priority."""
+        lower = [usages for task, usages in zip(self.world.everyone(), self.usages) if task.base < priority]
+        return max((usages[o].longest() for usages in lower for o, (ceiling, *_) in enumerate(self.world.objects) if ceiling >= priority), default=0)
 
     def rows(self):
-        """Rows of words: what they are about, their numbers, and the name."""
+        """Tables: their headings, and rows of words: what they are about, their numbers, and the names."""
         world = self.world
         shown = [(task, actor) for number, (task, actor) in enumerate(zip(world.everyone(), self.actors)) if number < len(world.tasks) or actor.jobs]
-        yield ACTORS_HEADING, [("task", [task.base, *actor.numbers()], task.name) for task, actor in shown]
-        yield OBJECTS_HEADING, [("object", [world.objects[o][0], *numbers], world.object(o)) for o, numbers in enumerate(self.objects)]
+        yield WORK_HEADING, [("task", [task.base, *actor.work(self.blocking(task.base))], [task.name]) for task, actor in shown]
+        yield WAITS_HEADING, [("wait", actor.waiting(), [task.name]) for task, actor in shown]
+        yield OBJECTS_HEADING, [("object", [world.objects[o][0], *numbers], [world.object(o)]) for o, numbers in enumerate(self.objects)]
+        used = [(task, o, usage) for task, usages in zip(world.everyone(), self.usages) for o, usage in enumerate(usages) if usage.calls or usage.longest()]
+        yield USAGES_HEADING, [("inside", [usage.calls, usage.longest()], [task.name, world.object(o)]) for task, o, usage in used]
         most = max((steps for steps, _ in self.instants), default=0)
-        yield INSTANTS_HEADING, [("instant", [most], next((time for steps, time in self.instants if steps == most), 0))]
+        yield INSTANTS_HEADING, [("instant", [most], [next((time for steps, time in self.instants if steps == most), 0)])]
 
     def table(self):
-        text = "".join(heading + "".join("".join(f"{number:>9} " for number in numbers) + f"{name}\n" for _, numbers, name in rows) for heading, rows in self.rows())
-        return text + self.last + "\n"
+        tables = (heading + "".join("".join(f"{number:>9} " for number in numbers) + " ".join(map(str, names)) + "\n" for _, numbers, names in rows) for heading, rows in self.rows())
+        return "".join(tables) + self.last + "\n"
 
     def fields(self):
-        text = "".join("\t".join(map(str, [about, *numbers, name])) + "\n" for _, rows in self.rows() for about, numbers, name in rows)
+        text = "".join("\t".join(map(str, [about, *numbers, *names])) + "\n" for _, rows in self.rows() for about, numbers, names in rows)
         return text + self.last + "\n"
 
 

@@ -27,8 +27,9 @@ COMMANDS
     adarun trace --chart SRC SCHED LIMIT [--until TIME]
         writes the run as a chart over virtual time: a row for each task and each object
     adarun measure [--tsv] SRC SCHED LIMIT [--until TIME]
-        writes what is measured of the run: jobs and steps of each task, preemptions, waits in
-        queues, lateness, calls of each object; as tables, or with tabs between fields
+        writes what is measured of the run: jobs and steps of each task, preemptions, blocking,
+        waits in queues, lateness, calls of each object and by whom; as tables, or with tabs
+        between fields
     adarun compile SRC IMG
         compiles a source to the file of an image
     adarun list IMG

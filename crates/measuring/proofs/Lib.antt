@@ -1,3 +1,6 @@
+mod Examples
+mod Greatest
+mod Inside
 mod Tabled
 mod Measured
 mod Rows

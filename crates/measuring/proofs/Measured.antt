@@ -16,8 +16,8 @@ use Rattle.tracing.specs.Changes.{next_ahead, starts}
 use Rattle.tracing.specs.declared.ahead.Ahead.{Ahead}
 use Rattle.tracing.specs.declared.calls.TheConstants.{ACTORS}
 use Rattle.measuring.specs.Measures.{no_steps}
-use Rattle.measuring.specs.Runs.{called_by_step, calls, counted_by_step, instants, stories, happened_by_step}
-use Rattle.measuring.specs.Stories.{ObjectCalls, Stories, not_called, nothing_happened, with_events}
+use Rattle.measuring.specs.Runs.{called_by_step, calls, counted_by_step, instants, stories, happened_by_step, usages, used_by_step}
+use Rattle.measuring.specs.Stories.{ObjectCalls, Stories, Usages, not_called, not_used, nothing_happened, with_events}
 use Rattle.measuring.specs.Tables.{AreMeasured}
 use Rattle.measuring.specs.declared.counting.Measures.{Measures}
 use Rattle.measuring.specs.declared.instants.Instants.{Instants}
@@ -35,13 +35,17 @@ called_beside : (times : CallTimes) (a : Ahead) (k l : Kernel) (now : ObjectCall
 called_beside times a k l now xs ys None = refl
 called_beside times a k l now xs ys (Some t) = refl
 
+used_beside : (times : CallTimes) (a : Ahead) (k l : Kernel) (now : Usages) (xs ys : List Line) (r : Option ℕ) → used_by_step times a (beside xs k) (beside ys l) None r now ≡ used_by_step times a k l None r now
+used_beside times a k l now xs ys None = refl
+used_beside times a k l now xs ys (Some t) = refl
+
 counted_beside : (k l : Kernel) (now : Instants) (xs ys : List Line) (r : Option ℕ) → counted_by_step (beside xs k) (beside ys l) None r now ≡ counted_by_step k l None r now
 counted_beside k l now xs ys None = refl
 counted_beside k l now xs ys (Some t) = refl
 
 -- what has happened in n steps is measured
 abbrev pub IsMeasured : Sections → List ScheduleLine → ℕ → Measures → Type 0
-IsMeasured i schedule n m = AreMeasured m (stories i schedule n) (calls i schedule n) (instants i schedule n)
+IsMeasured i schedule n m = AreMeasured m (stories i schedule n) (calls i schedule n) (usages i schedule n) (instants i schedule n)
 
 -- after n steps: both machines hold the world, and it is measured
 pub record Measured (i : Sections) (schedule : List ScheduleLine) (n : ℕ) (g h : HeldWorld) (times : CallTimes) (m : Measures) : Type 0 where
@@ -95,7 +99,7 @@ module _ (i : Sections) (schedule : List ScheduleLine) (n : ℕ) (g h : HeldWorl
 
     -- what the step has added is measured
     next_measured : (new : Measures) → let k = kernel_of g.tasking in let l = kernel_of next.tasking in
-        AreMeasured new (happened_by_step (length i.tasks) times a k l (suc n) None k.running (stories i schedule n)) (called_by_step times a k l None k.running (calls i schedule n)) (counted_by_step k l None k.running (instants i schedule n))
+        AreMeasured new (happened_by_step (length i.tasks) times a k l (suc n) None k.running (stories i schedule n)) (called_by_step times a k l None k.running (calls i schedule n)) (used_by_step times a k l None k.running (usages i schedule n)) (counted_by_step k l None k.running (instants i schedule n))
         → IsMeasured i schedule (suc n) new
     next_measured new are =
         let k = kernel_of g.tasking in
@@ -103,9 +107,11 @@ module _ (i : Sections) (schedule : List ScheduleLine) (n : ℕ) (g h : HeldWorl
         let happened_same = held_same (λ c b x y o t. happened_by_step (length i.tasks) c b x y (suc n) o t (stories i schedule n)) (happened_beside (length i.tasks) times a k l (suc n) (stories i schedule n)) in
         let called_same = held_same (λ c b x y o t. called_by_step c b x y o t (calls i schedule n)) (called_beside times a k l (calls i schedule n)) in
         let counted_same = held_same (λ c b x y o t. counted_by_step x y o t (instants i schedule n)) (counted_beside k l (instants i schedule n)) in
-        subst (λ (now : Stories). AreMeasured new now (calls i schedule (suc n)) (instants i schedule (suc n))) (sym happened_same)
-        (subst (λ (now : ObjectCalls). AreMeasured new (happened_by_step (length i.tasks) times a k l (suc n) None k.running (stories i schedule n)) now (instants i schedule (suc n))) (sym called_same)
-        (subst (λ (now : Instants). AreMeasured new (happened_by_step (length i.tasks) times a k l (suc n) None k.running (stories i schedule n)) (called_by_step times a k l None k.running (calls i schedule n)) now) (sym counted_same) are))
+        let used_same = held_same (λ c b x y o t. used_by_step c b x y o t (usages i schedule n)) (used_beside times a k l (usages i schedule n)) in
+        subst (λ (now : Stories). AreMeasured new now (calls i schedule (suc n)) (usages i schedule (suc n)) (instants i schedule (suc n))) (sym happened_same)
+        (subst (λ (now : ObjectCalls). AreMeasured new (happened_by_step (length i.tasks) times a k l (suc n) None k.running (stories i schedule n)) now (usages i schedule (suc n)) (instants i schedule (suc n))) (sym called_same)
+        (subst (λ (now : Usages). AreMeasured new (happened_by_step (length i.tasks) times a k l (suc n) None k.running (stories i schedule n)) (called_by_step times a k l None k.running (calls i schedule n)) now (instants i schedule (suc n))) (sym used_same)
+        (subst (λ (now : Instants). AreMeasured new (happened_by_step (length i.tasks) times a k l (suc n) None k.running (stories i schedule n)) (called_by_step times a k l None k.running (calls i schedule n)) (used_by_step times a k l None k.running (usages i schedule n)) now) (sym counted_same) are)))
 
     -- the calls after the step
     next_calls : (later : CallTimes) → later ≡ with_call times (kernel_of g.tasking).now (kernel_of g.tasking).running (kernel_of next.tasking).place → later ≡ call_times i schedule (suc n)
@@ -119,15 +125,15 @@ module _ (i : Sections) (schedule : List ScheduleLine) (n : ℕ) (g h : HeldWorl
     pub measured_on : (follow : HeldWorld) (said : Event) → StepsBy g follow said → follow.image ≡ g.image → next.image ≡ h.image → follow.schedule ≡ g.schedule → next.schedule ≡ h.schedule →
         (later : CallTimes) → later ≡ with_call times (kernel_of g.tasking).now (kernel_of g.tasking).running (kernel_of next.tasking).place → (new : Measures) →
         (let k = kernel_of g.tasking in let l = kernel_of next.tasking in
-        AreMeasured new (happened_by_step (length next.image.tasks) times a k l (n + 1) None k.running (stories i schedule n)) (called_by_step times a k l None k.running (calls i schedule n)) (counted_by_step k l None k.running (instants i schedule n))) →
+        AreMeasured new (happened_by_step (length next.image.tasks) times a k l (n + 1) None k.running (stories i schedule n)) (called_by_step times a k l None k.running (calls i schedule n)) (used_by_step times a k l None k.running (usages i schedule n)) (counted_by_step k l None k.running (instants i schedule n))) →
         Measured i schedule (n + 1) follow next later new
     measured_on follow said follows image_g image_h schedule_g schedule_h later noted new are =
         let k = kernel_of g.tasking in
         let l = kernel_of next.tasking in
         let at : n + 1 ≡ suc n = omega arith in
         let tasks : length next.image.tasks ≡ length i.tasks = ap (λ (x : Sections). length x.tasks) (image_h ∙ r.image) in
-        let is = subst (λ p. AreMeasured new (happened_by_step p times a k l (suc n) None k.running (stories i schedule n)) (called_by_step times a k l None k.running (calls i schedule n)) (counted_by_step k l None k.running (instants i schedule n))) tasks
-        (subst (λ x. AreMeasured new (happened_by_step (length next.image.tasks) times a k l x None k.running (stories i schedule n)) (called_by_step times a k l None k.running (calls i schedule n)) (counted_by_step k l None k.running (instants i schedule n))) at are) in
+        let is = subst (λ p. AreMeasured new (happened_by_step p times a k l (suc n) None k.running (stories i schedule n)) (called_by_step times a k l None k.running (calls i schedule n)) (used_by_step times a k l None k.running (usages i schedule n)) (counted_by_step k l None k.running (instants i schedule n))) tasks
+        (subst (λ x. AreMeasured new (happened_by_step (length next.image.tasks) times a k l x None k.running (stories i schedule n)) (called_by_step times a k l None k.running (calls i schedule n)) (used_by_step times a k l None k.running (usages i schedule n)) (counted_by_step k l None k.running (instants i schedule n))) at are) in
         subst (λ x. Measured i schedule x follow next later new) (sym at)
         (record {
           image_before = image_g ∙ r.image_before;
@@ -142,7 +148,7 @@ module _ (i : Sections) (schedule : List ScheduleLine) (n : ℕ) (g h : HeldWorl
 
 -- the start
 pub measured_start : (g h : HeldWorld) → g.image ≡ h.image → g.schedule ≡ h.schedule → HoldsWorld g (code g.image g.schedule 0) → HoldsWorld h (code h.image h.schedule 0) → (times : CallTimes) → times ≡ no_calls ACTORS → (m : Measures) →
-    (let k = kernel_of h.tasking in AreMeasured m (with_events (length h.image.tasks) k.now 0 (starts k) nothing_happened) not_called no_steps) → Measured h.image h.schedule 0 g h times m
+    (let k = kernel_of h.tasking in AreMeasured m (with_events (length h.image.tasks) k.now 0 (starts k) nothing_happened) not_called not_used no_steps) → Measured h.image h.schedule 0 g h times m
 measured_start g h same there stands_g stands_h times none m are =
     record {
       image_before = same;
@@ -152,7 +158,7 @@ measured_start g h same there stands_g stands_h times none m are =
       stands_before = subst (λ x. HoldsWorld g (code h.image x 0)) there (subst (λ x. HoldsWorld g (code x g.schedule 0)) same stands_g);
       stands = stands_h;
       called = none;
-      measured = subst (λ (w : CodeWorld). AreMeasured m (with_events (length h.image.tasks) w.kernel.now 0 (starts w.kernel) nothing_happened) not_called no_steps) (sym stands_h) are;
+      measured = subst (λ (w : CodeWorld). AreMeasured m (with_events (length h.image.tasks) w.kernel.now 0 (starts w.kernel) nothing_happened) not_called not_used no_steps) (sym stands_h) are;
     }
 
 -- after an outcome nothing happens
@@ -178,6 +184,15 @@ module _ (stays : OutcomeStays) (i : Sections) (schedule : List ScheduleLine) (n
       ap (calls i schedule) e
       ∙ (ap (λ x. called_by_step (call_times i schedule (n + j)) (next_ahead i schedule w) w.kernel l x w.kernel.running (calls i schedule (n + j))) (still j) ∙ calls_stay j)
 
+  usages_stay : (j : ℕ) → usages i schedule (n + j) ≡ usages i schedule n
+  usages_stay zero = let e : n + zero ≡ n = omega arith in ap (usages i schedule) e
+  usages_stay (suc j) =
+      let e : n + suc j ≡ suc (n + j) = omega arith in
+      let w = code i schedule (n + j) in
+      let l = (code i schedule (suc (n + j))).kernel in
+      ap (usages i schedule) e
+      ∙ (ap (λ x. used_by_step (call_times i schedule (n + j)) (next_ahead i schedule w) w.kernel l x w.kernel.running (usages i schedule (n + j))) (still j) ∙ usages_stay j)
+
   instants_stay : (j : ℕ) → instants i schedule (n + j) ≡ instants i schedule n
   instants_stay zero = let e : n + zero ≡ n = omega arith in ap (instants i schedule) e
   instants_stay (suc j) =
@@ -188,9 +203,10 @@ module _ (stays : OutcomeStays) (i : Sections) (schedule : List ScheduleLine) (n
 
   measured_still : (j : ℕ) (m : Measures) → IsMeasured i schedule n m → IsMeasured i schedule (n + j) m
   measured_still j m are =
-      subst (λ (now : Stories). AreMeasured m now (calls i schedule (n + j)) (instants i schedule (n + j))) (sym (stories_stay j))
-      (subst (λ (now : ObjectCalls). AreMeasured m (stories i schedule n) now (instants i schedule (n + j))) (sym (calls_stay j))
-      (subst (λ (now : Instants). AreMeasured m (stories i schedule n) (calls i schedule n) now) (sym (instants_stay j)) are))
+      subst (λ (now : Stories). AreMeasured m now (calls i schedule (n + j)) (usages i schedule (n + j)) (instants i schedule (n + j))) (sym (stories_stay j))
+      (subst (λ (now : ObjectCalls). AreMeasured m (stories i schedule n) now (usages i schedule (n + j)) (instants i schedule (n + j))) (sym (calls_stay j))
+      (subst (λ (now : Usages). AreMeasured m (stories i schedule n) (calls i schedule n) now (instants i schedule (n + j))) (sym (usages_stay j))
+      (subst (λ (now : Instants). AreMeasured m (stories i schedule n) (calls i schedule n) (usages i schedule n) now) (sym (instants_stay j)) are)))
 
 -- there is one time of a call for each actor
 pub one_each : (n : ℕ) → length (no_calls n) ≡ n

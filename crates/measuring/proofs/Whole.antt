@@ -11,8 +11,8 @@ use Rattle.machine.specs.Written.{AppendsBeginning}
 use Rattle.machine.specs.declared.bound.Bound.{Bound}
 use Rattle.machine.specs.declared.reports.Outcome.{Outcome}
 use Rattle.machine.proofs.Runs.{appends_nothing, beginning_of_more, whole_beginning}
-use Rattle.measuring.specs.Runs.{calls, instants, stories}
-use Rattle.measuring.specs.Stories.{ObjectCalls, Stories}
+use Rattle.measuring.specs.Runs.{calls, instants, stories, usages}
+use Rattle.measuring.specs.Stories.{ObjectCalls, Stories, Usages}
 use Rattle.measuring.specs.Tables.{AreMeasured}
 use Rattle.measuring.specs.Text.{measures_text, run_text}
 use Rattle.measuring.specs.declared.counting.Measures.{Measures}
@@ -32,10 +32,10 @@ module _ (form : Form) (i : Sections) (names : List (List ℕ)) (schedule : List
   ends_here o ends = here (λ x s. EndsBy o (code x s bound.steps)) ends
 
   pub whole_is : (o : Outcome) → EndsBy o (code held given bound.steps) → (m : Measures) → IsMeasured held given bound.steps m → (text last : List ℕ)
-      → ((happened : Stories) (called : ObjectCalls) (now : Instants) → AreMeasured m happened called now → text ≡ run_text form i names happened called now)
+      → ((happened : Stories) (called : ObjectCalls) (used : Usages) (now : Instants) → AreMeasured m happened called used now → text ≡ run_text form i names happened called used now)
       → last ≡ cut_line bound.cut (names_of i) (ending_of o) (time_of o) → text ++ last ≡ measures_text form i names schedule bound
   whole_is o ends m measured text last is last_is =
       let over = ends_here o ends in
-      let first = is (stories i schedule bound.steps) (calls i schedule bound.steps) (instants i schedule bound.steps) (here (λ x s. IsMeasured x s bound.steps m) measured) in
+      let first = is (stories i schedule bound.steps) (calls i schedule bound.steps) (usages i schedule bound.steps) (instants i schedule bound.steps) (here (λ x s. IsMeasured x s bound.steps m) measured) in
       let second = last_is ∙ sym (λ j. cut_line bound.cut (names_of i) (over.outcome j) (over.time j)) in
       λ j. first j ++ second j

@@ -1,10 +1,14 @@
--- What is measured of what has happened to a task, of the calls of an object, and of the instants of a run.
-use Rattle.std.specs.Prelude.{ℕ, ◌+◌, ◌-◌, ◌^◌, List, [], ◌∷◌, ℤ, pos, ◌-ℤ◌, Bool, true, false, Option, Some, None, max, min, nat_lt, unsigned_abs, if◌then◌else◌}
+-- What is measured of what has happened to a task, of the calls of an object, of the use that a task makes of an object, and of the instants of a run.
+use Rattle.std.specs.Prelude.{ℕ, zero, suc, ◌+◌, ◌-◌, ◌^◌, List, [], ◌∷◌, ℤ, pos, ◌-ℤ◌, Bool, true, false, Option, Some, None, max, min, nat_le, nat_lt, unsigned_abs, ◌&&◌, if◌then◌else◌}
+use Rattle.kernel.specs.State.{Partition}
 use Rattle.measuring.specs.declared.actor.ActorMeasures.{ActorMeasures}
 use Rattle.measuring.specs.declared.happening.Happening.{Happening}
-use Rattle.measuring.specs.declared.happening.Happening.TheVariants.{Released, Steps, Preempted, HasWaited, Late}
+use Rattle.measuring.specs.declared.happening.Happening.TheVariants.{Released, Steps, Rests, Preempted, HasWaited, Late}
 use Rattle.measuring.specs.declared.instants.Instants.{Instants}
 use Rattle.measuring.specs.declared.object.ObjectMeasures.{ObjectMeasures}
+use Rattle.measuring.specs.declared.usage.Usage.{Usage}
+use Rattle.measuring.specs.declared.usage.Usage.TheVariants as uses
+use Rattle.measuring.specs.declared.usage.UsageMeasures.{UsageMeasures}
 
 -- Stories have the latest first. No number is greater than 2 ^ 64 - 1: a greater sum is written as that.
 
@@ -53,6 +57,7 @@ abbrev pub last_job : List Happening → ℕ
 last_job [] = 0
 last_job (Released time step ∷ earlier) = 0
 last_job (Steps step ∷ earlier) = plus (last_job earlier) 1
+last_job (Rests ∷ earlier) = last_job earlier
 last_job (Preempted ∷ earlier) = last_job earlier
 last_job (HasWaited time ∷ earlier) = last_job earlier
 last_job (Late by ∷ earlier) = last_job earlier
@@ -62,15 +67,31 @@ abbrev pub longest_job : List Happening → ℕ
 longest_job [] = 0
 longest_job (Steps step ∷ earlier) = max (longest_job earlier) (last_job (Steps step ∷ earlier))
 longest_job (Released time step ∷ earlier) = longest_job earlier
+longest_job (Rests ∷ earlier) = longest_job earlier
 longest_job (Preempted ∷ earlier) = longest_job earlier
 longest_job (HasWaited time ∷ earlier) = longest_job earlier
 longest_job (Late by ∷ earlier) = longest_job earlier
+
+abbrev pub lesser : Option ℕ → ℕ → ℕ
+lesser None n = n
+lesser (Some m) n = min m n
+
+-- the least steps of a job, of the jobs that are over
+abbrev pub shortest_job : List Happening → Option ℕ
+shortest_job [] = None
+shortest_job (Rests ∷ earlier) = Some (lesser (shortest_job earlier) (last_job earlier))
+shortest_job (Steps step ∷ earlier) = shortest_job earlier
+shortest_job (Released time step ∷ earlier) = shortest_job earlier
+shortest_job (Preempted ∷ earlier) = shortest_job earlier
+shortest_job (HasWaited time ∷ earlier) = shortest_job earlier
+shortest_job (Late by ∷ earlier) = shortest_job earlier
 
 -- how many steps of the run had been taken when the last job began
 abbrev pub steps_before : List Happening → ℕ
 steps_before [] = 0
 steps_before (Released time step ∷ earlier) = step
 steps_before (Steps step ∷ earlier) = steps_before earlier
+steps_before (Rests ∷ earlier) = steps_before earlier
 steps_before (Preempted ∷ earlier) = steps_before earlier
 steps_before (HasWaited time ∷ earlier) = steps_before earlier
 steps_before (Late by ∷ earlier) = steps_before earlier
@@ -80,6 +101,7 @@ abbrev pub response : List Happening → ℕ
 response [] = 0
 response (Steps step ∷ earlier) = max (response earlier) (step - steps_before earlier)
 response (Released time step ∷ earlier) = response earlier
+response (Rests ∷ earlier) = response earlier
 response (Preempted ∷ earlier) = response earlier
 response (HasWaited time ∷ earlier) = response earlier
 response (Late by ∷ earlier) = response earlier
@@ -91,13 +113,10 @@ abbrev pub last_release : List Happening → Option ℤ
 last_release [] = None
 last_release (Released time step ∷ earlier) = Some time
 last_release (Steps step ∷ earlier) = last_release earlier
+last_release (Rests ∷ earlier) = last_release earlier
 last_release (Preempted ∷ earlier) = last_release earlier
 last_release (HasWaited time ∷ earlier) = last_release earlier
 last_release (Late by ∷ earlier) = last_release earlier
-
-abbrev pub lesser : Option ℕ → ℕ → ℕ
-lesser None n = n
-lesser (Some m) n = min m n
 
 abbrev pub nearer : (last : Option ℤ) → ℤ → Option ℕ → Option ℕ
 nearer None time least = least
@@ -108,6 +127,7 @@ abbrev pub least_apart : List Happening → Option ℕ
 least_apart [] = None
 least_apart (Released time step ∷ earlier) = nearer (last_release earlier) time (least_apart earlier)
 least_apart (Steps step ∷ earlier) = least_apart earlier
+least_apart (Rests ∷ earlier) = least_apart earlier
 least_apart (Preempted ∷ earlier) = least_apart earlier
 least_apart (HasWaited time ∷ earlier) = least_apart earlier
 least_apart (Late by ∷ earlier) = least_apart earlier
@@ -140,6 +160,7 @@ measures story = record {
   jobs = count is_release story;
   steps = count is_step story;
   last_job = last_job story;
+  shortest_job = shortest_job story;
   longest_job = longest_job story;
   steps_before = steps_before story;
   response = response story;
@@ -164,6 +185,49 @@ is_queued queued = queued
 -- of an object's calls: how many there were, and how many waited in the queue
 abbrev pub object_measures : List Bool → ObjectMeasures
 object_measures calls = record { calls = count is_any calls; queued = count is_queued calls }
+
+-- Actions: one has the steps that its task takes while it is open: those after the step that opens it, up to the one with which the task leaves the object
+
+abbrev pub is_call : Usage → Bool
+is_call uses.Calls = true
+is_call usage = false
+
+-- the steps inside the object since it was last left
+abbrev pub last_action : List Usage → ℕ
+last_action [] = 0
+last_action (uses.Leaves ∷ earlier) = 0
+last_action (uses.StepsInside ∷ earlier) = plus (last_action earlier) 1
+last_action (uses.Calls ∷ earlier) = last_action earlier
+
+-- the most steps of an action
+abbrev pub longest_action : List Usage → ℕ
+longest_action [] = 0
+longest_action (uses.StepsInside ∷ earlier) = max (longest_action earlier) (last_action (uses.StepsInside ∷ earlier))
+longest_action (uses.Leaves ∷ earlier) = longest_action earlier
+longest_action (uses.Calls ∷ earlier) = longest_action earlier
+
+-- all that is measured of a task at an object
+abbrev pub usage_measures : List Usage → UsageMeasures
+usage_measures usages = record { calls = count is_call usages; last_action = last_action usages; longest_action = longest_action usages }
+
+-- Blocking
+
+-- the greatest of what a function gives of the numbers below n, or 0
+abbrev pub most_below : ℕ → (ℕ → ℕ) → ℕ
+most_below zero f = 0
+most_below (suc n) f = max (most_below n f) (f n)
+
+-- an action of u at o can keep t waiting: u, of the lower base priority, has within it the ceiling of o as its active priority at least (RM D.3)
+abbrev pub can_block : Partition → (t u o : ℕ) → Bool
+can_block p t u o = nat_lt (p.base u) (p.base t) && nat_le (p.base t) (p.ceiling o)
+
+-- the most steps of one action of u that can keep t waiting, at so many objects, by its longest action at each
+abbrev pub blocked_by : Partition → (objects : ℕ) → (longest : ℕ → ℕ) → (t u : ℕ) → ℕ
+blocked_by p objects longest t u = most_below objects (λ o. if can_block p t u o then longest o else 0)
+
+-- and of so many tasks and handlers, by the longest action of each at each object
+abbrev pub blocking : Partition → (actors : ℕ) → (longest : ℕ → ℕ → ℕ) → ℕ → ℕ
+blocking p actors longest t = most_below actors (λ u. blocked_by p p.objects (longest u) t u)
 
 -- Instants: the steps that are taken at one time
 

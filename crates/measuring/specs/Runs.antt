@@ -8,7 +8,7 @@ use Rattle.tracing.specs.Calls.{CallTimes, call_times}
 use Rattle.tracing.specs.Changes.{is_later, next_ahead, since_clock, starts, until_clock}
 use Rattle.tracing.specs.declared.ahead.Ahead.{Ahead}
 use Rattle.measuring.specs.Measures.{no_steps, with_step}
-use Rattle.measuring.specs.Stories.{ObjectCalls, Stories, noticed, not_called, nothing_happened, with_calls, with_events, with_notice}
+use Rattle.measuring.specs.Stories.{ObjectCalls, Stories, Usages, noticed, not_called, not_used, nothing_happened, with_calls, with_events, with_notice, with_step_inside, with_usages}
 use Rattle.measuring.specs.declared.happening.Happening.TheVariants as happens
 use Rattle.measuring.specs.declared.instants.Instants.{Instants}
 
@@ -42,6 +42,20 @@ calls i schedule (suc n) =
     let w = code i schedule n in
     let l = (code i schedule (suc n)).kernel in
     called_by_step (call_times i schedule n) (next_ahead i schedule w) w.kernel l w.kernel.outcome w.kernel.running (calls i schedule n)
+
+-- the task that runs takes the step inside the objects of which it has actions open before it, and then its events tell
+abbrev pub used_by_step : CallTimes → Ahead → Kernel → Kernel → Option Outcome → Option ℕ → Usages → Usages
+used_by_step times ahead k l (Some o) running usages = usages
+used_by_step times ahead k l None None usages = usages
+used_by_step times ahead k l None (Some t) usages =
+    with_usages (until_clock times ahead k l t) (with_step_inside k.partition.objects (k.actions t) t usages)
+
+abbrev pub usages : Sections → List ScheduleLine → ℕ → Usages
+usages i schedule zero = not_used
+usages i schedule (suc n) =
+    let w = code i schedule n in
+    let l = (code i schedule (suc n)).kernel in
+    used_by_step (call_times i schedule n) (next_ahead i schedule w) w.kernel l w.kernel.outcome w.kernel.running (usages i schedule n)
 
 abbrev pub counted_by_step : Kernel → Kernel → Option Outcome → Option ℕ → Instants → Instants
 counted_by_step k l (Some o) running instants = instants

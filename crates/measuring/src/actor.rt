@@ -1,6 +1,6 @@
 //! What is measured of one task.
 ghost use Rattle.std.specs.Prelude.{◌≡◌, ◌∷◌, List};
-ghost use Rattle.measuring.specs.Measures.{measures, nearer};
+ghost use Rattle.measuring.specs.Measures.{lesser, measures, nearer};
 
 use crate::happening::Happening;
 
@@ -14,6 +14,8 @@ pub struct ActorMeasures {
     pub steps: u64,
     /// How many steps its last job has taken so far.
     pub last_job: u64,
+    /// The least steps of a job, of those that are over.
+    pub shortest_job: Option<u64>,
     /// The most steps of a job.
     pub longest_job: u64,
     /// How many steps of the run had been taken when its last job began.
@@ -38,6 +40,16 @@ pub struct ActorMeasures {
     pub least_apart: Option<u64>,
 }
 
+// The lesser of a number and of the least one so far, if there is one.
+fn lesser(least: Option<u64>, number: u64) -> u64
+    ensures { result ≡ lesser least number }
+{
+    match least {
+        Some(least) => least.min(number),
+        None => number,
+    }
+}
+
 // The least distance of releases, with one more at this time.
 fn nearer(last: Option<i64>, time: i64, least: Option<u64>) -> Option<u64>
     ensures { result ≡ nearer last time least }
@@ -45,11 +57,7 @@ fn nearer(last: Option<i64>, time: i64, least: Option<u64>) -> Option<u64>
     let Some(last) = last else {
         return least;
     };
-    let apart = time.abs_diff(last);
-    match least {
-        Some(least) => Some(least.min(apart)),
-        None => Some(apart),
-    }
+    Some(lesser(least, time.abs_diff(last)))
 }
 
 impl ActorMeasures {
@@ -90,6 +98,7 @@ impl ActorMeasures {
         match happening {
             Happening::Released { time, step } => self.release(time, step),
             Happening::Steps { step } => self.take_step(step),
+            Happening::Rests => self.shortest_job = Some(lesser(self.shortest_job, self.last_job)),
             Happening::Preempted => self.preempted = self.preempted.saturating_add(1),
             Happening::HasWaited { time } => self.have_waited(time),
             Happening::Late { by } => {

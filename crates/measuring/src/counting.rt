@@ -1,38 +1,43 @@
 //! The measures of all tasks and objects, with what one step of a run has changed.
-ghost use Rattle.std.specs.Prelude.{◌≡◌, IfOk, None, Some, length, replicate};
+ghost use Rattle.std.specs.Prelude.{◌≡◌, ◌*◌, IfOk, None, Some, length, replicate};
+ghost use Rattle.base.specs.declared.limits.TheConstants.{OBJECTS};
 ghost use Rattle.tasking.specs.Held.{kernel_of};
 ghost use Rattle.tracing.specs.Changes.{since_clock, starts};
 ghost use Rattle.tracing.specs.declared.calls.TheConstants.{ACTORS};
-ghost use Rattle.measuring.specs.Measures.{measures, no_steps, object_measures};
-ghost use Rattle.measuring.specs.Runs.{called_by_step, counted_by_step, happened_by_step};
-ghost use Rattle.measuring.specs.Stories.{ObjectCalls, Stories, noticed, not_called, nothing_happened, with_call, with_calls, with_events, with_notice};
-ghost use Rattle.measuring.specs.Tables.{AreMeasured, AreWhole, IsTable};
+ghost use Rattle.measuring.specs.Measures.{measures, no_steps, object_measures, usage_measures};
+ghost use Rattle.measuring.specs.Runs.{called_by_step, counted_by_step, happened_by_step, used_by_step};
+ghost use Rattle.measuring.specs.Stories.{ObjectCalls, Stories, Usages, noticed, not_called, not_used, nothing_happened, with_call, with_calls, with_events, with_notice, with_step_inside, with_usage, with_usages};
+ghost use Rattle.measuring.specs.Tables.{AreMeasured, AreWhole, IsGrid, IsTable};
 
 use crate::actor::ActorMeasures;
 use crate::happening::{Call, Happening, Notice, call_of, notice_of};
 use crate::instants::Instants;
 use crate::object::ObjectMeasures;
+use crate::usage::{Usage, UsageMeasures, UsageNotice, usage_of};
+use base::limits::OBJECTS;
 use clock::Delays;
 use dispatch::Ready;
 use machine::Machine;
 use std::alloc::{AllocError, Global};
 use tracing::{ACTORS, Ahead, Event, Events, since_clock, starts, until_clock};
 
-/// The measures of a run: those of tasks and handlers by their numbers, those of objects by theirs, and those of instants.
+/// The measures of a run: those of tasks and handlers by their numbers, those of objects by theirs, those of each task and handler at each object, and those of
+/// instants.
 #[derive(Drop)]
 pub(crate) struct Measures {
     pub(crate) actors: Vec<ActorMeasures>,
     pub(crate) objects: Vec<ObjectMeasures>,
+    pub(crate) usages: Vec<UsageMeasures>,
     pub(crate) instants: Instants,
 }
 
-// A table in which each row has this value.
-fn table_of<T: Copy>(alloc: Global, value: T) -> Result<Vec<T>, AllocError>
-    ensures { IfOk result (λ table. table.items ≡ replicate ACTORS value) }
+// A table of so many rows, each of which has this value.
+fn table_of<T: Copy>(alloc: Global, rows: usize, value: T) -> Result<Vec<T>, AllocError>
+    ensures { IfOk result (λ table. table.items ≡ replicate rows value) }
 {
     let mut table = Vec::new(alloc);
     let mut count = 0;
-    while count < ACTORS {
+    while count < rows {
         table.push(value)?;
         count += 1;
     }
@@ -87,6 +92,76 @@ fn note_calls(objects: &mut [ObjectMeasures], events: &[Event])
     }
 }
 
+// With what a task does at an object.
+fn note_usage(usages: &mut [UsageMeasures], notice: UsageNotice)
+    requires room { length usages.old ≡ ACTORS * OBJECTS }
+    ensures noted { (used : Usages) → IsGrid usages.old (λ t o. usage_measures (used t o)) → IsGrid usages.new
+        (λ t o. usage_measures (with_usage (Some notice) used t o)) }
+    ensures room { length usages.new ≡ ACTORS * OBJECTS }
+{
+    let object = usize::from(notice.object);
+    if object < OBJECTS {
+        usages[usize::from(notice.task) * OBJECTS + object].note(notice.usage);
+    }
+}
+
+// With what events say that tasks do at objects.
+fn note_usages(usages: &mut [UsageMeasures], events: &[Event])
+    requires room { length usages.old ≡ ACTORS * OBJECTS }
+    ensures noted { (used : Usages) → IsGrid usages.old (λ t o. usage_measures (used t o)) → IsGrid usages.new
+        (λ t o. usage_measures (with_usages events.now used t o)) }
+    ensures room { length usages.new ≡ ACTORS * OBJECTS }
+{
+    for event in events {
+        if let Some(notice) = usage_of(event) {
+            note_usage(usages, notice);
+        }
+    }
+}
+
+// With a step of this task inside the objects of which it has an action open before it.
+fn note_step_inside<R: Ready, D: Delays>(
+    usages: &mut [UsageMeasures],
+    before: &Machine<'_, R, D>,
+    ran: u8,
+)
+    requires room { length usages.old ≡ ACTORS * OBJECTS }
+    ensures noted { (used : Usages) → IsGrid usages.old (λ t o. usage_measures (used t o)) →
+        let k = kernel_of before.now.tasking in
+        IsGrid usages.new (λ t o. usage_measures (with_step_inside k.partition.objects (k.actions ran) ran used t o)) }
+    ensures room { length usages.new ≡ ACTORS * OBJECTS }
+{
+    for object in 0..before.objects() {
+        if before.is_actor_inside(ran, object) {
+            note_usage(
+                usages,
+                UsageNotice {
+                    task: ran,
+                    object,
+                    usage: Usage::StepsInside,
+                },
+            );
+        }
+    }
+}
+
+// With what a step of this task does at objects: it is taken inside those of which the task has an action open before it, and has led to these events.
+fn note_use<R: Ready, D: Delays>(
+    usages: &mut [UsageMeasures],
+    before: &Machine<'_, R, D>,
+    ran: u8,
+    until: &[Event],
+)
+    requires room { length usages.old ≡ ACTORS * OBJECTS }
+    ensures noted { (used : Usages) → IsGrid usages.old (λ t o. usage_measures (used t o)) →
+        let k = kernel_of before.now.tasking in
+        IsGrid usages.new (λ t o. usage_measures (with_usages until.now (with_step_inside k.partition.objects (k.actions ran) ran used) t o)) }
+    ensures room { length usages.new ≡ ACTORS * OBJECTS }
+{
+    note_step_inside(usages, before, ran);
+    note_usages(usages, until);
+}
+
 // With what a step of this task says of tasks, which has led to these events before the clock moves, if it does.
 fn note_changes<R: Ready, D: Delays>(
     actors: &mut [ActorMeasures],
@@ -124,11 +199,12 @@ impl Measures {
     /// Where memory was refused.
     pub(crate) fn new(alloc: Global) -> Result<Measures, AllocError>
         ensures whole { IfOk result (λ measures. AreWhole measures) }
-        ensures nothing { IfOk result (λ measures. AreMeasured measures nothing_happened not_called no_steps) }
+        ensures nothing { IfOk result (λ measures. AreMeasured measures nothing_happened not_called not_used no_steps) }
     {
         Ok(Measures {
-            actors: table_of(alloc, ActorMeasures::default())?,
-            objects: table_of(alloc, ObjectMeasures::default())?,
+            actors: table_of(alloc, ACTORS, ActorMeasures::default())?,
+            objects: table_of(alloc, ACTORS, ObjectMeasures::default())?,
+            usages: table_of(alloc, ACTORS * OBJECTS, UsageMeasures::default())?,
             instants: Instants::new(),
         })
     }
@@ -137,9 +213,9 @@ impl Measures {
     pub(crate) fn note_start<R: Ready, D: Delays>(&mut self, machine: &Machine<'_, R, D>)
         requires { AreWhole self.old }
         ensures whole { AreWhole self.new }
-        ensures noted { (stories : Stories) (calls : ObjectCalls) (instants : Instants) → AreMeasured self.old stories calls instants →
+        ensures noted { (stories : Stories) (calls : ObjectCalls) (usages : Usages) (instants : Instants) → AreMeasured self.old stories calls usages instants →
             let k = kernel_of machine.now.tasking in AreMeasured self.new
-            (with_events (length machine.now.image.tasks) k.now 0 (starts k) stories) calls instants }
+            (with_events (length machine.now.image.tasks) k.now 0 (starts k) stories) calls usages instants }
     {
         let events = starts(machine);
         note_events(
@@ -163,10 +239,11 @@ impl Measures {
         requires image { before.now.image ≡ after.now.image }
         requires whole { AreWhole self.old }
         ensures whole { AreWhole self.new }
-        ensures noted { (stories : Stories) (called : ObjectCalls) (instants : Instants) → AreMeasured self.old stories called instants →
+        ensures noted { (stories : Stories) (called : ObjectCalls) (used : Usages) (instants : Instants) → AreMeasured self.old stories called used instants →
             let k = kernel_of before.now.tasking in let l = kernel_of after.now.tasking in AreMeasured self.new
             (happened_by_step (length after.now.image.tasks) calls.now ahead k l step None k.running stories)
             (called_by_step calls.now ahead k l None k.running called)
+            (used_by_step calls.now ahead k l None k.running used)
             (counted_by_step k l None k.running instants) }
     {
         let Some(ran) = before.actor() else {
@@ -175,6 +252,7 @@ impl Measures {
         let until = until_clock(calls, before, after, ran, ahead);
         note_changes(&mut self.actors, before, after, ran, step, until.as_slice());
         note_calls(&mut self.objects, until.as_slice());
+        note_use(&mut self.usages, before, ran, until.as_slice());
         let moves = before.now() < after.now();
         self.instants.take_step(before.now(), moves);
     }

@@ -11,6 +11,8 @@ pub enum Happening {
     Released { time: i64, step: u64 },
     /// It takes this step of the run, counted from 1.
     Steps { step: u64 },
+    /// Its job is over: it waits for a time, its call is queued, or it has ended (RM 9.6, 9.5.3, 9.3).
+    Rests,
     /// A task of a higher active priority runs in its place (RM D.2.3).
     Preempted,
     /// Its call that was queued is over, for which it has waited so many microseconds (RM 9.5.3).
@@ -47,6 +49,9 @@ pub(crate) fn notice_of(tasks: u8, time: i64, step: u64, event: &Event) -> Optio
             }
             (*task, Happening::Released { time, step })
         }
+        Event::Waits { task, .. } | Event::Queues { task, .. } | Event::Ends { task } => {
+            (*task, Happening::Rests)
+        }
         Event::Preempted { task, .. } => (*task, Happening::Preempted),
         Event::HasWaited { task, time, .. } => (*task, Happening::HasWaited { time: *time }),
         Event::Late { task, by, .. } => (*task, Happening::Late { by: *by }),
@@ -54,13 +59,10 @@ pub(crate) fn notice_of(tasks: u8, time: i64, step: u64, event: &Event) -> Optio
         | Event::Refused { .. }
         | Event::Raises { .. }
         | Event::RaisesAtCall { .. }
-        | Event::Waits { .. }
         | Event::Reads { .. }
         | Event::Enters { .. }
         | Event::Leaves { .. }
-        | Event::Queues { .. }
         | Event::Served { .. }
-        | Event::Ends { .. }
         | Event::Unhandled { .. }
         | Event::ClockMoves => return None,
     };

@@ -7,8 +7,8 @@ ghost use Rattle.machine.specs.Written.{AppendsBeginning};
 ghost use Rattle.tracing.specs.Calls.{no_calls};
 ghost use Rattle.tracing.specs.declared.calls.TheConstants.{ACTORS};
 ghost use Rattle.measuring.specs.Measures.{no_steps};
-ghost use Rattle.measuring.specs.Runs.{calls, instants, stories};
-ghost use Rattle.measuring.specs.Stories.{not_called, nothing_happened};
+ghost use Rattle.measuring.specs.Runs.{calls, instants, stories, usages};
+ghost use Rattle.measuring.specs.Stories.{not_called, not_used, nothing_happened};
 ghost use Rattle.measuring.specs.Tables.{AreMeasured, AreWhole};
 ghost use Rattle.measuring.specs.Text.{measures_text};
 
@@ -33,7 +33,7 @@ fn measure_on<R: Ready, D: Delays, L: Ledger>(
     steps: &mut Steps<L>,
 ) -> Outcome
     requires whole { AreWhole measures.old }
-    requires nothing { AreMeasured measures.old nothing_happened not_called no_steps }
+    requires nothing { AreMeasured measures.old nothing_happened not_called not_used no_steps }
     requires times { times.old ≡ no_calls ACTORS }
     requires image { before.old.image ≡ after.old.image }
     requires schedule { before.old.schedule ≡ after.old.schedule }
@@ -41,7 +41,7 @@ fn measure_on<R: Ready, D: Delays, L: Ledger>(
     requires stands_before { HoldsWorld before.old (code before.old.image before.old.schedule 0) }
     ensures whole { AreWhole measures.new }
     ensures measured { AreMeasured measures.new (stories after.old.image after.old.schedule limit) (calls after.old.image after.old.schedule limit)
-        (instants after.old.image after.old.schedule limit) }
+        (usages after.old.image after.old.schedule limit) (instants after.old.image after.old.schedule limit) }
     ensures ends { EndsBy result (code after.old.image after.old.schedule limit) }
     ensures count { steps.new ≤ steps.old + 2 * limit }
 {

@@ -1,9 +1,8 @@
-use Rattle.std.proofs.Common.{List, [], Some, refl, sym, ap, subst, length, ◌≡◌, ◌∙◌, drop, ◌+◌}
+use Rattle.std.proofs.Common.{Some, refl, sym, ap, subst, length, ◌≡◌, ◌∙◌, drop, ◌+◌}
 use Rattle.std.proofs.lemmas.List.{at_drop_all, at_drop_more}
 use Rattle.tracing.specs.declared.calls.TheConstants.{ACTORS}
-use Rattle.tracing.specs.declared.event.Event.{Event}
 use Rattle.measuring.specs.Measures.{object_measures}
-use Rattle.measuring.specs.Stories.{ObjectCalls, call_of, with_calls, with_call}
+use Rattle.measuring.specs.Stories.{ObjectCalls, with_calls, with_call}
 use Rattle.measuring.specs.Tables.{IsTable}
 use Rattle.measuring.proofs.counting.note_calls.Goals as goal
 use Rattle.measuring.proofs.counting.note_calls.Goals.{in-Some, in_default}

@@ -1,4 +1,4 @@
-use Rattle.std.proofs.Common.{rules, ◌≡◌, ◌∙◌, Some, length, subst, of_z, to_z, w64}
+use Rattle.std.proofs.Common.{rules, ◌≡◌, ◌∙◌, length, subst, of_z, to_z, w64}
 use Rattle.tasking.specs.Held.{kernel_of}
 use Rattle.tracing.specs.Changes.{since_clock}
 use Rattle.measuring.specs.Measures.{measures}

@@ -1,9 +1,8 @@
-use Rattle.std.proofs.Common.{rules, List, [], Some, refl, sym, ap, subst, length, ◌≡◌, ◌∙◌, drop, ◌+◌, of_z, to_z, w64}
+use Rattle.std.proofs.Common.{rules, Some, refl, sym, ap, subst, length, ◌≡◌, ◌∙◌, drop, ◌+◌, of_z, to_z, w64}
 use Rattle.std.proofs.lemmas.List.{at_drop_all, at_drop_more}
 use Rattle.tracing.specs.declared.calls.TheConstants.{ACTORS}
-use Rattle.tracing.specs.declared.event.Event.{Event}
 use Rattle.measuring.specs.Measures.{measures}
-use Rattle.measuring.specs.Stories.{Stories, notice_of, with_events, with_notice}
+use Rattle.measuring.specs.Stories.{Stories, with_events, with_notice}
 use Rattle.measuring.specs.Tables.{IsTable}
 use Rattle.measuring.proofs.counting.note_events.Goals as goal
 use Rattle.measuring.proofs.counting.note_events.Goals.{in-Some, in_default}

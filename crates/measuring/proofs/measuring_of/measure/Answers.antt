@@ -1,4 +1,4 @@
-use Rattle.std.proofs.Common.{◌≡◌, ◌∙◌, subst}
+use Rattle.std.proofs.Common.{◌∙◌, subst}
 use Rattle.std.specs.Io.KnownBytes.{Appends}
 use Rattle.machine.specs.Written.{AppendsBeginning}
 use Rattle.machine.proofs.Runs.{whole_beginning}
@@ -29,6 +29,9 @@ returns-clause-beginning g c =
     c.in_ok-text.ensures (c.as_slice.ensures.value ∙ c.cut_line.ensures) in
     let is = c.as_slice-2.ensures.value ∙ c.in_ok-extend_from_slice.ensures.items ∙ whole in
     subst (AppendsBeginning (g.S.Sink.bytes c.args.sink.now) (g.S.Sink.bytes c.write_all.new.sink)) is c.write_all.ensures.beginning
+
+pub returns-in_err-times-clause-beginning : goal.returns-in_err-times-clause-beginning
+returns-in_err-times-clause-beginning g c = nothing_written (g.S.Sink.bytes c.args.sink.now) (measures_text c.args.form c.args.image.now c.args.names.now c.args.schedule.now c.args.bound)
 
 pub returns-in_err-text-clause-beginning : goal.returns-in_err-text-clause-beginning
 returns-in_err-text-clause-beginning g c = nothing_written (g.S.Sink.bytes c.args.sink.now) (measures_text c.args.form c.args.image.now c.args.names.now c.args.schedule.now c.args.bound)

@@ -1,14 +1,14 @@
-use Rattle.std.proofs.Common.{◌≡◌, ◌∙◌, ap, length, ◌+◌, ◌≤◌, arith, inl, inr, sym}
+use Rattle.std.proofs.Common.{◌≡◌, ◌∙◌, ap, length, arith, inl, inr, sym}
 use Rattle.tracing.specs.declared.calls.TheConstants.{ACTORS}
 use Rattle.measuring.specs.Measures.{no_steps}
-use Rattle.measuring.specs.Stories.{not_called, nothing_happened}
+use Rattle.measuring.specs.Stories.{not_called, not_used, nothing_happened}
 use Rattle.measuring.proofs.Measured.{measured_on, measured_over, measured_start, one_each}
 use Rattle.measuring.proofs.measuring_of.measure_on.Goals as goal
 
 pub loop-step-init : goal.loop-step-init
 loop-step-init g c = (
   measured_start c.args.before.now c.args.after.now c.requires.image c.requires.schedule c.requires.stands_before c.requires.stands _ c.requires.times _
-      (c.note_start.ensures.noted nothing_happened not_called no_steps c.requires.nothing),
+      (c.note_start.ensures.noted nothing_happened not_called not_used no_steps c.requires.nothing),
   omega arith,
   omega arith,
   ap length c.requires.times ∙ one_each ACTORS,
@@ -20,7 +20,7 @@ loop-step-preserved g c =
     let less = c.loop-step-test.true in (
       measured_on _ _ _ _ _ _ _ c.loop-step.invariant.0 c.ahead_of-ahead.result c.ahead_of-ahead.ensures c.step.new.self c.step.result c.step.ensures.world (sym c.in_default.ensures.outcome)
           c.step-in-loop-step.new.self c.step-in-loop-step.result c.step-in-loop-step.ensures.world c.step-in-loop-step.ensures.image c.step.ensures.image c.step-in-loop-step.ensures.schedule c.step.ensures.schedule _ c.note_call.ensures.noted _
-          (c.note_step.ensures.noted _ _ _ c.loop-step.invariant.0.measured),
+          (c.note_step.ensures.noted _ _ _ _ c.loop-step.invariant.0.measured),
       omega (arith, less),
       omega (arith, c.loop-step.invariant.2, c.step.ensures.one, c.step-in-loop-step.ensures.one),
       c.note_call.ensures.room,

@@ -1,4 +1,4 @@
-use Rattle.std.proofs.Common.{rules, [], ◌<◌, ◌∙◌, ap, arith}
+use Rattle.std.proofs.Common.{rules, [], ◌<◌, ◌∙◌, ap}
 use Rattle.std.specs.Prelude.{slice_index_or}
 use Rattle.tracing.specs.declared.calls.TheConstants.{ACTORS}
 use Rattle.measuring.specs.Measures.{object_measures}

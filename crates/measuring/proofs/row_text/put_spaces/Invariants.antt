@@ -1,7 +1,7 @@
 use Rattle.std.proofs.Common.{◌≡◌, ◌+◌, ◌-◌, ◌≤◌, ◌++◌}
 use Rattle.arrayvec.specs.ArrayVec.{array_vec_len}
 use Rattle.measuring.specs.Text.{spaces}
-use Rattle.measuring.proofs.text.put_spaces.Given as goal
+use Rattle.measuring.proofs.row_text.put_spaces.Given as goal
 
 abbrev pub invariant-loop-added : goal.invariant-loop-added
 invariant-loop-added l =
