@@ -121,6 +121,7 @@ CALLS = [
     (["trace", "main.adb", "lines", "100000"], ["main.adb", "lines"]),
     (["trace", "--vcd", "main.adb", "lines", "100000"], ["main.adb", "lines"]),
     (["trace", "--chart", "main.adb", "lines", "100000"], ["main.adb", "lines"]),
+    (["trace", "--svg", "main.adb", "lines", "100000"], ["main.adb", "lines"]),
     (["measure", "main.adb", "lines", "100000"], ["main.adb", "lines"]),
     (["search", "main.adb", "choices", "20000", "1000"], ["main.adb", "choices"]),
     (["search", "-", "choices", "20000", "1000"], ["-", "choices"]),

@@ -41,6 +41,7 @@ COMMANDS = [
     ("source", ["trace", FILE, "lines", "100000"]),
     ("lines", ["trace", "source", FILE, "100000"]),
     ("source", ["trace", "--vcd", FILE, "lines", "100000"]),
+    ("source", ["trace", "--svg", FILE, "lines", "100000"]),
     ("source", ["measure", FILE, "lines", "100000"]),
     ("source", ["search", FILE, "choices", "20000", "1000"]),
     ("choices", ["search", "source", FILE, "20000", "1000"]),

@@ -36,6 +36,7 @@ def calls_of_large(program, folder):
         ("trace of a full program", ["trace", "main.adb", "empty", limit], full),
         ("trace --vcd of a full program", ["trace", "--vcd", "main.adb", "empty", limit], full),
         ("trace --chart of a full program", ["trace", "--chart", "main.adb", "empty", limit], full),
+        ("trace --svg of a full program", ["trace", "--svg", "main.adb", "empty", limit], full),
         ("measure of a full program", ["measure", "main.adb", "empty", limit], full),
         ("search of a full program", ["search", "main.adb", "empty", "100", limit], full),
         ("check of a full program", ["check", "main.adb"], full),

@@ -136,6 +136,7 @@ def calls_of_commands(program, folder):
         ("trace --vcd", ["trace", "--vcd", "main.adb", "input", "1000"], files, None),
         ("trace --vcd --time", ["trace", "--vcd", "--time", "main.adb", "input", "1000"], files, None),
         ("trace --chart", ["trace", "--chart", "main.adb", "input", "1000"], files, None),
+        ("trace --svg", ["trace", "--svg", "main.adb", "input", "1000"], files, None),
         ("measure", ["measure", "main.adb", "input", "1000"], files, None),
         ("search that finds none", ["search", "main.adb", "choices", "20000", "1000"], {"main.adb": tank, "choices": choices}, "the answer"),
         ("search that finds a line", ["search", "main.adb", "choices", "20000", "1000", "line", "alarm"], {"main.adb": tank, "choices": choices}, None),

@@ -245,7 +245,7 @@ def manual(checks):
     checks.expect("the version", call(checks.program, "version"), 0, version)
     shown = call(checks.program, "manual")
     checks.expect("the manual", shown, 0, shown.out)
-    for command in re.findall(r"^    (adarun [^ \n]+(?: --vcd| --chart)?)", text_of("README.md"), re.M):
+    for command in re.findall(r"^    (adarun [^ \n]+(?: --vcd| --chart| --svg)?)", text_of("README.md"), re.M):
         checks.expect(f"{command} in the manual", shown, 0, shown.out if f"    {command}" in shown.out else f"    {command}")
 
 

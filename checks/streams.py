@@ -61,6 +61,7 @@ def writing(checks):
         ["trace", EXAMPLE, EMPTY_SCHEDULE, STEPS],
         ["trace", "--vcd", EXAMPLE, EMPTY_SCHEDULE, STEPS],
         ["trace", "--chart", EXAMPLE, EMPTY_SCHEDULE, STEPS],
+        ["trace", "--svg", EXAMPLE, EMPTY_SCHEDULE, STEPS],
         ["measure", EXAMPLE, EMPTY_SCHEDULE, STEPS],
         ["search", EXAMPLE, choices, UNTIL, STEPS],
         ["search", "--quiet", EXAMPLE, choices, UNTIL, STEPS, "line", "none"],

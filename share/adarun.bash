@@ -5,7 +5,7 @@ _adarun() {
     if [ "$COMP_CWORD" = 1 ]; then
         mapfile -t COMPREPLY < <(compgen -W "simulate check go trace measure search compile list run explain manual version" -- "$word")
     elif [ "${COMP_WORDS[1]}" = trace ] && [ "$COMP_CWORD" = 2 ] && [[ $word == -* ]]; then
-        mapfile -t COMPREPLY < <(compgen -W "--vcd --chart" -- "$word")
+        mapfile -t COMPREPLY < <(compgen -W "--vcd --chart --svg" -- "$word")
     elif [ "${COMP_WORDS[1]}" = trace ] && [ "${COMP_WORDS[2]}" = --vcd ] && [ "$COMP_CWORD" = 3 ] && [[ $word == -* ]]; then
         COMPREPLY=(--time)
     elif [ "${COMP_WORDS[1]}" = measure ] && [ "$COMP_CWORD" = 2 ] && [[ $word == -* ]]; then

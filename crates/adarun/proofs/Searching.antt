@@ -1,6 +1,6 @@
 -- What the search of an image's code says of the source that means the same.
-use Rattle.std.proofs.Common.{◌≡◌, ℕ, ◌+◌, ◌-◌, ◌≤◌, ℤ, List, ◌∷◌, ◌++◌, Some, true, refl, sym, ap, subst, ◌∙◌, inl, inr, ⊎_elim, append_assoc}
-use Rattle.std.specs.Prelude.{int_le, ◌<ℤ◌}
+use Rattle.std.proofs.Common.{◌≡◌, ℕ, ◌+◌, ◌-◌, ◌≤◌, ℤ, List, ◌∷◌, ◌++◌, Some, true, Result, Ok, Err, refl, sym, ap, subst, ◌∙◌, inl, inr, ⊎_elim, append_assoc}
+use Rattle.std.specs.Prelude.{int_le, ◌<ℤ◌, IfOk, OnOk}
 use Rattle.std.proofs.Common.{arith}
 use Rattle.std.proofs.lemmas.Int.{ints}
 use Rattle.base.specs.Schedule.{is_schedule}
@@ -23,6 +23,7 @@ use Rattle.compiler.specs.ada_tree.specs.ProgramTree.{ProgramTree}
 use Rattle.compiler.specs.expr_code.specs.Coming.{most_steps}
 use Rattle.compiler.specs.meaning.specs.Same.{Covers, ShowSame}
 use Rattle.compiler.specs.meaning.specs.SameMeaning.{KeepsCount, SameMeaning}
+use Rattle.machine.specs.declared.fault.RunFault.{RunFault}
 use Rattle.searching.specs.Reports.{found_text, report_text}
 use Rattle.searching.specs.Searches.{ComesTo, IsFollowedOn, NeverComes, Searches, kernels}
 use Rattle.searching.specs.Sights.{ShowsSight, Sighting, Stopped, Waiting, Written, sight_of}
@@ -155,3 +156,9 @@ reported t input part i slots until limit wanted (searched.TooLong schedule time
   };
   report_is = refl;
 }
+
+-- what is so of the outcome that a report is of, where that was written, by what writing it answers
+pub written_report : (result : Result SearchOutcome RunFault) (named : SearchOutcome) (Appended : Type 0) (Is : SearchOutcome → Type 0)
+    → IfOk result (λ outcome. outcome ≡ named) → OnOk result Appended → (Appended → Is named) → IfOk result Is
+written_report (Ok outcome) named Appended Is same appended is = subst Is (sym same) (is appended)
+written_report (Err fault) named Appended Is same appended is = tt

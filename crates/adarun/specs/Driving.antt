@@ -32,6 +32,7 @@ use Rattle.machine.specs.declared.reports.Outcome.TheVariants as outcomes
 use Rattle.searching.specs.declared.sight.Wanted.{Wanted}
 use Rattle.searching.specs.declared.sight.Wanted.TheVariants as sights
 use Rattle.charts.specs.Text.{chart_text}
+use Rattle.pictures.specs.Pictures.{picture_text}
 use Rattle.tracing.specs.Known.{Known}
 use Rattle.tracing.specs.Traces.{trace_text}
 use Rattle.measuring.specs.Text.{measures_text}
@@ -178,12 +179,13 @@ input_of contents (Some name) = contents name
 -- ---- `trace`
 
 -- what is written of a run, by its image, the names of its objects, what is known of its source, its schedule and its bound: rows, a value change dump over
--- steps or over virtual time, a chart, or what is measured of it, as a table or as fields
+-- steps or over virtual time, a chart, a picture, or what is measured of it, as a table or as fields
 abbrev pub text_of : View → Sections → List (List ℕ) → Known → List ScheduleLine → Bound → List ℕ
 text_of views.Rows = trace_text
 text_of views.Dump = λ i objects known. waves_text i objects
 text_of views.TimeDump = λ i objects known. time_waves_text i objects
 text_of views.Chart = λ i objects known. chart_text i objects
+text_of views.Picture = λ i objects known. picture_text i objects
 text_of views.Measures = λ i objects known. measures_text tables.Table i objects
 text_of views.MeasuredFields = λ i objects known. measures_text tables.Fields i objects
 

@@ -1,10 +1,11 @@
 //! Searching the schedules of a part of a set for one under which a source stops, waits forever or writes a line.
-ghost use Rattle.std.specs.Prelude.{◌≡◌, ◌<◌, Err, IfErr, IfOk, OnOk};
+ghost use Rattle.std.specs.Prelude.{◌≡◌, ◌<◌, ℕ, Err, IfErr, IfOk, List, OnOk};
 ghost use Rattle.std.specs.Io.KnownBytes.{Appends};
 ghost use Rattle.compiler.specs.ada_tree.specs.ProgramTree.{ProgramTree};
+ghost use Rattle.choices.specs.Sets.{IsChoicesText};
 ghost use Rattle.machine.specs.Written.{AppendsBeginning};
 ghost use Rattle.searching.specs.Reports.{report_text};
-ghost use Rattle.adarun.specs.Accepted.{IsAccepted, RefusesAccepted};
+ghost use Rattle.adarun.specs.Accepted.{Compiles, IsAccepted, RefusesAccepted};
 ghost use Rattle.adarun.specs.FirstFound.{WritesFirst};
 ghost use Rattle.adarun.specs.Searching.{BeginsReport, RefusesSearching, WritesReport};
 ghost use Rattle.adarun.specs.Searching as searches;
@@ -89,6 +90,39 @@ fn write_report<S: Sink>(
     }
 }
 
+// Searches the image of a source text on a part of the set that another text has, and writes what that has come to.
+fn search_set<S: Sink, P: Progress, L: Ledger>(
+    alloc: Global,
+    image: &Image,
+    choices: &Choices,
+    part: Part,
+    until: i64,
+    limit: u64,
+    wanted: Wanted<'_>,
+    progress: &mut P,
+    sink: &mut S,
+    steps: &mut Steps<L>,
+) -> Result<SearchOutcome, RunFault>
+    ensures answers { IfOk result (λ outcome. (source input : List ℕ) → Compiles source image.now → IsChoicesText until input choices.now → WritesReport source
+        input part until limit wanted.entry outcome (S.bytes sink.old) (S.bytes sink.new)) }
+    ensures first { IfOk result (λ outcome. (source input : List ℕ) → Compiles source image.now → IsChoicesText until input choices.now → WritesFirst source
+        input part until limit wanted.entry outcome (S.bytes sink.old) (S.bytes sink.new)) }
+    ensures kept { OnOk result (S.failures sink.new ≡ S.failures sink.old) }
+    ensures memory { result ≡ Err RunFault.Memory → sink.new ≡ sink.old }
+    ensures failed { result ≡ Err RunFault.Write → S.failures sink.old < S.failures sink.new }
+    ensures beginning { result ≡ Err RunFault.Write → (source input : List ℕ) → Compiles source image.now → IsChoicesText until input choices.now →
+        BeginsReport source input part until limit wanted.entry (S.bytes sink.old) (S.bytes sink.new) }
+{
+    outcome_stays();
+    let _slots = choices.slots();
+    let Ok(searched) = searching::search(
+        alloc, image, choices, part, until, limit, wanted, progress, steps,
+    ) else {
+        return Err(RunFault::Memory);
+    };
+    write_report(alloc, image, choices, part, limit, &searched, sink)
+}
+
 /// Compiles a source text, reads a set of schedules, and runs the image on the schedules of a part of it, in the order of alternatives, up to `until`
 /// (microseconds since the start) and with `limit` steps at one time at most, until a run comes to what is wanted. It writes the schedule under which this is
 /// so and what the run comes to, or that there is none (docs/FORMATS.md, "Search"). Meanwhile it reports how far it is. The steps of all runs are counted.
@@ -124,7 +158,6 @@ pub fn search<S: Sink, P: Progress, L: Ledger>(
     ensures beginning { result ≡ Err (SearchFault.Run RunFault.Write) → BeginsReport source.now choices.now part until limit wanted.entry (S.bytes sink.old)
         (S.bytes sink.new) }
 {
-    outcome_stays();
     let image = match compile(alloc, source) {
         Ok(image) => image,
         Err(fault) => return Err(SearchFault::Source(fault)),
@@ -133,13 +166,9 @@ pub fn search<S: Sink, P: Progress, L: Ledger>(
         Ok(choices) => choices,
         Err(fault) => return Err(SearchFault::Choices(fault)),
     };
-    let _slots = choices.slots();
-    let Ok(searched) = searching::search(
-        alloc, &image, &choices, part, until, limit, wanted, progress, steps,
-    ) else {
-        return Err(SearchFault::Run(RunFault::Memory));
-    };
-    match write_report(alloc, &image, &choices, part, limit, &searched, sink) {
+    match search_set(
+        alloc, &image, &choices, part, until, limit, wanted, progress, sink, steps,
+    ) {
         Ok(outcome) => Ok(outcome),
         Err(fault) => Err(SearchFault::Run(fault)),
     }

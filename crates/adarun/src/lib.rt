@@ -9,6 +9,7 @@ mod going;
 mod inputs;
 mod last_reports;
 pub mod laws;
+mod messages;
 mod naming;
 mod operations;
 mod origins;
@@ -18,6 +19,7 @@ mod reporting;
 mod rules;
 mod search_command;
 mod timed;
+mod views;
 
 pub use compilation::compile;
 pub use exploring::{SearchFault, SearchOutcome, search};

@@ -1,50 +1,36 @@
 //! The program's work over any files and streams.
-ghost use Rattle.std.specs.Prelude.{◌≡◌, ◌≢◌, ◌<◌, ◌⊎◌, ℕ, Err, IfOk, List, OnOk, Option, map, nat_eq, option_map, if◌then◌else◌};
-ghost use Rattle.base.specs.declared.faults.TheConstants.{MEMORY_REFUSED};
+ghost use Rattle.std.specs.Prelude.{◌≡◌, ◌≢◌, ◌<◌, ◌⊎◌, ℕ, IfOk, List, Option, map, option_map};
 ghost use Rattle.adarun.specs.Driving as driving;
-ghost use Rattle.adarun.specs.Driving.{AnswersStatus, IsFaultPlace, IsViewBegun, IsViewed, IsWholeTold, KeepsSink, LeavesCheck, LeavesCompile, LeavesExplain, LeavesExplainText, LeavesGo, LeavesList, LeavesRun, LeavesShown, LeavesSimulate, LeavesTrace, LeavesUntil, input_of, text_of};
+ghost use Rattle.adarun.specs.Driving.{AnswersStatus, IsFaultPlace, IsWholeTold, KeepsSink, LeavesCheck, LeavesCompile, LeavesExplain, LeavesExplainText, LeavesGo, LeavesList, LeavesRun, LeavesShown, LeavesSimulate, LeavesUntil, input_of};
 ghost use Rattle.adarun.specs.Reading.{Contents, IsBeginningRead, with_input};
 ghost use Rattle.file_limits.specs.declared.TheConstants.{IMAGE_BYTES, SCHEDULE_BYTES, SOURCE_BYTES};
-ghost use Rattle.image.specs.Code.{code};
-ghost use Rattle.machine.specs.Stands.{EndsBy};
-ghost use Rattle.machine.specs.Written.{AppendsBeginning};
-ghost use Rattle.std.specs.Io.KnownBytes.{Appends};
 
 use crate::code_told::told_of_limit;
-use crate::compilation::{Named, compile, compile_named};
+use crate::compilation::compile;
 use crate::files::{FileStore, ReadError, WriteError, read_source};
 use crate::going::{GoFault, go};
-use crate::naming::names_alone;
-use crate::origins::{Statements, position};
+use crate::messages::{
+    cannot_write, no_memory, refuse_image, refuse_schedule, refuse_source, report_ending,
+    report_outcome, report_schedule, report_source, unread, usage,
+};
 use crate::progress::Stopwatch;
-use crate::reporting::{fault_report, outcome_report, schedule_refusal, source_refusal};
+use crate::reporting::fault_report;
 use crate::rules::text_faults;
 use crate::search_command::drive_search;
-use crate::timed::{Ending, go_until};
-use arrayvec::ArrayVec;
+use crate::timed::go_until;
+use crate::views::drive_trace;
 use base::faults::MEMORY_REFUSED;
-use charts::chart;
-use clock::{Schedule, ScheduleFault};
-use command_line::{Request, View, WordsError, request_of};
+use clock::Schedule;
+use command_line::{Request, WordsError, request_of};
 use diagnostics::{explained, explanation};
 use file_limits::{IMAGE_BYTES, SCHEDULE_BYTES, SOURCE_BYTES, image_ends};
-use image::{Image, ImageFault};
+use image::ImageFault;
 use image_format::{encode, list};
 use image_loading::load;
-use itoa::Buffer;
-use lexer::{Fault, Text};
-use machine::{Bound, Cut, Outcome, RunFault, Sink, SinkError, Steps, bound_of, run, write_all};
+use machine::{Outcome, RunFault, Sink, Steps, run, write_all};
 use manual::{MANUAL, VERSION};
-use measuring::{Form, measure};
 use std::alloc::{AllocError, Global};
 use std::sync::ledger::Ledger;
-use tracing::{Origins, trace};
-use waveforms::{time_waves, waves};
-
-// The most bytes of a line that is reported in one write.
-const LINE_BYTES: usize = 256;
-
-type ReportLine = ArrayVec<u8, LINE_BYTES>;
 
 /// The program's exit statuses (docs/FORMATS.md, "Exit statuses").
 #[derive(Clone, Copy, PartialEq, Eq, Debug)]
@@ -471,150 +457,6 @@ fn simulate_until<F: FileStore, O: Sink, E: Sink, L: Ledger>(
     }
 }
 
-fn drive_trace<F: FileStore, O: Sink, E: Sink, L: Ledger>(
-    alloc: Global,
-    files: &F,
-    view: View,
-    source: &str,
-    schedule: &str,
-    until: Option<i64>,
-    limit: u64,
-    out: &mut O,
-    err: &mut E,
-    steps: &mut Steps<L>,
-) -> Status
-    ensures leaves { LeavesTrace view (F.contents files.now) source.now schedule.now until limit result (O.bytes out.old) (O.bytes out.new) }
-    ensures sink { KeepsSink result (out.new ≡ out.old) (O.failures out.old) (O.failures out.new) }
-{
-    let text = match files.read(alloc, source, SOURCE_BYTES) {
-        Ok(text) => text,
-        Err(error) => return unread(err, error, source),
-    };
-    let lines = match files.read(alloc, schedule, SCHEDULE_BYTES) {
-        Ok(lines) => lines,
-        Err(error) => return unread(err, error, schedule),
-    };
-    trace_texts(alloc, view, &text, &lines, until, limit, out, err, steps)
-}
-
-// Writes this view of the run of a source under a schedule, both of which have been read.
-fn trace_texts<O: Sink, E: Sink, L: Ledger>(
-    alloc: Global,
-    view: View,
-    text: &[u8],
-    lines: &[u8],
-    until: Option<i64>,
-    limit: u64,
-    out: &mut O,
-    err: &mut E,
-    steps: &mut Steps<L>,
-) -> Status
-    ensures leaves { (contents : Contents) (source schedule : List ℕ) → IsBeginningRead (contents source) SOURCE_BYTES text.now
-        → IsBeginningRead (contents schedule) SCHEDULE_BYTES lines.now
-        → LeavesTrace view contents source schedule until limit result (O.bytes out.old) (O.bytes out.new) }
-    ensures sink { KeepsSink result (out.new ≡ out.old) (O.failures out.old) (O.failures out.new) }
-{
-    let named = match compile_named(alloc, text) {
-        Ok(named) => named,
-        Err(fault) => return refuse_source(err, text, &fault),
-    };
-    let schedule = match Schedule::read(alloc, lines) {
-        Ok(schedule) => schedule,
-        Err(fault) => return refuse_schedule(err, &fault),
-    };
-    match write_named(
-        alloc, view, text, &named, &schedule, until, limit, out, steps,
-    ) {
-        Ok(outcome) => status_of(&outcome),
-        Err(RunFault::Memory) => no_memory(err),
-        Err(RunFault::Write) => cannot_write(err),
-    }
-}
-
-// Writes this view of a run of what a source was compiled to.
-fn write_named<O: Sink, L: Ledger>(
-    alloc: Global,
-    view: View,
-    text: &[u8],
-    named: &Named,
-    schedule: &Schedule,
-    until: Option<i64>,
-    limit: u64,
-    out: &mut O,
-    steps: &mut Steps<L>,
-) -> Result<Outcome, RunFault>
-    ensures written { IfOk result (IsViewed view text.now named.now schedule.now until limit (O.bytes out.old) (O.bytes out.new)) }
-    ensures kept { OnOk result (O.failures out.new ≡ O.failures out.old) }
-    ensures memory { result ≡ Err RunFault.Memory → out.new ≡ out.old }
-    ensures failed { result ≡ Err RunFault.Write → O.failures out.old < O.failures out.new }
-    ensures begins { result ≡ Err RunFault.Write → IsViewBegun view text.now named.now schedule.now until limit (O.bytes out.old) (O.bytes out.new) }
-{
-    let image = &named.image;
-    let bound = match bound_of(alloc, image, schedule, until, limit, steps) {
-        Ok(bound) => bound,
-        Err(_) => return Err(RunFault::Memory),
-    };
-    let origins = Statements {
-        text,
-        image,
-        places: &named.places,
-        subprograms: &named.subprograms,
-    };
-    let Ok(objects) = names_alone(alloc, &named.objects) else {
-        return Err(RunFault::Memory);
-    };
-    write_view(
-        alloc, view, image, &objects, &origins, schedule, bound, out, steps,
-    )
-}
-
-// Writes this view of a run; its protected objects have these names.
-fn write_view<P: Origins, O: Sink, L: Ledger>(
-    alloc: Global,
-    view: View,
-    image: &Image,
-    objects: &[Text],
-    origins: &P,
-    schedule: &Schedule,
-    bound: Bound,
-    out: &mut O,
-    steps: &mut Steps<L>,
-) -> Result<Outcome, RunFault>
-    ensures text { OnOk result (Appends (O.bytes out.old) (O.bytes out.new) (text_of view image.now objects.now (P.known origins.now) schedule.now bound)) }
-    ensures ends { IfOk result (λ outcome. EndsBy outcome (code image.now schedule.now bound.steps)) }
-    ensures kept { OnOk result (O.failures out.new ≡ O.failures out.old) }
-    ensures memory { result ≡ Err RunFault.Memory → out.new ≡ out.old }
-    ensures failed { result ≡ Err RunFault.Write → O.failures out.old < O.failures out.new }
-    ensures beginning { AppendsBeginning (O.bytes out.old) (O.bytes out.new) (text_of view image.now objects.now (P.known origins.now) schedule.now bound) }
-{
-    match view {
-        View::Rows => trace(alloc, image, objects, origins, schedule, bound, out, steps),
-        View::Dump => waves(alloc, image, objects, schedule, bound, out, steps),
-        View::TimeDump => time_waves(alloc, image, objects, schedule, bound, out, steps),
-        View::Chart => chart(alloc, image, objects, schedule, bound, out, steps),
-        View::Measures => measure(
-            alloc,
-            Form::Table,
-            image,
-            objects,
-            schedule,
-            bound,
-            out,
-            steps,
-        ),
-        View::MeasuredFields => measure(
-            alloc,
-            Form::Fields,
-            image,
-            objects,
-            schedule,
-            bound,
-            out,
-            steps,
-        ),
-    }
-}
-
 // A number that no fault has asks for nothing.
 fn drive_explain<O: Sink, E: Sink>(number: u64, out: &mut O, err: &mut E) -> Status
     ensures leaves { LeavesExplain number result (O.bytes out.old) (O.bytes out.new) }
@@ -703,7 +545,7 @@ fn drive_explain_text<F: FileStore, O: Sink, E: Sink>(
     }
 }
 
-fn status_of(outcome: &Outcome) -> Status
+pub(crate) fn status_of(outcome: &Outcome) -> Status
     ensures is { result ≡ driving.status_of outcome.now }
     ensures source { result ≡ Status.SourceRefused → ⊥ }
     ensures schedule { result ≡ Status.ScheduleRefused → ⊥ }
@@ -716,212 +558,5 @@ fn status_of(outcome: &Outcome) -> Status
         Outcome::WaitsForever { .. } => Status::WaitsForever,
         Outcome::StepLimit { .. } => Status::StepLimit,
         Outcome::ImageFault { .. } => Status::ImageFault,
-    }
-}
-
-// Appends a piece of a line, and writes the line before that if there is no room left.
-fn put<E: Sink>(err: &mut E, line: &mut ReportLine, piece: &[u8]) -> Result<(), SinkError> {
-    if line.try_extend_from_slice(piece).is_ok() {
-        return Ok(());
-    }
-    write_all(err, line.as_slice())?;
-    line.clear();
-    write_all(err, piece)
-}
-
-// Writes the pieces and the end of the line, in one write where they are short; nothing more after a write that fails.
-fn write_line<E: Sink>(err: &mut E, pieces: &[&[u8]]) -> Result<(), SinkError> {
-    let mut line = ArrayVec::new();
-    for piece in pieces {
-        put(err, &mut line, piece)?;
-    }
-    put(err, &mut line, b"\n")?;
-    write_all(err, line.as_slice())
-}
-
-// Reports a line. That it can't be written is reported nowhere else.
-fn tell<E: Sink>(err: &mut E, status: Status, pieces: &[&[u8]]) -> Status
-    ensures { result ≡ status }
-{
-    let _ = write_line(err, pieces);
-    status
-}
-
-fn usage<E: Sink>(err: &mut E) -> Status
-    ensures { result ≡ Status.Failed }
-{
-    tell(err, Status::Failed, &[b"usage"])
-}
-
-pub(crate) fn no_memory<E: Sink>(err: &mut E) -> Status
-    ensures { result ≡ Status.NoMemory }
-{
-    tell(err, Status::NoMemory, &[b"no memory"])
-}
-
-pub(crate) fn cannot_write<E: Sink>(err: &mut E) -> Status
-    ensures { result ≡ Status.Failed }
-{
-    tell(err, Status::Failed, &[b"cannot write"])
-}
-
-pub(crate) fn unread<E: Sink>(err: &mut E, error: ReadError, name: &str) -> Status
-    ensures { result ≡ driving.unread error }
-{
-    match error {
-        ReadError::Memory => no_memory(err),
-        ReadError::Unreadable => tell(err, Status::Failed, &[b"cannot read ", name.as_bytes()]),
-    }
-}
-
-pub(crate) fn refuse_source<E: Sink>(err: &mut E, text: &[u8], fault: &Fault) -> Status
-    ensures { result ≡ (if nat_eq fault.now.number MEMORY_REFUSED then Status.NoMemory else Status.SourceRefused) }
-{
-    if fault.number == MEMORY_REFUSED {
-        return no_memory(err);
-    }
-    let place = position(text, fault.place);
-    let mut number = Buffer::new();
-    let mut lines = Buffer::new();
-    let mut columns = Buffer::new();
-    let pieces: [&[u8]; 6] = [
-        b"fault ",
-        number.format(fault.number).as_bytes(),
-        b" at ",
-        lines.format(place.line).as_bytes(),
-        b":",
-        columns.format(place.column).as_bytes(),
-    ];
-    tell(err, Status::SourceRefused, &pieces)
-}
-
-// Reports a source's fault with its rule and its line, or as `refuse_source` where there is no memory for them.
-fn report_source<E: Sink>(
-    alloc: Global,
-    err: &mut E,
-    file: &str,
-    text: &[u8],
-    fault: &Fault,
-) -> Status
-    ensures { result ≡ (if nat_eq fault.now.number MEMORY_REFUSED then Status.NoMemory else Status.SourceRefused) }
-{
-    if fault.number == MEMORY_REFUSED {
-        return no_memory(err);
-    }
-    match source_refusal(alloc, file, text, fault) {
-        Ok(Some(report)) => {
-            let _ = write_all(err, &report);
-            Status::SourceRefused
-        }
-        _ => refuse_source(err, text, fault),
-    }
-}
-
-// Writes what is said of how a run came to its end.
-fn report_outcome<E: Sink, L: Ledger>(
-    alloc: Global,
-    err: &mut E,
-    file: &str,
-    text: &[u8],
-    lines: &[u8],
-    limit: u64,
-    outcome: &Outcome,
-    steps: &mut Steps<L>,
-) {
-    if let Ok(Some(report)) = outcome_report(alloc, file, text, lines, limit, outcome, steps) {
-        let _ = write_all(err, &report);
-    }
-}
-
-// Writes what is said of how a run up to a time came to its end: of one that the time has cut nothing.
-fn report_ending<E: Sink, L: Ledger>(
-    alloc: Global,
-    err: &mut E,
-    file: &str,
-    text: &[u8],
-    lines: &[u8],
-    limit: u64,
-    ending: &Ending,
-    steps: &mut Steps<L>,
-) {
-    match ending.cut {
-        Cut::Steps => report_outcome(alloc, err, file, text, lines, limit, &ending.outcome, steps),
-        Cut::Time => {}
-    }
-}
-
-/// Writes the line of a fault, `WHAT fault NUMBER at UNIT PLACE`, or that there is no memory where the fault says so.
-pub(crate) fn refuse<E: Sink>(
-    err: &mut E,
-    status: Status,
-    what: &str,
-    number: u8,
-    unit: &str,
-    place: u32,
-) -> Status
-    ensures { result ≡ (if nat_eq number MEMORY_REFUSED then Status.NoMemory else status) }
-{
-    if number == MEMORY_REFUSED {
-        return no_memory(err);
-    }
-    let mut numbers = Buffer::new();
-    let mut places = Buffer::new();
-    let pieces: [&[u8]; 7] = [
-        what.as_bytes(),
-        b" fault ",
-        numbers.format(number).as_bytes(),
-        b" at ",
-        unit.as_bytes(),
-        b" ",
-        places.format(place).as_bytes(),
-    ];
-    tell(err, status, &pieces)
-}
-
-fn refuse_image<E: Sink>(err: &mut E, fault: &ImageFault) -> Status
-    ensures { result ≡ (if nat_eq fault.now.number MEMORY_REFUSED then Status.NoMemory else Status.ImageFault) }
-{
-    refuse(
-        err,
-        Status::ImageFault,
-        "image",
-        fault.number,
-        "byte",
-        fault.byte,
-    )
-}
-
-fn refuse_schedule<E: Sink>(err: &mut E, fault: &ScheduleFault) -> Status
-    ensures { result ≡ (if nat_eq fault.now.number MEMORY_REFUSED then Status.NoMemory else Status.ScheduleRefused) }
-{
-    refuse(
-        err,
-        Status::ScheduleRefused,
-        "schedule",
-        fault.number,
-        "line",
-        fault.line,
-    )
-}
-
-// Reports a schedule's fault with its rule and its line, or as `refuse_schedule` where there is no memory for them.
-fn report_schedule<E: Sink>(
-    alloc: Global,
-    err: &mut E,
-    file: &str,
-    lines: &[u8],
-    fault: &ScheduleFault,
-) -> Status
-    ensures { result ≡ (if nat_eq fault.now.number MEMORY_REFUSED then Status.NoMemory else Status.ScheduleRefused) }
-{
-    if fault.number == MEMORY_REFUSED {
-        return no_memory(err);
-    }
-    match schedule_refusal(alloc, file, lines, fault) {
-        Ok(Some(report)) => {
-            let _ = write_all(err, &report);
-            Status::ScheduleRefused
-        }
-        _ => refuse_schedule(err, fault),
     }
 }

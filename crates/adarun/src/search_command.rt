@@ -8,7 +8,8 @@ ghost use Rattle.adarun.specs.Reading.{with_input};
 
 use crate::exploring::{SearchFault, SearchOutcome, search};
 use crate::files::{FileStore, read_source};
-use crate::program::{Status, cannot_write, no_memory, refuse, refuse_source, unread};
+use crate::messages::{cannot_write, no_memory, refuse, refuse_source, unread};
+use crate::program::Status;
 use crate::progress::{Reporter, Stopwatch};
 use choices::{ChoicesFault, Part};
 use command_line::Sought;

@@ -47,14 +47,16 @@ running_app = record {
       ∷ [];
 }
 
+-- with those that explain and check
+abbrev pub checking_app : App
+checking_app = record { top = program_shape; subs = running_app.subs ++ explain_app.top ∷ (command_app (codes "check") (codes "SRC" ∷ [])).top ∷ [] }
+
 -- the ten commands
 abbrev pub program_app : App
 program_app = record {
   top = program_shape;
-  subs = running_app.subs
-      ++ explain_app.top
-      ∷ (command_app (codes "check") (codes "SRC" ∷ [])).top
-      ∷ simulate_app.top
+  subs = checking_app.subs
+      ++ simulate_app.top
       ∷ (command_app (codes "manual") []).top
       ∷ (command_app (codes "version") []).top
       ∷ [];

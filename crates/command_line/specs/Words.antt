@@ -98,7 +98,8 @@ dumped_in (mark ∷ rest) = if bytes_eq mark (codes "--time") then (views.TimeDu
 abbrev pub viewed_in : (option : List ℕ) → List (List ℕ) → Option (View × List (List ℕ))
 viewed_in option rest =
     if bytes_eq option (codes "--vcd") then Some (dumped_in rest)
-    else (if bytes_eq option (codes "--chart") then Some (views.Chart, rest) else None)
+    else (if bytes_eq option (codes "--chart") then Some (views.Chart, rest)
+    else (if bytes_eq option (codes "--svg") then Some (views.Picture, rest) else None))
 
 -- that, and the words after the option
 abbrev pub behind_option : List (List ℕ) → Option (View × List (List ℕ))

@@ -1,12 +1,12 @@
 //! The words of a command line: what they ask the program for (docs/FORMATS.md, "Exit statuses").
 #![tactic(auto)]
 
-ghost use Rattle.std.specs.Prelude.{◌≡◌, ◌&&◌, if◌then◌else◌, true, false, map, Some, None, IfOk, IfErr, IfSome, option_map};
+ghost use Rattle.std.specs.Prelude.{◌≡◌, ◌&&◌, if◌then◌else◌, true, false, map, Some, None, IfOk, IfErr, IfSome, codes, option_map};
 ghost use Rattle.std.specs.List.{list_all};
 ghost use Rattle.clap.specs.Words.{App, app_of, first_value, found_of, kind_of, subcommand_rows_of, with_subcommand};
 ghost use Rattle.clap.specs.declared.builder.command.Command.TheViews.{out-Command};
-ghost use Rattle.command_line.specs.Words.{AnswersWords, asked, asked_among, asked_besides, asked_plainly, is_digit, is_told, is_told_among, is_told_besides};
-ghost use Rattle.command_line.specs.Finding.{asked_by, asked_in, bare_app, command_app, explain_app, of_simulate, program_app, running_app, simulate_app};
+ghost use Rattle.command_line.specs.Words.{AnswersWords, CheckText, CompileText, GoText, ListImage, RunImage, asked, asked_among, asked_besides, asked_plainly, is_digit, is_told, is_told_among, is_told_besides, seen};
+ghost use Rattle.command_line.specs.Finding.{asked_by, asked_in, bare_app, checking_app, command_app, explain_app, of_explain, of_one, of_simulate, of_three, of_two, program_app, running_app, simulate_app};
 ghost use Rattle.command_line.specs.Words as words_of;
 
 mod measure;
@@ -27,7 +27,7 @@ use std::alloc::{AllocError, Global};
 pub const SIMULATED_STEPS: u64 = 1_000_000;
 
 /// What a command line asks for. Names are those of files.
-#[derive(Clone, Copy, PartialEq, Eq, Debug)]
+#[derive(Clone, Copy)]
 pub enum Request<'a> {
     /// Compile a source to an image.
     Compile {
@@ -108,6 +108,8 @@ pub enum View {
     TimeDump,
     /// A chart over virtual time (docs/FORMATS.md, "Charts").
     Chart,
+    /// A picture over virtual time and over steps (docs/FORMATS.md, "Pictures").
+    Picture,
     /// What is measured, as a table (docs/FORMATS.md, "Measures").
     Measures,
     /// What is measured, as fields that are separated by tabs.
@@ -115,7 +117,7 @@ pub enum View {
 }
 
 /// What a search looks for.
-#[derive(Clone, Copy, PartialEq, Eq, Debug)]
+#[derive(Clone, Copy)]
 pub enum Sought<'a> {
     /// An exception that nothing handles, or waiting forever.
     UnhandledOrWaits,
@@ -217,40 +219,13 @@ fn request_in<'a>(name: &str, found: &ArgMatches<'a>) -> Result<Request<'a>, Wor
     ensures { AnswersWords (asked_in name.now (first_value (found_of found.now))) result }
 {
     match name {
-        "compile" => Ok(Request::Compile {
-            source: word(found, "SRC")?,
-            image: word(found, "IMG")?,
-        }),
-        "list" => Ok(Request::List {
-            image: word(found, "IMG")?,
-        }),
-        "run" => Ok(Request::Run {
-            image: word(found, "IMG")?,
-            schedule: word(found, "SCHED")?,
-            limit: numeral_of(word(found, "LIMIT")?).ok_or(WordsError::Usage)?,
-        }),
-        "go" => Ok(Request::Go {
-            source: word(found, "SRC")?,
-            schedule: word(found, "SCHED")?,
-            limit: numeral_of(word(found, "LIMIT")?).ok_or(WordsError::Usage)?,
-        }),
-        "trace" => Ok(Request::Trace {
-            view: View::Rows,
-            source: word(found, "SRC")?,
-            schedule: word(found, "SCHED")?,
-            limit: numeral_of(word(found, "LIMIT")?).ok_or(WordsError::Usage)?,
-            until: None,
-        }),
-        "explain" => {
-            let number = numeral_of(word(found, "NUMBER")?).ok_or(WordsError::Usage)?;
-            match found.get_str("SRC") {
-                Some(source) => Ok(Request::ExplainText { number, source }),
-                None => Ok(Request::Explain { number }),
-            }
-        }
-        "check" => Ok(Request::Check {
-            source: word(found, "SRC")?,
-        }),
+        "compile" => compile_request(found),
+        "list" => list_request(found),
+        "run" => run_request(found),
+        "go" => go_request(found),
+        "trace" => trace_request(found),
+        "explain" => explain_request(found),
+        "check" => check_request(found),
         "simulate" => simulate_request(
             found.get_str("SRC"),
             found.get_str("SCHED"),
@@ -260,6 +235,76 @@ fn request_in<'a>(name: &str, found: &ArgMatches<'a>) -> Result<Request<'a>, Wor
         "version" => Ok(Request::Version),
         _ => Err(WordsError::Usage),
     }
+}
+
+fn compile_request<'a>(found: &ArgMatches<'a>) -> Result<Request<'a>, WordsError>
+    ensures { let value = first_value (found_of found.now) in AnswersWords (of_two CompileText (value (codes "SRC")) (value (codes "IMG"))) result }
+{
+    Ok(Request::Compile {
+        source: word(found, "SRC")?,
+        image: word(found, "IMG")?,
+    })
+}
+
+fn list_request<'a>(found: &ArgMatches<'a>) -> Result<Request<'a>, WordsError>
+    ensures { AnswersWords (of_one ListImage (first_value (found_of found.now) (codes "IMG"))) result }
+{
+    Ok(Request::List {
+        image: word(found, "IMG")?,
+    })
+}
+
+fn run_request<'a>(found: &ArgMatches<'a>) -> Result<Request<'a>, WordsError>
+    ensures { let value = first_value (found_of found.now) in AnswersWords
+        (of_three RunImage (value (codes "IMG")) (value (codes "SCHED")) (value (codes "LIMIT"))) result }
+{
+    Ok(Request::Run {
+        image: word(found, "IMG")?,
+        schedule: word(found, "SCHED")?,
+        limit: numeral_of(word(found, "LIMIT")?).ok_or(WordsError::Usage)?,
+    })
+}
+
+fn go_request<'a>(found: &ArgMatches<'a>) -> Result<Request<'a>, WordsError>
+    ensures { let value = first_value (found_of found.now) in AnswersWords
+        (of_three GoText (value (codes "SRC")) (value (codes "SCHED")) (value (codes "LIMIT"))) result }
+{
+    Ok(Request::Go {
+        source: word(found, "SRC")?,
+        schedule: word(found, "SCHED")?,
+        limit: numeral_of(word(found, "LIMIT")?).ok_or(WordsError::Usage)?,
+    })
+}
+
+fn trace_request<'a>(found: &ArgMatches<'a>) -> Result<Request<'a>, WordsError>
+    ensures { let value = first_value (found_of found.now) in AnswersWords
+        (of_three (seen View.Rows) (value (codes "SRC")) (value (codes "SCHED")) (value (codes "LIMIT"))) result }
+{
+    Ok(Request::Trace {
+        view: View::Rows,
+        source: word(found, "SRC")?,
+        schedule: word(found, "SCHED")?,
+        limit: numeral_of(word(found, "LIMIT")?).ok_or(WordsError::Usage)?,
+        until: None,
+    })
+}
+
+fn explain_request<'a>(found: &ArgMatches<'a>) -> Result<Request<'a>, WordsError>
+    ensures { let value = first_value (found_of found.now) in AnswersWords (of_explain (value (codes "NUMBER")) (value (codes "SRC"))) result }
+{
+    let number = numeral_of(word(found, "NUMBER")?).ok_or(WordsError::Usage)?;
+    match found.get_str("SRC") {
+        Some(source) => Ok(Request::ExplainText { number, source }),
+        None => Ok(Request::Explain { number }),
+    }
+}
+
+fn check_request<'a>(found: &ArgMatches<'a>) -> Result<Request<'a>, WordsError>
+    ensures { AnswersWords (of_one CheckText (first_value (found_of found.now) (codes "SRC"))) result }
+{
+    Ok(Request::Check {
+        source: word(found, "SRC")?,
+    })
 }
 
 // What these words ask `simulate` for.
@@ -360,13 +405,19 @@ fn running_commands<'a>(alloc: Global) -> Result<Command<'a>, AllocError>
     with_command(alloc, command, "trace", &["SRC", "SCHED", "LIMIT"])
 }
 
+// The program with those, and with the commands that explain and check.
+fn checking_commands<'a>(alloc: Global) -> Result<Command<'a>, AllocError>
+    ensures { IfOk result (λ command. app_of command ≡ checking_app) }
+{
+    let command = running_commands(alloc)?.subcommand(explain_command(alloc)?)?;
+    with_command(alloc, command, "check", &["SRC"])
+}
+
 // The program with all its commands.
 fn command<'a>(alloc: Global) -> Result<Command<'a>, AllocError>
     ensures { IfOk result (λ command. app_of command ≡ program_app) }
 {
-    let command = running_commands(alloc)?.subcommand(explain_command(alloc)?)?;
-    let command = with_command(alloc, command, "check", &["SRC"])?;
-    let command = command.subcommand(simulate_command(alloc)?)?;
+    let command = checking_commands(alloc)?.subcommand(simulate_command(alloc)?)?;
     let command = with_command(alloc, command, "manual", &[])?;
     with_command(alloc, command, "version", &[])
 }

@@ -22,6 +22,7 @@ fn viewed_in<'a>(option: &str, words: &'a [&'a str]) -> Option<(View, &'a [&'a s
     match option {
         "--vcd" => Some(dumped_in(words)),
         "--chart" => Some((View::Chart, words)),
+        "--svg" => Some((View::Picture, words)),
         _ => None,
     }
 }

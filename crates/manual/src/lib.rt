@@ -26,6 +26,8 @@ COMMANDS
         --time over virtual time
     adarun trace --chart SRC SCHED LIMIT [--until TIME]
         writes the run as a chart over virtual time: a row for each task and each object
+    adarun trace --svg SRC SCHED LIMIT [--until TIME]
+        writes the run as a picture that any browser opens, over virtual time and over steps
     adarun measure [--tsv] SRC SCHED LIMIT [--until TIME]
         writes what is measured of the run: jobs and steps of each task, preemptions, blocking,
         waits in queues, lateness, calls of each object and by whom; as tables, or with tabs

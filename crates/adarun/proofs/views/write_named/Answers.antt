@@ -4,7 +4,7 @@ use Rattle.std.specs.Io.KnownBytes.{Appends}
 use Rattle.machine.specs.Written.{AppendsBeginning}
 use Rattle.adarun.specs.Naming.{names_alone}
 use Rattle.adarun.proofs.Driving.{told_alike, viewed}
-use Rattle.adarun.proofs.program.write_named.Goals as goal
+use Rattle.adarun.proofs.views.write_named.Goals as goal
 
 pub returns-clause-written : goal.returns-clause-written
 returns-clause-written g c =

@@ -1,7 +1,7 @@
 use Rattle.std.proofs.Common.{subst, sym}
 use Rattle.file_limits.specs.declared.TheConstants.{SCHEDULE_BYTES, SOURCE_BYTES}
 use Rattle.adarun.specs.Reading.{IsBeginningRead}
-use Rattle.adarun.proofs.program.drive_trace.Goals as goal
+use Rattle.adarun.proofs.views.drive_trace.Goals as goal
 
 pub returns-clause-leaves : goal.returns-clause-leaves
 returns-clause-leaves g c =

@@ -5,7 +5,7 @@ use Rattle.adarun.specs.Naming.{names_alone}
 use Rattle.adarun.specs.declared.going.GoFault.TheVariants as faults
 use Rattle.adarun.proofs.Driving.{failed_keeps, schedule_leaves, told_alike, trace_leaves, unscheduled_trace}
 use Rattle.adarun.proofs.Reading.{schedule_whole, source_whole}
-use Rattle.adarun.proofs.program.trace_texts.Goals as goal
+use Rattle.adarun.proofs.views.trace_texts.Goals as goal
 
 pub returns-in-Ok-write_named-clause-leaves : goal.returns-in-Ok-write_named-clause-leaves
 returns-in-Ok-write_named-clause-leaves g c contents source schedule read read_too =

@@ -1,0 +1,5 @@
+mod Drawn
+mod Examples
+mod Extents
+mod Pieces
+mod Whole
