@@ -30,7 +30,7 @@ use Rattle.package_code.specs.Program.{HasProgram, PassesTable, has_texts}
 use Rattle.source_laws.specs.Limits.{MayPassLimits}
 use Rattle.source_laws.specs.Spelled.{is_spelled}
 use Rattle.compiler.specs.Compiled.{RefusesCompiling}
-use Rattle.package_code.specs.Refusing.{HasMany, HasManyWords, RefusesCode, RefusesSections, RefusesLinking, items_labels, items_rows, program_labels, program_rows, program_words, seen_at}
+use Rattle.package_code.specs.Refusing.{HasMany, HasManyWords, RefusesSections, RefusesLinking, items_labels, items_rows, program_labels, program_rows, program_words, seen_at}
 use Rattle.package_code.specs.Walking.{IsAsTold, IsWalked}
 use Rattle.package_code.specs.declared.directory.Directory.{Directory}
 use Rattle.package_code.specs.declared.globals.Globals.{Globals}
@@ -128,9 +128,6 @@ module _ (t : ProgramTree) where
   bodies_refused refusal.Memory r = inl (inl tt)
   bodies_refused (refusal.Limit limits.Subprograms) r = inr (inr (inl (let e = bodies_are t.package_ in omega (arith, r, e))))
   bodies_refused why r = absurd r
-
-  pub code_refused : (why : Refusal) → RefusesCode t why → RefusesSections t why
-  code_refused why r = inl r
 
   -- ---- main
 

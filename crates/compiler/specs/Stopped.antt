@@ -1,5 +1,5 @@
 -- Which limit of images the code of an accepted program may pass, and with which of its bodies; or that all of it is made.
-use Rattle.std.specs.Prelude.{◌≡◌, ◌⊎◌, ◌<◌, ◌+◌, ℕ, length, Option, Some, None}
+use Rattle.std.specs.Prelude.{◌≡◌, ◌⊎◌, ◌<◌, ◌+◌, ℕ, length, Option, Some, None, ⊤}
 use Rattle.base.specs.declared.limits.TheConstants.{INSTRUCTIONS}
 use Rattle.ada_tree.specs.ProgramTree.{ProgramTree}
 use Rattle.program_soundness.specs.Fronts.{declared_in}
@@ -11,6 +11,8 @@ use Rattle.stmt_code.specs.declared.subprogram.SubprogramWords.{SubprogramWords}
 use Rattle.package_code.specs.Stopping.{StopsByFrame, StopsByInstructions, StopsInRows}
 use Rattle.package_code.specs.Walking.{IsWalked}
 use Rattle.package_code.specs.declared.directory.Directory.{Directory}
+use Rattle.package_code.specs.declared.stopping.Halt.{Halt}
+use Rattle.package_code.specs.declared.stopping.Halt.TheVariants as halt
 use Rattle.package_code.specs.declared.stopping.Stop.{Stop}
 use Rattle.package_code.specs.declared.stopping.Stop.TheVariants as stop
 use Rattle.package_code.specs.declared.walk.Walk.{Walk}
@@ -40,3 +42,8 @@ IsFirstStop t None = MakesAll t
 IsFirstStop t (Some (stop.Instructions place before)) = StopsByInstructions t place before ⊎ StopsAtMain t place before
 IsFirstStop t (Some (stop.Frame place)) = StopsByFrame t place
 IsFirstStop t (Some (stop.Rows place rows)) = StopsInRows t place rows
+
+-- why not all of it is made: where it stops, or for want of memory
+abbrev pub IsFirstHalt : ProgramTree → Halt → Type 0
+IsFirstHalt t (halt.Stopped found) = IsFirstStop t (Some found)
+IsFirstHalt t (halt.Refused why) = ⊤

@@ -1,6 +1,7 @@
--- The walk over a package goes as its text tells: what is visible, labels, the number of rows, the bound on instructions; where it stops a limit may be passed, which refuses the program.
+-- The walk over a package goes as its text tells: what is visible, labels, the number of rows, the bound on instructions; where it halts a limit may be passed, which refuses the program.
 use Rattle.std.proofs.Common.{◌≡◌, ℕ, suc, ◌+◌, ◌≤◌, ◌<◌, List, [], ◌∷◌, length, map, take, inl, inr, Option, None, Some, true, refl, sym, ap, ◌∙◌, subst, arith, length-append}
-use Rattle.std.specs.Prelude.{is_some, slice_get}
+use Rattle.std.specs.Prelude.{is_some, max, slice_get}
+use Rattle.base.specs.declared.limits.TheConstants.{FRAME_WORDS, INSTRUCTIONS}
 use Rattle.ada_tree.specs.declared.expression.Identifier.{Identifier}
 use Rattle.ada_tree.specs.StatementTree.{SubprogramTree}
 use Rattle.ada_tree.specs.ProgramTree.{BodyItemTree, BodyTree, ItemTree, OfItem, ProgramTree, SubprogramBody, TaskBody}
@@ -11,18 +12,15 @@ use Rattle.declaration_rules.specs.ItemRules.{item_scope}
 use Rattle.unit_rules.specs.MainRules.{item_name}
 use Rattle.expr_soundness.specs.meaning.specs.Programs.{program_of}
 use Rattle.program_soundness.specs.Fronts.{declared_in, front, start_in}
-use Rattle.program_soundness.proofs.Listing.{same_some}
 use Rattle.program_soundness.proofs.Walked.{item_entity, own_profile, scope_next}
 use Rattle.type_rules.specs.ProfileRules.{profile_entity}
-use Rattle.image.specs.declared.subprograms.Subprogram.{Subprogram}
 use Rattle.expr_code.specs.Code.{here}
-use Rattle.expr_code.specs.Refusing.{IsRefused}
 use Rattle.expr_code.specs.Seeing.{told_of}
 use Rattle.expr_code.specs.declared.refusal.ImageLimit.{ImageLimit}
+use Rattle.expr_code.specs.declared.refusal.ImageLimit.TheVariants as limits
 use Rattle.expr_code.specs.declared.refusal.Refusal.{Refusal}
 use Rattle.expr_code.specs.declared.refusal.Refusal.TheVariants as refusal
 use Rattle.expr_code.specs.declared.visible.Visible.{Visible}
-use Rattle.expr_code.proofs.Refusals.{no_limit}
 use Rattle.step_simulation.specs.part_code.specs.Bounds.{main_bound, procedure_bound}
 use Rattle.step_simulation.specs.part_code.specs.Emitting.{HasEntries}
 use Rattle.step_simulation.specs.part_code.specs.Needs.{IsNeeding, Needs}
@@ -31,7 +29,8 @@ use Rattle.package_code.specs.Bodies.{Coded, bodies_before, bodies_of, coded_at,
 use Rattle.package_code.specs.Counts.{bound_of, bounds_from}
 use Rattle.package_code.specs.Directory.{IsDirectory, HasEntriesSoFar, TellsNext, operations_told}
 use Rattle.package_code.specs.Refusing.{RefusesCode, body_needs, coded_labels, coded_rows, item_needs, items_labels, items_needs, items_rows, program_bound, program_labels, program_needs, seen_at, seen_by, seen_with, subprogram_labels, subprogram_rows}
-use Rattle.package_code.specs.Walking.{AddsAsTold, AddsBody, BeginsWalk, HasBody, IsAsTold, IsWalked, KeepsMade, PassesBehind, RefusesBody, StopsAt, StopsThere, begins_at}
+use Rattle.package_code.specs.Stopping.{IsHalt, PassesBehind, StopsByFrame, StopsByInstructions, StopsInCode, halt_for}
+use Rattle.package_code.specs.Walking.{AddsAsTold, AddsBody, BeginsWalk, HasBody, IsAsTold, IsWalked, RefusesBody, begins_at}
 use Rattle.package_code.specs.declared.directory.Directory.{Directory}
 use Rattle.package_code.specs.declared.walk.Walk.{Walk}
 use Rattle.package_code.proofs.Coded.{labelled_by, needs_by, rows_by}
@@ -190,27 +189,20 @@ module _ (t : ProgramTree) where
       body_told directory old (SubprogramBody d b) (of_subprogram (front t (suc old.place)) d b) told at refl mid after new visible scope draft
       (subst (λ s. AddsBody t directory (of_subprogram s d b) mid after) scope adds) told_there place new_draft new_visible
 
-  -- ... where a loop goes on
-  pub goes_on : (directory : Directory) (here new : Walk) (p a n : ℕ) → here ≡ new → IsWalked t directory new → IsAsTold t new → new.place ≡ p + 1 → p ≡ a + n
-      → IsWalked t directory here × (IsAsTold t here × (here.place ≡ a + (n + 1)))
-  goes_on directory here new p a n same walked told place before =
-      let at = ap (λ w. w.place) same in
-      (subst (IsWalked t directory) (sym same) walked, (subst (IsAsTold t) (sym same) told, omega (arith, at, place, before)))
+  -- ---- where the walk halts
 
-  -- ---- refusals
-
-  pub needs_refused : (m n : ℕ) (a : Needs) (why : Refusal) → m ≤ n → Within a (items_needs t 0 all) → n ≤ program_bound t
+  needs_refused : (m n : ℕ) (a : Needs) (why : Refusal) → m ≤ n → Within a (items_needs t 0 all) → n ≤ program_bound t
       → IsNeeding m a why → RefusesCode t why
   needs_refused m n a why up within low r = inl (needing_refused m (program_bound t) a (program_needs t) (omega (arith, up, low)) within why r)
 
-  pub item_within : (place : ℕ) (x : BodyItemTree) → slice_get all place ≡ Some x → Within (item_needs t place x) (items_needs t 0 all)
+  item_within : (place : ℕ) (x : BodyItemTree) → slice_get all place ≡ Some x → Within (item_needs t place x) (items_needs t 0 all)
   item_within place x at =
       let none : 0 + place ≡ place = omega arith in
       subst (λ n. Within (item_needs t n x) (items_needs t 0 all)) none (needs_within t all 0 place x at)
 
   -- of a body, in front of which the others of its item have their code
   module _ (place : ℕ) (item : BodyItemTree) (k : ℕ) (c : Coded) (at : slice_get all place ≡ Some item) (is : slice_get (coded_at t place item) k ≡ Some c) where
-    pub needs_there : Within (body_needs t c) (items_needs t 0 all)
+    needs_there : Within (body_needs t c) (items_needs t 0 all)
     needs_there = within_then (body_needs t c) (item_needs t place item) (items_needs t 0 all) (needs_by t place item k c is) (item_within place item at)
 
     -- behind at most so many instructions it is within the bound of all
@@ -227,6 +219,13 @@ module _ (t : ProgramTree) where
         up : (a p s f x m : ℕ) → a ≤ s + f → s + (f + p) ≤ x → a + p ≤ x + m
         up a p s f x m h k = omega (arith, h, k)
 
+    -- so the limit that its code may pass there refuses the program
+    pub passes_refuse : (before : ℕ) → before ≤ total (bounds_from t 0 (take place all)) + total (map bound_of (take k (coded_at t place item)))
+        → (limit : ImageLimit) → PassesBehind t c before limit → RefusesCode t (refusal.Limit limit)
+    passes_refuse before few limit (inl n) =
+        needs_refused (before + bound_of c) (before + bound_of c) (body_needs t c) (refusal.Limit limit) (omega arith) needs_there (bounded before few) n
+    passes_refuse before few limit (inr h) = inr h
+
     labels_less : length (subprogram_labels (coded_labels (items_labels [] (take place all)) (take k (coded_at t place item))) c.head c.body)
         ≤ length (program_labels t)
     labels_less =
@@ -241,7 +240,8 @@ module _ (t : ProgramTree) where
         (many : length old.subprograms.items ≡ bodies_before t place + k)
         (few : here old.draft.code ≤ total (bounds_from t 0 (take place all)) + total (map bound_of (take k (coded_at t place item))))
         (labels : old.draft.labels ≡ coded_labels (items_labels [] (take place all)) (take k (coded_at t place item)))
-        (v : Visible) (seen : v ≡ seen_by t c) (made : List Subprogram) where
+        (v : Visible) (seen : v ≡ seen_by t c)
+        (name before : ℕ) (name_is : name ≡ c.head.name.place) (before_is : before ≡ here old.draft.code) where
       passing : (limit : ImageLimit) → RefusesBody (seen_by t c) old.draft c.head c.body (refusal.Limit limit)
           → PassesBehind t c (here old.draft.code) limit
       passing limit (inl n) = inl n
@@ -249,57 +249,53 @@ module _ (t : ProgramTree) where
           inr (labelled (subprogram_labels old.draft.labels c.head c.body) (program_labels t)
           (subst (λ l. length (subprogram_labels l c.head c.body) ≤ length (program_labels t)) (sym labels) labels_less) (refusal.Limit limit) h)
 
-      stopped : (limit : ImageLimit) → made ≡ old.subprograms.items → RefusesBody (seen_by t c) old.draft c.head c.body (refusal.Limit limit)
-          → StopsAt t directory place item made limit
-      stopped limit same r = record {
-        index = k;
+      stopped : (limit : ImageLimit) → PassesBehind t c (here old.draft.code) limit → StopsInCode t limit name
+      stopped limit passes = record {
         coded = c;
-        there = is;
-        many = ap length same ∙ many;
+        body = record { place = place; item = item; index = k; at = at; coded = is };
+        place_is = name_is;
+        directory = directory;
         front = old;
-        made_is = same;
+        many = many;
         bodies = bodies;
         end = ends;
         few = few;
-        passes = passing limit r;
+        passes = passes;
       }
 
+      by_instructions : PassesBehind t c (here old.draft.code) limits.Instructions → StopsByInstructions t name before
+      unfolding stopped
+      by_instructions p = record { in_code = stopped limits.Instructions p; before_is = before_is; many = more p }
+        where
+          more : PassesBehind t c (here old.draft.code) limits.Instructions → INSTRUCTIONS < before + bound_of c
+          more (inl h) = omega (arith, h, before_is)
+          more (inr h) = absurd h
+
+      by_frame : PassesBehind t c (here old.draft.code) limits.Frame → StopsByFrame t name
+      unfolding stopped
+      by_frame p = record { in_code = stopped limits.Frame p; large = more p }
+        where
+          more : PassesBehind t c (here old.draft.code) limits.Frame → FRAME_WORDS < max (body_needs t c).stack (body_needs t c).frame
+          more (inl h) = h
+          more (inr h) = absurd h
+
+      halts_so : (why : Refusal) → RefusesBody (seen_by t c) old.draft c.head c.body why → IsHalt t (halt_for why name before)
+      halts_so refusal.Memory r = inl tt
+      halts_so (refusal.Limit limits.Instructions) r = by_instructions (passing limits.Instructions r)
+      halts_so (refusal.Limit limits.Frame) r = by_frame (passing limits.Frame r)
+      halts_so (refusal.Limit limit) r = passes_refuse (here old.draft.code) few limit (passing limit r)
+
       -- its code isn't made
-      pub code_stops : (why : Refusal) → KeepsMade why old.subprograms.items made → RefusesBody v old.draft c.head c.body why
-          → StopsThere t directory place made why
-      code_stops refusal.Memory kept r = tt
-      code_stops (refusal.Limit limit) kept r =
-          λ x there.
-          subst (λ y. StopsAt t directory place y made limit) (same_some item x (sym at ∙ there))
-          (stopped limit kept (subst (λ u. RefusesBody u old.draft c.head c.body (refusal.Limit limit)) seen r))
+      pub code_halts : (why : Refusal) → RefusesBody v old.draft c.head c.body why → IsHalt t (halt_for why name before)
+      code_halts why r = halts_so why (subst (λ u. RefusesBody u old.draft c.head c.body why) seen r)
 
   -- the first body of an item
-  pub body_stops : (directory : Directory) (old : Walk) (item : BodyItemTree) (c : Coded) (v : Visible) (made : List Subprogram) (why : Refusal)
-      → IsWalked t directory old → IsAsTold t old
-      → slice_get all old.place ≡ Some item → slice_get (coded_at t old.place item) 0 ≡ Some c
-      → v ≡ seen_by t c → KeepsMade why old.subprograms.items made
-      → RefusesBody v old.draft c.head c.body why → StopsThere t directory old.place made why
-  body_stops directory old item c v made why walked told at is seen kept r =
+  pub body_halts : (directory : Directory) (old : Walk) (item : BodyItemTree) (c : Coded) (v : Visible) → IsWalked t directory old → IsAsTold t old
+      → slice_get all old.place ≡ Some item → slice_get (coded_at t old.place item) 0 ≡ Some c → v ≡ seen_by t c
+      → (before : ℕ) → before ≡ here old.draft.code → (why : Refusal) → RefusesBody v old.draft c.head c.body why
+      → IsHalt t (halt_for why c.head.name.place before)
+  body_halts directory old item c v walked told at is seen before before_is why r =
       let none = none_taken (coded_at t old.place item) in
-      code_stops old.place item 0 c at is directory old walked.bodies walked.end (walked.many ∙ sym (plus_none (bodies_before t old.place)))
+      code_halts old.place item 0 c at is directory old walked.bodies walked.end (walked.many ∙ sym (plus_none (bodies_before t old.place)))
       (let few = told.few in let more = ap (λ l. total (map bound_of l)) none in omega (arith, few, more))
-      (told.labels ∙ ap (coded_labels (items_labels [] (take old.place all))) (sym none)) v seen made why kept r
-
-  -- what has no limit stops nothing
-  pub plain_stops : (directory : Directory) (place : ℕ) (made : List Subprogram) (why : Refusal) → IsRefused 0 0 why → StopsThere t directory place made why
-  plain_stops directory place made refusal.Memory r = tt
-  plain_stops directory place made (refusal.Limit limit) r = absurd (no_limit limit r)
-
-  -- where the walk stops the program is refused
-  pub stop_refuses : (directory : Directory) (place : ℕ) (x : BodyItemTree) (made : List Subprogram) (limit : ImageLimit) → slice_get all place ≡ Some x
-      → (w : StopsAt t directory place x made limit) → PassesBehind t w.coded (here w.front.draft.code) limit → RefusesCode t (refusal.Limit limit)
-  stop_refuses directory place x made limit at w (inl n) =
-      needs_refused (here w.front.draft.code + bound_of w.coded) (here w.front.draft.code + bound_of w.coded) (body_needs t w.coded) (refusal.Limit limit)
-      (omega arith)
-      (needs_there place x w.index w.coded at w.there) (bounded place x w.index w.coded at w.there (here w.front.draft.code) w.few) n
-  stop_refuses directory place x made limit at w (inr h) = inr h
-
-  pub stops_refuse : (directory : Directory) (place : ℕ) (x : BodyItemTree) (made : List Subprogram) → slice_get all place ≡ Some x
-      → (why : Refusal) → StopsThere t directory place made why → RefusesCode t why
-  stops_refuse directory place x made at refusal.Memory s = inl tt
-  stops_refuse directory place x made at (refusal.Limit limit) s = (let w = s x at in stop_refuses directory place x made limit at w w.passes)
+      (told.labels ∙ ap (coded_labels (items_labels [] (take old.place all))) (sym none)) v seen c.head.name.place before refl before_is why r

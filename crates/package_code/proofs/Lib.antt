@@ -53,7 +53,8 @@ pub mod Counted
 pub mod Seen
 pub mod ItemsTold
 pub mod AsTold
-mod Stops
+mod RowsGrow
+pub mod Stops
 pub mod ToldInside
 pub mod ObjectNames
 pub mod SeenInside

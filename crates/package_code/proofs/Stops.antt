@@ -1,28 +1,27 @@
--- Where the walk over a package stops: with the code of a body, or with rows of handlers.
-use Rattle.std.proofs.Common.{◌≡◌, ℕ, suc, ◌+◌, ◌-◌, ◌<◌, ◌≤◌, List, [], ◌∷◌, ◌++◌, length, map, take, inl, inr, Option, Some, refl, sym, ap, ◌∙◌, subst, arith}
-use Rattle.std.specs.Prelude.{max, slice_get}
+-- Where the walk over a package stops with too many rows of handlers; wherever it halts, that refuses the program.
+use Rattle.std.proofs.Common.{◌≡◌, ℕ, suc, ◌+◌, ◌<◌, ◌≤◌, List, [], ◌∷◌, ◌++◌, length, map, take, inl, inr, Option, Some, refl, ap, ◌∙◌, arith}
+use Rattle.std.specs.Prelude.{slice_get}
 use Rattle.std.proofs.lemmas.List.{length-map}
-use Rattle.base.specs.declared.limits.TheConstants.{FRAME_WORDS, INSTRUCTIONS, ROWS}
+use Rattle.base.specs.declared.limits.TheConstants.{ROWS}
 use Rattle.ada_tree.specs.declared.declaration.Item.{Item}
 use Rattle.ada_tree.specs.declared.program.Package.{Package}
 use Rattle.ada_tree.specs.StatementTree.{optional_tree}
 use Rattle.ada_tree.specs.ProgramTree.{BodyItemTree, ItemTree, OfItem, ProgramTree, body_item_tree, item_tree, package_tree}
-use Rattle.image.specs.declared.subprograms.Subprogram.{Subprogram}
 use Rattle.program_soundness.specs.Fronts.{declared_in}
 use Rattle.expr_code.specs.Code.{here}
 use Rattle.expr_code.specs.declared.refusal.ImageLimit.{ImageLimit}
 use Rattle.expr_code.specs.declared.refusal.ImageLimit.TheVariants as limits
-use Rattle.expr_code.specs.declared.refusal.Refusal.{Refusal}
 use Rattle.expr_code.specs.declared.refusal.Refusal.TheVariants as refusal
-use Rattle.package_code.specs.Bodies.{bodies_before}
-use Rattle.package_code.specs.Counts.{bound_of}
-use Rattle.package_code.specs.Refusing.{body_needs, items_rows}
-use Rattle.package_code.specs.Stopping.{IsStop, StopsByFrame, StopsByInstructions, StopsInCode, StopsInRows, TellsLimit, code_place, item_place}
-use Rattle.package_code.specs.Walking.{IsAsTold, PassesBehind, StopsAt, StopsThere, begins_at}
-use Rattle.package_code.specs.declared.directory.Directory.{Directory}
-use Rattle.package_code.specs.declared.stopping.Stop.{Stop}
+use Rattle.package_code.specs.Refusing.{RefusesCode, RefusesSections, items_rows, program_rows}
+use Rattle.package_code.specs.Stopping.{IsHalt, StopsInCode, StopsInRows, item_place, refusal_of}
+use Rattle.package_code.specs.Walking.{IsAsTold}
+use Rattle.package_code.specs.declared.stopping.Halt.{Halt}
+use Rattle.package_code.specs.declared.stopping.Halt.TheVariants as halt
+use Rattle.package_code.specs.declared.stopping.Stop.TheVariants as stop
 use Rattle.package_code.specs.declared.walk.Walk.{Walk}
+use Rattle.package_code.proofs.AsTold.{passes_refuse}
 use Rattle.package_code.proofs.ItemsTold.{none_taken}
+use Rattle.package_code.proofs.RowsGrow.{rows_within}
 
 -- ---- rows
 
@@ -44,56 +43,9 @@ none_declared o p items w first is same zero_is at rows =
     ∙ rows_declared (map item_tree p.declaration.items.items) (map body_item_tree p.body.items.items) in
     omega (arith, none)
 
-module _ (t : ProgramTree) (directory : Directory) where
+module _ (t : ProgramTree) where
   abbrev all : List BodyItemTree
   all = declared_in t.package_
-
-  -- ---- the code of a body isn't made
-
-  -- with the code of a body, of those that the item at this place is or has
-  module _ (place : ℕ) (x : BodyItemTree) (made : List Subprogram) (many : ℕ) (at : slice_get all place ≡ Some x) (before : many ≡ bodies_before t place) where
-    less : (n m b k : ℕ) → n ≡ b + k → m ≡ b → n - m ≡ k
-    less n m b k h e = omega (arith, h, e)
-
-    in_code : (limit : ImageLimit) → StopsAt t directory place x made limit → StopsInCode t limit (code_place x (length made - many))
-    in_code limit s = record {
-      directory = directory;
-      at = place;
-      item = x;
-      there = at;
-      made = made;
-      stops = s;
-      place_is = ap (code_place x) (less (length made) many (bodies_before t place) s.index s.many before);
-    }
-
-    -- the limit of instructions, or that of a frame
-    by_instructions : (s : StopsAt t directory place x made limits.Instructions)
-        → StopsByInstructions t (code_place x (length made - many)) (begins_at made (length made))
-    unfolding in_code
-    by_instructions s =
-        let before_is : begins_at made (length made) ≡ here s.front.draft.code = ap (λ l. begins_at l (length l)) s.made_is ∙ s.end in
-        record { in_code = in_code limits.Instructions s; before_is = before_is; many = more s.passes before_is }
-      where
-        more : PassesBehind t s.coded (here s.front.draft.code) limits.Instructions → begins_at made (length made) ≡ here s.front.draft.code
-            → INSTRUCTIONS < begins_at made (length made) + bound_of s.coded
-        more (inl h) e = omega (arith, h, e)
-        more (inr h) e = absurd h
-
-    by_frame : (s : StopsAt t directory place x made limits.Frame) → StopsByFrame t (code_place x (length made - many))
-    unfolding in_code
-    by_frame s = record { in_code = in_code limits.Frame s; large = more s.passes }
-      where
-        more : PassesBehind t s.coded (here s.front.draft.code) limits.Frame → FRAME_WORDS < max (body_needs t s.coded).stack (body_needs t s.coded).frame
-        more (inl h) = h
-        more (inr h) = absurd h
-
-    pub stops_in_code : (why : Refusal) → StopsThere t directory place made why → (found : Stop)
-        → TellsLimit why (code_place x (length made - many)) (begins_at made (length made)) found → IsStop t found
-    stops_in_code (refusal.Limit limits.Instructions) there found is = subst (IsStop t) (sym is) (by_instructions (there x at))
-    stops_in_code (refusal.Limit limits.Frame) there found is = subst (IsStop t) (sym is) (by_frame (there x at))
-    stops_in_code why there found is = absurd is
-
-  -- ---- there are too many rows
 
   pub stops_in_rows : (old new : Walk) (x : BodyItemTree) (rows : ℕ) → slice_get all old.place ≡ Some x → IsAsTold t old → length old.draft.rows.items ≤ ROWS
       → IsAsTold t new → new.place ≡ old.place + 1 → rows ≡ length new.draft.rows.items → ROWS < rows → StopsInRows t (item_place x) rows
@@ -108,3 +60,22 @@ module _ (t : ProgramTree) (directory : Directory) where
         rows_are = are ∙ now.rows ∙ ap (λ n. items_rows 0 (take n all)) next;
         many = many;
       }
+
+  -- ---- why the program is refused
+
+  code_refuses : (limit : ImageLimit) (place : ℕ) → StopsInCode t limit place → RefusesCode t (refusal.Limit limit)
+  code_refuses limit place s =
+      passes_refuse t s.body.place s.body.item s.body.index s.coded s.body.at s.body.coded (here s.front.draft.code) s.few limit s.passes
+
+  rows_refuse : (place rows : ℕ) → StopsInRows t place rows → ROWS < program_rows t
+  rows_refuse place rows s =
+      let up = rows_within 0 all (suc s.at) in
+      let are = s.rows_are in
+      let many = s.many in
+      omega (arith, up, are, many)
+
+  pub halt_refuses : (found : Halt) → IsHalt t found → RefusesSections t (refusal_of found)
+  halt_refuses (halt.Stopped (stop.Instructions place before)) s = inl (code_refuses limits.Instructions place s.in_code)
+  halt_refuses (halt.Stopped (stop.Frame place)) s = inl (code_refuses limits.Frame place s.in_code)
+  halt_refuses (halt.Stopped (stop.Rows place rows)) s = inr (inr (inr (rows_refuse place rows s)))
+  halt_refuses (halt.Refused why) r = inl r

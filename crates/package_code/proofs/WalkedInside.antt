@@ -23,7 +23,6 @@ use Rattle.program_soundness.specs.Fronts.{declared_in, front, start_in}
 use Rattle.program_soundness.proofs.Listing.{same_some}
 use Rattle.program_soundness.proofs.ObjectBodies as bodies
 use Rattle.program_soundness.proofs.Walked.{scope_next}
-use Rattle.image.specs.declared.subprograms.Subprogram.{Subprogram}
 use Rattle.expr_code.specs.Code.{here}
 use Rattle.expr_code.specs.declared.refusal.Refusal.{Refusal}
 use Rattle.expr_code.specs.declared.visible.Slot.{Slot}
@@ -38,10 +37,11 @@ use Rattle.package_code.specs.Laws.{BodiesAreNumbered}
 use Rattle.package_code.specs.Providing.{BodiesAreCovered, MayBeAdded}
 use Rattle.step_simulation.specs.part_code.specs.Providing.{HasWhatCodeNeeds}
 use Rattle.package_code.specs.Refusing.{coded_labels, coded_rows, items_labels, items_rows, seen_at, seen_by, seen_with, subprogram_labels, subprogram_rows}
-use Rattle.package_code.specs.Walking.{AddsBody, AddsOperation, IsAsTold, IsWalked, IsInObjectBody, KeepsMade, RefusesBody, StopsThere, behind_operation, first_visible, operation_visible}
+use Rattle.package_code.specs.Stopping.{IsHalt, halt_for}
+use Rattle.package_code.specs.Walking.{AddsBody, AddsOperation, IsAsTold, IsWalked, IsInObjectBody, RefusesBody, behind_operation, first_visible, operation_visible}
 use Rattle.package_code.specs.declared.directory.Directory.{Directory}
 use Rattle.package_code.specs.declared.walk.Walk.{Walk}
-use Rattle.package_code.proofs.AsTold.{code_stops}
+use Rattle.package_code.proofs.AsTold.{code_halts}
 use Rattle.package_code.proofs.OperationsAdded as added
 use Rattle.package_code.proofs.Coded.{among_next, coded_many, labelled_by, rows_by}
 use Rattle.package_code.proofs.Counted.{adds_few}
@@ -239,12 +239,12 @@ module _ (scopes : ScopesAreSound) (known : NamesAreKnown) (premises : PremisesH
           ∙ (numbered t legal restricted old.place h.item k c h.at (coded_there i at)).0 ∙ ap Some (sym h.many)
 
       -- where it isn't made
-      pub operation_stops : (made : List Subprogram) (why : Refusal) → KeepsMade why old.subprograms.items made
+      pub operation_halts : (name before : ℕ) → name ≡ (own_head i).name.place → before ≡ here old.draft.code → (why : Refusal)
           → RefusesBody (operation_visible whole directory o components i old.visible) old.draft (own_head i) (own_body i) why
-          → StopsThere t directory old.place made why
-      operation_stops made why kept r =
-          code_stops t old.place h.item k c h.at (coded_there i at) directory old h.bodies h.end h.many h.few h.labels
-          (operation_visible whole directory o components i old.visible) seen_operation made why kept r
+          → IsHalt t (halt_for why name before)
+      operation_halts name before name_is before_is why r =
+          code_halts t old.place h.item k c h.at (coded_there i at) directory old h.bodies h.end h.many h.few h.labels
+          (operation_visible whole directory o components i old.visible) seen_operation name before name_is before_is why r
 
       abbrev mid : Walk
       mid = record old { visible = operation_visible whole directory o components i old.visible }

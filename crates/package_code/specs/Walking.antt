@@ -1,5 +1,5 @@
 -- What a walk over the declarations and bodies of a package adds: the code of each body, one behind another, each a subprogram, and the rows of its handlers.
-use Rattle.std.specs.Prelude.{◌≡◌, ◌+◌, ◌<◌, ◌≤◌, ◌⊎◌, ℕ, zero, suc, Bool, false, List, [], ◌∷◌, ◌++◌, is_none, is_some, length, map, Option, Some, None, slice_get, take, ⊤}
+use Rattle.std.specs.Prelude.{◌≡◌, ◌+◌, ◌<◌, ◌≤◌, ◌⊎◌, ℕ, zero, suc, Bool, false, List, [], ◌∷◌, ◌++◌, is_none, is_some, length, map, Option, Some, None, slice_get, take}
 use Rattle.std.specs.List.{All}
 use Rattle.ada_tree.specs.declared.expression.Identifier.{Identifier}
 use Rattle.ada_tree.specs.ExpressionTree.{ExprTree}
@@ -19,9 +19,7 @@ use Rattle.unit_rules.specs.ProtectedBodyRules.{protected_items_scope}
 use Rattle.expr_soundness.specs.meaning.specs.Programs.{program_of, returned, subtype_named}
 use Rattle.program_soundness.specs.Fronts.{declared_in, front, start_in}
 use Rattle.expr_code.specs.Code.{StandsFrom, here}
-use Rattle.expr_code.specs.declared.refusal.ImageLimit.{ImageLimit}
 use Rattle.expr_code.specs.declared.refusal.Refusal.{Refusal}
-use Rattle.expr_code.specs.declared.refusal.Refusal.TheVariants as refusal
 use Rattle.expr_code.specs.declared.visible.Visible.{Visible}
 use Rattle.step_simulation.specs.part_code.specs.Bounds.{procedure_bound}
 use Rattle.stmt_code.specs.Emitting.{AddsRows}
@@ -36,7 +34,7 @@ use Rattle.package_code.specs.Bodies.{Coded, bodies_before, bodies_of, coded_at,
 use Rattle.package_code.specs.Counts.{bound_of, bounds_from}
 use Rattle.package_code.specs.Directory.{AreTold, IsUnseen, number_told, seen_inside}
 use Rattle.package_code.specs.Owners.{component_names}
-use Rattle.package_code.specs.Refusing.{body_needs, coded_labels, coded_rows, items_labels, items_rows, program_labels, seen_at, seen_with, subprogram_labels, subprogram_needs, subprogram_rows}
+use Rattle.package_code.specs.Refusing.{coded_labels, coded_rows, items_labels, items_rows, seen_at, seen_with, subprogram_labels, subprogram_needs, subprogram_rows}
 use Rattle.package_code.specs.declared.directory.Directory.{Directory}
 use Rattle.package_code.specs.declared.walk.Walk.{Walk}
 
@@ -111,11 +109,6 @@ abbrev pub RefusesBody : Visible → (old : Draft) → SubprogramTree → BodyTr
 RefusesBody v old d b why =
     IsNeeding (here old.code + procedure_bound v.scope d.formals b) (subprogram_needs v d b) why
     ⊎ HasManyLabels (subprogram_labels old.labels d b) why
-
--- where a limit is passed, no subprogram was made
-abbrev pub KeepsMade : Refusal → (old new : List Subprogram) → Type 0
-KeepsMade refusal.Memory old new = ⊤
-KeepsMade (refusal.Limit limit) old new = new ≡ old
 
 -- ---- the body of an operation of a protected object
 
@@ -284,31 +277,3 @@ pub record IsInObjectBody (t : ProgramTree) (directory : Directory) (o : ℕ) (s
   pub few : here w.draft.code ≤ total (bounds_from t 0 (take w.place (declared_in t.package_))) + total (map bound_of (take k (coded_at t w.place item)))
   pub labels : w.draft.labels ≡ coded_labels (items_labels [] (take w.place (declared_in t.package_))) (take k (coded_at t w.place item))
   pub choices : length w.draft.rows.items ≡ coded_rows (items_rows 0 (take w.place (declared_in t.package_))) (take k (coded_at t w.place item))
-
--- ---- where the walk stops
-
--- Behind so many instructions the code of a body may pass this limit: there may be more than an image has with it, its frame and operand stack may need more
--- words than a frame has, or what it needs is unfit; or the program has too many labels.
-abbrev pub PassesBehind : ProgramTree → Coded → (before : ℕ) → ImageLimit → Type 0
-PassesBehind t c before limit =
-    IsNeeding (before + bound_of c) (body_needs t c) (refusal.Limit limit) ⊎ HasManyLabels (program_labels t) (refusal.Limit limit)
-
--- The code of one of the bodies of the item at this place isn't made, where these are the subprograms of the bodies in front of it: all of them have their code
--- in the walk there, and behind that it may pass this limit.
-pub record StopsAt (t : ProgramTree) (directory : Directory) (place : ℕ) (x : BodyItemTree) (made : List Subprogram) (limit : ImageLimit) : Type 0 where
-  pub index : ℕ
-  pub coded : Coded
-  pub there : slice_get (coded_at t place x) index ≡ Some coded
-  pub many : length made ≡ bodies_before t place + index
-  pub front : Walk
-  pub made_is : made ≡ front.subprograms.items
-  pub bodies : (number : ℕ) (c : Coded) → number < length front.subprograms.items → slice_get (bodies_of t) number ≡ Some c → HasBody t directory number c front
-  pub end : begins_at front.subprograms.items (length front.subprograms.items) ≡ here front.draft.code
-  pub few : here front.draft.code ≤ total (bounds_from t 0 (take place (declared_in t.package_))) + total (map bound_of (take index (coded_at t place x)))
-  pub passes : PassesBehind t coded (here front.draft.code) limit
-
--- why the walk doesn't go on behind what stands at this place of the package
-abbrev pub StopsThere : ProgramTree → Directory → (place : ℕ) → (made : List Subprogram) → Refusal → Type 0
-StopsThere t directory place made refusal.Memory = ⊤
-StopsThere t directory place made (refusal.Limit limit) =
-    (x : BodyItemTree) → slice_get (declared_in t.package_) place ≡ Some x → StopsAt t directory place x made limit

@@ -22,6 +22,6 @@ pub use globals::{Globals, globals_of};
 pub use objects::{DeclaredObject, ProtectedObjects, protected_objects};
 pub use operations::OperationNumber;
 pub use services::{Service, object_rows};
-pub use stopping::{Stop, Way, stop_for, way_over};
+pub use stopping::{Halt, Stop, halt_for};
 pub use tasks::{task_row, task_rows};
 pub use walk::{Walk, row, walk_over};

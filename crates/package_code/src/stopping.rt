@@ -1,25 +1,13 @@
 //! Where the code of a package passes a limit of images: with one of its bodies, or with the rows of handlers up to the end of one of its items.
-ghost use Rattle.std.specs.Prelude.{◌≡◌, ◌-◌, ◌≤◌, ◌+◌, length, map, None, Some, IfOk};
-ghost use Rattle.ada_tree.specs.ProgramTree.{body_item_tree, program_tree, protected_item_tree};
-ghost use Rattle.base.specs.declared.limits.TheConstants.{OBJECTS, ROWS};
-ghost use Rattle.program_soundness.specs.legality.specs.ProgramRules.{IsLegal};
-ghost use Rattle.ravenscar.specs.ProgramRules.{IsRestricted};
-ghost use Rattle.expr_soundness.specs.meaning.specs.Programs.{program_of};
-ghost use Rattle.program_soundness.specs.Fronts.{declared_in};
-ghost use Rattle.package_code.specs.Directory.{IsDirectory};
-ghost use Rattle.package_code.specs.Providing.{BodiesAreCovered};
-ghost use Rattle.package_code.specs.Stopping.{ComesOrStops, IsWayOver, TellsLimit, code_place, item_place, own_place};
-ghost use Rattle.package_code.specs.Walking.{IsAsTold, IsWalked, StandFrom, begins_at};
+ghost use Rattle.std.specs.Prelude.{◌≡◌, IfOk};
+ghost use Rattle.ada_tree.specs.ProgramTree.{body_item_tree, protected_item_tree};
+ghost use Rattle.package_code.specs.Bodies.{own_head};
+ghost use Rattle.package_code.specs.Stopping.{halt_for, item_place, limit_of};
+ghost use Rattle.package_code.specs.declared.stopping.Halt.TheVariants.{Stopped};
 
-use crate::directory::Directory;
-use crate::walk::{Walk, walk_nothing};
-use ada_tree::{BodyItem, Package, ProtectedBodyItem};
-use base::limits::ROWS;
+use ada_tree::{BodyItem, ProtectedBodyItem};
 use expr_code::{ImageLimit, Refusal};
-use lexer::Text;
-use ravenscar::Accepted;
-use std::alloc::Global;
-use unit_rules::inside_scope;
+use std::alloc::AllocError;
 
 /// Where a limit of images is passed.
 #[derive(Clone, Copy, PartialEq, Eq, Debug)]
@@ -32,15 +20,83 @@ pub enum Stop {
     Rows { place: u32, rows: usize },
 }
 
-/// The walk over all of a package, or where it stops.
-#[derive(Drop)]
-pub enum Way {
-    Whole(Walk),
+/// Why the walk over a package doesn't come to its end.
+#[derive(Clone, Copy, PartialEq, Eq, Debug)]
+pub enum Halt {
+    /// A limit of images is passed, there.
     Stopped(Stop),
+    /// Memory was refused, or another limit is passed, which no body of an accepted program does.
+    Refused(Refusal),
 }
 
-fn own_place(item: &ProtectedBodyItem) -> u32
-    ensures { result ≡ own_place (Some (protected_item_tree item.now)) }
+impl Stop {
+    /// The limit that is passed.
+    pub fn limit(self) -> ImageLimit
+        ensures { result ≡ limit_of self }
+    {
+        match self {
+            Stop::Instructions { .. } => ImageLimit::Instructions,
+            Stop::Frame { .. } => ImageLimit::Frame,
+            Stop::Rows { .. } => ImageLimit::Rows,
+        }
+    }
+}
+
+impl Halt {
+    /// Where a limit is passed.
+    ///
+    /// # Errors
+    /// Where memory was refused, or another limit is passed.
+    pub fn stop(self) -> Result<Stop, Refusal>
+        ensures { IfOk result (λ found. self ≡ Stopped found) }
+    {
+        match self {
+            Halt::Stopped(found) => Ok(found),
+            Halt::Refused(why) => Err(why),
+        }
+    }
+}
+
+impl From<Refusal> for Halt {
+    ghost use Rattle.std.specs.Prelude.{◌≡◌};
+    ghost use Rattle.package_code.specs.declared.stopping.Halt.TheVariants.{Refused};
+
+    ghost from_gives = { λ why found. found ≡ Refused why };
+
+    fn from(why: Refusal) -> Halt {
+        Halt::Refused(why)
+    }
+}
+
+impl From<AllocError> for Halt {
+    ghost use Rattle.std.specs.Prelude.{◌≡◌};
+    ghost use Rattle.expr_code.specs.declared.refusal.Refusal.TheVariants.{Memory};
+    ghost use Rattle.package_code.specs.declared.stopping.Halt.TheVariants.{Refused};
+
+    ghost from_gives = { λ _ found. found ≡ Refused Memory };
+
+    fn from(_refused: AllocError) -> Halt {
+        Halt::Refused(Refusal::Memory)
+    }
+}
+
+impl From<Halt> for Refusal {
+    ghost use Rattle.std.specs.Prelude.{◌≡◌};
+    ghost use Rattle.package_code.specs.Stopping.{refusal_of};
+
+    ghost from_gives = { λ found why. why ≡ refusal_of found };
+
+    fn from(found: Halt) -> Refusal {
+        match found {
+            Halt::Stopped(stop) => Refusal::Limit(stop.limit()),
+            Halt::Refused(why) => why,
+        }
+    }
+}
+
+/// The place of the name of an operation or entry.
+pub(crate) fn own_place(item: &ProtectedBodyItem) -> u32
+    ensures { result ≡ (own_head (protected_item_tree item.now)).name.place }
 {
     match item {
         ProtectedBodyItem::Subprogram(subprogram, _) => subprogram.name.place,
@@ -48,23 +104,8 @@ fn own_place(item: &ProtectedBodyItem) -> u32
     }
 }
 
-// The place of the name of one of the bodies that an item is or has.
-fn code_place(item: &BodyItem, index: usize) -> u32
-    ensures { result ≡ code_place (body_item_tree item.now) index }
-{
-    match item {
-        BodyItem::Item(_) => 0,
-        BodyItem::Subprogram(subprogram, _) => subprogram.name.place,
-        BodyItem::Task(name, _) => name.place,
-        BodyItem::Protected(_, items, _) => match items.get(index) {
-            Some(own) => own_place(own),
-            None => 0,
-        },
-    }
-}
-
-// The place of the name of an item's own body.
-fn item_place(item: &BodyItem) -> u32
+/// The place of the name of an item's own body, 0 of a declaration.
+pub(crate) fn item_place(item: &BodyItem) -> u32
     ensures { result ≡ item_place (body_item_tree item.now) }
 {
     match item {
@@ -75,132 +116,16 @@ fn item_place(item: &BodyItem) -> u32
     }
 }
 
-// Where the code of the last of these subprograms ends.
-fn last_end(subprograms: &[image::Subprogram]) -> usize
-    ensures { result ≡ begins_at subprograms.now (length subprograms.now) }
-{
-    match subprograms.last() {
-        Some(last) => usize::from(last.end_),
-        None => 0,
-    }
-}
-
-/// Why the code of the body isn't made whose name is at this place, after so many instructions.
-///
-/// # Errors
-/// Where memory was refused, or another limit is passed, which is none of the code of a body that has its own.
-pub fn stop_for(why: Refusal, place: u32, before: usize) -> Result<Stop, Refusal>
-    ensures { IfOk result (λ found. TellsLimit why place before found) }
+/// Why the code of the body whose name is at this place isn't made, after so many instructions: with its place, if a limit of the code of bodies is passed.
+pub fn halt_for(why: Refusal, place: u32, before: usize) -> Halt
+    ensures { result ≡ halt_for why place before }
 {
     match why {
-        Refusal::Limit(ImageLimit::Instructions) => Ok(Stop::Instructions { place, before }),
-        Refusal::Limit(ImageLimit::Frame) => Ok(Stop::Frame { place }),
-        why => Err(why),
-    }
-}
-
-// Why the walk doesn't go on behind an item, in front of which it had made so many subprograms.
-fn stopped_at(
-    made: &[image::Subprogram],
-    item: &BodyItem,
-    many: usize,
-    why: Refusal,
-) -> Result<Stop, Refusal>
-    ensures { IfOk result (λ found.
-        TellsLimit why (code_place (body_item_tree item.now) (length made.now - many)) (begins_at made.now (length made.now)) found) }
-{
-    let place = code_place(item, made.len().saturating_sub(many));
-    stop_for(why, place, last_end(made))
-}
-
-// Goes on behind these declarations and bodies, up to the first with which a limit is passed.
-fn go_or_stop(
-    walk: &mut Walk,
-    accepted: &Accepted,
-    directory: &Directory,
-    items: &[BodyItem],
-) -> Result<Option<Stop>, Refusal>
-    requires legal { IsLegal (program_tree accepted.now) }
-    requires restricted { IsRestricted (program_tree accepted.now) }
-    requires objects { (program_of (program_tree accepted.now)).objects ≤ OBJECTS }
-    requires covered { BodiesAreCovered (program_tree accepted.now) }
-    requires walked { IsWalked (program_tree accepted.now) directory.now walk.old }
-    requires directory { IsDirectory (program_tree accepted.now) directory.now }
-    requires told { IsAsTold (program_tree accepted.now) walk.old }
-    requires few { length walk.old.draft.rows.items ≤ ROWS }
-    requires at { StandFrom (declared_in (program_tree accepted.now).package_) walk.old.place (map body_item_tree items.now) }
-    ensures { IfOk result (λ found. ComesOrStops (program_tree accepted.now) directory.now (walk.old.place + length items.now) walk.new found) }
-{
-    for item in items {
-        let many = walk.subprograms.len();
-        match walk.step(accepted, directory, item) {
-            Ok(()) => {}
-            Err(why) => return Ok(Some(stopped_at(&walk.subprograms, item, many, why)?)),
-        }
-        let rows = walk.draft.rows.many();
-        if ROWS < rows {
-            return Ok(Some(Stop::Rows {
-                place: item_place(item),
-                rows,
-            }));
-        }
-    }
-    Ok(None)
-}
-
-// The way over this package.
-fn way_over_package(
-    alloc: Global,
-    accepted: &Accepted,
-    directory: &Directory,
-    exceptions: Vec<Text>,
-    package_: &Package,
-) -> Result<Way, Refusal>
-    requires legal { IsLegal (program_tree accepted.now) }
-    requires restricted { IsRestricted (program_tree accepted.now) }
-    requires objects { (program_of (program_tree accepted.now)).objects ≤ OBJECTS }
-    requires is { accepted.now.package_ ≡ Some package_.now }
-    requires covered { BodiesAreCovered (program_tree accepted.now) }
-    requires directory { IsDirectory (program_tree accepted.now) directory.now }
-    requires exceptions { exceptions.items ≡ (program_of (program_tree accepted.now)).exceptions }
-    ensures { IfOk result (λ over. IsWayOver (program_tree accepted.now) directory.now over) }
-{
-    let operations = directory.visible_operations(alloc, accepted.scope())?;
-    let mut walk = Walk::new(
-        alloc,
-        inside_scope(alloc, package_)?,
-        operations,
-        exceptions,
-    )?;
-    walk.declarations(accepted, directory, &package_.declaration.items)?;
-    match go_or_stop(&mut walk, accepted, directory, &package_.body.items)? {
-        Some(stop) => Ok(Way::Stopped(stop)),
-        None => Ok(Way::Whole(walk)),
-    }
-}
-
-/// The way over all of a program's package, where these are the program's exceptions: a walk as that of `walk_over`, or where that stops, or has more rows of
-/// handlers than an image.
-///
-/// # Errors
-/// Where memory was refused.
-pub fn way_over(
-    alloc: Global,
-    accepted: &Accepted,
-    directory: &Directory,
-    exceptions: Vec<Text>,
-) -> Result<Way, Refusal>
-    requires objects { (program_of (program_tree accepted.now)).objects ≤ OBJECTS }
-    requires covered { BodiesAreCovered (program_tree accepted.now) }
-    requires directory { IsDirectory (program_tree accepted.now) directory.now }
-    requires exceptions { exceptions.items ≡ (program_of (program_tree accepted.now)).exceptions }
-    ensures { IfOk result (λ over. IsWayOver (program_tree accepted.now) directory.now over) }
-{
-    match &accepted.program().package_ {
-        None => {
-            let walk = walk_nothing(alloc, accepted, directory, exceptions)?;
-            Ok(Way::Whole(walk))
-        }
-        Some(package_) => way_over_package(alloc, accepted, directory, exceptions, package_),
+        Refusal::Limit(ImageLimit::Instructions) => Halt::Stopped(Stop::Instructions {
+            place,
+            before,
+        }),
+        Refusal::Limit(ImageLimit::Frame) => Halt::Stopped(Stop::Frame { place }),
+        why => Halt::Refused(why),
     }
 }

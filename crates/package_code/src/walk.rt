@@ -3,7 +3,7 @@ ghost use Rattle.std.specs.Prelude.{◌≡◌, ◌≤◌, ◌+◌, false, is_non
 ghost use Rattle.ada_tree.specs.ExpressionTree.{expr_tree};
 ghost use Rattle.ada_tree.specs.StatementTree.{MoreStmts, NoStmts, stmt_tree, stmt_trees, subprogram_tree};
 ghost use Rattle.ada_tree.specs.ProgramTree.{OfItem, SubprogramBody, TaskBody, body_item_tree, body_tree, item_tree, program_tree, protected_item_tree};
-ghost use Rattle.base.specs.declared.limits.TheConstants.{OBJECTS};
+ghost use Rattle.base.specs.declared.limits.TheConstants.{OBJECTS, ROWS};
 ghost use Rattle.types.specs.Scopes.{number_of};
 ghost use Rattle.declaration_rules.specs.BodyNames.{object_body_scope};
 ghost use Rattle.unit_rules.specs.ProtectedBodyRules.{components_at};
@@ -21,16 +21,18 @@ ghost use Rattle.stmt_code.specs.Subprograms.{IsCalledFunction, KeepsRules};
 ghost use Rattle.package_code.specs.Bodies.{components_or_none, of_object, of_operation, of_subprogram, of_task, operation_kind, own_body, own_head, own_kind, own_name};
 ghost use Rattle.package_code.specs.Directory.{IsDirectory, number_told};
 ghost use Rattle.package_code.specs.Providing.{BodiesAreCovered, MayBeAdded};
-ghost use Rattle.package_code.specs.Refusing.{RefusesCode};
-ghost use Rattle.package_code.specs.Walking.{AddsAsTold, AddsBody, AddsOperation, AddsSubprogram, AddsValueFunction, BeginsWalk, HasObjectBody, IsAsTold, IsCalledSubprogram, IsWalked, IsInObjectBody, KeepsMade, RefusesBody, StandFrom, StopsThere, first_statement_place, operation_visible, row_of};
+ghost use Rattle.package_code.specs.Stopping.{IsHalt};
+ghost use Rattle.package_code.specs.Walking.{AddsAsTold, AddsBody, AddsOperation, AddsSubprogram, AddsValueFunction, BeginsWalk, HasObjectBody, IsAsTold, IsCalledSubprogram, IsWalked, IsInObjectBody, RefusesBody, StandFrom, first_statement_place, operation_visible, row_of};
 
 use crate::directory::{Directory, unseen};
 use crate::inside::{see_behind, see_operation};
 use crate::laws::bodies_are_numbered;
 use crate::operations::object_number;
+use crate::stopping::{Halt, Stop, halt_for, item_place, own_place};
 use ada_tree::{
     Body, BodyItem, Expr, Identifier, Item, Package, ProtectedBodyItem, Stmt, Subprogram,
 };
+use base::limits::ROWS;
 use declaration_rules::laws::object_bodies_end;
 use declaration_rules::{declare_item, enter_object, leave_object};
 use expr_code::{ImageLimit, OperationNumbers, Refusal, Visible};
@@ -174,8 +176,8 @@ fn components_of(
 }
 
 impl Walk {
-    /// In front of all of them, where these names are visible and operations have these numbers, in a program with these exceptions.
-    pub(crate) fn new(
+    // In front of all of them, where these names are visible and operations have these numbers, in a program with these exceptions.
+    fn new(
         alloc: Global,
         scope: Scope,
         operations: OperationNumbers,
@@ -281,7 +283,6 @@ impl Walk {
         ensures told { OnOk result (AddsAsTold self.old.draft (subprogram_tree subprogram.now) (body_tree body.now) self.new.draft) }
         ensures refused { IfErr result (λ why. RefusesBody self.old.visible self.old.draft
             (subprogram_tree subprogram.now) (body_tree body.now) why) }
-        ensures stays { IfErr result (λ why. KeepsMade why self.old.subprograms.items self.new.subprograms.items) }
     {
         let words = self.code(accepted, subprogram, body)?;
         self.subprograms
@@ -309,7 +310,6 @@ impl Walk {
             self.new.draft) }
         ensures refused { IfErr result (λ why. RefusesBody self.old.visible self.old.draft
             (of_task self.old.visible.scope name.now (body_tree body.now)).head (body_tree body.now) why) }
-        ensures stays { IfErr result (λ why. KeepsMade why self.old.subprograms.items self.new.subprograms.items) }
     {
         let words = self.draft.procedure(&mut self.visible, &[], body)?;
         self.subprograms
@@ -372,7 +372,6 @@ impl Walk {
             self.new.draft) }
         ensures refused { IfErr result (λ why. RefusesBody self.old.visible self.old.draft
             (own_head (protected_item_tree item.now)) (own_body (protected_item_tree item.now)) why) }
-        ensures stays { IfErr result (λ why. KeepsMade why self.old.subprograms.items self.new.subprograms.items) }
     {
         let words = self.inside_code(accepted, item)?;
         let kind = inside_kind(object, item);
@@ -401,7 +400,6 @@ impl Walk {
         ensures refused { IfErr result (λ why. RefusesBody
             (operation_visible (program_of (program_tree accepted.now)).scope directory.now object components.now (protected_item_tree item.now)
             self.old.visible) self.old.draft (own_head (protected_item_tree item.now)) (own_body (protected_item_tree item.now)) why) }
-        ensures stays { IfErr result (λ why. KeepsMade why self.old.subprograms.items self.new.subprograms.items) }
     {
         let whole = accepted.scope();
         let inside = usize::from(object);
@@ -436,7 +434,7 @@ impl Walk {
         place: usize,
         components: &[RecordComponent],
         items: &[ProtectedBodyItem],
-    ) -> Result<(), Refusal>
+    ) -> Result<(), Halt>
         requires legal { IsLegal (program_tree accepted.now) }
         requires restricted { IsRestricted (program_tree accepted.now) }
         requires covered { BodiesAreCovered (program_tree accepted.now) }
@@ -447,14 +445,18 @@ impl Walk {
             (object_body_scope (front (program_tree accepted.now) self.old.place) place) components.now (map protected_item_tree items.now)
             (length items.now) self.new) }
         ensures place { OnOk result (self.new.place ≡ self.old.place) }
-        ensures refused { IfErr result (λ why. StopsThere (program_tree accepted.now) directory.now self.old.place self.new.subprograms.items why) }
+        ensures halts { IfErr result (λ found. IsHalt (program_tree accepted.now) found) }
     {
         bodies_are_numbered();
         scopes_are_sound();
         names_are_known();
         premises_hold();
         for item in items {
-            self.operation(accepted, directory, object, components, item)?;
+            let before = self.draft.code.instructions.len();
+            match self.operation(accepted, directory, object, components, item) {
+                Ok(()) => {}
+                Err(why) => return Err(halt_for(why, own_place(item), before)),
+            }
         }
         Ok(())
     }
@@ -467,7 +469,7 @@ impl Walk {
         name: &Identifier,
         number: usize,
         items: &[ProtectedBodyItem],
-    ) -> Result<(), Refusal>
+    ) -> Result<(), Halt>
         requires legal { IsLegal (program_tree accepted.now) }
         requires restricted { IsRestricted (program_tree accepted.now) }
         requires objects { (program_of (program_tree accepted.now)).objects ≤ OBJECTS }
@@ -480,7 +482,7 @@ impl Walk {
         ensures walked { OnOk result (IsWalked (program_tree accepted.now) directory.now self.new) }
         ensures place { OnOk result (self.new.place ≡ self.old.place + 1) }
         ensures told { OnOk result (IsAsTold (program_tree accepted.now) self.new) }
-        ensures refused { IfErr result (λ why. StopsThere (program_tree accepted.now) directory.now self.old.place self.new.subprograms.items why) }
+        ensures halts { IfErr result (λ found. IsHalt (program_tree accepted.now) found) }
     {
         scopes_are_sound();
         names_are_known();
@@ -512,7 +514,7 @@ impl Walk {
         directory: &Directory,
         name: &Identifier,
         items: &[ProtectedBodyItem],
-    ) -> Result<(), Refusal>
+    ) -> Result<(), Halt>
         requires legal { IsLegal (program_tree accepted.now) }
         requires restricted { IsRestricted (program_tree accepted.now) }
         requires objects { (program_of (program_tree accepted.now)).objects ≤ OBJECTS }
@@ -524,7 +526,7 @@ impl Walk {
         ensures walked { OnOk result (IsWalked (program_tree accepted.now) directory.now self.new) }
         ensures place { OnOk result (self.new.place ≡ self.old.place + 1) }
         ensures told { OnOk result (IsAsTold (program_tree accepted.now) self.new) }
-        ensures refused { IfErr result (λ why. StopsThere (program_tree accepted.now) directory.now self.old.place self.new.subprograms.items why) }
+        ensures halts { IfErr result (λ found. IsHalt (program_tree accepted.now) found) }
     {
         scopes_are_sound();
         names_are_known();
@@ -541,7 +543,7 @@ impl Walk {
         accepted: &Accepted,
         directory: &Directory,
         item: &Item,
-    ) -> Result<(), Refusal>
+    ) -> Result<(), Halt>
         requires walked { IsWalked (program_tree accepted.now) directory.now self.old }
         requires directory { IsDirectory (program_tree accepted.now) directory.now }
         requires told { IsAsTold (program_tree accepted.now) self.old }
@@ -549,7 +551,7 @@ impl Walk {
         ensures walked { OnOk result (IsWalked (program_tree accepted.now) directory.now self.new) }
         ensures place { OnOk result (self.new.place ≡ self.old.place + 1) }
         ensures told { OnOk result (IsAsTold (program_tree accepted.now) self.new) }
-        ensures refused { IfErr result (λ why. IsRefused 0 0 why) }
+        ensures halts { IfErr result (λ found. IsHalt (program_tree accepted.now) found) }
     {
         declare_item(self.alloc, &mut self.visible.scope, item)?;
         directory.tell(accepted.scope(), &mut self.visible, &item_name(item).name)?;
@@ -564,7 +566,7 @@ impl Walk {
         directory: &Directory,
         subprogram: &Subprogram,
         body: &Body,
-    ) -> Result<(), Refusal>
+    ) -> Result<(), Halt>
         requires legal { IsLegal (program_tree accepted.now) }
         requires restricted { IsRestricted (program_tree accepted.now) }
         requires covered { BodiesAreCovered (program_tree accepted.now) }
@@ -576,14 +578,19 @@ impl Walk {
         ensures walked { OnOk result (IsWalked (program_tree accepted.now) directory.now self.new) }
         ensures place { OnOk result (self.new.place ≡ self.old.place + 1) }
         ensures told { OnOk result (IsAsTold (program_tree accepted.now) self.new) }
-        ensures refused { IfErr result (λ why. StopsThere (program_tree accepted.now) directory.now self.old.place self.new.subprograms.items why) }
+        ensures halts { IfErr result (λ found. IsHalt (program_tree accepted.now) found) }
     {
         bodies_are_numbered();
         declare_subprogram(self.alloc, &mut self.visible.scope, subprogram)?;
         directory.tell(accepted.scope(), &mut self.visible, &subprogram.name.name)?;
-        self.body(accepted, directory, subprogram, body)?;
-        self.place += 1;
-        Ok(())
+        let before = self.draft.code.instructions.len();
+        match self.body(accepted, directory, subprogram, body) {
+            Ok(()) => {
+                self.place += 1;
+                Ok(())
+            }
+            Err(why) => Err(halt_for(why, subprogram.name.place, before)),
+        }
     }
 
     // Goes on behind the body of a task, which makes no name visible.
@@ -593,7 +600,7 @@ impl Walk {
         directory: &Directory,
         name: &Identifier,
         body: &Body,
-    ) -> Result<(), Refusal>
+    ) -> Result<(), Halt>
         requires legal { IsLegal (program_tree accepted.now) }
         requires restricted { IsRestricted (program_tree accepted.now) }
         requires covered { BodiesAreCovered (program_tree accepted.now) }
@@ -604,21 +611,26 @@ impl Walk {
         ensures walked { OnOk result (IsWalked (program_tree accepted.now) directory.now self.new) }
         ensures place { OnOk result (self.new.place ≡ self.old.place + 1) }
         ensures told { OnOk result (IsAsTold (program_tree accepted.now) self.new) }
-        ensures refused { IfErr result (λ why. StopsThere (program_tree accepted.now) directory.now self.old.place self.new.subprograms.items why) }
+        ensures halts { IfErr result (λ found. IsHalt (program_tree accepted.now) found) }
     {
         bodies_are_numbered();
-        self.task_body(accepted, directory, name, body)?;
-        self.place += 1;
-        Ok(())
+        let before = self.draft.code.instructions.len();
+        match self.task_body(accepted, directory, name, body) {
+            Ok(()) => {
+                self.place += 1;
+                Ok(())
+            }
+            Err(why) => Err(halt_for(why, name.place, before)),
+        }
     }
 
-    /// Goes on after declarations.
-    pub(crate) fn declarations(
+    // Goes on behind declarations.
+    fn declarations(
         &mut self,
         accepted: &Accepted,
         directory: &Directory,
         items: &[Item],
-    ) -> Result<(), Refusal>
+    ) -> Result<(), Halt>
         requires walked { IsWalked (program_tree accepted.now) directory.now self.old }
         requires directory { IsDirectory (program_tree accepted.now) directory.now }
         requires told { IsAsTold (program_tree accepted.now) self.old }
@@ -626,7 +638,7 @@ impl Walk {
         ensures walked { OnOk result (IsWalked (program_tree accepted.now) directory.now self.new) }
         ensures place { OnOk result (self.new.place ≡ self.old.place + length items.now) }
         ensures told { OnOk result (IsAsTold (program_tree accepted.now) self.new) }
-        ensures refused { IfErr result (λ why. RefusesCode (program_tree accepted.now) why) }
+        ensures halts { IfErr result (λ found. IsHalt (program_tree accepted.now) found) }
     {
         for item in items {
             self.declaration(accepted, directory, item)?;
@@ -634,17 +646,13 @@ impl Walk {
         Ok(())
     }
 
-    /// Goes on after a declaration or a body.
-    ///
-    /// # Errors
-    /// `Limit` where the code of a body may pass a limit of images: no subprogram is made of that one, and those before it have theirs; `Memory` where
-    /// memory was refused.
-    pub(crate) fn step(
+    // Goes on behind a declaration or a body.
+    fn step(
         &mut self,
         accepted: &Accepted,
         directory: &Directory,
         item: &BodyItem,
-    ) -> Result<(), Refusal>
+    ) -> Result<(), Halt>
         requires legal { IsLegal (program_tree accepted.now) }
         requires restricted { IsRestricted (program_tree accepted.now) }
         requires objects { (program_of (program_tree accepted.now)).objects ≤ OBJECTS }
@@ -656,7 +664,7 @@ impl Walk {
         ensures walked { OnOk result (IsWalked (program_tree accepted.now) directory.now self.new) }
         ensures place { OnOk result (self.new.place ≡ self.old.place + 1) }
         ensures told { OnOk result (IsAsTold (program_tree accepted.now) self.new) }
-        ensures refused { IfErr result (λ why. StopsThere (program_tree accepted.now) directory.now self.old.place self.new.subprograms.items why) }
+        ensures halts { IfErr result (λ found. IsHalt (program_tree accepted.now) found) }
     {
         match item {
             BodyItem::Item(item) => self.declaration(accepted, directory, item),
@@ -668,13 +676,13 @@ impl Walk {
         }
     }
 
-    // Goes on behind declarations and bodies.
+    // Goes on behind declarations and bodies, where there aren't more rows of handlers than an image has.
     fn bodies(
         &mut self,
         accepted: &Accepted,
         directory: &Directory,
         items: &[BodyItem],
-    ) -> Result<(), Refusal>
+    ) -> Result<(), Halt>
         requires legal { IsLegal (program_tree accepted.now) }
         requires restricted { IsRestricted (program_tree accepted.now) }
         requires objects { (program_of (program_tree accepted.now)).objects ≤ OBJECTS }
@@ -682,14 +690,22 @@ impl Walk {
         requires walked { IsWalked (program_tree accepted.now) directory.now self.old }
         requires directory { IsDirectory (program_tree accepted.now) directory.now }
         requires told { IsAsTold (program_tree accepted.now) self.old }
+        requires few { length self.old.draft.rows.items ≤ ROWS }
         requires at { StandFrom (declared_in (program_tree accepted.now).package_) self.old.place (map body_item_tree items.now) }
         ensures walked { OnOk result (IsWalked (program_tree accepted.now) directory.now self.new) }
         ensures place { OnOk result (self.new.place ≡ self.old.place + length items.now) }
         ensures told { OnOk result (IsAsTold (program_tree accepted.now) self.new) }
-        ensures refused { IfErr result (λ why. RefusesCode (program_tree accepted.now) why) }
+        ensures halts { IfErr result (λ found. IsHalt (program_tree accepted.now) found) }
     {
         for item in items {
             self.step(accepted, directory, item)?;
+            let rows = self.draft.rows.many();
+            if ROWS < rows {
+                return Err(Halt::Stopped(Stop::Rows {
+                    place: item_place(item),
+                    rows,
+                }));
+            }
         }
         Ok(())
     }
@@ -702,7 +718,7 @@ fn walk_package(
     directory: &Directory,
     exceptions: Vec<Text>,
     package_: &Package,
-) -> Result<Walk, Refusal>
+) -> Result<Walk, Halt>
     requires legal { IsLegal (program_tree accepted.now) }
     requires restricted { IsRestricted (program_tree accepted.now) }
     requires objects { (program_of (program_tree accepted.now)).objects ≤ OBJECTS }
@@ -713,7 +729,7 @@ fn walk_package(
     ensures walked { IfOk result (λ walk. IsWalked (program_tree accepted.now) directory.now walk) }
     ensures whole { IfOk result (λ walk. walk.place ≡ length (declared_in (program_tree accepted.now).package_)) }
     ensures told { IfOk result (λ walk. IsAsTold (program_tree accepted.now) walk) }
-    ensures refused { IfErr result (λ why. RefusesCode (program_tree accepted.now) why) }
+    ensures halts { IfErr result (λ found. IsHalt (program_tree accepted.now) found) }
 {
     let operations = directory.visible_operations(alloc, accepted.scope())?;
     let mut walk = Walk::new(
@@ -727,20 +743,20 @@ fn walk_package(
     Ok(walk)
 }
 
-/// The walk over a program without a package.
-pub(crate) fn walk_nothing(
+// The walk over a program without a package.
+fn walk_nothing(
     alloc: Global,
     accepted: &Accepted,
     directory: &Directory,
     exceptions: Vec<Text>,
-) -> Result<Walk, Refusal>
+) -> Result<Walk, Halt>
     requires is { accepted.now.package_ ≡ None }
     requires directory { IsDirectory (program_tree accepted.now) directory.now }
     requires exceptions { exceptions.items ≡ (program_of (program_tree accepted.now)).exceptions }
     ensures walked { IfOk result (λ walk. IsWalked (program_tree accepted.now) directory.now walk) }
     ensures whole { IfOk result (λ walk. walk.place ≡ length (declared_in (program_tree accepted.now).package_)) }
     ensures told { IfOk result (λ walk. IsAsTold (program_tree accepted.now) walk) }
-    ensures refused { IfErr result (λ why. RefusesCode (program_tree accepted.now) why) }
+    ensures halts { IfErr result (λ found. IsHalt (program_tree accepted.now) found) }
 {
     let operations = directory.visible_operations(alloc, accepted.scope())?;
     let walk = Walk::new(alloc, Scope::standard(alloc)?, operations, exceptions)?;
@@ -748,12 +764,16 @@ pub(crate) fn walk_nothing(
 }
 
 /// The walk over all of a program's package, where these are the program's exceptions.
+///
+/// # Errors
+/// `Stopped` where the code of a body may pass a limit of images, or the handlers up to the end of an item have more choices than an image has rows: at the
+/// first of these. `Refused` where memory was refused.
 pub fn walk_over(
     alloc: Global,
     accepted: &Accepted,
     directory: &Directory,
     exceptions: Vec<Text>,
-) -> Result<Walk, Refusal>
+) -> Result<Walk, Halt>
     requires objects { (program_of (program_tree accepted.now)).objects ≤ OBJECTS }
     requires covered { BodiesAreCovered (program_tree accepted.now) }
     requires directory { IsDirectory (program_tree accepted.now) directory.now }
@@ -761,7 +781,7 @@ pub fn walk_over(
     ensures walked { IfOk result (λ walk. IsWalked (program_tree accepted.now) directory.now walk) }
     ensures whole { IfOk result (λ walk. walk.place ≡ length (declared_in (program_tree accepted.now).package_)) }
     ensures told { IfOk result (λ walk. IsAsTold (program_tree accepted.now) walk) }
-    ensures refused { IfErr result (λ why. RefusesCode (program_tree accepted.now) why) }
+    ensures halts { IfErr result (λ found. IsHalt (program_tree accepted.now) found) }
 {
     match &accepted.program().package_ {
         None => walk_nothing(alloc, accepted, directory, exceptions),

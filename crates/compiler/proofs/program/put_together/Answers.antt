@@ -10,8 +10,9 @@ use Rattle.step_simulation.specs.part_code.specs.Needs.{RefusesMain, are_unknown
 use Rattle.expr_code.specs.declared.refusal.Refusal.TheVariants as refusal
 use Rattle.package_code.specs.Refusing.{RefusesSections}
 use Rattle.package_code.specs.Tasks.{HaveTasks}
+use Rattle.package_code.proofs.Stops.{halt_refuses}
 use Rattle.package_code.proofs.TasksAdded.{have_both}
-use Rattle.compiler.proofs.Refusals.{code_refused, labels_told, main_refused, plain_refused, row_refused, rows_told, seen_last, task_refused, walked_bodies}
+use Rattle.compiler.proofs.Refusals.{labels_told, main_refused, plain_refused, row_refused, rows_told, seen_last, task_refused, walked_bodies}
 use Rattle.compiler.proofs.program.put_together.Goals as goal
 
 pub walk_over-requires : goal.walk_over-requires
@@ -110,7 +111,7 @@ returns-in_err-words-clause-refused c =
 
 pub returns-in_err-walk-clause-refused : goal.returns-in_err-walk-clause-refused
 returns-in_err-walk-clause-refused c =
-    let whole = code_refused (program_tree c.args.accepted.now) c.in_err-walk.field-0.0 c.in_err-walk.ensures.refused in
+    let whole = halt_refuses (program_tree c.args.accepted.now) c.in_err-walk.field-0.0 c.in_err-walk.ensures.halts in
     search (rules, whole, c.from_residual-in_err-walk.ensures)
 
 pub returns-in_err-main-clause-refused : goal.returns-in_err-main-clause-refused

@@ -1,10 +1,11 @@
-use Rattle.std.proofs.Common.{rules, sym, ap, ◌∙◌}
+use Rattle.std.proofs.Common.{sym, ap, ◌∙◌}
 use Rattle.ada_tree.specs.StatementTree.{optional_tree}
 use Rattle.ada_tree.specs.ProgramTree.{package_tree, program_tree}
 use Rattle.program_soundness.specs.Fronts.{start_in}
 use Rattle.package_code.specs.Directory.{operations_told}
 use Rattle.package_code.proofs.AsTold.{begins_told}
 use Rattle.package_code.proofs.Declared.{body_stands, declared_many, specification_stands}
+use Rattle.package_code.proofs.Stops.{none_declared}
 use Rattle.package_code.proofs.Walked.{walk_begins}
 use Rattle.package_code.proofs.walk.walk_package.Goals as goal
 
@@ -37,12 +38,7 @@ declarations-requires-clause-told c =
     (c.in_ok-inside_scope.ensures ∙ ap (λ o. start_in (optional_tree package_tree o)) (sym c.requires.is))
     (c.in_ok-operations.ensures.numbers ∙ ap (λ s. operations_told s c.args.directory.now) c.scope.ensures)
 
-pub returns-in_err-declarations-clause-refused : goal.returns-in_err-declarations-clause-refused
-returns-in_err-declarations-clause-refused c =
-    let whole = c.in_err-declarations.ensures.refused in
-    search (rules, whole, c.from_residual-in_err-declarations.ensures)
-
-pub returns-in_err-bodies-clause-refused : goal.returns-in_err-bodies-clause-refused
-returns-in_err-bodies-clause-refused c =
-    let whole = c.in_err-bodies.ensures.refused in
-    search (rules, whole, c.from_residual-in_err-bodies.ensures)
+pub bodies-requires-clause-few : goal.bodies-requires-clause-few
+bodies-requires-clause-few c =
+    none_declared c.args.accepted.now.package_ c.args.package_.now c.deref.result.now c.declarations.new.self c.in_ok-walk.walk.place c.requires.is
+    c.deref.ensures.value c.in_ok-walk.ensures.begins.place c.in_ok-declarations.ensures.place c.in_ok-declarations.ensures.told.rows

@@ -63,8 +63,8 @@ returns-clause-told c =
     c.leave_object.new.scope c.truncate.new.self c.truncate-2.new.self _ c.len-len.ensures.value c.in_ok-operations.ensures.operations
     c.leave_object.ensures c.truncate.ensures c.truncate-2.ensures refl refl refl refl).1
 
-pub returns-in_err-short-clause-refused : goal.returns-in_err-short-clause-refused
-returns-in_err-short-clause-refused c =
+pub returns-in_err-short-clause-halts : goal.returns-in_err-short-clause-halts
+returns-in_err-short-clause-halts c =
     let few = object_few c.scopes_are_sound.ensures c.names_are_known.ensures c.premises_hold.ensures (program_tree c.args.accepted.now) c.requires.legal
     c.requires.restricted c.args.self.now.place c.args.name.now (map protected_item_tree c.args.items.now)
     c.requires.at.0 c.requires.at.1 in

@@ -1,10 +1,12 @@
-use Rattle.std.proofs.Common.{map, rules, subst, ◌∙◌, arith}
+use Rattle.std.proofs.Common.{◌≡◌, map, rules, sym, subst, ◌∙◌, arith}
 use Rattle.ada_tree.specs.ProgramTree.{program_tree, protected_item_tree}
 use Rattle.declaration_rules.specs.BodyNames.{object_body_scope}
 use Rattle.program_soundness.specs.Fronts.{front}
-use Rattle.package_code.specs.Walking.{IsInObjectBody, StopsThere}
+use Rattle.expr_code.specs.Code.{here}
+use Rattle.package_code.specs.Stopping.{IsHalt}
+use Rattle.package_code.specs.Walking.{IsInObjectBody}
 use Rattle.package_code.proofs.Declared.{mapped_at}
-use Rattle.package_code.proofs.WalkedInside.{operation_covered, operation_may, operation_number_is, operation_stops, within_next}
+use Rattle.package_code.proofs.WalkedInside.{operation_covered, operation_halts, operation_may, operation_number_is, within_next}
 use Rattle.package_code.proofs.walk.Walk.operations.Goals as goal
 
 pub operation-requires-clause-added : goal.operation-requires-clause-added
@@ -44,17 +46,17 @@ loop-item-preserved c =
           c.requires.directory c.args.object s c.args.components.now items c.loop-item.item-index c.loop-item.self c.loop-item.invariant.0
           (protected_item_tree c.item-item.result)
           (mapped_at protected_item_tree c.args.items.now c.loop-item.item-index c.item-item.result c.loop-item-test.true c.item-item.is)
-          c.operation.new.self c.in_ok-operation.ensures.adds),
-      c.in_ok-operation.ensures.adds.place ∙ c.loop-item.invariant.1,
+          c.operation.new.self c.in-Ok.ensures.adds),
+      c.in-Ok.ensures.adds.place ∙ c.loop-item.invariant.1,
     )
 
-pub returns-in_err-operation-clause-refused : goal.returns-in_err-operation-clause-refused
-returns-in_err-operation-clause-refused c =
+pub returns-in-Err-clause-halts : goal.returns-in-Err-clause-halts
+returns-in-Err-clause-halts c =
     let t = program_tree c.args.accepted.now in
-    let there = operation_stops c.scopes_are_sound.ensures c.names_are_known.ensures c.premises_hold.ensures t c.requires.legal c.requires.restricted
+    let before : c.len-before.result ≡ here c.loop-item.self.draft.code = search rules in
+    subst (IsHalt t) (sym c.halt_for.ensures)
+    (operation_halts c.scopes_are_sound.ensures c.names_are_known.ensures c.premises_hold.ensures t c.requires.legal c.requires.restricted
     c.args.directory.now c.requires.directory c.args.object (object_body_scope (front t c.args.self.now.place) c.args.place) c.args.components.now
     (map protected_item_tree c.args.items.now) c.loop-item.item-index c.loop-item.self c.loop-item.invariant.0 (protected_item_tree c.item-item.result)
     (mapped_at protected_item_tree c.args.items.now c.loop-item.item-index c.item-item.result c.loop-item-test.true c.item-item.is)
-    c.operation.new.self.subprograms.items c.in_err-operation.field-0.0 c.in_err-operation.ensures.stays c.in_err-operation.ensures.refused in
-    let whole = subst (λ p. StopsThere t c.args.directory.now p c.operation.new.self.subprograms.items c.in_err-operation.field-0.0) c.loop-item.invariant.1 there in
-    search (rules, whole)
+    c.own_place.result c.len-before.result c.own_place.ensures before c.in-Err.why c.in-Err.ensures.refused)

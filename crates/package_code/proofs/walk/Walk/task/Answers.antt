@@ -1,11 +1,13 @@
-use Rattle.std.proofs.Common.{suc, ◌+◌, length, Some, ap, refl, rules, sym, ◌∙◌, subst}
+use Rattle.std.proofs.Common.{◌≡◌, suc, ◌+◌, length, Some, ap, refl, rules, sym, ◌∙◌, subst}
 use Rattle.ada_tree.specs.ProgramTree.{body_tree, program_tree}
 use Rattle.expr_soundness.specs.meaning.specs.Programs.{program_of}
 use Rattle.program_soundness.specs.Fronts.{front}
+use Rattle.expr_code.specs.Code.{here}
 use Rattle.step_simulation.specs.part_code.specs.Providing.{HasWhatCodeNeeds}
 use Rattle.package_code.specs.Bodies.{bodies_before, of_task}
+use Rattle.package_code.specs.Stopping.{IsHalt}
 use Rattle.package_code.specs.Walking.{AddsBody}
-use Rattle.package_code.proofs.AsTold.{body_stops, body_told, task_number, task_seen}
+use Rattle.package_code.proofs.AsTold.{body_halts, body_told, task_number, task_seen}
 use Rattle.package_code.proofs.ItemsTold.{plus_none}
 use Rattle.package_code.proofs.Walked.{task_goes, task_may_be_added}
 use Rattle.package_code.proofs.walk.Walk.task.Goals as goal
@@ -35,13 +37,13 @@ task_body-requires-clause-numbered c =
     (length c.args.self.now.subprograms.items)
     (told.0 ∙ ap Some (plus_none (bodies_before t c.args.self.now.place) ∙ sym c.requires.walked.many))
 
-pub returns-clause-walked : goal.returns-clause-walked
-returns-clause-walked c =
+pub returns-in-Ok-clause-walked : goal.returns-in-Ok-clause-walked
+returns-in-Ok-clause-walked c =
     task_goes (program_tree c.args.accepted.now) c.args.directory.now c.args.self.now c.args.name.now (body_tree c.args.body.now) c.requires.walked
-    c.requires.at c.task_body.new.self _ c.in_ok-task_body.ensures.adds (ap (λ n. n + 1) c.in_ok-task_body.ensures.adds.place) refl refl refl
+    c.requires.at c.task_body.new.self _ c.in-Ok.ensures.adds (ap (λ n. n + 1) c.in-Ok.ensures.adds.place) refl refl refl
 
-pub returns-clause-told : goal.returns-clause-told
-returns-clause-told c =
+pub returns-in-Ok-clause-told : goal.returns-in-Ok-clause-told
+returns-in-Ok-clause-told c =
     let t = program_tree c.args.accepted.now in
     let name = c.args.name.now in
     let b = body_tree c.args.body.now in
@@ -49,14 +51,16 @@ returns-clause-told c =
     let scope = ap (λ v. v.scope) seen in
     body_told t c.args.directory.now c.args.self.now _ (of_task (front t (suc c.args.self.now.place)) name b) c.requires.told c.requires.at refl
     c.args.self.now c.task_body.new.self _ seen scope refl
-    (subst (λ s. AddsBody t c.args.directory.now (of_task s name b) c.args.self.now c.task_body.new.self) scope c.in_ok-task_body.ensures.adds)
-    c.in_ok-task_body.ensures.told (ap (λ n. n + 1) c.in_ok-task_body.ensures.adds.place) refl refl
+    (subst (λ s. AddsBody t c.args.directory.now (of_task s name b) c.args.self.now c.task_body.new.self) scope c.in-Ok.ensures.adds)
+    c.in-Ok.ensures.told (ap (λ n. n + 1) c.in-Ok.ensures.adds.place) refl refl
 
-pub returns-in_err-task_body-clause-refused : goal.returns-in_err-task_body-clause-refused
-returns-in_err-task_body-clause-refused c =
-    let seen = task_seen (program_tree c.args.accepted.now) c.args.self.now c.args.name.now (body_tree c.args.body.now) c.requires.told c.requires.at in
+pub returns-in-Err-clause-halts : goal.returns-in-Err-clause-halts
+returns-in-Err-clause-halts c =
     let t = program_tree c.args.accepted.now in
-    let whole = body_stops t c.args.directory.now c.args.self.now _ (of_task (front t (suc c.args.self.now.place)) c.args.name.now (body_tree c.args.body.now))
-    c.args.self.now.visible c.task_body.new.self.subprograms.items c.in_err-task_body.field-0.0 c.requires.walked c.requires.told c.requires.at refl seen
-    c.in_err-task_body.ensures.stays c.in_err-task_body.ensures.refused in
-    search (rules, whole)
+    let name = c.args.name.now in
+    let b = body_tree c.args.body.now in
+    let before : c.len-before.result ≡ here c.args.self.now.draft.code = search rules in
+    subst (IsHalt t) (sym c.halt_for.ensures)
+    (body_halts t c.args.directory.now c.args.self.now _ (of_task (front t (suc c.args.self.now.place)) name b) c.args.self.now.visible c.requires.walked
+    c.requires.told c.requires.at refl (task_seen t c.args.self.now name b c.requires.told c.requires.at) c.len-before.result before c.in-Err.why
+    c.in-Err.ensures.refused)
